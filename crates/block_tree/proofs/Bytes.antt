@@ -1,6 +1,6 @@
 -- The bytes of a size, the highest first, and the number that its first bytes are.
 use Rattle.std.proofs.Common.{◌≡◌, inl, inr, ℕ, zero, suc, ◌+◌, ◌-◌, ◌*◌, ◌/◌, ◌%◌, ◌^◌, ◌<◌, ◌≤◌, List, [], ◌∷◌, take, refl, sym, ◌∙◌, ap, subst, arith}
-use Rattle.block_tree.proofs.Words.{IsFirstBad, IsSize, Kind, SIZE_LIMIT, cases_lt, div-add-mod', div-div-eq-div-mul, div-eq_of_lt, div-one, div_below, le-div, mul-div_cancel, mul-le, mul-mod_left, one-le-pow, pow-suc, to_be_bytes, w64}
+use Rattle.block_tree.proofs.Words.{IsFirstMisspelt, IsSize, Kind, SIZE_LIMIT, cases_lt, div-add-mod', div-div-eq-div-mul, div-eq_of_lt, div-one, div_below, le-div, mul-div_cancel, mul-le, mul-mod_left, one-le-pow, pow-suc, to_be_bytes, w64}
 
 -- one byte more is cut off
 pub cut_more : (n k : ℕ) → n / 256 ^ k / 256 ≡ n / 256 ^ (k + 1)
@@ -108,7 +108,7 @@ first_number j d n m is fits fits' e =
 
 -- the first r + 1 bytes from the end are seen to be above the limit, and those before the last of them are not
 pub size_above : (kind : Kind) (n r : ℕ) → n < 2 ^ 64 → r ≤ 7 → SIZE_LIMIT / 256 ^ r < n / 256 ^ r → n / 256 ^ (r + 1) ≤ SIZE_LIMIT / 256 ^ (r + 1)
-    → IsFirstBad (IsSize kind) (to_be_bytes w64) (to_be_bytes w64 n) (7 - r)
+    → IsFirstMisspelt (IsSize kind) (to_be_bytes w64) (to_be_bytes w64 n) (7 - r)
 size_above kind n r fits within above not_yet =
     let s = some_size kind n r not_yet in
     record {
@@ -117,7 +117,7 @@ size_above kind n r fits within above not_yet =
     }
 
 -- only the last byte shows that a size within the limit is none
-pub size_uneven : (kind : Kind) (n : ℕ) → n ≤ SIZE_LIMIT → ¬ IsSize kind n → IsFirstBad (IsSize kind) (to_be_bytes w64) (to_be_bytes w64 n) 7
+pub size_uneven : (kind : Kind) (n : ℕ) → n ≤ SIZE_LIMIT → ¬ IsSize kind n → IsFirstMisspelt (IsSize kind) (to_be_bytes w64) (to_be_bytes w64 n) 7
 size_uneven kind n within none =
     let s = some_size kind n 0 (less_after n SIZE_LIMIT (256 ^ (0 + 1)) (power_pos (0 + 1)) within) in
     record {

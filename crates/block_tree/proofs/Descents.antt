@@ -6,7 +6,7 @@ use Rattle.block_tree.proofs.Nodes.{leaves_there, pointed}
 use Rattle.block_tree.proofs.Trees.{end_is, node_is}
 use Rattle.block_tree.proofs.Spellings.{leaves_of, nodes_of}
 use Rattle.std.proofs.Math.Path.{fun_ext}
-use Rattle.block_tree.specs.Along.{ArePut, FarBelow, FarTop, IsTo, IsWay, IsWayTrouble, IsWithin, holder_on, pointer_on, pointers_at}
+use Rattle.block_tree.specs.Along.{ArePut, FarBelow, FarTop, IsTo, IsWay, IsWayTrouble, IsWayWithin, holder_on, pointer_on, pointers_at}
 use Rattle.block_tree.specs.Path.{IsGoodWay, IsPath, SamePlaces, no_node, path_of}
 use Rattle.block_tree.specs.Reads.{Far, FarLeaf, IsNodeTrouble, IsPast}
 use Rattle.block_tree.specs.Way.{LeadsTo, SetsOne, pointers_in}
@@ -179,7 +179,7 @@ abbrev pub more_read : (old : Way) (node : Node) → IsGoodWay old.path (set old
 more_read old node good = record { path = old.path; nodes = set old.nodes old.read node; read = old.read + 1; good = good }
 
 -- why a node isn't read
-pub way_trouble : {D : Type 0} (g : Ghosts D) (at : ℕ) (root : Root) (way : Way) (holder d : ℕ) (old new : D) (t : Trouble) → d ≤ way.read → IsWithin (g.blocks old) way → 0 < g.blocks old → holder ≡ holder_on at root way d
+pub way_trouble : {D : Type 0} (g : Ghosts D) (at : ℕ) (root : Root) (way : Way) (holder d : ℕ) (old new : D) (t : Trouble) → d ≤ way.read → IsWayWithin (g.blocks old) way → 0 < g.blocks old → holder ≡ holder_on at root way d
     → IsNodeTrouble g (pointer_on root way d) holder old new t → IsWayTrouble g at root old new t
 way_trouble g at root way holder d old new (trouble.Disk tried) below within some is why = why
 way_trouble g at root way holder zero old new (trouble.Damaged damage) below within some is (Far says past) = FarTop (get_or way.path 0 0) (says ∙ ap (λ (b : ℕ). record { block = b; code = past_disk }) is) past
@@ -212,7 +212,7 @@ reads_none g n d = record {
 }
 
 -- the last pointer is below a size of which all are
-pub last_below : (size : ℕ) (root : Root) (way : Way) → IsWithin size way → 0 < size → way.read ≡ node_levels → pointer_on root way node_levels < size
+pub last_below : (size : ℕ) (root : Root) (way : Way) → IsWayWithin size way → 0 < size → way.read ≡ node_levels → pointer_on root way node_levels < size
 last_below size root way within some whole =
     let leaves = (get_or way.nodes 0 no_node).leaves in
     let place = get_or way.path 1 0 in

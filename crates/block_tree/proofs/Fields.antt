@@ -1,6 +1,6 @@
 -- A root block part by part: where one part is the first that goes wrong, the block goes wrong there.
 use Rattle.std.proofs.Common.{◌≡◌, ◌≢◌, ℕ, ◌+◌, ◌<◌, ◌≤◌, ◌^◌, List, [], ◌∷◌, ◌++◌, length, take, drop, replicate, get_or, refl, sym, ◌∙◌, ap, subst, arith}
-use Rattle.block_tree.proofs.Words.{All, All-replicate, Index, IsFill, IsFirstBad, IsFirstBadByte, IsGoodRoot, IsRootBlock, IsSize, Kind, Normal, Root, Special, drop-take, get_or-drop, get_or-replicate, get_or-take, kind_code, numbers_spelling, root_spelling, take-add, take-append-drop, take-replicate, take-take, take_more, to_be_bytes, w32, w64, node_pointers}
+use Rattle.block_tree.proofs.Words.{All, All-replicate, Index, IsFill, IsFirstMisspelt, IsFirstBadByte, IsGoodRoot, IsRootBlock, IsSize, Kind, Normal, Root, Special, drop-take, get_or-drop, get_or-replicate, get_or-take, kind_code, numbers_spelling, root_spelling, take-add, take-append-drop, take-replicate, take-take, take_more, to_be_bytes, w32, w64, node_pointers}
 use Rattle.std.proofs.lemmas.List.{length-drop}
 
 -- ---- parts
@@ -19,7 +19,7 @@ parted : (n j m : ℕ) (xs ys : List ℕ) → j ≤ m → take (n + j) xs ≡ ta
 parted n j m xs ys le e = take-take j m (drop n xs) le ∙ sym (drop-take n j xs) ∙ ap (drop n) e ∙ drop-take n j ys ∙ sym (take-take j m (drop n ys) le)
 
 part_bad : {X : Type 0} (IsGood : X → Type 0) (spelling : X → List ℕ) (n m : ℕ) (block : List ℕ) → IsPart IsGood spelling n m block
-    → (j : ℕ) → j < m → IsFirstBad IsGood spelling (take m (drop n block)) j → IsFirstBadByte block (n + j)
+    → (j : ℕ) → j < m → IsFirstMisspelt IsGood spelling (take m (drop n block)) j → IsFirstBadByte block (n + j)
 part_bad {X} IsGood spelling n m block part j below bad = record { before = before; here = here }
   where
     before : (root : Root) × IsGoodRoot root × (take (n + j) (root_spelling root) ≡ take (n + j) block)
@@ -115,7 +115,7 @@ fill_bad block kind long code none = part_bad (λ (fill : ℕ). (fill < 2 ^ 8) �
         cc
 
 -- zero bytes
-zero_part : (m i : ℕ) (xs : List ℕ) → i < m → take i xs ≡ replicate i 0 → get_or xs i 0 ≢ 0 → IsFirstBad (λ (u : Unit {0}). Unit {0}) (λ u. replicate m 0) xs i
+zero_part : (m i : ℕ) (xs : List ℕ) → i < m → take i xs ≡ replicate i 0 → get_or xs i 0 ≢ 0 → IsFirstMisspelt (λ (u : Unit {0}). Unit {0}) (λ u. replicate m 0) xs i
 zero_part m i xs below zeros other = record {
   before = (tt, tt, take-replicate i m 0 (omega arith) ∙ sym zeros);
   here = λ u is e. other (sym (get_or-take (i + 1) xs i 0 (omega arith)) ∙ ap (λ (l : List ℕ). get_or l i 0) (sym e) ∙ get_or-take (i + 1) (replicate m 0) i 0 (omega arith) ∙ get_or-replicate m i 0 0 below);
@@ -144,7 +144,7 @@ begins_eight block kind fill word is zeros word_is fits = record {
   fits = fits;
 }
 
-pub size_bad : (block : List ℕ) (kind : Kind) (fill word i : ℕ) → BeginsEight block kind fill word → i < 8 → IsFirstBad (IsSize kind) (to_be_bytes w64) (take 8 (drop 8 block)) i
+pub size_bad : (block : List ℕ) (kind : Kind) (fill word i : ℕ) → BeginsEight block kind fill word → i < 8 → IsFirstMisspelt (IsSize kind) (to_be_bytes w64) (take 8 (drop 8 block)) i
     → IsFirstBadByte block (8 + i)
 unfolding blank root_spelling
 size_bad block kind fill word i is below bad = part_bad (IsSize kind) (to_be_bytes w64) 8 8 block

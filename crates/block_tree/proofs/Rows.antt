@@ -1,6 +1,6 @@
 -- The definitions on a worked volume: block 2 is the root index, whose node 0 is block 5 and whose leaf 0 is block 4.
 use Rattle.std.proofs.Common.{◌≡◌, ℕ, List, [], ◌∷◌, ◌++◌, take, replicate, refl}
-use Rattle.block_tree.proofs.Words.{Image, Index, held_leaves, leaf_block, leaf_bytes, leaf_count, levels_of, path_to, pointers_of, root_spelling, tree_of}
+use Rattle.block_tree.proofs.Words.{Image, Index, leaves_with_blocks, leaf_block, leaf_bytes, leaf_count, levels_of, path_to, pointers_of, root_spelling, tree_of}
 
 zeros : ℕ → List ℕ
 zeros n = replicate n 0
@@ -43,7 +43,7 @@ bytes_are : take 8 (leaf_bytes volume root_block 0) ≡ 0 ∷ 0 ∷ 0 ∷ 3 ∷ 
 unfolding volume root_block leaf_content node_content zeros levels_of path_to pointers_of
 bytes_are = refl
 
-held_are : held_leaves volume root_block 3 ≡ 0 ∷ []
+held_are : leaves_with_blocks volume root_block 3 ≡ 0 ∷ []
 unfolding volume root_block leaf_content node_content zeros levels_of path_to pointers_of
 held_are = refl
 

@@ -2,12 +2,12 @@
 pub use Rattle.block_tree.specs.Node.{IsNode, node_spelling}
 pub use Rattle.block_tree.specs.Pointers.{Level, leaf_limit, leaf_pointers, levels_below, node_levels, node_pointers, number_at, numbers_from, numbers_spelling, width}
 unfoldable pub use Rattle.block_tree.specs.Pointers.{pointers_of}
-pub use Rattle.block_tree.specs.Prefix.{IsFirstBad}
+pub use Rattle.block_tree.specs.Prefix.{IsFirstMisspelt}
 pub use Rattle.block_tree.specs.Reads.{IsFault, IsPast, leaves_at}
 pub use Rattle.block_tree.specs.Root.{Fits, IsFill, IsFirstBadByte, IsGoodRoot, IsRootBlock, IsSize, kind_code}
 unfoldable pub use Rattle.block_tree.specs.Root.{root_spelling}
 pub use Rattle.block_tree.specs.Step.{IsFirstSet, IsPastFrom, IsStep, IsStepAt, IsStepIn, IsStepped, NoneHeld, NoneSet, SomeHeld, SomeSet}
-pub use Rattle.block_tree.specs.Tree.{AreQuiet, HasNoDeadEnd, PastAbove, PastOn, bytes_in, end_of, held_leaves, leaf_block, leaf_bytes, leaf_count, pointer, tree_of}
+pub use Rattle.block_tree.specs.Tree.{AreQuiet, HasNoDeadEnd, PastAbove, PastOn, bytes_in, end_of, leaves_with_blocks, leaf_block, leaf_bytes, leaf_count, pointer, tree_of}
 unfoldable pub use Rattle.block_tree.specs.Tree.{levels_of, path_to}
 pub use Rattle.block_tree.specs.Walk.{IsFirstHeld, IsFirstOf, IsFirstPast, IsLaterIn}
 pub use Rattle.block_tree.specs.declared.fault.TreeFault.{TreeFault}

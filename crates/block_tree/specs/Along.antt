@@ -39,8 +39,8 @@ abbrev pub IsWay : Image → Root → Way → Type 0
 IsWay image root way = (d : ℕ) → d < way.read → pointers_at root way (suc d) ≡ leaves_at image (pointer_on root way d)
 
 -- on any disk its pointers lead to blocks of a disk of this size
-abbrev pub IsWithin : ℕ → Way → Type 0
-IsWithin size way = (d : ℕ) → d < way.read → All (λ n. n < size) (get_or way.nodes d no_node).leaves
+abbrev pub IsWayWithin : ℕ → Way → Type 0
+IsWayWithin size way = (d : ℕ) → d < way.read → All (λ n. n < size) (get_or way.nodes d no_node).leaves
 
 -- each node of the tree is on a disk of this size, and so is each leaf to which it leads
 abbrev pub IsNearTree : ℕ → Image → List ℕ → Type 0

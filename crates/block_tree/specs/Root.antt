@@ -6,7 +6,7 @@ use Rattle.cfs_base.specs.declared.kind.Kind.{Kind}
 use Rattle.cfs_base.specs.declared.kind.Kind.TheVariants.{Normal, Special, Index}
 use Rattle.block_tree.specs.declared.root.Root.{Root}
 use Rattle.block_tree.specs.Pointers.{node_pointers, numbers_spelling, size_limit}
-use Rattle.block_tree.specs.Prefix.{IsFirstBad}
+use Rattle.block_tree.specs.Prefix.{IsFirstMisspelt}
 
 -- ---- which values are roots
 
@@ -56,4 +56,4 @@ pub record IsRootBlock (block : List ℕ) (root : Root) : Type 0 where
 
 -- Some root block begins with the bytes before this place, and none with the bytes up to and with it.
 abbrev pub IsFirstBadByte : List ℕ → ℕ → Type 0
-IsFirstBadByte block byte = IsFirstBad IsGoodRoot root_spelling block byte
+IsFirstBadByte block byte = IsFirstMisspelt IsGoodRoot root_spelling block byte

@@ -52,8 +52,8 @@ abbrev pub leaf_block : Image → List ℕ → ℕ → ℕ
 leaf_block image root leaf = tree_of image root (path_to (levels_of root) leaf)
 
 -- of the first so many leaves those that are there, in rising order
-abbrev pub held_leaves : Image → List ℕ → ℕ → List ℕ
-held_leaves image root count = filter (λ leaf. not (leaf_block image root leaf == 0)) (range_with_len 0 count)
+abbrev pub leaves_with_blocks : Image → List ℕ → ℕ → List ℕ
+leaves_with_blocks image root count = filter (λ leaf. not (leaf_block image root leaf == 0)) (range_with_len 0 count)
 
 -- what a leaf with this block reads as: its content, or fill bytes where it is absent
 abbrev pub bytes_in : Image → ℕ → ℕ → List ℕ

@@ -128,13 +128,13 @@ impl Way {
     fn go_down<D: Disk>(&mut self, disk: &mut D, at: BlockNo, root: &Root) -> Result<(), Trouble>
         requires more { self.old.read < node_levels }
         requires some { 0 < D.blocks disk.old }
-        requires within { spec.IsWithin (D.blocks disk.old) self.old }
+        requires within { spec.IsWayWithin (D.blocks disk.old) self.old }
         ensures way { Tells D.Disk disk.old → spec.IsWay (D.content disk.old) root.now self.old
             → spec.IsWay (D.content disk.old) root.now self.new }
         ensures path { self.new.path ≡ self.old.path }
         ensures top { get_or root.now.nodes (get_or self.old.path 0 0) 0 < 2 ^ 32 }
         ensures read { OnOk result (self.new.read ≡ self.old.read + 1) }
-        ensures within { spec.IsWithin (D.blocks disk.old) self.new }
+        ensures within { spec.IsWayWithin (D.blocks disk.old) self.new }
         ensures refused { IfErr result (spec.IsWayTrouble D.Disk at.0 root.now disk.old disk.new) }
         ensures untried { IfErr result (λ trouble. trouble_had_tried trouble ≡ false) }
         ensures sound { Tells D.Disk disk.old
@@ -171,14 +171,14 @@ impl Way {
     ) -> Result<u32, Trouble>
         requires some { 0 < D.blocks disk.old }
         requires below { leaf < leaf_limit }
-        requires within { spec.IsWithin (D.blocks disk.old) self.old }
+        requires within { spec.IsWayWithin (D.blocks disk.old) self.old }
         ensures block { Tells D.Disk disk.old → spec.IsWay (D.content disk.old) root.now self.old
             → IfOk result (λ n. n ≡ leaf_block (D.content disk.old) (root_spelling root.now) leaf) }
         ensures way { Tells D.Disk disk.old → spec.IsWay (D.content disk.old) root.now self.old
             → spec.IsWay (D.content disk.old) root.now self.new }
         ensures to { OnOk result (spec.IsTo leaf self.new) }
         ensures there { IfOk result (λ n. n < D.blocks disk.old) }
-        ensures within { spec.IsWithin (D.blocks disk.old) self.new }
+        ensures within { spec.IsWayWithin (D.blocks disk.old) self.new }
         ensures refused { IfErr result (spec.IsWayTrouble D.Disk at.0 root.now disk.old disk.new) }
         ensures untried { IfErr result (λ trouble. trouble_had_tried trouble ≡ false) }
         ensures sound { Tells D.Disk disk.old → spec.IsWay (D.content disk.old) root.now self.old

@@ -3,7 +3,7 @@ ghost use Rattle.std.specs.Prelude.{◌≡◌, ◌≢◌, ◌↔◌, ℕ, IsTrue
 ghost use Rattle.std.specs.Prelude.{take, replicate, slice_index, IfSome, IfNone, MatchResult};
 ghost use Rattle.std.specs.Int.{to_be_bytes, w32, w64};
 ghost use Rattle.cfs_base.specs.declared.kind.Kind.{Kind};
-ghost use Rattle.block_tree.specs.Prefix.{IsFirstBad};
+ghost use Rattle.block_tree.specs.Prefix.{IsFirstMisspelt};
 ghost use Rattle.block_tree.specs.Root.{kind_code as code_of, IsFill, IsSize};
 
 use crate::root::{BadRoot, SIZE_LIMIT};
@@ -86,7 +86,7 @@ fn bytes_after(size: u64, limit: u64) -> u16
 /// The size, or the first of its bytes with which no size of this kind begins.
 pub fn size_of(kind: Kind, size: u64) -> Result<u64, u16>
     ensures { MatchResult result (λ given. (given ≡ size) × IsSize kind given)
-        (λ byte. (byte < 8) × IsFirstBad (IsSize kind) (to_be_bytes w64) (to_be_bytes w64 size) byte) }
+        (λ byte. (byte < 8) × IsFirstMisspelt (IsSize kind) (to_be_bytes w64) (to_be_bytes w64 size) byte) }
 {
     if size > SIZE_LIMIT {
         return Err(7 - bytes_after(size, SIZE_LIMIT));

@@ -1,6 +1,6 @@
 -- A run that is followed line after line.
 use Rattle.std.proofs.Common.{◌≡◌, ℕ, ◌+◌, ◌≤◌, List, [], ◌∷◌, ◌++◌, length, refl, sym, ap, subst, ◌∙◌, inr, arith, true, Some, None, length-append}
-use Rattle.cfs_audit.proofs.Words.{EndsIn, Err, Event, IfOk, IsBad, IsFollowed, HasVerdict, IsLast, IsLineOf, IsNoLine, IsVerdict, NoMemory, Ok, Opening, Result, Server, Verdict, and_from, append-nil, append_assoc, begun, ended, event_line, fits, flat_map, flat_map-append, fresh_graph, has_no_end, in_8, list_all, list_all-append, next, opening, opening_fits, opening_line, option_and_then, replay_from-push, root_of, status_line}
+use Rattle.cfs_audit.proofs.Words.{EndsIn, Err, Event, IfOk, IsBad, IsFollowed, HasVerdict, IsLastLine, IsNoLine, IsVerdict, NoMemory, Ok, Opening, Result, Server, Verdict, and_from, append-nil, append_assoc, begun, ended, event_line, fits, flat_map, flat_map-append, fresh_graph, has_no_end, list_all, list_all-append, next, opening, opening_fits, opening_line, option_and_then, replay_from-push, root_of, status_line}
 use Rattle.cfs_audit.specs.declared.trail.Verdict.TheVariants as verdicts
 use Rattle.cfs_audit.proofs.Lines.{bad, unended_bad}
 
@@ -61,24 +61,23 @@ module _ (text rest : List ℕ) (o : Opening) (count : ℕ) (server : Server) (h
   broken_off none = bad_here (unended_bad rest none)
 
   module _ (line more : List ℕ) (cut : rest ≡ line ++ 10 ∷ more) where
-    pub illegal_here : (event : Event) → IsLineOf line event → next server.seed server.state event ≡ None → HasVerdict text (verdicts.Illegal (count + 1))
-    illegal_here event is none = found (verdicts.Illegal (count + 1)) (
+    pub illegal_here : (event : Event) → fits event ≡ true → line ≡ event_line event → next server.seed server.state event ≡ None → HasVerdict text (verdicts.Illegal (count + 1))
+    illegal_here event fitting is none = found (verdicts.Illegal (count + 1)) (
       event,
       more,
-      is.fitting,
-      cut ∙ ap (λ l. l ++ 10 ∷ more) is.is ∙ sym (append_assoc (event_line event) (10 ∷ []) more),
+      fitting,
+      cut ∙ ap (λ l. l ++ 10 ∷ more) is ∙ sym (append_assoc (event_line event) (10 ∷ []) more),
       subst (λ (k : ℕ). next k server.state event ≡ None) h.seed none,
       ap (λ n. n + 1) h.counted,
     )
 
-    module _ (clear : has_no_end line ≡ true) (event_ends : (event : Event) → fits event ≡ true → has_no_end (event_line event) ≡ true)
-        (status_ends : (n : ℕ) → in_8 n ≡ true → has_no_end (status_line n) ≡ true) (none : IsNoLine line) where
-      ended_so : (v : Verdict) → IsLast line more count v → IsVerdict text v
+    module _ (clear : has_no_end line ≡ true) (none : IsNoLine line) where
+      ended_so : (v : Verdict) → IsLastLine line more count v → IsVerdict text v
       ended_so (verdicts.Legal n) is = found (verdicts.Legal n)
           (is.0, is.1, cut ∙ ap (λ l. l ++ 10 ∷ more) is.2 ∙ ap (λ t. status_line is.0 ++ 10 ∷ t) is.3, is.4 ∙ h.counted)
       ended_so (verdicts.Illegal place) is = absurd is
-      ended_so (verdicts.BadLine place) is = inr (subst (λ n. HasVerdict text (verdicts.BadLine n)) (sym is.1) (bad_here (subst IsBad (sym cut) (bad line more clear event_ends status_ends none is.0))))
+      ended_so (verdicts.BadLine place) is = inr (subst (λ n. HasVerdict text (verdicts.BadLine n)) (sym is.1) (bad_here (subst IsBad (sym cut) (bad line more clear none is.0))))
 
-      pub last_verdict : (r : Result Verdict NoMemory) → IfOk r (λ v. IsLast line more count v) → IfOk r (λ v. IsVerdict text v)
+      pub last_verdict : (r : Result Verdict NoMemory) → IfOk r (λ v. IsLastLine line more count v) → IfOk r (λ v. IsVerdict text v)
       last_verdict (Ok v) is = ended_so v is
       last_verdict (Err e) is = is

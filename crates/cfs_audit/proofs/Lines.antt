@@ -1,6 +1,6 @@
 -- Texts that begin with lines.
 use Rattle.std.proofs.Common.{◌≡◌, ◌≢◌, ℕ, List, [], ◌∷◌, ◌++◌, refl, ◌∙◌, true, not}
-use Rattle.cfs_audit.proofs.Words.{Event, IsBad, IsNoLine, IsUnopened, Opening, and_parts, append_assoc, ended, event_line, false≢true, fits, has_no_end, in_8, opening_fits, opening_line, status_line, ◌==◌}
+use Rattle.cfs_audit.proofs.Words.{IsBad, IsNoLine, IsNoneOf, IsUnopened, and_parts, append_assoc, ended, event_line, event_no_end, false≢true, has_no_end, in_8, opening_fits, opening_line, opening_no_end, status_line, status_no_end, ◌==◌}
 
 -- a text has one first line
 pub same_line : (a b x y : List ℕ) → has_no_end a ≡ true → has_no_end b ≡ true → a ++ 10 ∷ x ≡ b ++ 10 ∷ y → (a ≡ b) × (x ≡ y)
@@ -32,12 +32,11 @@ module _ (text : List ℕ) (none : has_no_end text ≡ true) where
   unended_unopened o more h e = no_line (opening_line o) more (e ∙ behind (opening_line o) more)
 
 module _ (line rest : List ℕ) (clear : has_no_end line ≡ true) where
-  pub unopened : ((o : Opening) → opening_fits o ≡ true → has_no_end (opening_line o) ≡ true) → ((o : Opening) → opening_fits o ≡ true → line ≢ opening_line o) → IsUnopened (line ++ 10 ∷ rest)
-  unopened ends none o more h e = none o h (same_line line (opening_line o) rest more clear (ends o h) (e ∙ behind (opening_line o) more)).0
+  pub unopened : IsNoneOf opening_fits opening_line line → IsUnopened (line ++ 10 ∷ rest)
+  unopened none o more h e = none o h (same_line line (opening_line o) rest more clear (opening_no_end o h) (e ∙ behind (opening_line o) more)).0
 
-  pub bad : ((event : Event) → fits event ≡ true → has_no_end (event_line event) ≡ true) → ((n : ℕ) → in_8 n ≡ true → has_no_end (status_line n) ≡ true)
-      → IsNoLine line → ((n : ℕ) → in_8 n ≡ true → line ≡ status_line n → rest ≢ []) → IsBad (line ++ 10 ∷ rest)
-  bad event_ends status_ends no_event no_status = record {
-    no_event = λ event more h e. no_event event h (same_line line (event_line event) rest more clear (event_ends event h) (e ∙ behind (event_line event) more)).0;
-    no_status = λ n h e. let two = same_line line (status_line n) rest [] clear (status_ends n h) e in no_status n h two.0 two.1;
+  pub bad : IsNoLine line → ((n : ℕ) → in_8 n ≡ true → line ≡ status_line n → rest ≢ []) → IsBad (line ++ 10 ∷ rest)
+  bad no_event no_status = record {
+    no_event = λ event more h e. no_event event h (same_line line (event_line event) rest more clear (event_no_end event h) (e ∙ behind (event_line event) more)).0;
+    no_status = λ n h e. let two = same_line line (status_line n) rest [] clear (status_no_end n h) e in no_status n h two.0 two.1;
   }

@@ -1,19 +1,10 @@
 -- A text has one verdict.
 use Rattle.std.proofs.Common.{◌≡◌, ◌≢◌, ◌⊎◌, inl, inr, ℕ, suc, ◌+◌, List, [], ◌∷◌, ◌++◌, length, refl, sym, ap, subst, ◌∙◌, true, Some, None}
 use Rattle.std.proofs.lemmas.Option.{none-some, same_Some}
-use Rattle.cfs_audit.proofs.Words.{EndsIn, Event, IsFollowed, HasVerdict, IsUnopened, IsVerdict, Opening, State, Verdict, and_parts, append_assoc, begun, ended, event_line, fits, flat_map, fresh_graph, has_no_end, in_8, list_all, next, opening, opening_fits, opening_line, option_and_then, root_of, status_line}
+use Rattle.cfs_audit.proofs.Words.{EndsIn, Event, IsFollowed, HasVerdict, IsUnopened, IsVerdict, Opening, State, Verdict, and_parts, append_assoc, begun, ended, event_line, event_no_end, fits, flat_map, fresh_graph, in_8, list_all, next, no_event_ends, one_event, one_opening, opening, opening_line, opening_no_end, option_and_then, root_of, status_line, status_no_end}
 use Rattle.ufs_model.specs.Run.{replay_from}
 use Rattle.cfs_audit.specs.declared.trail.Verdict.TheVariants as verdicts
 use Rattle.cfs_audit.proofs.Lines.{behind, same_line}
-
--- what lines tell
-pub record AreApart : Type 0 where
-  pub events : (a b : Event) → fits a ≡ true → fits b ≡ true → event_line a ≡ event_line b → a ≡ b
-  pub openings : (o p : Opening) → opening_fits o ≡ true → opening_fits p ≡ true → opening_line o ≡ opening_line p → o ≡ p
-  pub apart : (event : Event) (n : ℕ) → event_line event ≢ status_line n
-  pub ends : (event : Event) → fits event ≡ true → has_no_end (event_line event) ≡ true
-  pub status_ends : (n : ℕ) → in_8 n ≡ true → has_no_end (status_line n) ≡ true
-  pub opening_ends : (o : Opening) → opening_fits o ≡ true → has_no_end (opening_line o) ≡ true
 
 abbrev lines : List Event → List ℕ
 lines events = flat_map (λ e. ended (event_line e)) events
@@ -24,15 +15,15 @@ behind_events (verdicts.Legal k) n = verdicts.Legal n
 behind_events (verdicts.Illegal k) n = verdicts.Illegal (n + 1)
 behind_events (verdicts.BadLine k) n = verdicts.BadLine (n + 2)
 
-module _ (known : AreApart) (seed : ℕ) where
+module _ (seed : ℕ) where
   two_lines : (a b : Event) (x y : List ℕ) → fits a ≡ true → fits b ≡ true → ended (event_line a) ++ x ≡ ended (event_line b) ++ y → (a ≡ b) × (x ≡ y)
   two_lines a b x y h i e =
-      let same = same_line (event_line a) (event_line b) x y (known.ends a h) (known.ends b i) (sym (behind (event_line a) x) ∙ e ∙ behind (event_line b) y) in
-      (known.events a b h i same.0, same.1)
+      let same = same_line (event_line a) (event_line b) x y (event_no_end a h) (event_no_end b i) (sym (behind (event_line a) x) ∙ e ∙ behind (event_line b) y) in
+      (one_event a b h i same.0, same.1)
 
   no_end_line : (event : Event) (n : ℕ) (more : List ℕ) → fits event ≡ true → in_8 n ≡ true → ended (status_line n) ≢ ended (event_line event) ++ more
   no_end_line event n more h i e =
-      known.apart event n (sym (same_line (status_line n) (event_line event) [] more (known.status_ends n i) (known.ends event h) (e ∙ behind (event_line event) more)).0)
+      no_event_ends event n (sym (same_line (status_line n) (event_line event) [] more (status_no_end n i) (event_no_end event h) (e ∙ behind (event_line event) more)).0)
 
   -- no text goes on with an event that may happen where a verdict ends
   stuck : (v : Verdict) (s t : State) (rest more : List ℕ) (n : ℕ) (event : Event) → EndsIn seed s rest n v → fits event ≡ true → rest ≡ ended (event_line event) ++ more
@@ -102,27 +93,26 @@ module _ (text : List ℕ) where
   begins : (o : Opening) (events : List Event) (rest : List ℕ) → begun o events ++ rest ≡ ended (opening_line o) ++ (lines events ++ rest)
   begins o events rest = append_assoc (ended (opening_line o)) (lines events) rest
 
-  module _ (known : AreApart) where
-    both : (a b : Verdict) → HasVerdict text a → HasVerdict text b → a ≡ b
-    both a b x y =
-        let first = same_line (opening_line x.o) (opening_line y.o) (lines x.events ++ x.rest) (lines y.events ++ y.rest)
-        (known.opening_ends x.o x.followed.opened) (known.opening_ends y.o y.followed.opened)
-        (sym (behind (opening_line x.o) (lines x.events ++ x.rest)) ∙ sym (begins x.o x.events x.rest) ∙ sym x.followed.is ∙ y.followed.is
-        ∙ begins y.o y.events y.rest ∙ behind (opening_line y.o) (lines y.events ++ y.rest)) in
-        let opened : y.o ≡ x.o = sym (known.openings x.o y.o x.followed.opened y.followed.opened first.0) in
-        let moved = subst (λ o. IsFollowed text y.rest o y.events y.s × EndsIn o.seed y.s y.rest (length y.events) b) opened (y.followed, y.ends) in
-        let found = compare known x.o.seed a b x.events y.events (opening (fresh_graph (root_of x.o.seed))) x.s y.s x.rest y.rest (length x.events) (length y.events) x.followed.fitting moved.0.fitting first.1
-        x.followed.allowed moved.0.allowed x.ends moved.1 in
-        placed x.o.seed x.s x.rest (length x.events) a x.ends ∙ found.0 (length x.events) ∙ ap (behind_events b) found.1 ∙ sym (placed y.o.seed y.s y.rest (length y.events) b y.ends)
+  both : (a b : Verdict) → HasVerdict text a → HasVerdict text b → a ≡ b
+  both a b x y =
+      let first = same_line (opening_line x.o) (opening_line y.o) (lines x.events ++ x.rest) (lines y.events ++ y.rest)
+      (opening_no_end x.o x.followed.opened) (opening_no_end y.o y.followed.opened)
+      (sym (behind (opening_line x.o) (lines x.events ++ x.rest)) ∙ sym (begins x.o x.events x.rest) ∙ sym x.followed.is ∙ y.followed.is
+      ∙ begins y.o y.events y.rest ∙ behind (opening_line y.o) (lines y.events ++ y.rest)) in
+      let opened : y.o ≡ x.o = sym (one_opening x.o y.o x.followed.opened y.followed.opened first.0) in
+      let moved = subst (λ o. IsFollowed text y.rest o y.events y.s × EndsIn o.seed y.s y.rest (length y.events) b) opened (y.followed, y.ends) in
+      let found = compare x.o.seed a b x.events y.events (opening (fresh_graph (root_of x.o.seed))) x.s y.s x.rest y.rest (length x.events) (length y.events) x.followed.fitting moved.0.fitting first.1
+      x.followed.allowed moved.0.allowed x.ends moved.1 in
+      placed x.o.seed x.s x.rest (length x.events) a x.ends ∙ found.0 (length x.events) ∙ ap (behind_events b) found.1 ∙ sym (placed y.o.seed y.s y.rest (length y.events) b y.ends)
 
-    unlike : {v : Verdict} → HasVerdict text v → ¬ IsUnopened text
-    unlike x none = none x.o (lines x.events ++ x.rest) x.followed.opened (x.followed.is ∙ begins x.o x.events x.rest)
+  unlike : {v : Verdict} → HasVerdict text v → ¬ IsUnopened text
+  unlike x none = none x.o (lines x.events ++ x.rest) x.followed.opened (x.followed.is ∙ begins x.o x.events x.rest)
 
-    pub one_verdict : (a b : Verdict) → IsVerdict text a → IsVerdict text b → a ≡ b
-    one_verdict a b x y = compared (where_found a x) (where_found b y)
-      where
-        compared : HasVerdict text a ⊎ (IsUnopened text × (a ≡ verdicts.BadLine 1)) → HasVerdict text b ⊎ (IsUnopened text × (b ≡ verdicts.BadLine 1)) → a ≡ b
-        compared (inl u) (inl w) = both a b u w
-        compared (inl u) (inr w) = absurd (unlike u w.0)
-        compared (inr u) (inl w) = absurd (unlike w u.0)
-        compared (inr u) (inr w) = u.1 ∙ sym w.1
+  pub one_verdict : (a b : Verdict) → IsVerdict text a → IsVerdict text b → a ≡ b
+  one_verdict a b x y = compared (where_found a x) (where_found b y)
+    where
+      compared : HasVerdict text a ⊎ (IsUnopened text × (a ≡ verdicts.BadLine 1)) → HasVerdict text b ⊎ (IsUnopened text × (b ≡ verdicts.BadLine 1)) → a ≡ b
+      compared (inl u) (inl w) = both a b u w
+      compared (inl u) (inr w) = absurd (unlike u w.0)
+      compared (inr u) (inl w) = absurd (unlike w u.0)
+      compared (inr u) (inr w) = u.1 ∙ sym w.1

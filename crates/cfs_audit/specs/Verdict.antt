@@ -1,5 +1,5 @@
 -- What a verdict says of a text.
-use Rattle.std.specs.Prelude.{◌≡◌, ◌≢◌, ◌⊎◌, ℕ, ◌+◌, true, List, ◌++◌, length, Some, None}
+use Rattle.std.specs.Prelude.{◌≡◌, ◌≢◌, ◌⊎◌, ℕ, ◌+◌, true, List, [], ◌++◌, length, Some, None}
 use Rattle.std.specs.List.{list_all}
 use Rattle.cfs_base.specs.declared.identifier.Puid.{Puid}
 use Rattle.ufs_model.specs.Word.{word}
@@ -9,9 +9,7 @@ use Rattle.ufs_model.specs.Next.{next}
 use Rattle.ufs_model.specs.Run.{replay}
 use Rattle.ufs_model.specs.declared.asked.Event.{Event}
 use Rattle.trail_text.specs.declared.ends.Opening.{Opening}
-use Rattle.trail_text.specs.EventLine.{event_line}
-use Rattle.trail_text.specs.Fits.{fits}
-use Rattle.trail_text.specs.Token.{in_8}
+use Rattle.trail_text.specs.EventLine.{event_line, fits, in_8}
 use Rattle.trail_text.specs.Trail.{begun, ended, opening_fits, opening_line, status_line}
 use Rattle.cfs_audit.specs.declared.trail.Verdict.{Verdict}
 use Rattle.cfs_audit.specs.declared.trail.Verdict.TheVariants as verdicts
@@ -63,3 +61,11 @@ abbrev pub IsVerdict : List ℕ → Verdict → Type 0
 IsVerdict text (verdicts.Legal count) = IsLegal text count
 IsVerdict text (verdicts.Illegal place) = HasVerdict text (verdicts.Illegal place)
 IsVerdict text (verdicts.BadLine line) = (IsUnopened text × (line ≡ 1)) ⊎ HasVerdict text (verdicts.BadLine line)
+
+-- a line behind so many events that is no event's: it is the last, with nothing behind it, or it is bad
+abbrev pub IsLastLine : (line rest : List ℕ) → (count : ℕ) → Verdict → Type 0
+IsLastLine line rest count (verdicts.Legal n) =
+    (status : ℕ) × (in_8 status ≡ true) × (line ≡ status_line status) × (rest ≡ []) × (n ≡ count)
+IsLastLine line rest count (verdicts.Illegal n) = ⊥
+IsLastLine line rest count (verdicts.BadLine n) =
+    ((status : ℕ) → in_8 status ≡ true → line ≡ status_line status → rest ≢ []) × (n ≡ count + 2)

@@ -1,13 +1,12 @@
 //! The verdict on a text, line after line.
-ghost use Rattle.std.specs.Prelude.{◌≡◌, ◌<◌, ◌≤◌, ◌++◌, IfOk, length, true};
+ghost use Rattle.std.specs.Prelude.{◌≡◌, ◌≤◌, ◌++◌, IfOk, length, true};
 ghost use Rattle.trail_text.specs.Trail.{ended, opening_fits, opening_line};
-ghost use Rattle.cfs_audit.specs.Judged.{IsJudged, IsLast};
-ghost use Rattle.cfs_audit.specs.Verdict.{IsVerdict};
+ghost use Rattle.cfs_audit.specs.Verdict.{IsLastLine, IsVerdict};
 
 use crate::cut::first_line;
 use cfs_base::{NoMemory, Puid};
 use std::alloc::Global;
-use trail_text::{Opening, TrailFault, lines_tell_events, read_event, read_opening, read_status};
+use trail_text::{Opening, TrailFault, read_event, read_opening, read_status};
 use ufs_model::{Follower, word_of};
 
 /// What is said of a text.
@@ -22,19 +21,11 @@ pub enum Verdict {
     BadLine { line: u64 },
 }
 
-/// What is said of a line behind the first.
-enum Judged {
-    Followed,
-    Illegal,
-    NoEvent,
-}
-
 /// The verdict on a text of at most 268,435,456 bytes. `NoMemory` comes only for want of memory.
 pub fn audit(alloc: Global, bytes: &[u8]) -> Result<Verdict, NoMemory>
     requires { length bytes.now ≤ 268435456 }
     ensures { IfOk result (λ verdict. IsVerdict bytes.now verdict) }
 {
-    lines_tell_events();
     let Some(first) = first_line(bytes) else {
         return Ok(Verdict::BadLine { line: 1 });
     };
@@ -51,7 +42,6 @@ fn follow(alloc: Global, opening: Opening, text: &[u8]) -> Result<Verdict, NoMem
     requires few { length text.now ≤ 268435456 }
     ensures { IfOk result (λ verdict. IsVerdict (ended (opening_line opening) ++ text.now) verdict) }
 {
-    lines_tell_events();
     let root = Puid {
         block: 2,
         word: word_of(opening.seed, 0),
@@ -60,10 +50,14 @@ fn follow(alloc: Global, opening: Opening, text: &[u8]) -> Result<Verdict, NoMem
     let mut events = 0;
     let mut rest = text;
     'lines: while let Some(next) = first_line(rest) {
-        match judge(alloc, &mut follower, next.line)? {
-            Judged::Followed => {}
-            Judged::Illegal => return Ok(Verdict::Illegal { event: events + 1 }),
-            Judged::NoEvent => return last(alloc, next.line, next.rest, events),
+        match read_event(alloc, next.line) {
+            Ok(event) => {
+                if !follower.step(alloc, &event)? {
+                    return Ok(Verdict::Illegal { event: events + 1 });
+                }
+            }
+            Err(TrailFault::BadLine) => return last(alloc, next.line, next.rest, events),
+            Err(TrailFault::Memory) => return Err(NoMemory),
         }
         events += 1;
         rest = next.rest;
@@ -71,28 +65,10 @@ fn follow(alloc: Global, opening: Opening, text: &[u8]) -> Result<Verdict, NoMem
     Ok(Verdict::BadLine { line: events + 2 })
 }
 
-/// Follows the event of a line.
-fn judge(alloc: Global, follower: &mut Follower, line: &[u8]) -> Result<Judged, NoMemory>
-    requires { follower.old.state.drawn < 4294967295 }
-    ensures { IfOk result (λ judged. IsJudged follower.old line.now judged follower.new) }
-{
-    match read_event(alloc, line) {
-        Ok(event) => {
-            if follower.step(alloc, &event)? {
-                Ok(Judged::Followed)
-            } else {
-                Ok(Judged::Illegal)
-            }
-        }
-        Err(TrailFault::BadLine) => Ok(Judged::NoEvent),
-        Err(TrailFault::Memory) => Err(NoMemory),
-    }
-}
-
 /// The verdict where so many events were followed and this line is none.
 fn last(alloc: Global, line: &[u8], rest: &[u8], events: u64) -> Result<Verdict, NoMemory>
     requires { events ≤ 268435456 }
-    ensures { IfOk result (λ verdict. IsLast line.now rest.now events verdict) }
+    ensures { IfOk result (λ verdict. IsLastLine line.now rest.now events verdict) }
 {
     match read_status(alloc, line) {
         Ok(_) if rest.is_empty() => Ok(Verdict::Legal { events }),

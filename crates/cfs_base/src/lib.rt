@@ -1,4 +1,4 @@
-//! The plain types that every layer speaks of, and the traits of the outside: disk, source, sink and gate;
+//! The types that every layer speaks of, and the traits of the outside: disk, source, sink and gate;
 //! and of work that is made in turns.
 //! The layers above use the meanings of these traits, and that a call answers `Failed` only where the count of
 //! faults of its own object rose.

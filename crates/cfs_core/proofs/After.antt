@@ -5,10 +5,10 @@ use Rattle.cfs_base.specs.declared.refusal.Refused.TheVariants as refusals
 use Rattle.ufs_model.specs.declared.asked.Reply.TheVariants as replies
 use Rattle.ufs_model.specs.declared.object.Object.TheVariants as objects
 use Rattle.cfs_core.specs.Calls.{AddsNoStray, Answers, EndsSo, Owes, Tries, TriesOn}
-use Rattle.cfs_core.specs.Claimed.{Takes}
+use Rattle.cfs_core.specs.Claimed.{TakesForRequest}
 use Rattle.cfs_core.specs.Kernel.{Kernel}
 use Rattle.cfs_core.specs.Looks.{ReachesAll}
-use Rattle.cfs_core.specs.StandsFor.{Serves}
+use Rattle.cfs_core.specs.StandsFor.{CoreServes}
 use Rattle.cfs_core.specs.Ways.{Reaches}
 use Rattle.cfs_core.proofs.Serving.{serves_on}
 use Rattle.cfs_core.proofs.Went.{went_then}
@@ -26,7 +26,7 @@ module _ {D : Type 0} (g : Ghosts D) (n : ℕ) (old : Kernel D) (d : D) (new : K
       event = record { after = is.event.after; step = is.event.step; stores = is.event.stores; strays = subst (λ (i : Image). AddsNoStray i (g.content new.disk) s.graph is.event.after.graph) reads.content is.event.strays; survives = record { crashes = first _ is.event.survives.crashes; now = is.event.survives.now } };
       still = λ all. let was = is.still all in record { same = was.same; most = n + was.most; reads = reads_then g old.disk d new.disk n was.most (n + was.most) reads was.reads (omega arith) };
       owed = subst (λ (i : Image). Owes old.words.seed s who request i (sum old.space.free) reply) reads.content is.owed;
-      taken = λ done. subst (λ (i : Image). Takes old.handles s who request reply i (g.content new.disk)) reads.content (is.taken done);
+      taken = λ done. subst (λ (i : Image). TakesForRequest old.handles s who request reply i (g.content new.disk)) reads.content (is.taken done);
     }
 
     pub ends : (r : Result Reply Refused) → EndsSo g mid new s who request r → EndsSo g old new s who request r
@@ -38,7 +38,7 @@ module _ {D : Type 0} (g : Ghosts D) (n : ℕ) (old : Kernel D) (d : D) (new : K
     ends (Err refusals.Memory) is = answers replies.Memory is
 
   pub tries_then : (index : Puid) (slot : ℕ) (who : ℕ) (result : Result Reply Refused) → ReachesAll g objects.Index old who request index → TriesOn g mid new index slot request result
-      → ((s : State) (i : Index) → Serves g old s → Reaches s who request index (objects.Index i) → (slot < length i.slots) × (refusal_of s who request ≡ None)) → Tries g old new who request result
+      → ((s : State) (i : Index) → CoreServes g old s → Reaches s who request index (objects.Index i) → (slot < length i.slots) × (refusal_of s who request ≡ None)) → Tries g old new who request result
   tries_then index slot who result reaches tries goes = record {
     ends = λ s serves none.
         let i = reaches.0 s serves in

@@ -1,6 +1,6 @@
 -- A file through a grant with a draft: when a request on it is refused, what it is told, and what a change makes of the state.
 use Rattle.std.proofs.Common.{◌≡◌, ◌⊎◌, inl, inr, ℕ, zero, suc, ◌+◌, ◌<◌, ◌≤◌, List, [], ◌∷◌, ◌++◌, length, get_or, Bool, true, false, cond, not, Option, Some, None, Ok, Err, IsTrue, refl, sym, ◌∙◌, ap, subst, arith, IfErr, IfOk, Result, filter, find, map, nat_lt, option_and_then, option_to_list, sum}
-use Rattle.cfs_core.proofs.Words.{and_parts, Becomes, blocks_taken, Change, change_need, changed, changed_draft, changed_object, Draft, draft_blocks, draft_of, Drafting, File, file_to_leaves, Fill, filter-rises, first_level, fresh_of, Ghosts, Grant, grant_of, Graph, has_number, HasDraft, held_levels, here, Holds, Image, in_filter, in_with, is_damaged, is_draft_of, is_grant, is_normal}
+use Rattle.cfs_core.proofs.Words.{and_parts, DraftBecomes, blocks_taken, Change, change_need, changed, changed_draft, changed_object, Draft, draft_blocks, draft_of, Drafting, File, file_to_leaves, Fill, filter-rises, first_level, fresh_of, Ghosts, Grant, grant_of, Graph, has_number, HasDraft, held_levels, here, Holds, Image, in_filter, in_with, has_met_damage, is_draft_of, is_grant, is_normal}
 use Rattle.cfs_core.proofs.Words.{is_range, is_reading, IsOpen, IsPlainReply, Kept, later, Leaves, list_all, MapEntry, merged, missing, need_beside, need_of, next, next_keeps, next_levels, numbers-rise, numbers_rise, Object, object_at, of_draft, OnlyReads, Opened, opened_as, outcome_legal, Overwrite, Puid, put_draft-at, range_with_len, refusal_of, Refused, replaced, Reply, Request, same_puid}
 use Rattle.cfs_core.proofs.Words.{same_puid_itself, seen, seen_draft, SetSize, shadow_need, shared, State, StoreHas, sum_by, sum_by-cons, target, the_draft, Through, Tuid, wider, with_draft, with_numbers, within, without_draft, written_anew}
 use Rattle.cfs_base.specs.declared.refusal.Need as needs
@@ -15,7 +15,7 @@ use Rattle.cfs_core.specs.Drafts.{AltersDraft, ChangesDraft, KnowsDraft}
 use Rattle.cfs_core.specs.Kernel.{Kernel, Handle, is_ready}
 use Rattle.cfs_core.specs.Looks.{IsDraftCause, content_reply, measured}
 use Rattle.cfs_core.specs.Handles.{drafting_at, is_drawn, with_drafting}
-use Rattle.cfs_core.specs.StandsFor.{HasDraftOf, Serves, bare, drafts_of_handles}
+use Rattle.cfs_core.specs.StandsFor.{HasDraftOf, CoreServes, bare, drafts_of_handles}
 use Rattle.intentions.proofs.Shown.{store_whole}
 use Rattle.intentions.specs.Left.{StoreIs}
 use Rattle.cfs_core.proofs.Answering.{disk_failed, memory, owes, reads_none, seen as told, tries_so}
@@ -30,11 +30,14 @@ use Rattle.cfs_core.proofs.Refusing.{IsSeen}
 use Rattle.cfs_core.proofs.Handled.{grants_with}
 use Rattle.cfs_core.proofs.Serving.{fits, running, stays}
 use Rattle.cfs_core.proofs.Moved.{HasStepped, IsStepped, four_left, makes_stepped}
-use Rattle.cfs_core.specs.Claimed.{ClaimsInOrder, Takes, claims_for, claims_in_draft, commits_alone, is_beside, owners_of, claims_in_file, claims_through, root_reached}
+use Rattle.cfs_core.specs.Claimed.{ClaimsInOrder, TakesForRequest, claims_for, claims_in_draft, commits_alone, is_beside, owners_of, claims_in_file, claims_through, root_reached}
 use Rattle.cfs_core.proofs.Claimed.{takes_alone}
 use Rattle.std.specs.Prelude.{◌&&◌, is_none}
 use Rattle.ufs_model.specs.State.{file_seen}
 use Rattle.std.specs.Option.{option_map_or}
+use Rattle.special_files.proofs.Refusals.{damage_as}
+use Rattle.special_files.specs.Committing.{FarRoots, draft_top}
+use Rattle.special_files.specs.Refusal.{top_of}
 
 -- ---- how many blocks of a draft are fresh
 
@@ -154,7 +157,7 @@ none_needed was n is = rw is refl
 
 -- ---- a grant with a draft, as the core has it
 
-module _ {D : Type 0} (g : Ghosts D) (k : Kernel D) (s : State) (serves : Serves g k s) (who : ℕ) (t : Tuid) (was : Drafting) (held : IsHeld g k s who t was) where
+module _ {D : Type 0} (g : Ghosts D) (k : Kernel D) (s : State) (serves : CoreServes g k s) (who : ℕ) (t : Tuid) (was : Drafting) (held : IsHeld g k s who t was) where
   abbrev pub ds : List Opened
   ds = drafts_of_handles k.handles s.grants
 
@@ -214,7 +217,7 @@ module _ {D : Type 0} (g : Ghosts D) (k : Kernel D) (s : State) (serves : Serves
 
   -- ---- it is changed
 
-  module _ (ready : list_all (is_ready k.names.room) k.handles ≡ true) (change : Change) (request : Request) (is : IsChanging request change) (goes_to : target request ≡ Through t) (goes : refusal_of s who request ≡ None) where
+  module _ (ready : list_all (is_ready k.directory.room) k.handles ≡ true) (change : Change) (request : Request) (is : IsChanging request change) (goes_to : target request ≡ Through t) (goes : refusal_of s who request ≡ None) where
     abbrev d : Draft
     d = changed_draft change before
 
@@ -233,14 +236,14 @@ module _ {D : Type 0} (g : Ghosts D) (k : Kernel D) (s : State) (serves : Serves
 
     beside_is : need_beside change before was ≡ need_of s who request
     beside_is =
-        let shadow = (ready_for k.names.room was (ready_at k.names.room t.draw k.handles ready was held.at)).shadow in
+        let shadow = (ready_for k.directory.room was (ready_at k.directory.room t.draw k.handles ready was held.at)).shadow in
         omega (arith, none_needed was shadow.0 shadow.1, need_is)
 
     legal : k.stop ≡ None → next k.words.seed s (events.Ask who request replies.Done) ≡ Some after
     legal none = subst (λ (p : Reply × State). next k.words.seed s (events.Ask who request p.0) ≡ Some p.1) (is.outcome k.words.seed s who 0 ∙ ap (λ (y : State). (replies.Done, y)) changed_is)
         (outcome_legal k.words.seed s who request 0 (running g k s serves none) goes (λ made. let no : true ≡ false = sym made ∙ is.makes in cc))
 
-    takes : (disk : D) → ClaimsInOrder (claims_in_draft change before was) (id.block ∷ []) (g.content k.disk) (g.content disk) → Takes k.handles s who request replies.Done (g.content k.disk) (g.content disk)
+    takes : (disk : D) → ClaimsInOrder (claims_in_draft change before was) (id.block ∷ []) (g.content k.disk) (g.content disk) → TakesForRequest k.handles s who request replies.Done (g.content k.disk) (g.content disk)
     takes disk order =
         let here : held.x.id ≡ id = sym (ap (λ e. e.id) held.place.here) in
         let claims : claims_for k.handles s who request replies.Done ≡ claims_in_draft change before was = is.claims k.handles s who replies.Done ∙ ap (λ to. claims_through k.handles s who to change) goes_to
@@ -271,13 +274,13 @@ module _ {D : Type 0} (g : Ghosts D) (k : Kernel D) (s : State) (serves : Serves
         stopped = refl;
         sweeping = refl;
         drawn = serves.front.drawn;
-        named = serves.front.names;
+        named = serves.front.directory;
         root = refl;
         stop = refl;
         table = grants_with t.draw (Some now) k.handles ∙ serves.front.grants ∙ sym (bare_with who t d s.grants);
       }
 
-      module _ (becomes : Becomes g s.graph ds id d k.disk disk space now) (left_same : space.left ≡ k.space.left) (shadow : now.shadow ≡ was.shadow) (created : now.created ≡ was.created) (room : need_beside change before was + 4 ≤ sum k.space.free) where
+      module _ (becomes : DraftBecomes g s.graph ds id d k.disk disk space now) (left_same : space.left ≡ k.space.left) (shadow : now.shadow ≡ was.shadow) (created : now.created ≡ was.created) (room : need_beside change before was + 4 ≤ sum k.space.free) where
         has : HasStepped g k new s s.graph T es
         has = record { store = becomes.steps.store; only = becomes.steps.only; these = of_its_draft s.graph id (block g k s serves who t was held); left = left_same ∙ serves.left }
 
@@ -370,7 +373,7 @@ module _ {D : Type 0} (g : Ghosts D) (k : Kernel D) (s : State) (serves : Serves
             altered (rw (← same) at alters.done) changes.left changes.shadow changes.created (rw (← same) at alters.room) left_sized wide none alters.leaves (rw (← same) at alters.order)
         did (Err (refusals.Full n)) same =
             let told = (rw (← same) at alters.full) refl in
-            let spared = (rw (← same) at alters.spared) refl in
+            let spared = (rw (← same) at changes.spared) refl in
             full n told.0 told.1 spared.0 spared.1 spared.2
         did (Err (refusals.Disk false)) same = (let two = (rw (← same) at changes.untried) refl in disk_failed g left_sized sized 31092 k new two.0 (as_it_was two.1 two.2) s who serves none request)
         did (Err (refusals.Disk true)) same = doubtful
@@ -382,7 +385,7 @@ module _ {D : Type 0} (g : Ghosts D) (k : Kernel D) (s : State) (serves : Serves
 
 -- ---- a grant without a draft
 
-pub undrafted : {D : Type 0} (g : Ghosts D) (k : Kernel D) (s : State) → Serves g k s → (who : ℕ) (t : Tuid) → drafting_at k.handles t.draw ≡ None → draft_of s who (Through t) ≡ None
+pub undrafted : {D : Type 0} (g : Ghosts D) (k : Kernel D) (s : State) → CoreServes g k s → (who : ℕ) (t : Tuid) → drafting_at k.handles t.draw ≡ None → draft_of s who (Through t) ≡ None
 undrafted g k s serves who t none = at (grant_of s who t) refl
   where
     at : (o : Option Grant) → grant_of s who t ≡ o → option_and_then (λ (x : Grant). x.draft) o ≡ None
@@ -399,7 +402,7 @@ undrafted g k s serves who t none = at (grant_of s who t) refl
 -- ---- calls that only read
 
 module _ {D : Type 0} (g : Ghosts D) (left_sized : (d : D) (t : ℕ) (c : Image) → g.left_since d t c → length c ≡ g.blocks d) (sized : (d : D) → IsTrue (g.honest d) → length (g.content d) ≡ g.blocks d)
-    (k : Kernel D) (who : ℕ) (t : Tuid) (was : Drafting) (drafting : drafting_at k.handles t.draw ≡ Some was) (the : (s : State) → Serves g k s → IsHeld g k s who t was) where
+    (k : Kernel D) (who : ℕ) (t : Tuid) (was : Drafting) (drafting : drafting_at k.handles t.draw ≡ Some was) (the : (s : State) → CoreServes g k s → IsHeld g k s who t was) where
   pub tries_size : Tries g k k who (asks.Size (Through t)) (Ok (replies.Number was.root.size))
   tries_size = tries_so g left_sized sized 0 k k (reads_none g 0 k.disk) refl who (asks.Size (Through t)) (Ok (replies.Number was.root.size))
       (λ s serves none. told g left_sized sized 0 k k (reads_none g 0 k.disk) refl s who serves none (asks.Size (Through t)) (replies.Number was.root.size) refl refl refl refl
@@ -410,15 +413,15 @@ module _ {D : Type 0} (g : Ghosts D) (left_sized : (d : D) (t : ℕ) (c : Image)
     abbrev read : Request
     read = asks.Read (Through t) offset count
 
-    whole : (s : State) (serves : Serves g k s) → StoreHas g s.graph (drafts_of_handles k.handles s.grants) k.disk k.space → StoreIs g s.graph (drafts_of_handles k.handles s.grants) k.disk k.space
+    whole : (s : State) (serves : CoreServes g k s) → StoreHas g s.graph (drafts_of_handles k.handles s.grants) k.disk k.space → StoreIs g s.graph (drafts_of_handles k.handles s.grants) k.disk k.space
     whole s serves store = store_whole g s.graph (drafts_of_handles k.handles s.grants) k.disk k.space serves.left store
 
     pub tries_read : (result : Result Reply Refused)
         → ((graph : Graph) (ds : List Opened) (space : Kept) (id : Puid) (o : Object) (m : Draft) (f : File) → StoreIs g graph ds k.disk space → object_at graph id ≡ Some o → IsOpen ds id was m → m.object ≡ objects.File f → length f.bytes ≡ was.root.size
         → IfOk result (λ reply. reply ≡ content_reply f offset count))
         → IfOk result IsPlainReply
-        → ((graph : Graph) (ds : List Opened) (space : Kept) (id : Puid) (o : Object) (m : Draft) → StoreIs g graph ds k.disk space → object_at graph id ≡ Some o → IsOpen ds id was m → IfErr result (λ e. is_damaged e ≡ false))
-        → IfErr result (IsDraftCause g was.at k.disk d) → Tries g k (record k { disk = d }) who read result
+        → ((graph : Graph) (ds : List Opened) (space : Kept) (id : Puid) (o : Object) (m : Draft) → StoreIs g graph ds k.disk space → object_at graph id ≡ Some o → IsOpen ds id was m → IfErr result (λ e. has_met_damage e ≡ false))
+        → IfErr result (IsDraftCause g (top_of was) k.disk d) → Tries g k (record k { disk = d }) who read result
     unfolding knows files
     tries_read (Ok reply) exact plain sound cause = tries_so g left_sized sized n k (record k { disk = d }) reads refl who read (Ok reply)
         (λ s serves none.
@@ -433,19 +436,21 @@ module _ {D : Type 0} (g : Ghosts D) (left_sized : (d : D) (t : ℕ) (c : Image)
     tries_read (Err (refusals.Damaged damage)) exact plain sound cause = tries_so g left_sized sized n k (record k { disk = d }) reads refl who read (Err (refusals.Damaged damage))
         (λ s serves none. let knows = knows g k s serves who t was (the s serves) in
         let no : true ≡ false = sound s.graph (drafts_of_handles k.handles s.grants) k.space _ knows.object _ (whole s serves knows.store) knows.there knows.is_open in cc) tt
-        (told_of_draft g k (record k { disk = d }) (Some read) was.at (inr (t.draw, was, drafting, refl)) damage reads.same.size (cause k.space))
+        (told_of_draft g k (record k { disk = d }) (Some read) was.at (inr (t.draw, was, drafting, refl)) damage reads.same.size t.draw was drafting refl (damage_as g (top_of was) (draft_top was) refl k.disk d k.space (λ far. FarRoots (inr far)) damage (cause k.space)))
     tries_read (Err refusals.Memory) exact plain sound cause = tries_so g left_sized sized n k (record k { disk = d }) reads refl who read (Err refusals.Memory)
         (λ s serves none. memory g left_sized sized n k (record k { disk = d }) reads refl s who serves none read) tt tt
 
 -- the whole call, of a grant that has a draft
 pub tries_altered : {D : Type 0} (g : Ghosts D) (left_sized : (d : D) (t : ℕ) (c : Image) → g.left_since d t c → length c ≡ g.blocks d) (sized : (d : D) → IsTrue (g.honest d) → length (g.content d) ≡ g.blocks d)
-    (k : Kernel D) (ready : list_all (is_ready k.names.room) k.handles ≡ true) (who : ℕ) (t : Tuid) (was : Drafting) (drafting : drafting_at k.handles t.draw ≡ Some was) (the : (s : State) → Serves g k s → IsHeld g k s who t was)
-    (change : Change) (request : Request) (is : IsChanging request change) (goes_to : target request ≡ Through t) → ((s : State) → Serves g k s → refusal_of s who request ≡ None)
+    (k : Kernel D) (ready : list_all (is_ready k.directory.room) k.handles ≡ true) (who : ℕ) (t : Tuid) (was : Drafting) (drafting : drafting_at k.handles t.draw ≡ Some was) (the : (s : State) → CoreServes g k s → IsHeld g k s who t was)
+    (change : Change) (request : Request) (is : IsChanging request change) (goes_to : target request ≡ Through t) → ((s : State) → CoreServes g k s → refusal_of s who request ≡ None)
     → (now : Drafting) (disk : D) (space : Kept) (result : Result (Unit {0}) Refused) → ChangesDraft g change k.disk disk k.space space was now result
     → Tries g k (record k { disk = disk; space = space; handles = with_drafting t.draw (Some now) k.handles }) who request (done_or result)
 tries_altered g left_sized sized k ready who t was drafting the change request is goes_to goes now disk space result changes = record {
   ends = λ s serves none.
       ends_so g k s serves who t was (the s serves) ready change request is goes_to (goes s serves) now disk space left_sized sized none result changes;
   went = went_done g k disk space (with_drafting t.draw (Some now) k.handles) changes.calls.same.size changes.calls.faults changes.calls.later request result (λ tried is. rw is at changes.refused)
-      (λ damage met. told_of_draft g k (record k { disk = disk; space = space; handles = with_drafting t.draw (Some now) k.handles }) (Some request) was.at (inr (t.draw, was, drafting, refl)) damage changes.calls.same.size (rw met at changes.refused));
+      (λ damage met. told_of_draft g k (record k { disk = disk; space = space; handles = with_drafting t.draw (Some now) k.handles }) (Some request) was.at (inr (t.draw, was, drafting, refl)) damage changes.calls.same.size t.draw was drafting refl
+      (damage_as g (top_of was) (draft_top was) refl k.disk disk space (λ far. FarRoots (inr far)) damage (rw met at changes.refused)))
+      (λ need want. let why = rw want at changes.refused in let kept = ((rw want at changes.spared) refl).1 in (is.delete, why.0 ∙ ap (λ (x : Kept). sum x.free) kept, why.1));
 }

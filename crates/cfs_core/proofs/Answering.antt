@@ -1,16 +1,16 @@
 -- How a call ends that only reads: a refusal, what was asked for, or the failure of a device call.
 use Rattle.std.proofs.Common.{◌≡◌, inl, inr, ℕ, [], length, Bool, true, false, Option, Some, None, Result, Ok, Err, IsTrue, refl, sym, ◌∙◌, ap, subst, arith, IfErr, IfOk, sum, List}
-use Rattle.cfs_core.proofs.Words.{AFile, AnIndex, answer_legal, creates, drafts_of, Either, Event, Ghosts, Image, Index, is_damaged, IsPlainReply, Kind, need_of, next, Object, object_at, OnlyReads, outcome_legal, outcome_plain, Puid, refusal_of, Refused, refused_answer, refused_plain, Reply, Request, State, Wanted, MapEntry}
+use Rattle.cfs_core.proofs.Words.{AFile, AnIndex, answer_legal, creates, drafts_of, Either, Event, Ghosts, Image, Index, has_met_damage, IsPlainReply, Kind, need_of, next, Object, object_at, OnlyReads, outcome_legal, outcome_plain, Puid, refusal_of, Refused, refused_answer, refused_plain, Reply, Request, State, Wanted, MapEntry}
 use Rattle.cfs_base.specs.declared.kind.Kind.TheVariants as kinds
 use Rattle.cfs_base.specs.declared.refusal.Refused.TheVariants as refusals
 use Rattle.ufs_model.specs.declared.asked.Event.TheVariants as events
 use Rattle.ufs_model.specs.declared.asked.Reply.TheVariants as replies
 use Rattle.ufs_model.specs.declared.object.Object.TheVariants as objects
-use Rattle.cfs_core.specs.Calls.{Answers, ByOutcome, ByRefusal, EndsSo, IsCause, IsOwed, Makes, Owes, Tries, Went}
+use Rattle.cfs_core.specs.Calls.{Answers, ByOutcome, ByRefusal, EndsSo, IsCause, IsOwed, MakesEvent, Owes, Tries, Went}
 use Rattle.cfs_core.specs.Kernel.{Kernel}
-use Rattle.cfs_core.specs.Looks.{IsCalm, IsCalmCause, Knows, ReachesAll}
+use Rattle.cfs_core.specs.Looks.{IsCalm, IsCalmCause, KnowsObject, ReachesAll}
 use Rattle.intentions.proofs.Shown.{shown_whole}
-use Rattle.cfs_core.specs.StandsFor.{Serves, drafts_of_handles}
+use Rattle.cfs_core.specs.StandsFor.{CoreServes, drafts_of_handles}
 use Rattle.cfs_core.specs.Ways.{Reaches, unfit_of}
 use Rattle.cfs_core.proofs.Refusing.{IsSeen}
 use Rattle.cfs_core.specs.Damage.{IsRootHere}
@@ -42,8 +42,8 @@ reads_none g n d = record {
 
 module _ {D : Type 0} (g : Ghosts D) (left_sized : (d : D) (t : ℕ) (c : Image) → g.left_since d t c → length c ≡ g.blocks d) (sized : (d : D) → IsTrue (g.honest d) → length (g.content d) ≡ g.blocks d)
     (n : ℕ) (old new : Kernel D) (reads : OnlyReads g n old.disk new.disk) (same : new ≡ record old { disk = new.disk }) where
-  module _ (s : State) (who : ℕ) (serves : Serves g old s) (none : old.stop ≡ None) where
-    on : (e : Event) → next old.words.seed s e ≡ Some s → Makes g old new s e
+  module _ (s : State) (who : ℕ) (serves : CoreServes g old s) (none : old.stop ≡ None) where
+    on : (e : Event) → next old.words.seed s e ≡ Some s → MakesEvent g old new s e
     on e step = stays g n old new reads same s serves left_sized (sized old.disk serves.store.carries.tells.honest) e step
 
     pub refused : (request : Request) (reply : Reply) → refusal_of s who request ≡ Some reply → Answers g old new s who request reply
@@ -82,7 +82,7 @@ module _ {D : Type 0} (g : Ghosts D) (left_sized : (d : D) (t : ℕ) (c : Image)
     memory request = record { event = on (events.Ask who request replies.Memory) refl; still = λ all. record { same = same; most = n; reads = reads }; owed = tt; taken = λ done. let no : false ≡ true = done in cc }
 
   -- what the call itself owes
-  pub tries_so : (who : ℕ) (request : Request) (result : Result Reply Refused) → ((s : State) → Serves g old s → old.stop ≡ None → EndsSo g old new s who request result)
+  pub tries_so : (who : ℕ) (request : Request) (result : Result Reply Refused) → ((s : State) → CoreServes g old s → old.stop ≡ None → EndsSo g old new s who request result)
       → IfOk result IsPlainReply → IfErr result (IsCause g old new (Some request)) → Tries g old new who request result
   tries_so who request result ends plain cause = record {
     ends = ends;
@@ -94,8 +94,8 @@ module _ {D : Type 0} (g : Ghosts D) (left_sized : (d : D) (t : ℕ) (c : Image)
   tries_want who request e is = subst (λ (x : Refused). Tries g old new who request (Err x)) (sym is) (tries_so who request (Err refusals.Memory) (λ s serves none. memory s who serves none request) tt tt)
 
   -- a read that failed, where such an object is
-  failed : {A : Type 0} (sort : A → Object) (at : ℕ) (e : Refused) → ((a : A) → Knows g old.disk at (sort a) → is_damaged e ≡ false) → IsCalmCause g at old.disk new.disk e → (who : ℕ) (request : Request) → IsRootHere old (Some request) at
-      → ((s : State) → Serves g old s → (a : A) × Knows g old.disk at (sort a)) → Tries g old new who request (Err e)
+  failed : {A : Type 0} (sort : A → Object) (at : ℕ) (e : Refused) → ((a : A) → KnowsObject g old.disk at (sort a) → has_met_damage e ≡ false) → IsCalmCause g at old.disk new.disk e → (who : ℕ) (request : Request) → IsRootHere old (Some request) at
+      → ((s : State) → CoreServes g old s → (a : A) × KnowsObject g old.disk at (sort a)) → Tries g old new who request (Err e)
   failed sort at (refusals.Full need) sound cause who request here knows = absurd cause
   failed sort at (refusals.Disk tried) sound cause who request here knows = subst (λ (b : Bool). Tries g old new who request (Err (refusals.Disk b))) (sym cause.0)
       (tries_so who request (Err (refusals.Disk false)) (λ s serves none. disk_failed s who serves none request) tt cause.1)
@@ -104,10 +104,10 @@ module _ {D : Type 0} (g : Ghosts D) (left_sized : (d : D) (t : ℕ) (c : Image)
   failed sort at refusals.Memory sound cause who request here knows = tries_so who request (Err refusals.Memory) (λ s serves none. memory s who serves none request) tt tt
 
 -- the store has the object that is reached, of which there is no draft
-pub knows_that : {D : Type 0} (g : Ghosts D) (k : Kernel D) (s : State) → Serves g k s → (id : Puid) (o : Object) → object_at s.graph id ≡ Some o → drafts_of (drafts_of_handles k.handles s.grants) id ≡ [] → Knows g k.disk id.block o
+pub knows_that : {D : Type 0} (g : Ghosts D) (k : Kernel D) (s : State) → CoreServes g k s → (id : Puid) (o : Object) → object_at s.graph id ≡ Some o → drafts_of (drafts_of_handles k.handles s.grants) id ≡ [] → KnowsObject g k.disk id.block o
 knows_that g k s serves id o there shut = record { graph = s.graph; drafts = drafts_of_handles k.handles s.grants; space = k.space; id = id; seen = shown_whole g s.graph (drafts_of_handles k.handles s.grants) k.disk k.space id o id.block serves.left serves.store there refl; shut = shut }
 
-pub known : {D : Type 0} (g : Ghosts D) (k : Kernel D) (s : State) → Serves g k s → (index : Puid) (i : Index) → object_at s.graph index ≡ Some (objects.Index i) → Knows g k.disk index.block (objects.Index i)
+pub known : {D : Type 0} (g : Ghosts D) (k : Kernel D) (s : State) → CoreServes g k s → (index : Puid) (i : Index) → object_at s.graph index ≡ Some (objects.Index i) → KnowsObject g k.disk index.block (objects.Index i)
 known g k s serves index i there = knows_that g k s serves index (objects.Index i) there (shut g k s serves index i there)
 
 -- a request for something else than an object of this kind
@@ -123,7 +123,7 @@ unfit_plain Either (Some k) reply is = cc
 
 -- a request that is refused as the core stands
 pub tries_refusal : {D : Type 0} (g : Ghosts D) (left_sized : (d : D) (t : ℕ) (c : Image) → g.left_since d t c → length c ≡ g.blocks d) (sized : (d : D) → IsTrue (g.honest d) → length (g.content d) ≡ g.blocks d)
-    (k : Kernel D) (who : ℕ) (request : Request) (reply : Reply) → IsPlainReply reply → ((s : State) → Serves g k s → refusal_of s who request ≡ Some reply) → Tries g k k who request (Ok reply)
+    (k : Kernel D) (who : ℕ) (request : Request) (reply : Reply) → IsPlainReply reply → ((s : State) → CoreServes g k s → refusal_of s who request ≡ Some reply) → Tries g k k who request (Ok reply)
 tries_refusal g left_sized sized k who request reply plain is = tries_so g left_sized sized 0 k k (reads_none g 0 k.disk) refl who request (Ok reply)
     (λ s serves none. refused g left_sized sized 0 k k (reads_none g 0 k.disk) refl s who serves none request reply (is s serves)) plain tt
 
@@ -132,17 +132,17 @@ tries_refusal g left_sized sized k who request reply plain is = tries_so g left_
 module _ {D A : Type 0} (g : Ghosts D) (left_sized : (d : D) (t : ℕ) (c : Image) → g.left_since d t c → length c ≡ g.blocks d) (sized : (d : D) → IsTrue (g.honest d) → length (g.content d) ≡ g.blocks d)
     (sort : A → Object) (k : Kernel D) (id : Puid) (who : ℕ) (request : Request) (reaches : ReachesAll g sort k who request id) (n : ℕ) (d : D) where
   abbrev IsReplied : (A → Reply) → Type 0
-  IsReplied says = (s : State) (a : A) → Serves g k s → Reaches s who request id (sort a) → (need_of s who request ≡ 0) × IsSeen k.words.seed s who request (says a)
+  IsReplied says = (s : State) (a : A) → CoreServes g k s → Reaches s who request id (sort a) → (need_of s who request ≡ 0) × IsSeen k.words.seed s who request (says a)
 
-  abbrev knows : (s : State) → Serves g k s → (a : A) × Knows g k.disk id.block (sort a)
+  abbrev knows : (s : State) → CoreServes g k s → (a : A) × KnowsObject g k.disk id.block (sort a)
   knows s serves = let r = reaches.0 s serves in (r.0, knows_that g k s serves id (sort r.0) r.1.there r.2)
 
   -- the disk couldn't be read
-  pub tries_failed : (e : Refused) → OnlyReads g n k.disk d → ((a : A) → Knows g k.disk id.block (sort a) → is_damaged e ≡ false) → IsCalmCause g id.block k.disk d e → Tries g k (record k { disk = d }) who request (Err e)
+  pub tries_failed : (e : Refused) → OnlyReads g n k.disk d → ((a : A) → KnowsObject g k.disk id.block (sort a) → has_met_damage e ≡ false) → IsCalmCause g id.block k.disk d e → Tries g k (record k { disk = d }) who request (Err e)
   tries_failed e reads sound cause = failed g left_sized sized n k (record k { disk = d }) reads refl sort id.block e sound cause who request (inl reaches.1) knows
 
   pub tries_seen : (says : A → Reply) (result : Result Reply Refused) → creates request ≡ false → ((s : State) (reply : Reply) → (claims_for k.handles s who request reply ≡ []) × (commits_alone s who request ≡ false)) → IsReplied says → IfOk result IsPlainReply
-      → ((a : A) → Knows g k.disk id.block (sort a) → IfOk result (λ reply. reply ≡ says a)) → IsCalm g sort n id.block k.disk d result → Tries g k (record k { disk = d }) who request result
+      → ((a : A) → KnowsObject g k.disk id.block (sort a) → IfOk result (λ reply. reply ≡ says a)) → IsCalm g sort n id.block k.disk d result → Tries g k (record k { disk = d }) who request result
   tries_seen says (Ok reply) makes claims replied plain exact calm = tries_so g left_sized sized n k (record k { disk = d }) calm.reads refl who request (Ok reply)
       (λ s serves none.
       let r = reaches.0 s serves in
@@ -153,6 +153,6 @@ module _ {D A : Type 0} (g : Ghosts D) (left_sized : (d : D) (t : ℕ) (c : Imag
 
   -- it is refused
   pub tries_refused : (reply : Reply) → IsPlainReply reply → OnlyReads g n k.disk d
-      → ((s : State) (a : A) → Serves g k s → Reaches s who request id (sort a) → Knows g k.disk id.block (sort a) → refusal_of s who request ≡ Some reply) → Tries g k (record k { disk = d }) who request (Ok reply)
+      → ((s : State) (a : A) → CoreServes g k s → Reaches s who request id (sort a) → KnowsObject g k.disk id.block (sort a) → refusal_of s who request ≡ Some reply) → Tries g k (record k { disk = d }) who request (Ok reply)
   tries_refused reply plain reads is = tries_so g left_sized sized n k (record k { disk = d }) reads refl who request (Ok reply)
       (λ s serves none. let r = reaches.0 s serves in refused g left_sized sized n k (record k { disk = d }) reads refl s who serves none request reply (is s r.0 serves r.1 (knows s serves).1)) plain tt

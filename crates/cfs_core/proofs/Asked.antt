@@ -1,6 +1,6 @@
 -- A request that was asked: of a core that stopped, answered, or refused by what lies below.
 use Rattle.std.proofs.Common.{◌≡◌, inl, inr, ⊎_elim, ℕ, ◌-◌, ◌≤◌, List, [], length, true, false, Option, Some, None, Ok, Err, IsTrue, refl, sym, ◌∙◌, ap, subst, arith, sum, eq-eqb}
-use Rattle.cfs_core.proofs.Words.{After, call, CutInDoubt, Event, Ghosts, Graph, Image, InDoubt, is_done, IsPlainReply, Late, Listing, next, refusal_of, Refused, Reply, Request, Rescue, rescues_of, State, stopped_at, wider}
+use Rattle.cfs_core.proofs.Words.{After, call, CutInDoubt, Event, Ghosts, Graph, Image, InDoubt, is_carried_out, IsPlainReply, Late, Listing, next, refusal_of, Refused, Reply, Request, Rescue, rescues_of, State, stopped_at, wider}
 use Rattle.cfs_base.specs.declared.refusal.Refused.TheVariants as refusals
 use Rattle.ufs_model.specs.declared.asked.Event.TheVariants as events
 use Rattle.ufs_model.specs.declared.asked.Reply.TheVariants as replies
@@ -8,10 +8,10 @@ use Rattle.cfs_core.specs.declared.collecting.Collections.{Collections}
 use Rattle.cfs_core.specs.declared.kernel.Stop.{Stop}
 use Rattle.cfs_core.specs.Asked.{Asks, Happens, IsShortContent, IsToldCause, stopped_by, reply_to}
 use Rattle.cfs_core.proofs.Damages.{told_as, told_asked}
-use Rattle.cfs_core.specs.Calls.{Answers, CutShort, EndsSo, IsAsItWas, IsCause, IsInDoubt, MayStand, Owes, Tries, Undone, Whole, leaves_all}
+use Rattle.cfs_core.specs.Calls.{Answers, CutShort, EndsSo, IsAsItWas, IsCause, IsInDoubt, MayBeRead, Owes, Tries, Undone, Whole, leaves_all}
 use Rattle.cfs_core.specs.Kernel.{Kernel}
 use Rattle.cfs_core.specs.Rescues.{AreRescued}
-use Rattle.cfs_core.specs.StandsFor.{IsFront, Serves, Stands}
+use Rattle.cfs_core.specs.StandsFor.{IsFront, CoreServes, Stands}
 use Rattle.cfs_core.proofs.Answering.{reads_none}
 use Rattle.cfs_core.proofs.Collected.{collection_asked, collection_ready, rescued_after, same_rescued}
 use Rattle.cfs_core.proofs.Lefts.{adds_none, adds_one}
@@ -26,6 +26,7 @@ plain_cause : {D : Type 0} (g : Ghosts D) (old new : Kernel D) (request : Reques
 plain_cause g old new request (replies.Disk doubt) plain = absurd plain
 plain_cause g old new request (replies.Damaged damage moment) plain = absurd plain
 plain_cause g old new request (replies.Stopped moment) plain = absurd plain
+plain_cause g old new request (replies.Full need) plain = absurd plain
 plain_cause g old new request reply plain = tt
 
 plain_short : (reply : Reply) → IsPlainReply reply → IsShortContent reply
@@ -44,10 +45,10 @@ module _ {D : Type 0} (g : Ghosts D) (old : Kernel D) (x : Collections) (ready :
   abbrev roomy : Kernel D
   roomy = record old { collections = x }
 
-  pub serves_roomy : (s : State) → Serves g old s → Serves g roomy s
+  pub serves_roomy : (s : State) → CoreServes g old s → CoreServes g roomy s
   serves_roomy s serves = stored g old s serves x (collection_ready (g.content old.disk) s old.collections.collector x.collector ready serves.collecting)
 
-  happens : ((d : D) → IsTrue (g.honest d) → length (g.content d) ≡ g.blocks d) → (mid : Kernel D) → g.blocks mid.disk ≡ g.blocks old.disk → (y : Collections) (s : State) (who : ℕ) (request : Request) (reply : Reply) → mid.stop ≡ None → AreRescued x.collector y.collector (rescues_of s who request reply) → Serves g old s
+  happens : ((d : D) → IsTrue (g.honest d) → length (g.content d) ≡ g.blocks d) → (mid : Kernel D) → g.blocks mid.disk ≡ g.blocks old.disk → (y : Collections) (s : State) (who : ℕ) (request : Request) (reply : Reply) → mid.stop ≡ None → AreRescued x.collector y.collector (rescues_of s who request reply) → CoreServes g old s
       → Answers g roomy mid s who request reply → Happens g old (record mid { collections = y }) s (events.Ask who request reply)
   happens sized mid size y s who request reply none rescued serves is = record {
     after = is.event.after;
@@ -58,7 +59,7 @@ module _ {D : Type 0} (g : Ghosts D) (old : Kernel D) (x : Collections) (ready :
         (sized mid.disk now.store.carries.tells.honest ∙ size ∙ sym (sized old.disk serves.store.carries.tells.honest)) is.event.strays;
   }
     where
-      now : Serves g (record mid { collections = y }) is.event.after
+      now : CoreServes g (record mid { collections = y }) is.event.after
       now = is.event.stores y (collection_asked (g.content old.disk) (g.content mid.disk) old.words.seed s is.event.after who request reply is.event.step serves.state is.event.strays x.collector y.collector rescued (serves_roomy s serves).collecting)
 
   -- there was no memory for the rescue
@@ -119,7 +120,7 @@ asks_stopped g k who request stop is = record {
 -- one that answered
 pub asks_answered : {D : Type 0} (g : Ghosts D) → ((d : D) → IsTrue (g.honest d) → length (g.content d) ≡ g.blocks d) → (old : Kernel D) (x : Collections) → AreRescued old.collections.collector x.collector []
     → x.called ≡ old.collections.called → x.finished ≡ old.collections.finished → (mid : Kernel D) (y : Collections) (who : ℕ) (request : Request) (reply : Reply) (more : List Rescue)
-    → ((s : State) → Serves g (record old { collections = x }) s → more ≡ rescues_of s who request reply) → AreRescued mid.collections.collector y.collector more → y.called ≡ mid.collections.called → y.finished ≡ mid.collections.finished → old.stop ≡ None
+    → ((s : State) → CoreServes g (record old { collections = x }) s → more ≡ rescues_of s who request reply) → AreRescued mid.collections.collector y.collector more → y.called ≡ mid.collections.called → y.finished ≡ mid.collections.finished → old.stop ≡ None
     → length more ≤ 1 → Tries g (record old { collections = x }) mid who request (Ok reply) → Asks g old (record mid { collections = y }) who request reply
 asks_answered {D = D} g sized old x ready called finished mid y who request reply more are rescued called_on finished_on none few tries = record {
   event = λ s stands. let serves = serves_from g old s none stands in
@@ -146,7 +147,7 @@ asks_answered {D = D} g sized old x ready called finished mid y who request repl
   drawn = tries.went.drawn;
 }
   where
-    all_rescued : (s : State) → Serves g old s → AreRescued x.collector y.collector (rescues_of s who request reply)
+    all_rescued : (s : State) → CoreServes g old s → AreRescued x.collector y.collector (rescues_of s who request reply)
     all_rescued s serves = subst (AreRescued x.collector y.collector) (are s (serves_roomy g old x ready s serves)) (subst (λ (c : Collections). AreRescued c.collector y.collector more) tries.went.collections rescued)
 
 -- one that was refused from below
@@ -158,18 +159,18 @@ module _ {D : Type 0} (g : Ghosts D) (left_sized : (d : D) (t : ℕ) (c : Image)
   abbrev doubted : ℕ → Event
   doubted moment = events.Ask who request (replies.Disk (Some moment))
 
-  late : (s : State) (moment : ℕ) → Serves g old s → refusal_of s who request ≡ None → (h : Graph) → MayStand old.words.seed s who request h → Late old.words.seed s (doubted moment) h
+  late : (s : State) (moment : ℕ) → CoreServes g old s → refusal_of s who request ≡ None → (h : Graph) → MayBeRead old.words.seed s who request h → Late old.words.seed s (doubted moment) h
   late s moment serves allowed h Undone = After (doubted moment) (stopped_at moment s) (rw (running g old s serves none) refl)
   late s moment serves allowed h (Whole b names) = InDoubt who b moment request allowed names
   late s moment serves allowed h (CutShort id was now f changes between) = CutInDoubt who moment request id was now f changes between
 
-  in_doubt : (s : State) (moment : ℕ) → Serves g old s → IsInDoubt g (roomy g old x ready) mid s who request → Happens g old (stopped_as (replies.Disk (Some moment))) s (events.Ask who request (replies.Disk (Some moment)))
+  in_doubt : (s : State) (moment : ℕ) → CoreServes g old s → IsInDoubt g (roomy g old x ready) mid s who request → Happens g old (stopped_as (replies.Disk (Some moment))) s (events.Ask who request (replies.Disk (Some moment)))
   in_doubt s moment serves is = record {
     after = stopped_at moment s;
     step = rw (running g old s serves none) refl;
     stands = record {
       drawn = serves.front.drawn ∙ sym is.drawn;
-      names = ap (λ (n : Listing). n.named) is.named ∙ serves.front.names;
+      directory = ap (λ (n : Listing). n.named) is.named ∙ serves.front.directory;
       grants = is.grants ∙ serves.front.grants;
       stopped = refl;
     };
@@ -183,16 +184,16 @@ module _ {D : Type 0} (g : Ghosts D) (left_sized : (d : D) (t : ℕ) (c : Image)
   }
 
   -- nothing is rescued
-  nothing : (s : State) (reply : Reply) → is_done reply ≡ false → rescues_of s who request reply ≡ []
+  nothing : (s : State) (reply : Reply) → is_carried_out reply ≡ false → rescues_of s who request reply ≡ []
   nothing s reply undone = rw undone refl
 
-  refused_so : (reply : Reply) (s : State) → mid.stop ≡ None → mid.collections ≡ x → is_done reply ≡ false → Serves g old s → Answers g (roomy g old x ready) mid s who request reply → Happens g old mid s (events.Ask who request reply)
+  refused_so : (reply : Reply) (s : State) → mid.stop ≡ None → mid.collections ≡ x → is_carried_out reply ≡ false → CoreServes g old s → Answers g (roomy g old x ready) mid s who request reply → Happens g old mid s (events.Ask who request reply)
   refused_so reply s runs same undone serves is =
       happens g old x ready sized mid size mid.collections s who request reply runs
       (subst (λ (more : List Rescue). AreRescued x.collector mid.collections.collector more) (sym (nothing s reply undone))
       (subst (λ (c : Collections). AreRescued x.collector c.collector []) (sym same) (same_rescued x.collector))) serves is
 
-  told_happens : (refused : Refused) (moment : ℕ) (s : State) → mid.stop ≡ None → mid.collections ≡ x → Serves g old s → EndsSo g (roomy g old x ready) mid s who request (Err refused) → Happens g old (stopped_as (reply_to refused moment)) s (events.Ask who request (reply_to refused moment))
+  told_happens : (refused : Refused) (moment : ℕ) (s : State) → mid.stop ≡ None → mid.collections ≡ x → CoreServes g old s → EndsSo g (roomy g old x ready) mid s who request (Err refused) → Happens g old (stopped_as (reply_to refused moment)) s (events.Ask who request (reply_to refused moment))
   told_happens (refusals.Full need) moment s runs same serves is = refused_so (replies.Full need) s runs same refl serves is
   told_happens (refusals.Disk false) moment s runs same serves is = refused_so (replies.Disk None) s runs same refl serves is
   told_happens (refusals.Disk true) moment s runs same serves is = in_doubt s (moment - 1) serves is
@@ -217,13 +218,13 @@ module _ {D : Type 0} (g : Ghosts D) (left_sized : (d : D) (t : ℕ) (c : Image)
   told_still refusals.Memory moment s is leaves = still_roomy (is.still leaves)
 
   told_cause : (refused : Refused) → (stop : Option Stop) → IsCause g (roomy g old x ready) mid (Some request) refused → IsToldCause g old (record mid { stop = stop }) request (reply_to refused (g.moment mid.disk))
-  told_cause (refusals.Full need) stop is = tt
+  told_cause (refusals.Full need) stop is = is
   told_cause (refusals.Disk false) stop is = is
   told_cause (refusals.Disk true) stop is = (is, refl)
   told_cause (refusals.Damaged damage) stop is = (told_as g old mid (record mid { stop = stop }) (Some request) damage refl refl (told_asked g old mid x request damage is), refl)
   told_cause refusals.Memory stop is = tt
 
-  undone : (refused : Refused) (moment : ℕ) → is_done (reply_to refused moment) ≡ false
+  undone : (refused : Refused) (moment : ℕ) → is_carried_out (reply_to refused moment) ≡ false
   undone (refusals.Full need) moment = refl
   undone (refusals.Disk false) moment = refl
   undone (refusals.Disk true) moment = refl

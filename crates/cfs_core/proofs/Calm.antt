@@ -1,6 +1,6 @@
 -- Calls that only read a file, as the core has them.
 use Rattle.std.proofs.Common.{◌≡◌, ℕ, ◌+◌, ◌≤◌, Bool, true, false, Err, refl, sym, subst, arith}
-use Rattle.cfs_core.proofs.Words.{Ghosts, had_tried, HasStopped, Image, Index, is_damaged, is_range, IsReadRefusal, nat_tests, Object, OnlyReads, reads_then, Refused, refused_by, stopped_after_reads, Trouble, trouble_had_tried}
+use Rattle.cfs_core.proofs.Words.{Ghosts, had_tried, HasStopped, Image, Index, has_met_damage, is_range, IsReadRefusal, nat_tests, Object, OnlyReads, reads_then, Refused, refused_by, stopped_after_reads, Trouble, trouble_had_tried}
 use Rattle.cfs_base.specs.declared.refusal.Refused.TheVariants as refusals
 use Rattle.cfs_base.specs.declared.refusal.Trouble.TheVariants as trouble
 use Rattle.block_tree.specs.Reads.{IsRootTrouble, is_damage}
@@ -8,16 +8,17 @@ use Rattle.normal_files.specs.Refusal.{IsTrouble}
 use Rattle.block_tree.specs.declared.root.Root.{Root}
 use Rattle.cfs_base.specs.Run.{Tells}
 use Rattle.normal_files.specs.Standing.{IsRootAt}
-use Rattle.cfs_core.specs.Looks.{IsCalm, IsCalmCause, Knows}
+use Rattle.cfs_core.specs.Looks.{IsCalm, IsCalmCause, KnowsObject}
 use Rattle.cfs_base.proofs.Calls.{tells_on}
 use Rattle.intentions.proofs.Shown.{shown_reads, shown_tells}
 use Rattle.cfs_core.proofs.Answering.{reads_none}
 use Rattle.cfs_core.proofs.Damages.{outside_as, outside_file, outside_slot}
 use Rattle.index_ops.specs.Causes.{IsSlotTrouble, NoRoot}
 use Rattle.ufs_model.specs.declared.object.Object.TheVariants as objects
+use Rattle.leaf_changes.specs.Tops.{Top, disk_top, still_top}
 
 -- the store still has the object
-pub knows_on : {D : Type 0} (g : Ghosts D) (n : ℕ) (old new : D) (at : ℕ) (o : Object) → OnlyReads g n old new → Knows g old at o → Knows g new at o
+pub knows_on : {D : Type 0} (g : Ghosts D) (n : ℕ) (old new : D) (at : ℕ) (o : Object) → OnlyReads g n old new → KnowsObject g old at o → KnowsObject g new at o
 knows_on g n old new at o reads knows = record {
   graph = knows.graph;
   drafts = knows.drafts;
@@ -28,37 +29,36 @@ knows_on g n old new at o reads knows = record {
 }
 
 -- and the block the root that was read of it
-pub rooted : {D : Type 0} (g : Ghosts D) {n at : ℕ} {old mid : D} {root : Root} → OnlyReads g n old mid → (o : Object) → Knows g old at o → (Tells g old → IsRootAt (g.content old) at root) → IsRootAt (g.content mid) at root
+pub rooted : {D : Type 0} (g : Ghosts D) {n at : ℕ} {old mid : D} {root : Root} → OnlyReads g n old mid → (o : Object) → KnowsObject g old at o → (Tells g old → IsRootAt (g.content old) at root) → IsRootAt (g.content mid) at root
 rooted g {at = at} {root = root} reads o knows is = subst (λ (a : Image). IsRootAt a at root) (sym reads.content) (is (shown_tells knows.seen))
 
 -- a read that was refused, after others
 pub calm_after : {D A B : Type 0} (g : Ghosts D) (sort : A → Object) (n m k at : ℕ) (old mid new : D) (e : Refused) → OnlyReads g n old mid → OnlyReads g m mid new → n + m ≤ k
-    → ((a : A) → Knows g old at (sort a) → is_damaged e ≡ false) → had_tried e ≡ false → IsReadRefusal g at mid new e → IsCalm {B = B} g sort k at old new (Err e)
-calm_after g sort n m k at old mid new e first reads few sound untried is = record {
+    → ((a : A) → KnowsObject g old at (sort a) → has_met_damage e ≡ false) → had_tried e ≡ false
+    → (top : Top) → top.block ≡ at → ((size : ℕ) → top.IsFar size → (disk_top g at old).IsFar size) → IsReadRefusal g top mid new e → IsCalm {B = B} g sort k at old new (Err e)
+calm_after g sort n m k at old mid new e first reads few sound untried top same far is = record {
   reads = reads_then g old mid new n m k first reads few;
   sound = sound;
   cause = cause e untried is;
 }
   where
-    cause : (x : Refused) → had_tried x ≡ false → IsReadRefusal g at mid new x → IsCalmCause g at old new x
+    cause : (x : Refused) → had_tried x ≡ false → IsReadRefusal g top mid new x → IsCalmCause g at old new x
     cause (refusals.Full need) none never = never
     cause (refusals.Disk tried) none stopped = (none, stopped_after_reads g old mid new n false first (subst (λ (b : Bool). HasStopped g b mid new) none stopped))
-    cause (refusals.Damaged damage) none is =
-        outside_as (Tells g mid) (Tells g old) (g.content mid) (g.content old) (g.blocks mid) (g.blocks old) (λ x. x ≡ at) (λ x. x ≡ at) 0 0 damage (λ tells. tells_on g old mid mid n first tells) (sym first.content) (sym first.same.size) (λ x here. here) (λ x less. less)
-        (outside_file g at mid damage is)
+    cause (refusals.Damaged damage) none is = outside_file g top at old mid damage same (λ tells. tells_on g old mid mid n first tells) first.content first.same.size far is
     cause refusals.Memory none is = tt
 
-pub read_refusal : {D : Type 0} (g : Ghosts D) (at : ℕ) (old new : D) (t : Trouble) → IsTrouble g at old new t → IsReadRefusal g at old new (refused_by t)
+pub read_refusal : {D : Type 0} (g : Ghosts D) (at : Top) (old new : D) (t : Trouble) → IsTrouble g at old new t → IsReadRefusal g at old new (refused_by t)
 read_refusal g at old new (trouble.Disk tried) is = is
 read_refusal g at old new (trouble.Damaged damage) is = is
 
 -- a call on a file that was refused by the first that it makes
-pub calm_trouble : {D A B : Type 0} (g : Ghosts D) (sort : A → Object) (n at : ℕ) (old new : D) (t : Trouble) → OnlyReads g n old new → ((a : A) → Knows g old at (sort a) → is_damage t ≡ false) → trouble_had_tried t ≡ false → IsTrouble g at old new t
+pub calm_trouble : {D A B : Type 0} (g : Ghosts D) (sort : A → Object) (n at : ℕ) (old new : D) (t : Trouble) → OnlyReads g n old new → ((a : A) → KnowsObject g old at (sort a) → is_damage t ≡ false) → trouble_had_tried t ≡ false → IsTrouble g (still_top at) old new t
     → IsCalm {B = B} g sort n at old new (Err (refused_by t))
 calm_trouble g sort n at old new t reads sound untried why =
-    calm_after g sort 0 n n at old old new (refused_by t) (reads_none g 0 old) reads (omega arith) (λ a knows. sound_told t (sound a knows)) (untried_told t untried) (read_refusal g at old new t why)
+    calm_after g sort 0 n n at old old new (refused_by t) (reads_none g 0 old) reads (omega arith) (λ a knows. sound_told t (sound a knows)) (untried_told t untried) (still_top at) refl (λ size far. absurd far) (read_refusal g (still_top at) old new t why)
   where
-    sound_told : (x : Trouble) → is_damage x ≡ false → is_damaged (refused_by x) ≡ false
+    sound_told : (x : Trouble) → is_damage x ≡ false → has_met_damage (refused_by x) ≡ false
     sound_told (trouble.Disk tried) is = refl
     sound_told (trouble.Damaged damage) is = is
 
@@ -67,7 +67,7 @@ calm_trouble g sort n at old new t reads sound untried why =
     untried_told (trouble.Damaged damage) is = refl
 
 -- a slot that couldn't be read, after the number of them was
-pub calm_slot : {D B : Type 0} (g : Ghosts D) (slot at : ℕ) (old mid new : D) (t : Trouble) → OnlyReads g 1 old mid → OnlyReads g 3 mid new → ((i : Index) → Knows g old at (objects.Index i) → is_damaged (refused_by t) ≡ false) → IsSlotTrouble g at slot mid new t
+pub calm_slot : {D B : Type 0} (g : Ghosts D) (slot at : ℕ) (old mid new : D) (t : Trouble) → OnlyReads g 1 old mid → OnlyReads g 3 mid new → ((i : Index) → KnowsObject g old at (objects.Index i) → has_met_damage (refused_by t) ≡ false) → IsSlotTrouble g at slot mid new t
     → IsCalm {B = B} g objects.Index 4 at old new (Err (refused_by t))
 calm_slot g slot at old mid new t first reads sound is = record { reads = reads_then g old mid new 1 3 4 first reads (omega arith); sound = sound; cause = cause t is }
   where
@@ -82,7 +82,7 @@ pub range_parts : (size offset count : ℕ) → is_range size offset count ≡ t
 range_parts size offset count is = (grind (arith, nat_tests), grind (arith, nat_tests), grind (arith, nat_tests))
 
 -- the root of an index that couldn't be read
-pub calm_root : {D B : Type 0} (g : Ghosts D) (k at : ℕ) (old new : D) (t : Trouble) → OnlyReads g 1 old new → 1 ≤ k → ((i : Index) → Knows g old at (objects.Index i) → is_damaged (refused_by t) ≡ false) → IsRootTrouble g at old new t
+pub calm_root : {D B : Type 0} (g : Ghosts D) (k at : ℕ) (old new : D) (t : Trouble) → OnlyReads g 1 old new → 1 ≤ k → ((i : Index) → KnowsObject g old at (objects.Index i) → has_met_damage (refused_by t) ≡ false) → IsRootTrouble g at old new t
     → IsCalm {B = B} g objects.Index k at old new (Err (refused_by t))
 calm_root g k at old new t reads few sound is = record { reads = reads_then g old old new 0 1 k (reads_none g 0 old) reads few; sound = sound; cause = cause t is }
   where

@@ -1,7 +1,7 @@
 -- A change that is carried out within its call: what it says, joined with what the finishing says.
 use Rattle.std.proofs.Common.{◌≡◌, ◌≢◌, ◌⊎◌, inl, inr, cond, is_some, ℕ, ◌+◌, ◌/◌, List, [], ◌∷◌, length, true, false, Option, Some, None, Result, Ok, Err, refl, sym, ◌∙◌, ap, subst, arith}
 use Rattle.std.specs.Prelude.{IsSome}
-use Rattle.cfs_core.proofs.Words.{ChangesFile, Draft, Drafting, EndsChange, File, Ghosts, Graph, HasSlot, Holds, Image, Index, index_with, is_damage, is_damaged, is_full_refusal, IsIndexRefusal, IsLeastFree, IsOldOrNew, IsOpen, IsTrouble, Kept, Leaves, MakesAtMost, MayChange, MayLeave, Object, object_at, Opened, Puid, PutsObject, PutsSlot, Refused, refused_by, StoreHas, then, Trouble, with_made, with_object}
+use Rattle.cfs_core.proofs.Words.{ChangesFile, Draft, Drafting, EndsChange, File, Ghosts, Graph, HasSlot, Holds, Image, Index, index_with, is_damage, has_met_damage, is_full_refusal, IsIndexRefusal, IsLeastFree, IsOldOrNew, IsOpen, IsDraftTrouble, Kept, Leaves, MakesAtMost, MayChangeFile, MayLeaveFile, Object, object_at, Opened, Puid, PutsObject, PutsSlot, Refused, refused_by, StoreHas, then, Trouble, with_made, with_object}
 use Rattle.cfs_base.proofs.Calls.{makes_then, stopped_after_try}
 use Rattle.cfs_base.specs.Refusals.{trouble_after_try}
 use Rattle.cfs_base.specs.Disk.{block_at}
@@ -10,7 +10,7 @@ use Rattle.cfs_base.specs.declared.kind.FileKind.TheVariants as kinds
 use Rattle.cfs_base.specs.declared.kind.Place.TheVariants as places
 use Rattle.cfs_base.specs.declared.refusal.Refused.TheVariants as refusals
 use Rattle.cfs_base.specs.declared.refusal.Trouble.TheVariants as troubles
-use Rattle.cyl_alloc.specs.Left.{Left}
+use Rattle.cyl_alloc.specs.Left.{LeftCommit}
 use Rattle.cyl_alloc.specs.Space.{intended}
 use Rattle.file_ops.specs.Changes as files
 use Rattle.file_ops.specs.Changes.{ClaimsFor, IsFileRefusal, OfBlock}
@@ -18,9 +18,10 @@ use Rattle.finisher.proofs.Finished.{finished_content, finished_leaves, finished
 use Rattle.finisher.specs.Going.{IsLeftTrouble, calls_left, tries_left}
 use Rattle.index_ops.specs.Changes as index
 use Rattle.index_ops.specs.Changes.{leaf_and_node}
-use Rattle.intentions.specs.Left.{StoreIs, coming, end_of}
+use Rattle.intentions.specs.Left.{StoreIs, coming, final_image}
 use Rattle.normal_files.specs.WriteRefusal.{is_untried}
-use Rattle.special_files.specs.Committing.{CommitEnds, IsAtBit, as_refused, puid_at, TakesShadow}
+use Rattle.leaf_changes.specs.Tops.{Top, disk_top}
+use Rattle.special_files.specs.Committing.{CommitEnds, IsAtBit, as_refused, draft_top, puid_at, TakesShadow}
 use Rattle.special_files.specs.Refusal.{NoMap}
 use Rattle.ufs_model.specs.Object.{changed_object}
 use Rattle.ufs_model.specs.declared.change.Change.{Change}
@@ -28,7 +29,7 @@ use Rattle.ufs_model.specs.declared.object.Object.TheVariants as objects
 use Rattle.vol_image.specs.Seen.{tree_in}
 use Rattle.vol_owners.specs.Change.{ChangesOnly, of_owners}
 use Rattle.cfs_core.specs.Drafts.{EndsDraft}
-use Rattle.cfs_core.specs.Carried.{AltersFile, CallsInAll, CarriedOn, CarriesOut, EndsAltered, FillsSlot, PlacesObject, Stands}
+use Rattle.cfs_core.specs.Carried.{AltersFile, CallsInAll, CarriedOn, CarriesOut, EndsAltered, FillsIndexSlot, PlacesObject, Stands}
 
 -- ---- how a finishing fails
 
@@ -48,7 +49,7 @@ never_full : (e : Trouble) → is_full_refusal (refused_by e) ≡ true → ⊥
 never_full (troubles.Disk was) full = cc
 never_full (troubles.Damaged damage) full = cc
 
-same_damage : (e : Trouble) → is_damage e ≡ false → is_damaged (refused_by e) ≡ false
+same_damage : (e : Trouble) → is_damage e ≡ false → has_met_damage (refused_by e) ≡ false
 same_damage (troubles.Disk was) sound = refl
 same_damage (troubles.Damaged damage) sound = sound
 
@@ -68,10 +69,10 @@ module _ {D : Type 0} (g : Ghosts D) (old mid new : D) (before between after : K
   -- it is done
   module _ (carries : CarriesOut g mid new between after (Ok tt)) where
     -- the content is the one that was to come
-    come : (graph : Graph) (ds : List Opened) → StoreIs g graph ds mid between → g.content new ≡ end_of g mid between
+    come : (graph : Graph) (ds : List Opened) → StoreIs g graph ds mid between → g.content new ≡ final_image g mid between
     come graph ds store = finished_content g graph ds mid new between after carries.goes store carries.done
 
-    stands : (graph : Graph) (ds : List Opened) (owners : List ℕ) → StoreIs g graph ds mid between → ChangesOnly (λ entry. of_owners owners entry) (g.content old) (end_of g mid between) → Stands g graph ds owners old new after
+    stands : (graph : Graph) (ds : List Opened) (owners : List ℕ) → StoreIs g graph ds mid between → ChangesOnly (λ entry. of_owners owners entry) (g.content old) (final_image g mid between) → Stands g graph ds owners old new after
     stands graph ds owners store only = record {
       store = finished_store g graph ds mid new between after carries.goes store carries.done;
       left = carries.done;
@@ -81,17 +82,17 @@ module _ {D : Type 0} (g : Ghosts D) (old mid new : D) (before between after : K
   -- it fails
   module _ (e : Trouble) (carries : CarriesOut g mid new between after (Err e)) (n m : ℕ) (made : MakesAtMost g n m old mid) (bit : IsAtBit g old mid between.left) where
     -- why, as of the whole call
-    trouble : (at : ℕ) → IsTrouble g at old new after e
-    trouble at = subst (IsTrouble g at old new after) (sym carries.refused.1) (by carries.refused.0 carries.refused.2)
+    trouble : (at : Top) → IsDraftTrouble g at old new after e
+    trouble at = subst (IsDraftTrouble g at old new after) (sym carries.refused.1) (by carries.refused.0 carries.refused.2)
       where
-        by : (why : Trouble) → IsLeftTrouble g mid new why → IsTrouble g at old new after (trouble_after_try why)
+        by : (why : Trouble) → IsLeftTrouble g mid new why → IsDraftTrouble g at old new after (trouble_after_try why)
         by (troubles.Disk was) is = stopped_after_try g old mid new n m was made (bit.tried carries.some) is
-        by (troubles.Damaged damage) is = NoMap is.0 is.1 (λ tells. is.2 (bit.settled carries.some tells).tells)
+        by (troubles.Damaged damage) is = NoMap is.0 is.1 is.2 (λ tells. is.3 (bit.settled carries.some tells).tells)
 
     index_trouble : (at slot : ℕ) → IsIndexRefusal g at slot old new after (refused_by e)
-    index_trouble at slot = by e (trouble at)
+    index_trouble at slot = by e (trouble (disk_top g at old))
       where
-        by : (x : Trouble) → IsTrouble g at old new after x → IsIndexRefusal g at slot old new after (refused_by x)
+        by : (x : Trouble) → IsDraftTrouble g (disk_top g at old) old new after x → IsIndexRefusal g at slot old new after (refused_by x)
         by (troubles.Disk was) is = is
         by (troubles.Damaged damage) is = inl is
 
@@ -101,11 +102,11 @@ module _ {D : Type 0} (g : Ghosts D) (old mid new : D) (before between after : K
   -- ---- a slot
 
   module _ (at slot : ℕ) (what : Option Puid) where
-    pub fills : (ended result : Result (Unit {0}) Refused) → PutsSlot g at slot what old mid before between ended → CarriedOn g mid new between after ended result → FillsSlot g at slot what old new before after result
+    pub fills : (ended result : Result (Unit {0}) Refused) → PutsSlot g at slot what old mid before between ended → CarriedOn g mid new between after ended result → FillsIndexSlot g at slot what old new before after result
     fills (Err e) result puts on =
-        subst (λ (r : Result (Unit {0}) Refused). FillsSlot g at slot what old new before after r) (sym on.0)
-        (subst (λ (d : D). FillsSlot g at slot what old d before after (Err e)) (sym on.1)
-        (subst (λ (k : Kept). FillsSlot g at slot what old mid before k (Err e)) (sym on.2) (record {
+        subst (λ (r : Result (Unit {0}) Refused). FillsIndexSlot g at slot what old new before after r) (sym on.0)
+        (subst (λ (d : D). FillsIndexSlot g at slot what old d before after (Err e)) (sym on.1)
+        (subst (λ (k : Kept). FillsIndexSlot g at slot what old mid before k (Err e)) (sym on.2) (record {
           done = λ graph ds id i has. tt;
           takes = λ graph ds id i has. tt;
           leaves = puts.leaves;
@@ -115,15 +116,15 @@ module _ {D : Type 0} (g : Ghosts D) (old mid new : D) (before between after : K
           cylinders = puts.cylinders;
           calls = record { left = None; calls = puts.calls };
         })))
-    fills (Ok u) result puts on = subst (λ (r : Result (Unit {0}) Refused). FillsSlot g at slot what old new before after r) (sym on.1) (by on.0 on.2)
+    fills (Ok u) result puts on = subst (λ (r : Result (Unit {0}) Refused). FillsIndexSlot g at slot what old new before after r) (sym on.1) (by on.0 on.2)
       where
         images : (t : Result (Unit {0}) Trouble) → CarriesOut g mid new between after t → (graph : Graph) (ds : List Opened) (id : Puid) (i : Index) → HasSlot g graph ds old before at id i slot → Leaves g old new (IsOldOrNew graph graph id (index_with i slot what))
         images t carries graph ds id i has = leaves_on t carries (with_object graph id (index_with i slot what)) ds _ (puts.leaves graph ds id i has) (puts.done graph ds id i has).store (λ c h. inr h)
 
-        by : (t : Result (Unit {0}) Trouble) → CarriesOut g mid new between after t → FillsSlot g at slot what old new before after (as_refused t)
+        by : (t : Result (Unit {0}) Trouble) → CarriesOut g mid new between after t → FillsIndexSlot g at slot what old new before after (as_refused t)
         by (Ok v) carries = record {
           done = λ graph ds id i has. let ch = puts.done graph ds id i has in stands carries (with_object graph id (index_with i slot what)) ds (id.block ∷ []) ch.store ch.only;
-          takes = λ graph ds id i has. subst (λ (b : Image). ((what ≡ None) × (b ≡ g.content old)) ⊎ index.Takes (leaf_and_node (slot / 64) at) at [] (g.content old) b) (sym (come carries _ ds (puts.done graph ds id i has).store)) (puts.leaf graph ds id i has).takes;
+          takes = λ graph ds id i has. subst (λ (b : Image). ((what ≡ None) × (b ≡ g.content old)) ⊎ index.TakesEntries (leaf_and_node (slot / 64) at) at [] (g.content old) b) (sym (come carries _ ds (puts.done graph ds id i has).store)) (puts.leaf graph ds id i has).takes;
           leaves = images (Ok v) carries;
           sound = λ graph ds id i has. tt;
           refused = tt;
@@ -173,7 +174,7 @@ module _ {D : Type 0} (g : Ghosts D) (old mid new : D) (before between after : K
               record {
                 least = done.1.least;
                 stands = stands carries (with_made graph id i slot p made) ds (id.block ∷ p.block ∷ []) done.1.store done.1.only;
-                takes = subst (index.Takes (intended places.Root p.block ∷ leaf_and_node (slot / 64) id.block) id.block (p.block ∷ []) (g.content old)) (sym (come carries _ ds done.1.store)) done.1.takes;
+                takes = subst (index.TakesEntries (intended places.Root p.block ∷ leaf_and_node (slot / 64) id.block) id.block (p.block ∷ []) (g.content old)) (sym (come carries _ ds done.1.store)) done.1.takes;
               },
             );
         leaves = images (Ok tt) carries;
@@ -197,29 +198,29 @@ module _ {D : Type 0} (g : Ghosts D) (old mid new : D) (before between after : K
 
   -- ---- a file
 
-  module _ (at : ℕ) (kind : FileKind) (floor : ℕ) (change : Change) where
+  module _ (top : Top) (kind : FileKind) (floor : ℕ) (change : Change) where
     -- one of a special file alone leaves something
-    file_trouble : (e : Trouble) (carries : CarriesOut g mid new between after (Err e)) (ends : EndsChange g at kind floor change old mid before between (Ok tt)) → IsFileRefusal g at kind floor change old new after (refused_by e)
-    file_trouble e carries ends = by kind e ends.left (trouble e carries 62300 30971 ends.calls ends.bit at)
+    file_trouble : (e : Trouble) (carries : CarriesOut g mid new between after (Err e)) (ends : EndsChange g top kind floor change old mid before between (Ok tt)) → IsFileRefusal g top kind floor change old new after (refused_by e)
+    file_trouble e carries ends = by kind e ends.left (trouble e carries 62300 30971 ends.calls ends.bit (disk_top g top.block old))
       where
-        by : (x : FileKind) (t : Trouble) → files.LeavesCommit x at between.left → IsTrouble g at old new after t → IsFileRefusal g at x floor change old new after (refused_by t)
-        by kinds.Normal t left is = let some = subst (λ (w : Option Left). IsSome w) left carries.some in cc
+        by : (x : FileKind) (t : Trouble) → files.LeavesFileCommit x top.block between.left → IsDraftTrouble g (disk_top g top.block old) old new after t → IsFileRefusal g top x floor change old new after (refused_by t)
+        by kinds.Normal t left is = let some = subst (λ (w : Option LeftCommit). IsSome w) left carries.some in cc
         by kinds.Special (troubles.Disk was) left is = is
         by kinds.Special (troubles.Damaged damage) left is = OfBlock is
 
-    pub ends_altered : (ended result : Result (Unit {0}) Refused) → EndsChange g at kind floor change old mid before between ended → CarriedOn g mid new between after ended result → EndsAltered g at kind floor change old new before after result
+    pub ends_altered : (ended result : Result (Unit {0}) Refused) → EndsChange g top kind floor change old mid before between ended → CarriedOn g mid new between after ended result → EndsAltered g top kind floor change old new before after result
     ends_altered (Err e) result ends on =
-        subst (λ (r : Result (Unit {0}) Refused). EndsAltered g at kind floor change old new before after r) (sym on.0)
-        (subst (λ (d : D). EndsAltered g at kind floor change old d before after (Err e)) (sym on.1)
-        (subst (λ (k : Kept). EndsAltered g at kind floor change old mid before k (Err e)) (sym on.2) (record {
+        subst (λ (r : Result (Unit {0}) Refused). EndsAltered g top kind floor change old new before after r) (sym on.0)
+        (subst (λ (d : D). EndsAltered g top kind floor change old d before after (Err e)) (sym on.1)
+        (subst (λ (k : Kept). EndsAltered g top kind floor change old mid before k (Err e)) (sym on.2) (record {
           refused = ends.refused;
           untried = ends.untried;
           cylinders = ends.cylinders;
           calls = record { left = None; calls = ends.calls };
         })))
-    ends_altered (Ok u) result ends on = subst (λ (r : Result (Unit {0}) Refused). EndsAltered g at kind floor change old new before after r) (sym on.1) (by on.0 on.2)
+    ends_altered (Ok u) result ends on = subst (λ (r : Result (Unit {0}) Refused). EndsAltered g top kind floor change old new before after r) (sym on.1) (by on.0 on.2)
       where
-        by : (t : Result (Unit {0}) Trouble) → CarriesOut g mid new between after t → EndsAltered g at kind floor change old new before after (as_refused t)
+        by : (t : Result (Unit {0}) Trouble) → CarriesOut g mid new between after t → EndsAltered g top kind floor change old new before after (as_refused t)
         by (Ok v) carries = record { refused = tt; untried = tt; cylinders = carries.cylinders ∙ ends.cylinders; calls = in_all (Ok v) 62300 30971 ends.calls carries }
         by (Err e) carries = record {
           refused = file_trouble e carries ends;
@@ -228,6 +229,7 @@ module _ {D : Type 0} (g : Ghosts D) (old mid new : D) (before between after : K
           calls = in_all (Err e) 62300 30971 ends.calls carries;
         }
 
+  module _ (at : ℕ) (kind : FileKind) (floor : ℕ) (change : Change) where
     pub alters : (ended result : Result (Unit {0}) Refused) → ChangesFile g at kind floor change old mid before between ended → CarriedOn g mid new between after ended result → AltersFile g at kind floor change old new before after result
     alters (Err e) result changes on =
         subst (λ (r : Result (Unit {0}) Refused). AltersFile g at kind floor change old new before after r) (sym on.0)
@@ -245,11 +247,11 @@ module _ {D : Type 0} (g : Ghosts D) (old mid new : D) (before between after : K
     alters (Ok u) result changes on = subst (λ (r : Result (Unit {0}) Refused). AltersFile g at kind floor change old new before after r) (sym on.1) (by on.0 on.2)
       where
         -- of a normal file nothing is left, and of a special one what is to come is the changed file
-        images : (t : Result (Unit {0}) Trouble) → CarriesOut g mid new between after t → (graph : Graph) (ds : List Opened) (id : Puid) (f : File) → MayChange g at kind change graph ds id f old before → Leaves g old new (MayLeave kind change graph id f)
+        images : (t : Result (Unit {0}) Trouble) → CarriesOut g mid new between after t → (graph : Graph) (ds : List Opened) (id : Puid) (f : File) → MayChangeFile g at kind change graph ds id f old before → Leaves g old new (MayLeaveFile kind change graph id f)
         images t carries graph ds id f may = at_kind kind changes.ends.left (changes.leaves graph ds id f may)
           where
-            at_kind : (x : FileKind) → files.LeavesCommit x at between.left → Leaves g old mid (MayLeave x change graph id f) → Leaves g old new (MayLeave x change graph id f)
-            at_kind kinds.Normal left leaves = subst (λ (d : D). Leaves g old d (MayLeave kinds.Normal change graph id f)) (sym (carries.none left).0) leaves
+            at_kind : (x : FileKind) → files.LeavesFileCommit x at between.left → Leaves g old mid (MayLeaveFile x change graph id f) → Leaves g old new (MayLeaveFile x change graph id f)
+            at_kind kinds.Normal left leaves = subst (λ (d : D). Leaves g old d (MayLeaveFile kinds.Normal change graph id f)) (sym (carries.none left).0) leaves
             at_kind kinds.Special left leaves = leaves_on t carries (with_object graph id (changed_object change (objects.File f))) ds _ leaves (changes.done graph ds id f may).store (λ c h. inr h)
 
         by : (t : Result (Unit {0}) Trouble) → CarriesOut g mid new between after t → AltersFile g at kind floor change old new before after (as_refused t)
@@ -261,7 +263,7 @@ module _ {D : Type 0} (g : Ghosts D) (old mid new : D) (before between after : K
           full = λ graph ds id f may. tt;
           begun = λ graph ds id f may. tt;
           sound = λ graph ds id f may. tt;
-          ends = ends_altered (Ok u) (Ok tt) changes.ends (Ok v, refl, carries);
+          ends = ends_altered (disk_top g at old) kind floor change (Ok u) (Ok tt) changes.ends (Ok v, refl, carries);
         }
         by (Err e) carries = record {
           done = λ graph ds id f may. tt;
@@ -271,7 +273,7 @@ module _ {D : Type 0} (g : Ghosts D) (old mid new : D) (before between after : K
           full = λ graph ds id f may full. absurd (never_full e full);
           begun = λ graph ds id f may is. inl (changes.room graph ds id f may);
           sound = λ graph ds id f may. same_damage e (finished_sound g _ ds mid new between after (Err e) carries.goes (changes.done graph ds id f may).store);
-          ends = ends_altered (Ok u) (Err (refused_by e)) changes.ends (Err e, refl, carries);
+          ends = ends_altered (disk_top g at old) kind floor change (Ok u) (Err (refused_by e)) changes.ends (Err e, refl, carries);
         }
 
   -- ---- a draft
@@ -281,7 +283,7 @@ module _ {D : Type 0} (g : Ghosts D) (old mid new : D) (before between after : K
     pub commits : (t : Result (Unit {0}) Trouble) → CommitEnds g graph ds id o None old mid between (Ok tt) → CarriesOut g mid new between after t → CommitEnds g graph ds id o None old new after t
     commits (Ok u) ends carries =
         let ch = ends.done in
-        let same : end_of g new after ≡ end_of g mid between = (ap (coming (g.content new)) carries.done ∙ come carries (with_object graph id o) _ ch.store) in
+        let same : final_image g new after ≡ final_image g mid between = (ap (coming (g.content new)) carries.done ∙ come carries (with_object graph id o) _ ch.store) in
         record {
           done = record {
             store = carries.goes.store (with_object graph id o) _ ch.store;
@@ -314,7 +316,7 @@ module _ {D : Type 0} (g : Ghosts D) (old mid new : D) (before between after : K
     ends_draft (Err e) carries = record {
       ends = λ graph ds id o d store there opened. commits graph ds id d.object (Err e) (ends graph ds id o d store there opened) carries;
       tried = λ same. apart e carries 31207 15485 made bit (ap refused_by same);
-      refused = trouble e carries 31207 15485 made bit was.at;
+      refused = trouble e carries 31207 15485 made bit (draft_top was);
       cylinders = carries.cylinders ∙ cylinders;
       left = tt;
       calls = in_all (Err e) 31207 15485 made carries;
@@ -322,6 +324,6 @@ module _ {D : Type 0} (g : Ghosts D) (old mid new : D) (before between after : K
 
 -- ---- nothing was left
 
-pub none_left : (w : Option Left) (n : ℕ) → n ≡ cond (is_some w) 1 0 → n ≡ 0 → w ≡ None
+pub none_left : (w : Option LeftCommit) (n : ℕ) → n ≡ cond (is_some w) 1 0 → n ≡ 0 → w ≡ None
 none_left None n is none = refl
 none_left (Some l) n is none = absurd (omega (arith, is, none))

@@ -1,13 +1,13 @@
 -- How a call ends that changes one object.
 use Rattle.std.proofs.Common.{◌≡◌, ℕ, ◌+◌, ◌≤◌, [], ◌∷◌, length, true, false, Option, Some, None, IsTrue, refl, sym, ◌∙◌, ap, subst, arith, map, option_map, sum}
-use Rattle.cfs_core.proofs.Words.{and_parts, block_there, blocks_of, ChangesOnly, creates, Ghosts, Graph, has_block, has_block-still, has_number, Image, insert_entry-same, is_placed, is_taken, IsOfThese, IsSpeakable, keys_of-kinds_in, kind_in-kinds_in, kind_of, kinds_in-insert_entry, kinds_of, MapEntry, Object, object_at, object_at-with_object, of_owner, outcome_of, owner_of, Puid, refusal_of}
+use Rattle.cfs_core.proofs.Words.{and_parts, block_there, blocks_of, ChangesOnly, creates, Ghosts, Graph, has_block, has_block-still, has_number, Image, insert_entry-same, is_placed, is_taken, IsOfThese, IsSpeakable, keys_of-kinds_in, directory_kind-kinds_in, object_kind, kinds_in-insert_entry, kinds_of, MapEntry, Object, object_at, object_at-with_object, of_owner, outcome_of, owner_of, Puid, refusal_of}
 use Rattle.cfs_core.proofs.Words.{Request, rises, same_puid_itself, State, StoreHas, with_object}
 use Rattle.ufs_model.specs.declared.asked.Event.TheVariants as events
 use Rattle.ufs_model.specs.declared.asked.Reply.TheVariants as replies
-use Rattle.cfs_core.specs.Calls.{Answers, IsInDoubt, IsShort}
-use Rattle.cfs_core.specs.Claimed.{Takes}
+use Rattle.cfs_core.specs.Calls.{Answers, IsInDoubt, IsShortOfBlocks}
+use Rattle.cfs_core.specs.Claimed.{TakesForRequest}
 use Rattle.cfs_core.specs.Kernel.{Kernel}
-use Rattle.cfs_core.specs.StandsFor.{Serves, bare, drafts_of_handles}
+use Rattle.cfs_core.specs.StandsFor.{CoreServes, bare, drafts_of_handles}
 use Rattle.cfs_core.proofs.Committed.{IsOutcome, LeavesThese, did, in_doubt}
 use Rattle.cfs_core.proofs.Grown.{replaced_blocks}
 use Rattle.cfs_core.proofs.Moved.{IsStepped}
@@ -31,9 +31,9 @@ of_this g id o = record {
 
 module _ {D : Type 0} (g : Ghosts D) (left_sized : (d : D) (t : ℕ) (c : Image) → g.left_since d t c → length c ≡ g.blocks d) (sized : (d : D) → IsTrue (g.honest d) → length (g.content d) ≡ g.blocks d)
     (old new : Kernel D) (size : g.blocks new.disk ≡ g.blocks old.disk) (same : new ≡ record old { disk = new.disk; space = new.space }) (none : old.stop ≡ None)
-    (s after : State) (who : ℕ) (request : Request) (serves : Serves g old s) (id : Puid) (was o : Object) (found : object_at s.graph id ≡ Some was) (alike : kind_of o ≡ kind_of was) (n : ℕ) (more : blocks_of o ≤ blocks_of was + n)
+    (s after : State) (who : ℕ) (request : Request) (serves : CoreServes g old s) (id : Puid) (was o : Object) (found : object_at s.graph id ≡ Some was) (alike : object_kind o ≡ object_kind was) (n : ℕ) (more : blocks_of o ≤ blocks_of was + n)
     (goes : refusal_of s who request ≡ None) (makes : creates request ≡ false) (speaks : IsSpeakable (events.Ask who request replies.Done)) (out : outcome_of old.words.seed s who request 0 ≡ (replies.Done, after)) (puts : Puts s after id o)
-    (short : ¬ IsShort s who request (sum old.space.free)) (free : n + 4 ≤ sum old.space.free) (leaves : LeavesThese g old.disk new.disk s who request replies.Done (with_object s.graph id o)) where
+    (short : ¬ IsShortOfBlocks s who request (sum old.space.free)) (free : n + 4 ≤ sum old.space.free) (leaves : LeavesThese g old.disk new.disk s who request replies.Done (with_object s.graph id o)) where
   abbrev h : Graph
   h = with_object s.graph id o
 
@@ -51,9 +51,9 @@ module _ {D : Type 0} (g : Ghosts D) (left_sized : (d : D) (t : ℕ) (c : Image)
     free = free;
   }
 
-  names_stay : kinds_of h ≡ kinds_of s.graph
-  names_stay = kinds_in-insert_entry s.graph.objects id o
-      ∙ insert_entry-same _ id (kind_of o) (ap rises (keys_of-kinds_in s.graph.objects) ∙ serves.store.ordered) (kind_in-kinds_in s.graph.objects id ∙ ap (option_map kind_of) found ∙ ap (λ k. Some k) (sym alike))
+  directory_stays : kinds_of h ≡ kinds_of s.graph
+  directory_stays = kinds_in-insert_entry s.graph.objects id o
+      ∙ insert_entry-same _ id (object_kind o) (ap rises (keys_of-kinds_in s.graph.objects) ∙ serves.store.ordered) (directory_kind-kinds_in s.graph.objects id ∙ ap (option_map object_kind) found ∙ ap (λ k. Some k) (sym alike))
 
   stepped : IsStepped old new s after h
   stepped = subst (λ (k : Kernel D). IsStepped old k s after h) (sym same) (record {
@@ -62,7 +62,7 @@ module _ {D : Type 0} (g : Ghosts D) (left_sized : (d : D) (t : ℕ) (c : Image)
     stopped = puts.stopped;
     sweeping = puts.sweeping;
     drawn = puts.drawn ∙ serves.front.drawn;
-    named = serves.front.names ∙ sym names_stay;
+    named = serves.front.directory ∙ sym directory_stays;
     root = refl;
     stop = refl;
     table = serves.front.grants ∙ ap (map bare) (sym puts.grants);
@@ -71,6 +71,6 @@ module _ {D : Type 0} (g : Ghosts D) (left_sized : (d : D) (t : ℕ) (c : Image)
   pub object_in_doubt : IsInDoubt g old new s who request
   object_in_doubt = in_doubt g left_sized sized old new size none s after who 0 request replies.Done serves h n outcome leaves same
 
-  pub object_did : StoreHas g h (drafts_of_handles old.handles s.grants) new.disk new.space → new.space.left ≡ None → ChangesOnly (λ entry. of_owner id.block entry) (g.content old.disk) (g.content new.disk) → Takes old.handles s who request replies.Done (g.content old.disk) (g.content new.disk) → Answers g old new s who request replies.Done
+  pub object_did : StoreHas g h (drafts_of_handles old.handles s.grants) new.disk new.space → new.space.left ≡ None → ChangesOnly (λ entry. of_owner id.block entry) (g.content old.disk) (g.content new.disk) → TakesForRequest old.handles s who request replies.Done (g.content old.disk) (g.content new.disk) → Answers g old new s who request replies.Done
   object_did store left only takes = did g left_sized sized old new size none s after who 0 request replies.Done serves h n outcome leaves stepped (ap (λ (k : Kernel D). k.handles) same) puts.grants (id.block ∷ [])
       (record { store = store; only = only; these = of_this s.graph id o; left = left }) tt refl short no_create takes

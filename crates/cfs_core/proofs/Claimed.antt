@@ -1,6 +1,6 @@
 -- That blocks are claimed in their order, as each layer below has it.
 use Rattle.std.proofs.Common.{◌≡◌, ◌⊎◌, inl, inr, ℕ, List, [], ◌∷◌, Bool, true, false, cond, Option, Some, None, refl, sym, ◌∙◌, ap, subst, arith, ◌==◌}
-use Rattle.cfs_core.proofs.Words.{and_parts, ChangesOnly, entry_in, Image, is_done, is_free_entry, is_meant, is_placed, is_taken, IsLeastFree, list_all, MapEntry, nat_tests, of_drafts, of_owners, refusal_of, Reply, Request, stands_for, State}
+use Rattle.cfs_core.proofs.Words.{and_parts, ChangesOnly, entry_in, Image, is_carried_out, is_free_entry, is_meant, is_placed, is_taken, IsLeastFree, list_all, MapEntry, nat_tests, of_drafts, of_owners, refusal_of, Reply, Request, stands_for, State}
 use Rattle.claims.specs.Claims.{AreClaimed}
 use Rattle.cfs_base.specs.declared.kind.Place.{Place}
 use Rattle.cfs_base.specs.declared.kind.Place.TheVariants as places
@@ -16,19 +16,19 @@ use Rattle.special_files.specs.Committing.{TakesShadow}
 use Rattle.special_files.specs.Order.{ClaimsAndDrops}
 use Rattle.ufs_model.specs.Refusal.{conditions, first_of, target}
 use Rattle.vol_owners.specs.Change.{IsOpenTo}
-use Rattle.vol_owners.specs.Owner.{is_of}
+use Rattle.vol_owners.specs.Owner.{is_owned_by}
 use Rattle.std.proofs.lemmas.Bool.{cases_eq}
-use Rattle.cfs_core.specs.Claimed.{ClaimsInOrder, Takes, claims_for, commits_alone, owners_of, root_reached}
+use Rattle.cfs_core.specs.Claimed.{ClaimsInOrder, TakesForRequest, claims_for, commits_alone, owners_of, root_reached}
 use Rattle.cfs_core.specs.Kernel.{Handle}
 
 -- ---- what is refused isn't done
 
-undone_first : (cs : List (Bool × Reply)) (reply : Reply) → list_all (λ c. cond (is_done c.1) false true) cs ≡ true → first_of cs ≡ Some reply → is_done reply ≡ false
+undone_first : (cs : List (Bool × Reply)) (reply : Reply) → list_all (λ c. cond (is_carried_out c.1) false true) cs ≡ true → first_of cs ≡ Some reply → is_carried_out reply ≡ false
 undone_first [] reply all is = cc
 undone_first (c ∷ cs) reply all is =
-    let two = and_parts (cond (is_done c.1) false true) _ all in
-    elim c.0 as (λ b. cond b (Some c.1) (first_of cs) ≡ Some reply → is_done reply ≡ false) [
-      | true ↦ λ here. let same : c.1 ≡ reply = cc in ap is_done (sym same) ∙ flipped (is_done c.1) two.0
+    let two = and_parts (cond (is_carried_out c.1) false true) _ all in
+    elim c.0 as (λ b. cond b (Some c.1) (first_of cs) ≡ Some reply → is_carried_out reply ≡ false) [
+      | true ↦ λ here. let same : c.1 ≡ reply = cc in ap is_carried_out (sym same) ∙ flipped (is_carried_out c.1) two.0
       | false ↦ λ rest. undone_first cs reply two.1 rest
     ] is
   where
@@ -36,7 +36,7 @@ undone_first (c ∷ cs) reply all is =
     flipped true h = cc
     flipped false h = refl
 
-pub refused_undone : (s : State) (who : ℕ) (request : Request) (reply : Reply) → refusal_of s who request ≡ Some reply → is_done reply ≡ false
+pub refused_undone : (s : State) (who : ℕ) (request : Request) (reply : Reply) → refusal_of s who request ≡ Some reply → is_carried_out reply ≡ false
 refused_undone s who request reply is = undone_first (conditions s who request) reply refl is
 
 -- ---- entries that may change
@@ -47,7 +47,7 @@ meant_taken states.Allocated is = cc
 meant_taken states.IntendAllocate is = refl
 meant_taken states.IntendDeallocate is = cc
 
-meant_open : (r : ℕ) (rs : List ℕ) (entry : Option MapEntry) → is_of is_meant r entry ≡ true → IsOpenTo (of_owners (r ∷ rs)) entry
+meant_open : (r : ℕ) (rs : List ℕ) (entry : Option MapEntry) → is_owned_by is_meant r entry ≡ true → IsOpenTo (of_owners (r ∷ rs)) entry
 meant_open r rs None is = cc
 meant_open r rs (Some e) is =
     let two = and_parts _ (r == e.owner) is in
@@ -86,12 +86,12 @@ pub record Commits (claims : List MapEntry) (owners : List ℕ) (at : ℕ) (a b 
 
 -- a request that isn't a commit of its own
 pub takes_alone : (handles : List Handle) (s : State) (who : ℕ) (request : Request) (reply : Reply) (a b : Image) → commits_alone s who request ≡ false → ClaimsInOrder (claims_for handles s who request reply) (owners_of s who request reply) a b
-    → Takes handles s who request reply a b
+    → TakesForRequest handles s who request reply a b
 takes_alone handles s who request reply a b none order = record { order = order; shadow = λ yes. let no : true ≡ false = sym yes ∙ none in cc }
 
 -- and one that is
 pub takes_last : (handles : List Handle) (s : State) (who : ℕ) (request : Request) (reply : Reply) (a b : Image) (claims : List MapEntry) (owners : List ℕ) (at : ℕ) → claims_for handles s who request reply ≡ claims → owners_of s who request reply ≡ owners
-    → root_reached s who (target request) ≡ at → Commits claims owners at a b → Takes handles s who request reply a b
+    → root_reached s who (target request) ≡ at → Commits claims owners at a b → TakesForRequest handles s who request reply a b
 takes_last handles s who request reply a b claims owners at same_claims same_owners same_root is =
     let x = subst (λ (cs : List MapEntry). Commits cs (owners_of s who request reply) (root_reached s who (target request)) a b) (sym same_claims)
     (subst (λ (ns : List ℕ). Commits claims ns (root_reached s who (target request)) a b) (sym same_owners) (subst (λ (n : ℕ). Commits claims owners n a b) (sym same_root) is)) in
@@ -102,7 +102,7 @@ pub claims_all : (claims : List MapEntry) (owners : List ℕ) (a b : Image) → 
 claims_all claims owners a b is = record { mid = b; in_order = is; rest = λ n. inl refl }
 
 -- an index is
-pub claims_then : (claims : List MapEntry) (at : ℕ) (made : List ℕ) (a b : Image) → ops.Takes claims at made a b → Commits claims (at ∷ made) at a b
+pub claims_then : (claims : List MapEntry) (at : ℕ) (made : List ℕ) (a b : Image) → ops.TakesEntries claims at made a b → Commits claims (at ∷ made) at a b
 claims_then claims at made a b takes = record {
   order = record { mid = takes.mid; in_order = takes.in_order; rest = takes.only.entries };
   shadow = takes.shadow;
@@ -113,7 +113,7 @@ module _ (owner : ℕ) (claims : List MapEntry) (a b : Image) (is : ClaimsAndDro
   pub claims_dropped : ClaimsInOrder claims (owner ∷ []) a b
   claims_dropped = record { mid = is.mid; in_order = is.claimed; rest = λ n. at n (is.left n) }
     where
-      at : (n : ℕ) → (entry_in b n ≡ entry_in is.mid n) ⊎ ((is_of is_meant owner (entry_in is.mid n) ≡ true) × (is_free_entry (entry_in b n) ≡ true))
+      at : (n : ℕ) → (entry_in b n ≡ entry_in is.mid n) ⊎ ((is_owned_by is_meant owner (entry_in is.mid n) ≡ true) × (is_free_entry (entry_in b n) ≡ true))
           → (entry_in b n ≡ entry_in is.mid n) ⊎ (IsOpenTo (of_owners (owner ∷ [])) (entry_in is.mid n) × IsOpenTo (of_owners (owner ∷ [])) (entry_in b n))
       at n (inl same) = inl same
       at n (inr two) = inr (meant_open owner [] (entry_in is.mid n) two.0, inl two.1)

@@ -1,8 +1,8 @@
 -- How the collector keeps up with what is asked, and with what a session's end drops.
 use Rattle.std.proofs.Common.{◌≡◌, ℕ, ◌+◌, ◌*◌, ◌/◌, List, [], ◌∷◌, ◌++◌, Bool, true, false, not, ◌||◌, cond, Option, Some, None, is_none, refl, sym, ◌∙◌, ap, subst, arith, append_assoc, append-nil}
-use Rattle.cfs_core.proofs.Words.{allowed, and_parts, ask_changes, block_named, both_ways, by_outcome, Changes, changes_keep, Collecting, Collection, Colours, colours_in, colours_of, creates, false_from_ne_true, Graph, Image, is_free_root, is_marking, is_outcome, is_root, is_taken, IsAsBefore, IsCollecting, IsMarking, IsOfPart, IsPaced, IsState, IsSwept, IsWithin, less_open, MapEntry, next}
+use Rattle.cfs_core.proofs.Words.{allowed, and_parts, ask_changes, block_named, both_ways, by_outcome, Changes, changes_keep, Collecting, Collection, Colours, colours_in, colours_of, creates, false_from_ne_true, Graph, Image, is_free_root, is_marking, is_outcome, is_root, is_taken, IsAsBefore, IsCollecting, IsMarking, IsOfPart, IsPaced, IsState, IsSwept, AreStepsWithin, less_open, MapEntry, next}
 use Rattle.cfs_core.proofs.Words.{NoInner, NoStray, outcome_leaves, outcome_of, pace_change, pace_rescue, Phase, refusal_of, Reply, Request, Rescue, rescues_of, same_reply, State, stopped_at, volume_of, waiting_in, well}
-use Rattle.collector_marks.specs.Kept.{blocks_of}
+use Rattle.collector_marks.specs.Kept.{blocks_marked}
 use Rattle.collector_steps.specs.declared.phase.Phase.TheVariants as phases
 use Rattle.ufs_model.specs.declared.asked.Event.TheVariants as events
 use Rattle.ufs_model.specs.declared.asked.Reply.TheVariants as replies
@@ -10,12 +10,12 @@ use Rattle.ufs_model.specs.declared.collection.Collection.TheVariants as collect
 use Rattle.cfs_core.specs.Calls.{AddsNoStray}
 use Rattle.cfs_core.specs.Kernel.{marks_in, sweeps_in}
 use Rattle.cfs_core.specs.Rescues.{AreRescued, HasRescued, added_with, while_marking}
-use Rattle.cfs_core.specs.StandsFor.{HasCollection, HasCollector, is_sweeping}
+use Rattle.cfs_core.specs.StandsFor.{HasCollection, HasCollector, sweeps_now}
 use Rattle.cfs_core.proofs.Serving.{none_more}
 
 -- ---- no request moves a collection on
 
-pub none_is : (c : Collection) → is_marking c ≡ false → is_sweeping c ≡ false → c ≡ collections.None
+pub none_is : (c : Collection) → is_marking c ≡ false → sweeps_now c ≡ false → c ≡ collections.None
 none_is collections.None m w = refl
 none_is (collections.Marking edges starts) m w = cc
 none_is collections.Sweeping m w = cc
@@ -67,7 +67,7 @@ paced_more h c (r ∷ rs) waiting steps added is =
 
 -- Where the state changes so while a collection marks, and no block of an object that is gone is added, the collector keeps
 -- up by these rescues.
-module _ (a b : Image) (s t : State) (more : List Rescue) (marked : is_marking t.collection ≡ is_marking s.collection) (swept : is_sweeping t.collection ≡ is_sweeping s.collection) (strays : AddsNoStray a b s.graph t.graph)
+module _ (a b : Image) (s t : State) (more : List Rescue) (marked : is_marking t.collection ≡ is_marking s.collection) (swept : sweeps_now t.collection ≡ sweeps_now s.collection) (strays : AddsNoStray a b s.graph t.graph)
     (changes : is_marking s.collection ≡ true → Changes s t more) where
   inner_on : (n : ℕ) → NoInner a s.graph n → NoInner b t.graph n
   inner_on n none = λ m below stray. let two = strays m stray in subst (λ (e : Option MapEntry). is_root is_taken e ≡ true) (sym two.0) (none m below two.1)
@@ -79,10 +79,10 @@ module _ (a b : Image) (s t : State) (more : List Rescue) (marked : is_marking t
   swept_on is = record { none = λ m. false_from_ne_true _ (λ stray. both_ways _ (is.none m) (strays m stray).1) }
 
   module _ (k l : Collecting) (rescued : HasRescued k l more) (has : HasCollector a s k) where
-    within : (n : ℕ) → while_marking k more ≡ [] → IsWithin k n → IsWithin l n
+    within : (n : ℕ) → while_marking k more ≡ [] → AreStepsWithin k n → AreStepsWithin l n
     within n none is = λ few.
         let added : l.added ≡ k.added = rescued.added ∙ ap (λ (m : List Rescue). added_with m k.added) none in
-        let now = is (omega (arith, few, added)) in omega (arith, now, added, rescued.steps, (ap blocks_of rescued.marks))
+        let now = is (omega (arith, few, added)) in omega (arith, now, added, rescued.steps, (ap blocks_marked rescued.marks))
 
     on : (p : Phase) → k.phase ≡ p → IsCollecting p a s k → IsCollecting p b t l
     on phases.Idle is holds = tt
@@ -100,11 +100,11 @@ module _ (a b : Image) (s t : State) (more : List Rescue) (marked : is_marking t
         )
     on (phases.Inner cylinder) is holds = (inner_on cylinder holds.0, within (2 + cylinder) (ap (λ p. cond (marks_in p) more []) is) holds.1)
     on (phases.Roots cylinder) is holds =
-        let volume = (ap blocks_of rescued.marks) in
-        subst (λ (v : ℕ). NoInner b t.graph (v / 64) × (NoStray b t.graph cylinder × IsWithin l (2 + v / 64 + cylinder))) (sym volume)
+        let volume = (ap blocks_marked rescued.marks) in
+        subst (λ (v : ℕ). NoInner b t.graph (v / 64) × (NoStray b t.graph cylinder × AreStepsWithin l (2 + v / 64 + cylinder))) (sym volume)
         (inner_on (volume_of k / 64) holds.0, (stray_on cylinder holds.1.0, within (2 + volume_of k / 64 + cylinder) (ap (λ p. cond (marks_in p) more []) is) holds.1.1))
     on phases.Swept is holds =
-        subst (λ (v : ℕ). IsSwept b t.graph × IsWithin l (2 + 2 * (v / 64))) (sym (ap blocks_of rescued.marks))
+        subst (λ (v : ℕ). IsSwept b t.graph × AreStepsWithin l (2 + 2 * (v / 64))) (sym (ap blocks_marked rescued.marks))
         (swept_on holds.0, within (2 + 2 * (volume_of k / 64)) (ap (λ p. cond (marks_in p) more []) is) holds.1)
 
     collector_on : HasCollector b t l
@@ -115,7 +115,7 @@ module _ (a b : Image) (s t : State) (more : List Rescue) (marked : is_marking t
     }
 
   pub collection_on : (o p : Option Collecting) → AreRescued o p more → HasCollection a s o → HasCollection b t p
-  collection_on None None rescued none = none_is t.collection (marked ∙ ap is_marking none) (swept ∙ ap is_sweeping none)
+  collection_on None None rescued none = none_is t.collection (marked ∙ ap is_marking none) (swept ∙ ap sweeps_now none)
   collection_on (Some k) (Some l) rescued has = collector_on k l rescued has
   collection_on None (Some l) rescued has = absurd rescued
   collection_on (Some k) None rescued has = absurd rescued
@@ -125,7 +125,7 @@ module _ (a b : Image) (s t : State) (more : List Rescue) (marked : is_marking t
 pub collection_asked : (a b : Image) (seed : ℕ) (s t : State) (who : ℕ) (request : Request) (reply : Reply) → next seed s (events.Ask who request reply) ≡ Some t → IsState s → AddsNoStray a b s.graph t.graph
     → (o p : Option Collecting) → AreRescued o p (rescues_of s who request reply) → HasCollection a s o → HasCollection b t p
 collection_asked a b seed s t who request reply step state strays o p rescued has =
-    collection_on a b s t (rescues_of s who request reply) (part_stays is_marking (λ a b c d. refl) seed s state who request reply t step) (part_stays is_sweeping (λ a b c d. refl) seed s state who request reply t step) strays
+    collection_on a b s t (rescues_of s who request reply) (part_stays is_marking (λ a b c d. refl) seed s state who request reply t step) (part_stays sweeps_now (λ a b c d. refl) seed s state who request reply t step) strays
     (λ marking. ask_changes seed s (well s state) marking who request reply t step) o p rescued has
 
 -- nothing is rescued, and nothing moves

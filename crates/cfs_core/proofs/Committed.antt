@@ -1,14 +1,14 @@
 -- How a call ends that makes an outcome of the definitions durable by one commit.
 use Rattle.std.proofs.Common.{◌≡◌, ◌⊎◌, inl, inr, ℕ, ◌+◌, ◌≤◌, List, length, Bool, true, false, Option, Some, None, IsTrue, sym, ◌∙◌, ap, subst, arith, sum}
-use Rattle.cfs_core.proofs.Words.{After, Before, call, ChangesInPlace, closed_graph, creates, Cut, Early, Event, File, Fits, frames_hold, Ghosts, Grant, Graph, graph_blocks, Holds, HoldsSome, Image, is_free_root, IsBetween, IsClosedGraph, IsLeastFree, IsPlainReply, IsSpeakable, IsState, Late, Leaves, MapEntry, next, next_keeps, of_owners, Opened, outcome_legal, outcome_of, Puid, refusal_of, Reply}
+use Rattle.cfs_core.proofs.Words.{After, Before, call, ChangesInPlace, closed_graph, creates, Cut, Early, Event, File, FitsDisk, frames_hold, Ghosts, Grant, Graph, graph_blocks, Holds, HoldsSome, Image, is_free_root, IsBetween, IsClosedGraph, IsLeastFree, IsPlainReply, IsSpeakable, IsState, Late, Leaves, MapEntry, next, next_keeps, of_owners, Opened, outcome_legal, outcome_of, Puid, refusal_of, Reply}
 use Rattle.cfs_core.proofs.Words.{Request, State, wider, with_object}
 use Rattle.ufs_model.specs.declared.asked.Event.TheVariants as events
 use Rattle.ufs_model.specs.declared.asked.Reply.TheVariants as replies
 use Rattle.ufs_model.specs.declared.object.Object.TheVariants as objects
-use Rattle.cfs_core.specs.Calls.{Answers, ByOutcome, CutShort, IsInDoubt, IsShort, MayStand, Undone, Whole, leaves_all}
-use Rattle.cfs_core.specs.Claimed.{Takes}
+use Rattle.cfs_core.specs.Calls.{Answers, ByOutcome, CutShort, IsInDoubt, IsShortOfBlocks, MayBeRead, Undone, Whole, leaves_all}
+use Rattle.cfs_core.specs.Claimed.{TakesForRequest}
 use Rattle.cfs_core.specs.Kernel.{Kernel, grants_in}
-use Rattle.cfs_core.specs.StandsFor.{AreDraftsOf, Serves, drafts_of_handles}
+use Rattle.cfs_core.specs.StandsFor.{AreDraftsOf, CoreServes, drafts_of_handles}
 use Rattle.cfs_core.proofs.Answering.{owes}
 use Rattle.cfs_core.proofs.Moved.{HasStepped, IsStepped, four_left, stores_stepped, strays_stepped}
 use Rattle.cfs_core.proofs.Serving.{fits, may_fit, running}
@@ -33,7 +33,7 @@ pub record IsCut (size : ℕ) (s : State) (who : ℕ) (request : Request) (reply
   pub file : File
   pub changes : ChangesInPlace s who request id was now
   pub between : IsBetween was now file
-  pub fits : Fits size (with_object s.graph id (objects.File file))
+  pub fits : FitsDisk size (with_object s.graph id (objects.File file))
   pub holds : Holds c (with_object s.graph id (objects.File file))
 
 -- each image holds the objects of before or of after, or is cut short
@@ -44,7 +44,7 @@ pub uncut : {D : Type 0} (g : Ghosts D) (old new : D) (s : State) (who : ℕ) (r
 uncut g old new s who request reply h leaves = wider g old new _ _ leaves (λ c holds. inl holds)
 
 module _ {D : Type 0} (g : Ghosts D) (left_sized : (d : D) (t : ℕ) (c : Image) → g.left_since d t c → length c ≡ g.blocks d) (sized : (d : D) → IsTrue (g.honest d) → length (g.content d) ≡ g.blocks d)
-    (old new : Kernel D) (size : g.blocks new.disk ≡ g.blocks old.disk) (none : old.stop ≡ None) (s after : State) (who b : ℕ) (request : Request) (reply : Reply) (serves : Serves g old s) (h : Graph) (n : ℕ)
+    (old new : Kernel D) (size : g.blocks new.disk ≡ g.blocks old.disk) (none : old.stop ≡ None) (s after : State) (who b : ℕ) (request : Request) (reply : Reply) (serves : CoreServes g old s) (h : Graph) (n : ℕ)
     (is : IsOutcome old s who b request reply after h n) (leaves : LeavesThese g old.disk new.disk s who request reply h) where
   step : next old.words.seed s (events.Ask who request reply) ≡ Some after
   step = subst (λ (p : Reply × State). next old.words.seed s (events.Ask who request p.0) ≡ Some p.1) is.out (outcome_legal old.words.seed s who request b (running g old s serves none) is.allowed is.names)
@@ -55,24 +55,24 @@ module _ {D : Type 0} (g : Ghosts D) (left_sized : (d : D) (t : ℕ) (c : Image)
   wide : length (g.content old.disk) ≡ g.blocks new.disk
   wide = sized old.disk serves.store.carries.tells.honest ∙ sym size
 
-  fits_after : Fits (g.blocks new.disk) h
+  fits_after : FitsDisk (g.blocks new.disk) h
   fits_after = may_fit g old s serves h n (g.blocks new.disk) (subst IsClosedGraph is.graph (closed_graph after.graph state.graph)) is.few is.free wide
 
-  fits_before : Fits (g.blocks new.disk) s.graph
+  fits_before : FitsDisk (g.blocks new.disk) s.graph
   fits_before = fits g old s serves (g.blocks new.disk) wide
 
   pub in_doubt : new ≡ record old { disk = new.disk; space = new.space } → IsInDoubt g old new s who request
   in_doubt same = record {
     allowed = is.allowed;
     drawn = ap (λ (k : Kernel D). k.words.drawn) same;
-    named = ap (λ (k : Kernel D). k.names) same;
+    named = ap (λ (k : Kernel D). k.directory) same;
     grants = ap (λ (k : Kernel D). grants_in k.handles) same;
     leaves = wider g old.disk new.disk _ _ leaves (λ c holds. stood c holds);
   }
     where
-      stood : (c : Image) → (Holds c s.graph ⊎ Holds c h) ⊎ IsCut (g.blocks new.disk) s who request reply c → HoldsSome (g.blocks new.disk) (MayStand old.words.seed s who request) c
+      stood : (c : Image) → (Holds c s.graph ⊎ Holds c h) ⊎ IsCut (g.blocks new.disk) s who request reply c → HoldsSome (g.blocks new.disk) (MayBeRead old.words.seed s who request) c
       stood c (inl (inl before)) = record { graph = s.graph; may = Undone; fits = fits_before; holds = before }
-      stood c (inl (inr after)) = record { graph = h; may = subst (MayStand old.words.seed s who request) (ap (λ (p : Reply × State). p.1.graph) is.out ∙ is.graph) (Whole b is.names); fits = fits_after; holds = after }
+      stood c (inl (inr after)) = record { graph = h; may = subst (MayBeRead old.words.seed s who request) (ap (λ (p : Reply × State). p.1.graph) is.out ∙ is.graph) (Whole b is.names); fits = fits_after; holds = after }
       stood c (inr cut) = record { graph = with_object s.graph cut.id (objects.File cut.file); may = CutShort cut.id cut.was cut.now cut.file cut.changes cut.between; fits = cut.fits; holds = cut.holds }
 
   module _ (stepped : IsStepped old new s after h) (handles : new.handles ≡ old.handles) (grants : after.grants ≡ s.grants) (rs : List ℕ) (has : HasStepped g old new s h (λ entry. of_owners rs entry) (drafts_of_handles old.handles s.grants)) where
@@ -91,7 +91,7 @@ module _ {D : Type 0} (g : Ghosts D) (left_sized : (d : D) (t : ℕ) (c : Image)
     four : 4 ≤ sum new.space.free
     four = four_left g old new s after h serves T drafts has n (omega (arith, is.few)) is.free
 
-    pub did : IsPlainReply reply → leaves_all reply ≡ false → (¬ IsShort s who request (sum old.space.free)) → (creates request ≡ true → IsLeastFree (g.content old.disk) b) → Takes old.handles s who request reply (g.content old.disk) (g.content new.disk) → Answers g old new s who request reply
+    pub did : IsPlainReply reply → leaves_all reply ≡ false → (¬ IsShortOfBlocks s who request (sum old.space.free)) → (creates request ≡ true → IsLeastFree (g.content old.disk) b) → TakesForRequest old.handles s who request reply (g.content old.disk) (g.content new.disk) → Answers g old new s who request reply
     did plain changes short least takes = record {
       event = record {
         after = after;

@@ -1,14 +1,14 @@
 -- How a call ends that makes an object, and puts its identifier into a slot, as one commit.
 use Rattle.std.proofs.Common.{◌≡◌, ◌≢◌, ◌⊎◌, inl, inr, ℕ, zero, suc, ◌+◌, ◌<◌, ◌≤◌, List, [], ◌∷◌, length, Bool, true, false, cond, not, ◌||◌, Option, Some, None, refl, sym, ◌∙◌, ap, subst, arith, ◌==◌, map, option_map, sum, Less, Equal, Greater}
 use Rattle.cfs_core.proofs.Words.{and_parts, block_there, blocks_of, both_ways, cases_lt, changed_draft, created, Draft, edge_stays, entry_in, false_from_ne_true, Fill, free_from, free_is_root, Ghosts, Graph, has_block, has_block-still, has_root_in, Holds, ids_of, Image, in_image, Index, index_with, insert_entry, insert_entry-same, is_free_entry, is_free_in, is_free_root, is_placed, is_taken}
-use Rattle.cfs_core.proofs.Words.{IsLeastFree, IsOfThese, Kept, keys_of-kinds_in, Kind, kind_in-kinds_in, kind_of, kinds_in-insert_entry, kinds_of, MapEntry, match_ordering, named, nat_tests, need_of, not-true, Object, object_at, object_at-with_object, of_owners, or_cases, owner_of, Puid, puid_cmp, put, put_object-at, range_with_len, refusal_of, Request, rises, rises-with_object, same_puid}
+use Rattle.cfs_core.proofs.Words.{IsLeastFree, IsOfThese, Kept, keys_of-kinds_in, Kind, directory_kind-kinds_in, object_kind, kinds_in-insert_entry, kinds_of, MapEntry, match_ordering, named, nat_tests, need_of, not-true, Object, object_at, object_at-with_object, of_owners, or_cases, owner_of, Puid, puid_cmp, put, put_object-at, range_with_len, refusal_of, Request, rises, rises-with_object, same_puid}
 use Rattle.cfs_core.proofs.Words.{same_puid_is, same_puid_itself, seen, seen_object, State, sum_by, sum_by-cons, target, with_made, with_object, word}
 use Rattle.cfs_base.specs.declared.kind.Kind.TheVariants as kinds
 use Rattle.ufs_model.specs.declared.asked.Reply.TheVariants as replies
 use Rattle.ufs_model.specs.declared.object.Object.TheVariants as objects
 use Rattle.cfs_core.specs.Kernel.{Kernel}
 use Rattle.cfs_core.specs.Makes.{IsMaking}
-use Rattle.cfs_core.specs.StandsFor.{Serves, bare, drafts_of_handles, is_sweeping}
+use Rattle.cfs_core.specs.StandsFor.{CoreServes, bare, drafts_of_handles, sweeps_now}
 use Rattle.cfs_core.specs.Ways.{Reaches}
 use Rattle.cfs_core.proofs.Changed.{of_this}
 use Rattle.cfs_core.proofs.Committed.{IsOutcome}
@@ -55,7 +55,7 @@ need_is s who index i slot o request making r = making.need s who ∙ rw (r.bare
 
 -- ---- an object is made, with block b as its root
 
-module _ {D : Type 0} (g : Ghosts D) (k : Kernel D) (s : State) (who : ℕ) (serves : Serves g k s) (index : Puid) (i : Index) (slot : ℕ) (o : Object) (one : blocks_of o ≡ 1) (request : Request) (making : IsMaking request slot o)
+module _ {D : Type 0} (g : Ghosts D) (k : Kernel D) (s : State) (who : ℕ) (serves : CoreServes g k s) (index : Puid) (i : Index) (slot : ℕ) (o : Object) (one : blocks_of o ≡ 1) (request : Request) (making : IsMaking request slot o)
     (r : Reaches s who request index (objects.Index i)) (goes : refusal_of s who request ≡ None) (enough : 8 ≤ sum k.space.free) (b : ℕ) (least : IsLeastFree (g.content k.disk) b) where
   abbrev id : Puid
   id = record { block = b; word = word k.words.seed (s.drawn + 1) }
@@ -111,18 +111,18 @@ module _ {D : Type 0} (g : Ghosts D) (k : Kernel D) (s : State) (who : ℕ) (ser
     free = omega (arith, enough);
   }
 
-  names_are : insert_entry puid_cmp k.names.named id (kind_of o) ≡ kinds_of h
-  names_are =
-      ap (λ named. insert_entry puid_cmp named id (kind_of o)) serves.front.names ∙ sym (kinds_in-insert_entry s.graph.objects id o)
+  directory_is : insert_entry puid_cmp k.directory.named id (object_kind o) ≡ kinds_of h
+  directory_is =
+      ap (λ named. insert_entry puid_cmp named id (object_kind o)) serves.front.directory ∙ sym (kinds_in-insert_entry s.graph.objects id o)
       ∙ sym (kinds_in-insert_entry with_new.objects index (index_with i slot (Some id))
-      ∙ insert_entry-same _ index kinds.Index (ap rises (keys_of-kinds_in with_new.objects) ∙ up) (kind_in-kinds_in with_new.objects index ∙ ap (option_map kind_of) still))
+      ∙ insert_entry-same _ index kinds.Index (ap rises (keys_of-kinds_in with_new.objects) ∙ up) (directory_kind-kinds_in with_new.objects index ∙ ap (option_map object_kind) still))
 
   module _ (d : D) (space : Kept) where
     abbrev new : Kernel D
     new = record k {
       disk = d;
       space = space;
-      names = record { named = insert_entry puid_cmp k.names.named id (kind_of o); room = k.names.room };
+      directory = record { named = insert_entry puid_cmp k.directory.named id (object_kind o); room = k.directory.room };
       words = record { seed = k.words.seed; drawn = k.words.drawn + 1 };
     }
 
@@ -131,9 +131,9 @@ module _ {D : Type 0} (g : Ghosts D) (k : Kernel D) (s : State) (who : ℕ) (ser
       graph = ap (λ (t : State). t.graph) filled_is;
       rooted = refl;
       stopped = ap (λ (t : State). t.stopped) filled_is;
-      sweeping = edge_stays is_sweeping (λ a b c d. refl) (named s who (target request)) id s.collection;
+      sweeping = edge_stays sweeps_now (λ a b c d. refl) (named s who (target request)) id s.collection;
       drawn = ap (λ (t : State). t.drawn) filled_is ∙ ap (λ n. n + 1) serves.front.drawn;
-      named = names_are;
+      named = directory_is;
       root = refl;
       stop = refl;
       table = serves.front.grants ∙ ap (λ (t : State). map bare t.grants) (sym filled_is);

@@ -1,7 +1,8 @@
 -- What a damage of one call of the store tells of the core's call.
-use Rattle.std.proofs.Common.{◌≡◌, ◌⊎◌, inl, inr, ℕ, ◌/◌, ◌%◌, ◌<◌, ◌*◌, ◌+◌, Some, None, Option, false, refl, sym, ◌∙◌, ap, subst, arith, IsTrue, List, length, slice_index, sum, [], ◌∷◌}
+use Rattle.std.proofs.Common.{◌≡◌, ◌⊎◌, inl, inr, ℕ, ◌/◌, ◌%◌, ◌<◌, ◌*◌, ◌+◌, Some, None, Option, true, refl, sym, ◌∙◌, ap, subst, arith, List, slice_index, sum, [], ◌∷◌}
 use Rattle.cfs_core.proofs.Words.{Ghosts, Image, IsIndexRefusal, IsOpenMap, OnlyReads, Request}
 use Rattle.cfs_base.proofs.Calls.{tells_on}
+use Rattle.cfs_base.specs.Codes.{past_disk}
 use Rattle.cfs_base.specs.Disk.{block_at}
 use Rattle.cfs_base.specs.Run.{Tells}
 use Rattle.cfs_base.specs.declared.refusal.Damage.{Damage}
@@ -19,12 +20,12 @@ use Rattle.collector_steps.specs.Scan.{IsIndexDamage, LeadsPast}
 use Rattle.cyl_alloc.specs.Refusals.{IsNoMap}
 use Rattle.cyl_map.specs.Volume.{entry_in}
 use Rattle.file_ops.specs.Changes as files
-use Rattle.file_ops.specs.Changes.{IsBesideDamage, IsFileDamage, IsPlaceDamage, least_size}
+use Rattle.file_ops.specs.Changes.{IsBesideDamage, IsFileDamage, IsPlaceDamage, is_resize, least_size}
 use Rattle.index_ops.specs.Causes as causes
 use Rattle.normal_files.specs.Ends as ends
 use Rattle.normal_files.specs.Frees as frees
 use Rattle.normal_files.specs.Refusal as normal
-use Rattle.special_files.specs.Drafting.{node_of}
+use Rattle.special_files.specs.Drafting.{Drafting, pointer_to_node}
 use Rattle.special_files.specs.Refusal as special
 use Rattle.special_files.specs.Refusal.{IsFarNode}
 use Rattle.ufs_model.specs.declared.change.Change.{Change}
@@ -32,16 +33,20 @@ use Rattle.cfs_base.specs.declared.kind.FileKind.{FileKind}
 use Rattle.cfs_base.specs.declared.kind.FileKind.TheVariants as kinds
 use Rattle.cyl_alloc.specs.Space.{IsBadMap}
 use Rattle.cfs_core.specs.declared.collecting.Collections.{Collections}
-use Rattle.cfs_core.specs.Damage.{After, Before, FarBelow, FarNode, FarRoot, FewLeft, IsDamageTold, IsOutside, IsRootHere, NoEntry, NoRoot, FindsFew, NotOwned, OpenMap, OtherCount, bytes_wanted, is_delete}
+use Rattle.cfs_core.specs.Damage.{After, Before, FarBelow, FarDraft, FarNode, FarRoot, FewLeft, IsDamageTold, IsOutside, IsRootHere, NoEntry, NoRoot, FindsFew, NotOwned, OpenMap, OtherCount, bytes_wanted}
+use Rattle.cfs_core.specs.Handles.{drafting_at}
 use Rattle.cfs_core.specs.Kernel.{Kernel}
+use Rattle.cyl_alloc.proofs.Miscounts.{miscounted_as}
+use Rattle.leaf_changes.specs.Tops.{Top, disk_top, still_top}
+use Rattle.special_files.specs.Committing.{draft_top}
 
 -- the same in an image that is as it was, of a disk that is
 pub outside_as : (Told Says : Type 0) (a b : Image) (size now : ℕ) (IsRoot Is : ℕ → Type 0) (bytes most : ℕ) (damage : Damage) → (Says → Told) → b ≡ a → now ≡ size → ((n : ℕ) → IsRoot n → Is n) → ((n : ℕ) → n < bytes → n < most)
     → IsOutside Told a size IsRoot bytes damage → IsOutside Says b now Is most damage
-outside_as Told Says a b size now IsRoot Is bytes most damage on same size_is root less (NoEntry code why) = NoEntry code (λ t. subst (λ (i : Image). IsBadMap i damage.block) (sym same) (why (on t)))
+outside_as Told Says a b size now IsRoot Is bytes most damage on same size_is root less (NoEntry code map why) = NoEntry code map (λ t. subst (λ (i : Image). IsBadMap i damage.block) (sym same) (why (on t)))
 outside_as Told Says a b size now IsRoot Is bytes most damage on same size_is root less (NoRoot code here why) = NoRoot code (root damage.block here) (λ t r is. less r.size (why (on t) r (subst (λ (i : Image). IsRootBlock (block_at i damage.block) r) same is)))
 outside_as Told Says a b size now IsRoot Is bytes most damage on same size_is root less (FarNode code why) = FarNode code (λ t. rw (same, size_is) (why (on t)))
-outside_as Told Says a b size now IsRoot Is bytes most damage on same size_is root less (FarRoot code here) = FarRoot code (root damage.block here)
+outside_as Told Says a b size now IsRoot Is bytes most damage on same size_is root less (FarRoot code here why) = FarRoot code (root damage.block here) (λ t. rw (same, size_is) (why (on t)))
 outside_as Told Says a b size now IsRoot Is bytes most damage on same size_is root less (FarBelow code at here why) = FarBelow code at (root at here) (λ t. rw (same, size_is) (why (on t)))
 
 module _ {D : Type 0} (g : Ghosts D) (old new : Kernel D) where
@@ -51,6 +56,7 @@ module _ {D : Type 0} (g : Ghosts D) (old new : Kernel D) where
   told_asked x request damage (After is) = After is
   told_asked x request damage (OpenMap code block why) = OpenMap code block why
   told_asked x request damage (OtherCount code why) = OtherCount code why
+  told_asked x request damage (FarDraft code draw was at block far) = FarDraft code draw was at block far
   told_asked x request damage (NotOwned made is creates code why) = NotOwned made is creates code why
   told_asked x request damage (FewLeft code block few) = FewLeft code block few
 
@@ -60,6 +66,7 @@ module _ {D : Type 0} (g : Ghosts D) (old new : Kernel D) where
   told_as now request damage disk space (After is) = After (rw disk is)
   told_as now request damage disk space (OpenMap code block why) = OpenMap code block (rw disk why)
   told_as now request damage disk space (OtherCount code why) = OtherCount code (rw (disk, space) why)
+  told_as now request damage disk space (FarDraft code draw was at block far) = FarDraft code draw was at block (rw disk far)
   told_as now request damage disk space (NotOwned made is creates code why) = NotOwned made is creates code why
   told_as now request damage disk space (FewLeft code block few) = FewLeft code block (rw space few)
 
@@ -78,7 +85,8 @@ module _ {D : Type 0} (g : Ghosts D) (old new : Kernel D) where
       by (Before is) = Before (outside_as (Tells g d) (Tells g old.disk) (g.content d) (g.content old.disk) (g.blocks d) (g.blocks old.disk) _ (IsRootHere old request) (bytes_wanted request) (bytes_wanted request) damage on (sym reads.content) (sym reads.same.size) (here request) (λ k less. less) is)
       by (After is) = After (outside_as (Tells g d) (Tells g old.disk) (g.content new.disk) (g.content new.disk) (g.blocks d) (g.blocks old.disk) _ (IsRootHere old request) (bytes_wanted request) (bytes_wanted request) damage on refl (sym reads.same.size) (here request) (λ k less. less) is)
       by (OpenMap code block why) = OpenMap code block (λ tells. rw reads.content at (why (on tells)))
-      by (OtherCount code why) = OtherCount code (λ tells. why (on tells))
+      by (OtherCount code why) = OtherCount code (miscounted_as on refl refl why)
+      by (FarDraft code draw was at block far) = FarDraft code draw was at block far
       by (NotOwned made is creates code why) = NotOwned made is creates code (rw reads.same.size at why)
       by (FewLeft code block few) = FewLeft code block few
 
@@ -95,56 +103,67 @@ module _ {D : Type 0} (g : Ghosts D) (old new : Kernel D) (request : Option Requ
   here_so : damage.block ≡ at → IsRootHere old request damage.block
   here_so same = subst (IsRootHere old request) (sym same) here
 
-  pub told_of_draft : special.IsDamage g at old.disk new.disk new.space damage → IsDamageTold g old new request damage
-  told_of_draft (special.NoMap code there why) = After (NoEntry code why)
-  told_of_draft (special.OpenMap code block why) = OpenMap code block (λ tells counts. inr (why tells))
-  told_of_draft (special.OtherCount code why) = OtherCount code why
-  told_of_draft (special.NoRoot code block why) = After (NoRoot code (here_so block) (λ tells root is. absurd (why tells root (rw block at is))))
-  told_of_draft (special.FarNode code why) = After (FarNode code (λ tells. subst (λ (n : ℕ). IsFarNode n (g.content new.disk) damage.block) size (why tells)))
-  told_of_draft (special.FarRoot code block) = After (FarRoot code (here_so block))
+  -- by a call that goes down from a root at the block
+  told_below : (top : Top) → top.block ≡ at → (damage.code ≡ past_disk → damage.block ≡ at → top.IsFar (g.blocks new.disk) → IsDamageTold g old new request damage) → special.IsDraftDamage g top old.disk new.disk new.space damage → IsDamageTold g old new request damage
+  told_below top same far (special.NoMap code map there why) = After (NoEntry code map why)
+  told_below top same far (special.OpenMap code block why) = OpenMap code block (λ tells counts. inr (why tells))
+  told_below top same far (special.OtherCount code why) = OtherCount code why
+  told_below top same far (special.NoRoot code block why) = After (NoRoot code (here_so (block ∙ same)) (λ tells root is. absurd (why tells root (rw block at is))))
+  told_below top same far (special.FarNode code why) = After (FarNode code (λ tells. subst (λ (n : ℕ). IsFarNode n (g.content new.disk) damage.block) size (why tells)))
+  told_below top same far (special.FarRoot code block is) = far code (block ∙ same) is
+
+  -- from the root that the disk has
+  pub far_on_disk : damage.code ≡ past_disk → damage.block ≡ at → (disk_top g at old.disk).IsFar (g.blocks old.disk) → IsDamageTold g old new request damage
+  far_on_disk code block is = Before (FarRoot code (here_so block) (λ tells. rw block (is tells)))
+
+  pub told_on_disk : special.IsDraftDamage g (disk_top g at old.disk) old.disk new.disk new.space damage → IsDamageTold g old new request damage
+  told_on_disk is = told_below (disk_top g at old.disk) refl (λ code block far. far_on_disk code block (subst (disk_top g at old.disk).IsFar size far)) is
+
+  -- of a draft that a handle of the core has
+  pub told_of_draft : (draw : ℕ) (was : Drafting) → drafting_at old.handles draw ≡ Some was → was.at ≡ at → special.IsDraftDamage g (draft_top was) old.disk new.disk new.space damage → IsDamageTold g old new request damage
+  told_of_draft draw was there same is = told_below (draft_top was) same (λ code block far. FarDraft code draw was there (block ∙ sym same) far) is
+
+  -- of one that is begun: no pointer is followed
+  pub told_still : special.IsDraftDamage g (still_top at) old.disk new.disk new.space damage → IsDamageTold g old new request damage
+  told_still is = told_below (still_top at) refl (λ code block far. absurd far) is
 
   -- ---- of a file
 
-  -- a block of a normal one, in an image that is as the disk has it then
-  of_file : (mid : D) (Told : Type 0) (image : Image) (IsRoot : ℕ → Type 0) (bytes : ℕ) → IsRoot at → (Told → Tells g mid) → g.content mid ≡ image → (Told → g.blocks mid ≡ g.blocks old.disk) → normal.IsDamage g at mid damage → IsOutside Told image (g.blocks old.disk) IsRoot bytes damage
-  of_file mid Told image IsRoot bytes there on same blocks (normal.NoRoot code block why) = NoRoot code (subst IsRoot (sym block) there) (λ t root is. absurd (why (on t) root (rw (block, sym same) at is)))
-  of_file mid Told image IsRoot bytes there on same blocks (normal.FarRoot code block) = FarRoot code (subst IsRoot (sym block) there)
-  of_file mid Told image IsRoot bytes there on same blocks (normal.FarNode code why) = FarNode code (λ t. rw (sym same, sym (blocks t)) (why (on t)))
+  -- changed from this root: what is told proves a goal, and so does a root that leads past the disk
+  module _ (top : Top) (same : top.block ≡ at) (Goal : Type 0) (told : IsDamageTold g old new request damage → Goal) (far : damage.code ≡ past_disk → damage.block ≡ at → top.IsFar (g.blocks old.disk) → Goal) where
+    -- a block of a normal one, in an image that is as the disk has it then
+    of_file : (mid : D) → (Tells g old.disk → Tells g mid) → g.blocks mid ≡ g.blocks old.disk → (IsOutside (Tells g old.disk) (g.content mid) (g.blocks old.disk) (IsRootHere old request) (bytes_wanted request) damage → IsDamageTold g old new request damage) → normal.IsDamage g top mid damage → Goal
+    of_file mid on size so (normal.NoRoot code block why) = told (so (NoRoot code (here_so (block ∙ same)) (λ t root is. absurd (why (on t) root (rw block at is)))))
+    of_file mid on size so (normal.FarRoot code block is) = far code (block ∙ same) (subst top.IsFar size is)
+    of_file mid on size so (normal.FarNode code why) = told (so (FarNode code (λ t. rw (sym size) (why (on t)))))
 
-  -- while it is changed
-  module _ (sized : (d : D) → IsTrue (g.honest d) → length (g.content d) ≡ g.blocks d) (honesty : g.honest new.disk ≡ g.honest old.disk) where
-    of_claims : ends.IsNoSpace g old.disk new.disk new.space damage → IsDamageTold g old new request damage
-    of_claims (ends.NoMap code there why) = After (NoEntry code why)
-    of_claims (ends.OtherCount code why) = OtherCount code why
+    of_claims : ends.IsNoSpace g old.disk new.disk new.space damage → Goal
+    of_claims (ends.NoMap code map there why) = told (After (NoEntry code map why))
+    of_claims (ends.OtherCount code why) = told (OtherCount code why)
 
-    of_drops : frees.IsDropDamage g at old.disk new.disk damage → IsDamageTold g old new request damage
-    of_drops (frees.NoMap code why) = After (NoEntry code why)
-    of_drops (frees.OfFile mid on same is) = After (of_file mid (Tells g old.disk) (g.content new.disk) (IsRootHere old request) (bytes_wanted request) here on same
-        (λ tells. sym (sized mid (on tells).honest) ∙ ap (length {A = List ℕ}) same ∙ sized new.disk (subst IsTrue (sym honesty) tells.honest) ∙ size) is)
+    of_drops : frees.IsDropDamage g top old.disk new.disk damage → Goal
+    of_drops (frees.NoMap code map why) = told (After (NoEntry code map why))
+    of_drops (frees.OfFile mid on content blocks is) = of_file mid on (blocks ∙ size) (λ out. After (subst (λ (i : Image). IsOutside (Tells g old.disk) i (g.blocks old.disk) (IsRootHere old request) (bytes_wanted request) damage) content out)) is
 
-    of_place : IsPlaceDamage g at old.disk new.disk new.space damage → IsDamageTold g old new request damage
-    of_place (files.OfFile is) = Before (of_file old.disk (Tells g old.disk) (g.content old.disk) (IsRootHere old request) (bytes_wanted request) here (λ tells. tells) refl (λ tells. refl) is)
+    of_place : IsPlaceDamage g top old.disk new.disk new.space damage → Goal
+    of_place (files.OfFile is) = of_file old.disk (λ tells. tells) refl Before is
     of_place (files.OfClaims is) = of_claims is
     of_place (files.OfDrops is) = of_drops is
 
-    of_beside : (change : Change) → bytes_wanted request ≡ least_size change → ((r : Request) → request ≡ Some r → is_delete r ≡ false) → IsBesideDamage g at change old.disk new.disk new.space damage → IsDamageTold g old new request damage
-    of_beside change bytes kept (files.OfBlock is) = told_of_draft is
-    of_beside change bytes kept (files.Short code block why) = Before (NoRoot code (here_so block) (λ tells root is. rw bytes (why tells root (rw block at is))))
-    of_beside change bytes kept (files.NoneLeft is) = FewLeft is.code is.block (few request kept)
-      where
-        few : (q : Option Request) → ((r : Request) → q ≡ Some r → is_delete r ≡ false) → FindsFew q (sum old.space.free) (sum new.space.free)
-        few None kept = is.none
-        few (Some r) kept = inr (kept r refl, is.none)
+    of_beside : (change : Change) → bytes_wanted request ≡ least_size change → (is_resize change ≡ true → FindsFew request (sum old.space.free) 0) → IsBesideDamage g at change old.disk new.disk new.space damage → IsDamageTold g old new request damage
+    of_beside change bytes few (files.OfBlock is) = told_on_disk is
+    of_beside change bytes few (files.Short code block why) = Before (NoRoot code (here_so block) (λ tells root is. rw bytes (why tells root (rw block at is))))
+    of_beside change bytes few (files.NoneLeft set is) = FewLeft is.code is.block (subst (FindsFew request (sum old.space.free)) (sym is.none) (few set))
 
-    pub told_of_file : (kind : FileKind) (change : Change) → bytes_wanted request ≡ least_size change → ((r : Request) → request ≡ Some r → is_delete r ≡ false) → IsFileDamage g at kind change old.disk new.disk new.space damage → IsDamageTold g old new request damage
-    told_of_file kinds.Normal change bytes kept is = of_place is
-    told_of_file kinds.Special change bytes kept is = of_beside change bytes kept is
+    pub told_of_file : (kind : FileKind) (change : Change) → bytes_wanted request ≡ least_size change → (is_resize change ≡ true → FindsFew request (sum old.space.free) 0) → IsFileDamage g top kind change old.disk new.disk new.space damage → Goal
+    told_of_file kinds.Normal change bytes few is = of_place is
+    told_of_file kinds.Special change bytes few is = told (of_beside change bytes few (subst (λ (n : ℕ). IsBesideDamage g n change old.disk new.disk new.space damage) same is))
 
   -- ---- of an index
 
   -- while a slot is filled
   pub told_of_index : (slot : ℕ) → bytes_wanted request ≡ 8 * slot + 8 → IsIndexRefusal g at slot old.disk new.disk new.space (refusals.Damaged damage) → IsDamageTold g old new request damage
-  told_of_index slot bytes (inl is) = told_of_draft is
+  told_of_index slot bytes (inl is) = told_on_disk is
   told_of_index slot bytes (inr short) = Before (NoRoot short.code (here_so short.block) (λ tells root is. rw bytes (short.short tells root (rw short.block at is))))
 
   -- and where an object is made
@@ -171,7 +190,7 @@ far_leaf image size at root leaf damage is (causes.FarLeaf code block past) =
       past = rw (spelled image at root is) (subst (IsPast size) (ap (tree_of image (root_spelling root)) (path_is (root_spelling root) leaf)) past);
     }
   where
-    node : node_of root (leaf / 128) ≡ pointer node_pointers (root_spelling root) (leaf / 128)
+    node : pointer_to_node root (leaf / 128) ≡ pointer node_pointers (root_spelling root) (leaf / 128)
     node = ap (λ (ns : List ℕ). slice_index ns (leaf / 128)) (nodes_of root is.good.0)
 
 pub outside_slot : {D : Type 0} (g : Ghosts D) (at slot : ℕ) (old : D) (damage : Damage) → causes.IsSlotDamage g at slot old damage → IsOutside (Tells g old) (g.content old) (g.blocks old) (λ n. n ≡ at) 0 damage
@@ -181,11 +200,12 @@ outside_slot g at slot old damage (causes.Far code far) = FarBelow code at refl 
 pub outside_root : {D : Type 0} (g : Ghosts D) (at : ℕ) (old new : D) (damage : Damage) → IsRootTrouble g at old new (troubles.Damaged damage) → IsOutside (Tells g old) (g.content old) (g.blocks old) (λ n. n ≡ at) 0 damage
 outside_root g at old new damage is = NoRoot (ap (λ (d : Damage). d.code) is.0) (ap (λ (d : Damage). d.block) is.0) (λ tells root there. absurd (is.1 tells root (rw (ap (λ (d : Damage). d.block) is.0) at there)))
 
--- of a file that is read
-pub outside_file : {D : Type 0} (g : Ghosts D) (at : ℕ) (old : D) (damage : Damage) → normal.IsDamage g at old damage → IsOutside (Tells g old) (g.content old) (g.blocks old) (λ n. n ≡ at) 0 damage
-outside_file g at old damage (normal.NoRoot code block why) = NoRoot code block (λ tells root is. absurd (why tells root (rw block at is)))
-outside_file g at old damage (normal.FarRoot code block) = FarRoot code block
-outside_file g at old damage (normal.FarNode code why) = FarNode code why
+-- of a file that is read from this root, after other reads
+pub outside_file : {D : Type 0} (g : Ghosts D) (top : Top) (at : ℕ) (old mid : D) (damage : Damage) → top.block ≡ at → (Tells g old → Tells g mid) → g.content mid ≡ g.content old → g.blocks mid ≡ g.blocks old → ((size : ℕ) → top.IsFar size → (disk_top g at old).IsFar size) → normal.IsDamage g top mid damage
+    → IsOutside (Tells g old) (g.content old) (g.blocks old) (λ n. n ≡ at) 0 damage
+outside_file g top at old mid damage same on content size far (normal.NoRoot code block why) = NoRoot code (block ∙ same) (λ tells root is. absurd (why (on tells) root (rw (block, sym content) at is)))
+outside_file g top at old mid damage same on content size far (normal.FarRoot code block is) = FarRoot code (block ∙ same) (λ tells. rw (block ∙ same) (far (g.blocks old) (subst top.IsFar size is) tells))
+outside_file g top at old mid damage same on content size far (normal.FarNode code why) = FarNode code (λ tells. rw (sym size, sym content) (why (on tells)))
 
 -- ---- of a step of the collector
 
@@ -195,7 +215,7 @@ module _ {D : Type 0} (g : Ghosts D) (old new : Kernel D) (damage : Damage) wher
   told_of_scan at here (scan.PastDisk code why) = Before (FarBelow code at here why)
 
   pub told_of_map : (n : ℕ) → IsNoMap g old.disk n damage → IsDamageTold g old new None damage
-  told_of_map n is = Before (NoEntry is.code (λ tells. bad_map (is.bad tells)))
+  told_of_map n is = Before (NoEntry is.code (omega (arith, is.block)) (λ tells. bad_map (is.bad tells)))
     where
       bad_map : IsBadMap (g.content old.disk) n → IsBadMap (g.content old.disk) damage.block
       bad_map b = rw is.block (b.0, b.1, ap (λ (m : ℕ). entry_in (g.content old.disk) (m + b.0)) (omega arith) ∙ b.2)

@@ -246,11 +246,11 @@ module _ (who : ℕ) (t : Tuid) where
 
   -- ---- the lists with it changed, and without it
 
-  none_these : (ss : List Handle) → list_any (is_drawn t.draw) ss ≡ false → list_any (λ (handle : Handle). tables.is_grant who t handle.grant) ss ≡ false
+  none_these : (ss : List Handle) → list_any (is_drawn t.draw) ss ≡ false → list_any (λ (handle : Handle). tables.is_session_grant who t handle.grant) ss ≡ false
   none_these [] none = refl
-  none_these (handle ∷ ss) none = (let two = or_parts (is_drawn t.draw handle) (list_any (is_drawn t.draw) ss) none in or_from (tables.is_grant who t handle.grant) _ (apart handle.grant two.0) (none_these ss two.1))
+  none_these (handle ∷ ss) none = (let two = or_parts (is_drawn t.draw handle) (list_any (is_drawn t.draw) ss) none in or_from (tables.is_session_grant who t handle.grant) _ (apart handle.grant two.0) (none_these ss two.1))
     where
-      apart : (g : handles.Grant) → (t.draw == g.tuid.draw) ≡ false → tables.is_grant who t g ≡ false
+      apart : (g : handles.Grant) → (t.draw == g.tuid.draw) ≡ false → tables.is_session_grant who t g ≡ false
       apart g other = grind (arith, nat_tests)
 
   -- ---- what has become of the drafts
@@ -259,8 +259,8 @@ module _ (who : ℕ) (t : Tuid) where
     pub drawn : is_drawn t.draw handle ≡ true
     drawn = eq-eqb t.draw handle.grant.tuid.draw (same_draw x p.mine ∙ ap (λ (e : handles.Grant). e.tuid.draw) (sym p.here))
 
-    mine : tables.is_grant who t handle.grant ≡ true
-    mine = ap (tables.is_grant who t) p.here ∙ p.mine
+    mine : tables.is_session_grant who t handle.grant ≡ true
+    mine = ap (tables.is_session_grant who t) p.here ∙ p.mine
 
     pub with_is : (w : Option Drafting) → with_drafting t.draw w ss ≡ p.ss1 ++ record { grant = handle.grant; drafting = w } ∷ p.ss2
     with_is w = ap (with_drafting t.draw w) p.handles_are ∙ changed_at (is_drawn t.draw) (λ e. record { grant = e.grant; drafting = w }) handle p.ss2 p.ss1 drawn p.none_first p.none_second
@@ -268,15 +268,15 @@ module _ (who : ℕ) (t : Tuid) where
     draft_is : (d : Draft) → with_draft who t d grants ≡ p.gs1 ++ record x { draft = Some d } ∷ p.gs2
     draft_is d = ap (with_draft who t d) p.grants_are ∙ changed_at (is_grant who t) (λ e. record e { draft = Some d }) x p.gs2 p.gs1 p.mine (not_mine p.ss1 p.gs1 p.first p.none_first) (not_mine p.ss2 p.gs2 p.second p.none_second)
 
-    handles_left : handles_but (tables.is_grant who t) ss ≡ p.ss1 ++ p.ss2
-    handles_left = ap (handles_but (tables.is_grant who t)) p.handles_are ∙ left_at (λ (e : Handle). tables.is_grant who t e.grant) handle p.ss2 p.ss1 mine (none_these p.ss1 p.none_first) (none_these p.ss2 p.none_second)
+    handles_left : handles_but (tables.is_session_grant who t) ss ≡ p.ss1 ++ p.ss2
+    handles_left = ap (handles_but (tables.is_session_grant who t)) p.handles_are ∙ left_at (λ (e : Handle). tables.is_session_grant who t e.grant) handle p.ss2 p.ss1 mine (none_these p.ss1 p.none_first) (none_these p.ss2 p.none_second)
 
     grants_left : filter (λ y. not (is_grant who t y)) grants ≡ p.gs1 ++ p.gs2
     grants_left = ap (filter (λ y. not (is_grant who t y))) p.grants_are ∙ left_at (is_grant who t) x p.gs2 p.gs1 p.mine (not_mine p.ss1 p.gs1 p.first p.none_first) (not_mine p.ss2 p.gs2 p.second p.none_second)
 
     -- its handle goes the same once its draft was taken
-    pub but_with : handles_but (tables.is_grant who t) (with_drafting t.draw None ss) ≡ handles_but (tables.is_grant who t) ss
-    but_with = ap (handles_but (tables.is_grant who t)) (with_is None) ∙ left_at (λ (e : Handle). tables.is_grant who t e.grant) (record { grant = handle.grant; drafting = None }) p.ss2 p.ss1 mine (none_these p.ss1 p.none_first) (none_these p.ss2 p.none_second) ∙ sym handles_left
+    pub but_with : handles_but (tables.is_session_grant who t) (with_drafting t.draw None ss) ≡ handles_but (tables.is_session_grant who t) ss
+    but_with = ap (handles_but (tables.is_session_grant who t)) (with_is None) ∙ left_at (λ (e : Handle). tables.is_session_grant who t e.grant) (record { grant = handle.grant; drafting = None }) p.ss2 p.ss1 mine (none_these p.ss1 p.none_first) (none_these p.ss2 p.none_second) ∙ sym handles_left
 
     module _ (are : AreDraftsOf (drafts_of_handles ss grants) ss grants) where
       abbrev ds : List Opened
@@ -329,14 +329,14 @@ module _ (who : ℕ) (t : Tuid) where
               (join_have (record { grant = handle.grant; drafting = Some now }) (record x { draft = Some d }) p.ss2 p.gs2 (replaced it ds) p.ss1 p.gs1
               (others_have id ds (replaced it ds) (replaced_others it it ds) p.ss1 p.gs1 beside.0 three.0) is_open (others_have id ds (replaced it ds) (replaced_others it it ds) p.ss2 p.gs2 beside.1 three.1.1)))
 
-        pub gone_drafts : drafts_of_handles (handles_but (tables.is_grant who t) ss) (filter (λ y. not (is_grant who t y)) grants) ≡ without_draft id ds
+        pub gone_drafts : drafts_of_handles (handles_but (tables.is_session_grant who t) ss) (filter (λ y. not (is_grant who t y)) grants) ≡ without_draft id ds
         gone_drafts = ap (λ zs. drafts_of_handles zs (filter (λ y. not (is_grant who t y)) grants)) handles_left ∙ ap (drafts_of_handles (p.ss1 ++ p.ss2)) grants_left
             ∙ join_drafts p.ss2 p.gs2 p.ss1 p.gs1 p.first
             ∙ sym (ap (without_draft id) whole ∙ filter-append (λ e. not (same_puid e.id id)) (drafts_of_handles p.ss2 p.gs2 ++ opened_as id was before ∷ []) (drafts_of_handles p.ss1 p.gs1)
             ∙ ap (λ es. es ++ without_draft id (drafts_of_handles p.ss1 p.gs1)) (filter-append (λ e. not (same_puid e.id id)) (drafts_of_handles p.ss2 p.gs2) (opened_as id was before ∷ []))
             ∙ rw (same_puid_itself id, without_none id (drafts_of_handles p.ss1 p.gs1) beside.0, without_none id (drafts_of_handles p.ss2 p.gs2) beside.1) (ap (λ es. es ++ drafts_of_handles p.ss1 p.gs1) (append-nil (drafts_of_handles p.ss2 p.gs2))))
 
-        pub gone_have : AreDraftsOf (without_draft id ds) (handles_but (tables.is_grant who t) ss) (filter (λ y. not (is_grant who t y)) grants)
+        pub gone_have : AreDraftsOf (without_draft id ds) (handles_but (tables.is_session_grant who t) ss) (filter (λ y. not (is_grant who t y)) grants)
         gone_have = subst (λ zs. AreDraftsOf (without_draft id ds) zs (filter (λ y. not (is_grant who t y)) grants)) (sym handles_left) (subst (λ zs. AreDraftsOf (without_draft id ds) (p.ss1 ++ p.ss2) zs) (sym grants_left)
             (without_have p.ss2 p.gs2 (without_draft id ds) p.ss1 p.gs1 (others_have id ds (without_draft id ds) (without_others id ds) p.ss1 p.gs1 beside.0 three.0)
             (others_have id ds (without_draft id ds) (without_others id ds) p.ss2 p.gs2 beside.1 three.1.1)))

@@ -9,7 +9,7 @@ use Rattle.ufs_model.specs.declared.asked.Request.TheVariants as asks
 use Rattle.cfs_core.specs.Kernel.{Kernel, Handle, grants_in}
 use Rattle.cfs_core.specs.Leaving.{GaveUp, GivesUp, ServesFewer, Sheds, of_others}
 use Rattle.cfs_core.specs.Handles.{drafting_at, have_draft, is_at, handles_but, with_drafting}
-use Rattle.cfs_core.specs.StandsFor.{Serves, drafts_of_handles}
+use Rattle.cfs_core.specs.StandsFor.{CoreServes, drafts_of_handles}
 use Rattle.cfs_core.proofs.Collected.{collection_asked, same_rescued}
 use Rattle.cfs_core.proofs.Damages.{told_of_draft}
 use Rattle.cfs_core.proofs.Ended.{IsHeld, gone_is, held_by, open_in, stores_aborted, strays_aborted}
@@ -39,18 +39,18 @@ others_stay who t (x ∷ grants) = at (others_stay who t grants) (x.session == w
 
 -- ---- the handle is gone
 
-module _ {D : Type 0} (g : Ghosts D) (k : Kernel D) (who : ℕ) (t : Tuid) (the : (s : State) → Serves g k s → (x : Grant) × (grant_of s who t ≡ Some x)) where
-  step : (s : State) → Serves g k s → k.stop ≡ None → next k.words.seed s (events.Ask who (asks.Close t false) replies.Done) ≡ Some (closed s who t false)
+module _ {D : Type 0} (g : Ghosts D) (k : Kernel D) (who : ℕ) (t : Tuid) (the : (s : State) → CoreServes g k s → (x : Grant) × (grant_of s who t ≡ Some x)) where
+  step : (s : State) → CoreServes g k s → k.stop ≡ None → next k.words.seed s (events.Ask who (asks.Close t false) replies.Done) ≡ Some (closed s who t false)
   step s serves none = (let x = the s serves in outcome_legal k.words.seed s who (asks.Close t false) 0 (running g k s serves none) (close_goes 0 s who t false x.0 x.1) (λ made. let no : true ≡ false = sym made in cc))
 
-  handles_others : (ss : List Handle) → tables.without_session (grants_in (handles_but (tables.is_grant who t) ss)) who ≡ tables.without_session (grants_in ss) who
-  handles_others ss = ap (λ gs. tables.without_session gs who) (grants_but (tables.is_grant who t) ss) ∙ without_session-without_grant (grants_in ss) who t
+  handles_others : (ss : List Handle) → tables.without_session (grants_in (handles_but (tables.is_session_grant who t) ss)) who ≡ tables.without_session (grants_in ss) who
+  handles_others ss = ap (λ gs. tables.without_session gs who) (grants_but (tables.is_session_grant who t) ss) ∙ without_session-without_grant (grants_in ss) who t
 
   -- it had no draft
-  pub shed_bare : have_draft (is_at t.draw) k.handles ≡ false → Sheds g who k (record k { handles = handles_but (tables.is_grant who t) k.handles })
+  pub shed_bare : have_draft (is_at t.draw) k.handles ≡ false → Sheds g who k (record k { handles = handles_but (tables.is_session_grant who t) k.handles })
   shed_bare none_drawn = record {
     words = refl;
-    names = refl;
+    directory = refl;
     collections = refl;
     others = handles_others k.handles;
     size = refl;
@@ -73,21 +73,21 @@ module _ {D : Type 0} (g : Ghosts D) (k : Kernel D) (who : ℕ) (t : Tuid) (the 
   -- it had one, which was given up
   module _ (was : Drafting) (drafting : drafting_at k.handles t.draw ≡ Some was) (bare : was.created ≡ None) (new : Kernel D) where
     abbrev mid : Kernel D
-    mid = record k { handles = handles_but (tables.is_grant who t) (with_drafting t.draw None k.handles) }
+    mid = record k { handles = handles_but (tables.is_session_grant who t) (with_drafting t.draw None k.handles) }
 
     module _ (gives : GivesUp g was mid new) where
-      held : (s : State) → Serves g k s → IsHeld g k s who t was
+      held : (s : State) → CoreServes g k s → IsHeld g k s who t was
       held s serves = held_by g k s serves who t was drafting (the s serves)
 
-      gave : (s : State) (serves : Serves g k s) → k.stop ≡ None → GaveUp g s.graph (drafts_of_handles k.handles s.grants) (held s serves).handle.grant.id was.created mid new
+      gave : (s : State) (serves : CoreServes g k s) → k.stop ≡ None → GaveUp g s.graph (drafts_of_handles k.handles s.grants) (held s serves).handle.grant.id was.created mid new
       gave s serves none = gives.ends s.graph _ _ _ _ serves.store (held s serves).there (open_in g k s serves who t was (held s serves)) none
 
-      new_is : (s : State) (serves : Serves g k s) → k.stop ≡ None → new.stop ≡ None → new ≡ record k { disk = new.disk; space = new.space; handles = handles_but (tables.is_grant who t) k.handles }
+      new_is : (s : State) (serves : CoreServes g k s) → k.stop ≡ None → new.stop ≡ None → new ≡ record k { disk = new.disk; space = new.space; handles = handles_but (tables.is_session_grant who t) k.handles }
       new_is s serves none runs =
           gives.same ∙ ap (λ ss. record k { disk = new.disk; space = new.space; handles = ss; stop = new.stop }) (sym (gone_is g k s serves who t was (held s serves) new.disk new.space))
-          ∙ ap (λ o. record k { disk = new.disk; space = new.space; handles = handles_but (tables.is_grant who t) k.handles; stop = o }) (runs ∙ sym none)
+          ∙ ap (λ o. record k { disk = new.disk; space = new.space; handles = handles_but (tables.is_session_grant who t) k.handles; stop = o }) (runs ∙ sym none)
 
-      fewer : (s : State) → Serves g k s → k.stop ≡ None → new.stop ≡ None → ServesFewer g new s who
+      fewer : (s : State) → CoreServes g k s → k.stop ≡ None → new.stop ≡ None → ServesFewer g new s who
       fewer s serves none runs =
           let dropped = (gave s serves none).dropped runs in
           subst (λ (j : Kernel D). ServesFewer g j s who) (sym (new_is s serves none runs)) (record {
@@ -102,7 +102,7 @@ module _ {D : Type 0} (g : Ghosts D) (k : Kernel D) (who : ℕ) (t : Tuid) (the 
       pub shed_drafted : Sheds g who k new
       shed_drafted = record {
         words = ap (λ (j : Kernel D). j.words) gives.same;
-        names = ap (λ (j : Kernel D). j.names) gives.same;
+        directory = ap (λ (j : Kernel D). j.directory) gives.same;
         collections = ap (λ (j : Kernel D). j.collections) gives.same;
         others = ap (λ (j : Kernel D). tables.without_session (grants_in j.handles) who) gives.same ∙ handles_others (with_drafting t.draw None k.handles) ∙ ap (λ gs. tables.without_session gs who) (grants_with t.draw None k.handles);
         size = gives.size;
@@ -114,7 +114,7 @@ module _ {D : Type 0} (g : Ghosts D) (k : Kernel D) (who : ℕ) (t : Tuid) (the 
         strays = λ s serves none runs. strays_aborted g k s serves who t was (held s serves) new.disk new.space bare (gives.left ∙ serves.left) ((gave s serves none).dropped runs);
         halts = λ stop none is. record {
           failed = gives.failed stop none is;
-          damaged = λ damage met. (let two = gives.damaged stop damage none is met in (record { mid = k; later = omega arith; told = told_of_draft g k new None was.at (inl (t.draw, was, drafting, refl)) damage gives.size two.0 }, two.1));
+          damaged = λ damage met. (let two = gives.damaged stop damage none is met in (record { mid = k; later = omega arith; told = told_of_draft g k new None was.at (inl (t.draw, was, drafting, refl)) damage gives.size t.draw was drafting refl two.0 }, two.1));
         };
         sound = λ s serves none. (gave s serves none).sound;
       }

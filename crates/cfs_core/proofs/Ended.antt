@@ -1,11 +1,11 @@
 -- A grant is closed that has a draft: the draft is given up, or becomes the object.
 use Rattle.std.proofs.Common.{◌≡◌, ℕ, ◌+◌, ◌/◌, ◌≤◌, List, [], ◌∷◌, ◌++◌, length, Bool, true, false, cond, not, ◌≢◌, Option, Some, None, Ok, Err, refl, sym, ◌∙◌, ap, subst, arith, ⊎_elim, find, option_and_then, option_map, option_to_list, sum}
-use Rattle.cfs_core.proofs.Words.{and_parts, block_there, ChangesOnly, closed, closed_graph, closed_keeps, Committed, committed, Draft, draft_blocks, Drafting, drafts_of, Dropped, FileKind, Fits, Ghosts, Grant, grant_found, grant_of, Graph, graph_blocks, has_block, has_number, Holds, Image, insert_entry-same, is_draft_of, is_meant, is_open_so, is_placed, IsClosedGraph, IsOfThese, IsOldOrNew}
-use Rattle.cfs_core.proofs.Words.{IsOpen, IsState, Kept, keys_of-kinds_in, kind_in-kinds_in, kind_of, kinds_in-insert_entry, kinds_of, Leaves, list_any, MapEntry, nat_tests, next, Object, object_at, of_drafts, of_owners, open_there, Opened, opened_as, or_parts, outcome_legal, owner_of, Puid, refusal_of, refused_by, rises, room, same_kind, same_puid, State, sum_by, sum_by-cons, sum_is, the_draft}
+use Rattle.cfs_core.proofs.Words.{and_parts, block_there, ChangesOnly, closed, closed_graph, closed_keeps, Committed, committed, Draft, draft_blocks, Drafting, drafts_of, Dropped, FileKind, FitsDisk, Ghosts, Grant, grant_found, grant_of, Graph, graph_blocks, has_block, has_number, Holds, Image, insert_entry-same, is_draft_of, is_meant, is_open_so, is_placed, IsClosedGraph, IsOfThese, IsOldOrNew}
+use Rattle.cfs_core.proofs.Words.{IsOpen, IsState, Kept, keys_of-kinds_in, directory_kind-kinds_in, object_kind, kinds_in-insert_entry, kinds_of, Leaves, list_any, MapEntry, nat_tests, next, Object, object_at, of_drafts, of_owners, open_there, Opened, opened_as, or_parts, outcome_legal, owner_of, Puid, refusal_of, refused_by, rises, room, same_kind, same_puid, State, sum_by, sum_by-cons, sum_is, the_draft}
 use Rattle.cfs_core.proofs.Words.{Trouble, Tuid, wider, with_object, without_draft}
 use Rattle.cfs_base.specs.declared.kind.FileKind.TheVariants as file_kinds
 use Rattle.cfs_base.specs.declared.refusal.Trouble.TheVariants as troubles
-use Rattle.cyl_alloc.specs.Left.{Left}
+use Rattle.cyl_alloc.specs.Left.{LeftCommit}
 use Rattle.intentions.specs.Left.{StoreWith, coming}
 use Rattle.open_table.specs.Grants as tables
 use Rattle.open_table.specs.declared.grant.Grant as handles
@@ -13,11 +13,11 @@ use Rattle.ufs_model.specs.declared.asked.Event.TheVariants as events
 use Rattle.ufs_model.specs.declared.asked.Reply.TheVariants as replies
 use Rattle.ufs_model.specs.declared.asked.Request.TheVariants as asks
 use Rattle.ufs_model.specs.declared.object.Object.TheVariants as objects
-use Rattle.cfs_core.specs.Calls.{AddsNoStray, Answers, ByOutcome, EndsSo, IsInDoubt, MayStand, Owes, Undone, Whole}
+use Rattle.cfs_core.specs.Calls.{AddsNoStray, Answers, ByOutcome, EndsSo, IsInDoubt, MayBeRead, Owes, Undone, Whole}
 use Rattle.cfs_core.specs.Drafts.{DraftEnds, EndsDraft}
 use Rattle.cfs_core.specs.Kernel.{Kernel, Handle}
 use Rattle.cfs_core.specs.Handles.{drafting_at, is_drawn, handles_but, with_drafting}
-use Rattle.cfs_core.specs.StandsFor.{AreDraftsOf, HasDraftOf, Serves, Stores, drafts_of_handles}
+use Rattle.cfs_core.specs.StandsFor.{AreDraftsOf, HasDraftOf, CoreServes, StoresState, drafts_of_handles}
 use Rattle.cfs_core.proofs.Answering.{owes}
 use Rattle.cfs_core.proofs.Changed.{of_this}
 use Rattle.cfs_core.proofs.Drafted.{Place, but_with, drawn, gone_drafts, gone_have, has_draft, opened, place_of}
@@ -44,11 +44,11 @@ pub find_drawn : (draw : ℕ) (handle : Handle) (ss2 ss1 : List Handle) → is_d
 find_drawn draw handle ss2 [] is none = rw is refl
 find_drawn draw handle ss2 (z ∷ ss1) is none = (let two = or_parts (is_drawn draw z) (list_any (is_drawn draw) ss1) none in rw two.0 (find_drawn draw handle ss2 ss1 is two.1))
 
-kind_alike : (o d : Object) → is_draft_of o d ≡ true → kind_of d ≡ kind_of o
+kind_alike : (o d : Object) → is_draft_of o d ≡ true → object_kind d ≡ object_kind o
 kind_alike (objects.File f) (objects.File e) is =
     at e.kind f.kind (and_parts (same_kind e.kind f.kind) _ (and_parts _ _ is).0).0
   where
-    at : (a b : FileKind) → same_kind a b ≡ true → kind_of (objects.File (record e { kind = a })) ≡ kind_of (objects.File (record f { kind = b }))
+    at : (a b : FileKind) → same_kind a b ≡ true → object_kind (objects.File (record e { kind = a })) ≡ object_kind (objects.File (record f { kind = b }))
     at file_kinds.Normal file_kinds.Normal same = refl
     at file_kinds.Normal file_kinds.Special same = cc
     at file_kinds.Special file_kinds.Normal same = cc
@@ -85,7 +85,7 @@ pub record IsHeld {D : Type 0} (g : Ghosts D) (k : Kernel D) (s : State) (who : 
   pub there : object_at s.graph handle.grant.id ≡ Some object
   pub there_x : object_at s.graph x.id ≡ Some object
 
-pub held_by : {D : Type 0} (g : Ghosts D) (k : Kernel D) (s : State) → Serves g k s → (who : ℕ) (t : Tuid) (was : Drafting) → drafting_at k.handles t.draw ≡ Some was → (x : Grant) × (grant_of s who t ≡ Some x) → IsHeld g k s who t was
+pub held_by : {D : Type 0} (g : Ghosts D) (k : Kernel D) (s : State) → CoreServes g k s → (who : ℕ) (t : Tuid) (was : Drafting) → drafting_at k.handles t.draw ≡ Some was → (x : Grant) × (grant_of s who t ≡ Some x) → IsHeld g k s who t was
 held_by g k s serves who t was drafting found = record {
   at = drafting;
   x = found.0;
@@ -117,7 +117,7 @@ held_by g k s serves who t was drafting found = record {
     object : (o : Object) × (object_at s.graph found.0.id ≡ Some o)
     object = open_there (object_at s.graph found.0.id) found.0.draft (grant_found s who t found.0 serves.state found.1).1
 
-module _ {D : Type 0} (g : Ghosts D) (k : Kernel D) (s : State) (serves : Serves g k s) (who : ℕ) (t : Tuid) (was : Drafting) (held : IsHeld g k s who t was) where
+module _ {D : Type 0} (g : Ghosts D) (k : Kernel D) (s : State) (serves : CoreServes g k s) (who : ℕ) (t : Tuid) (was : Drafting) (held : IsHeld g k s who t was) where
   abbrev ds : List Opened
   ds = drafts_of_handles k.handles s.grants
 
@@ -136,7 +136,7 @@ module _ {D : Type 0} (g : Ghosts D) (k : Kernel D) (s : State) (serves : Serves
   pub so : is_open_so (Some object) (Some before) ≡ true
   so = subst (λ (o : Option Object). is_open_so o (Some before) ≡ true) held.there_x (subst (λ (o : Option Draft). is_open_so (object_at s.graph held.x.id) o ≡ true) held.draft_was (grant_found s who t held.x serves.state held.found).1)
 
-  alike : kind_of before.object ≡ kind_of object
+  alike : object_kind before.object ≡ object_kind object
   alike = kind_alike object before.object so
 
   pub block : has_block s.graph.objects id.block ≡ true
@@ -149,10 +149,10 @@ module _ {D : Type 0} (g : Ghosts D) (k : Kernel D) (s : State) (serves : Serves
   allowed commit = close_goes 0 s who t commit held.x held.found
 
   -- the grants that are left are the same with and without a commit
-  drafts_left : (commit : Bool) → drafts_of_handles (handles_but (tables.is_grant who t) k.handles) (closed s who t commit).grants ≡ left
+  drafts_left : (commit : Bool) → drafts_of_handles (handles_but (tables.is_session_grant who t) k.handles) (closed s who t commit).grants ≡ left
   drafts_left commit = gone_drafts who t k.handles s.grants held.handle held.x held.place serves.drafts was before held.drafting held.draft_was
 
-  have_left : (commit : Bool) → AreDraftsOf left (handles_but (tables.is_grant who t) k.handles) (closed s who t commit).grants
+  have_left : (commit : Bool) → AreDraftsOf left (handles_but (tables.is_session_grant who t) k.handles) (closed s who t commit).grants
   have_left commit = gone_have who t k.handles s.grants held.handle held.x held.place serves.drafts was before held.drafting held.draft_was
 
   owners : (commit : Bool) → owners_of s who (asks.Close t commit) replies.Done ≡ id.block ∷ []
@@ -170,7 +170,7 @@ module _ {D : Type 0} (g : Ghosts D) (k : Kernel D) (s : State) (serves : Serves
 
   module _ (d : D) (space : Kept) where
     abbrev pub aborted : Kernel D
-    aborted = record k { disk = d; space = space; handles = handles_but (tables.is_grant who t) k.handles }
+    aborted = record k { disk = d; space = space; handles = handles_but (tables.is_session_grant who t) k.handles }
 
     abbrev T : Option MapEntry → Bool
     T entry = of_drafts (id.block ∷ []) entry
@@ -190,7 +190,7 @@ module _ {D : Type 0} (g : Ghosts D) (k : Kernel D) (s : State) (serves : Serves
       four : 4 ≤ sum space.free
       four = four_left g k aborted s (closed s who t false) s.graph serves T left has 0 (omega (arith, fewer_take (λ e. not (same_puid e.id id)) ds)) (omega (arith, serves.four))
 
-      pub stores_aborted : Stores g aborted (closed s who t false)
+      pub stores_aborted : StoresState g aborted (closed s who t false)
       stores_aborted = stores_stepped g k aborted s (closed s who t false) s.graph serves T left has stepped (closed_keeps s who t false serves.state) (drafts_left false) (have_left false) four
 
       pub strays_aborted : AddsNoStray (g.content k.disk) (g.content d) s.graph s.graph
@@ -239,21 +239,21 @@ module _ {D : Type 0} (g : Ghosts D) (k : Kernel D) (s : State) (serves : Serves
     unfolding fresh
     takes = omega (arith, alone_take id (opened_as id was before) ds open_in.alone)
 
-    names_stay : kinds_of h ≡ kinds_of s.graph
-    names_stay = kinds_in-insert_entry s.graph.objects id before.object
-        ∙ insert_entry-same _ id (kind_of before.object) (ap rises (keys_of-kinds_in s.graph.objects) ∙ serves.store.ordered) (kind_in-kinds_in s.graph.objects id ∙ ap (option_map kind_of) held.there ∙ ap (λ n. Some n) (sym alike))
+    directory_stays : kinds_of h ≡ kinds_of s.graph
+    directory_stays = kinds_in-insert_entry s.graph.objects id before.object
+        ∙ insert_entry-same _ id (object_kind before.object) (ap rises (keys_of-kinds_in s.graph.objects) ∙ serves.store.ordered) (directory_kind-kinds_in s.graph.objects id ∙ ap (option_map object_kind) held.there ∙ ap (λ n. Some n) (sym alike))
 
     state : IsState (closed s who t true)
     state = closed_keeps s who t true serves.state
 
-    fits_after : length (g.content k.disk) ≡ g.blocks d → Fits (g.blocks d) h
+    fits_after : length (g.content k.disk) ≡ g.blocks d → FitsDisk (g.blocks d) h
     fits_after wide = record {
       closed = subst IsClosedGraph graph_is (closed_graph (closed s who t true).graph state.graph);
       room = omega (arith, few, takes, room (g.content k.disk) s.graph ds serves.store.account serves.store.ordered, sum_is (g.content k.disk) k.space serves.store.counts, serves.four, ap (λ (m : ℕ). m / 64) wide);
     }
 
     steps : IsStepped k aborted s (closed s who t true) h
-    steps = closed_stepped g k s serves who t true d space h graph_is refl names_stay
+    steps = closed_stepped g k s serves who t true d space h graph_is refl directory_stays
 
     abbrev U : Option MapEntry → Bool
     U entry = of_owners (id.block ∷ []) entry
@@ -265,7 +265,7 @@ module _ {D : Type 0} (g : Ghosts D) (k : Kernel D) (s : State) (serves : Serves
 
       holds_now : HasStepped g k aborted s h U left
       holds_now = record {
-        store = subst (λ (w : Option Left). StoreWith g h left d space w) finished committed.store;
+        store = subst (λ (w : Option LeftCommit). StoreWith g h left d space w) finished committed.store;
         only = only_now;
         these = of_this s.graph id before.object;
         left = finished;
@@ -292,7 +292,7 @@ module _ {D : Type 0} (g : Ghosts D) (k : Kernel D) (s : State) (serves : Serves
       grants = grants_with t.draw None k.handles;
       leaves = wider g k.disk d _ _ leaves (λ c holds. ⊎_elim
           (λ was. record { graph = s.graph; may = Undone; fits = fits g k s serves (g.blocks d) wide; holds = was })
-          (λ now. record { graph = h; may = subst (MayStand k.words.seed s who (asks.Close t true)) graph_is (Whole 0 (λ made. let no : true ≡ false = sym made in cc)); fits = fits_after wide; holds = now }) holds);
+          (λ now. record { graph = h; may = subst (MayBeRead k.words.seed s who (asks.Close t true)) graph_is (Whole 0 (λ made. let no : true ≡ false = sym made in cc)); fits = fits_after wide; holds = now }) holds);
     }
 
   -- ---- as a call ends
@@ -300,9 +300,9 @@ module _ {D : Type 0} (g : Ghosts D) (k : Kernel D) (s : State) (serves : Serves
   module _ (d : D) (space : Kept) where
     -- with its handle gone once its draft was taken
     abbrev gone : Kernel D
-    gone = record k { disk = d; space = space; handles = handles_but (tables.is_grant who t) (with_drafting t.draw None k.handles) }
+    gone = record k { disk = d; space = space; handles = handles_but (tables.is_session_grant who t) (with_drafting t.draw None k.handles) }
 
-    pub gone_is : handles_but (tables.is_grant who t) k.handles ≡ handles_but (tables.is_grant who t) (with_drafting t.draw None k.handles)
+    pub gone_is : handles_but (tables.is_session_grant who t) k.handles ≡ handles_but (tables.is_session_grant who t) (with_drafting t.draw None k.handles)
     gone_is = sym (but_with who t k.handles s.grants held.handle held.x held.place)
 
     module _ (bare : was.created ≡ None) (left_sized : (c : D) (n : ℕ) (i : Image) → g.left_since c n i → length i ≡ g.blocks c) (wide : length (g.content k.disk) ≡ g.blocks d) (none : k.stop ≡ None) (commit : Bool) where

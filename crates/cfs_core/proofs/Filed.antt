@@ -1,8 +1,8 @@
 -- How a call ends that changes a file which has no draft: a normal one in place, a special one as one commit.
 use Rattle.std.proofs.Common.{◌≡◌, ◌⊎◌, inl, inr, ℕ, ◌+◌, ◌<◌, ◌≤◌, [], length, true, false, cond, Some, None, Result, Ok, Err, IsTrue, refl, sym, ◌∙◌, ap, subst, arith, List, ◌∷◌, nat_lt, sum, Option}
-use Rattle.cfs_core.proofs.Words.{and_parts, blocks_of, byte_may_stand, Change, change_need, change_of, changed, changed_object, closed_graph, creates, draft_of, drafts_of, each_from, eq-eqb, File, FileKind, Fill, filter-rises, Fits, Ghosts, Graph, has_number, held_levels, here, Holds, HoldsOfEither, Image, in_filter, in_with, index_has_pair, is_among, is_object, is_running}
-use Rattle.cfs_core.proofs.Words.{is_there, IsInside, IsPartly, IsSpeakable, Kept, kind_of, later, Leaves, leaves_in, list_all, MayChange, MayLeave, named, nat_tests, Need, need_for, need_of, next, numbers_rise, Object, object_at, object_at-with_object, object_whole, OnlyReads, Opened, outcome_of, Overwrite, pair_from_index, Puid, Ref, referred, refusal_of, Refused, Request, resized}
-use Rattle.cfs_core.proofs.Words.{rises-with_object, same_puid, same_puid_is, SetSize, State, still_there, target, touched, wider, with_numbers, with_object, withs-rise, written, MapEntry, ChangesOnly, of_owner, Reply, Draft}
+use Rattle.cfs_core.proofs.Words.{and_parts, blocks_of, byte_may_stand, Change, change_need, change_of, changed, changed_object, closed_graph, creates, draft_of, drafts_of, each_from, eq-eqb, File, FileKind, Fill, filter-rises, FitsDisk, Ghosts, Graph, has_number, held_levels, here, Holds, HoldsOfEither, Image, in_filter, in_with, index_has_pair, is_among, is_object, is_running}
+use Rattle.cfs_core.proofs.Words.{is_there, IsInside, IsPartly, IsSpeakable, Kept, object_kind, later, Leaves, leaves_in, list_all, MayChangeFile, MayLeaveFile, named, nat_tests, Need, need_for, need_of, next, numbers_rise, Object, object_at, object_at-with_object, object_whole, OnlyReads, Opened, outcome_of, Overwrite, pair_from_index, Puid, Ref, referred, refusal_of, Refused, Request, resized}
+use Rattle.cfs_core.proofs.Words.{rises-with_object, same_puid, same_puid_is, SetSize, State, still_there, stopped_after_reads, target, touched, wider, with_numbers, with_object, withs-rise, written, MapEntry, ChangesOnly, of_owner, Reply, Draft}
 use Rattle.cfs_base.specs.Run.{Tells}
 use Rattle.cfs_base.specs.declared.kind.FileKind.TheVariants as kinds
 use Rattle.cfs_base.specs.declared.refusal.Refused.TheVariants as refusals
@@ -12,15 +12,15 @@ use Rattle.ufs_model.specs.declared.asked.Request.TheVariants as asks
 use Rattle.ufs_model.specs.declared.object.Object.TheVariants as objects
 use Rattle.ufs_model.specs.Graph.{IsClosedGraph}
 use Rattle.cfs_core.specs.Carried.{AltersFile, EndsAltered}
-use Rattle.cfs_core.specs.Calls.{Answers, ByWant, EndsSo, IsInDoubt, IsShort, Tries, Undone, done_or}
-use Rattle.cfs_core.specs.Damage.{bytes_wanted, is_delete}
+use Rattle.cfs_core.specs.Calls.{Answers, ByWant, EndsSo, IsInDoubt, IsShortOfBlocks, Tries, Undone, done_or}
+use Rattle.cfs_core.specs.Damage.{IsDamageTold, bytes_wanted, asks_delete, is_set_size}
 use Rattle.file_ops.specs.Changes.{least_size, ClaimsFor, claims_beside}
 use Rattle.cfs_core.specs.Kernel.{Kernel, Handle}
-use Rattle.cfs_core.specs.Looks.{Knows, ReachesAll}
-use Rattle.cfs_core.specs.StandsFor.{Serves, drafts_of_handles}
+use Rattle.cfs_core.specs.Looks.{KnowsObject, ReachesAll}
+use Rattle.cfs_core.specs.StandsFor.{CoreServes, drafts_of_handles}
 use Rattle.cfs_core.specs.Ways.{Reaches}
-use Rattle.cfs_core.proofs.Damages.{told_of_file}
-use Rattle.cfs_core.proofs.Went.{went_done, went_then}
+use Rattle.cfs_core.proofs.Damages.{far_on_disk, told_of_file, told_then}
+use Rattle.cfs_core.proofs.Went.{went_done}
 use Rattle.cfs_core.proofs.After.{ends}
 use Rattle.cfs_core.proofs.Answering.{disk_failed, knows_that, memory}
 use Rattle.cfs_core.proofs.Changed.{object_did, object_in_doubt}
@@ -29,13 +29,15 @@ use Rattle.cfs_core.proofs.Few.{blocks_within}
 use Rattle.cfs_core.proofs.Grown.{replaced_blocks}
 use Rattle.cfs_core.proofs.Refusing.{put_is}
 use Rattle.cfs_core.proofs.Serving.{fits, may_fit, running, serves_on, stays}
-use Rattle.cfs_core.specs.Claimed.{ClaimsInOrder, Takes, claims_for, claims_in_file, claims_through, commits_alone, is_beside, owners_of, claims_in_place, claims_in_draft, drafting_of, root_reached}
+use Rattle.cfs_core.specs.Claimed.{ClaimsInOrder, TakesForRequest, claims_for, claims_in_file, claims_through, commits_alone, is_beside, owners_of, claims_in_place, claims_in_draft, drafting_of, root_reached}
 use Rattle.cfs_core.proofs.Claimed.{Commits, claims_all, claims_only, claims_put, takes_alone, takes_last}
 use Rattle.std.specs.Prelude.{not}
 use Rattle.ufs_model.specs.Need.{is_normal}
 use Rattle.normal_files.specs.Order as plain
 use Rattle.ufs_model.specs.State.{file_seen}
 use Rattle.std.specs.Option.{option_map_or}
+use Rattle.file_ops.specs.Changes.{is_resize}
+use Rattle.leaf_changes.specs.Tops.{Top, disk_top}
 
 -- ---- a request that changes a file
 
@@ -47,7 +49,8 @@ pub record IsChanging (request : Request) (change : Change) : Type 0 where
   pub makes : creates request ≡ false
   pub claims : (handles : List Handle) (s : State) (who : ℕ) (reply : Reply) → claims_for handles s who request reply ≡ claims_through handles s who (target request) change
   pub alone : (s : State) (who : ℕ) → commits_alone s who request ≡ is_beside s who (target request)
-  pub delete : is_delete request ≡ false
+  pub delete : asks_delete request ≡ false
+  pub sets : is_resize change ≡ true → is_set_size request ≡ true
   pub wants : bytes_wanted (Some request) ≡ least_size change
   pub full : (seed : ℕ) (s : State) (who : ℕ) (n : Need) → is_running s ≡ true → refusal_of s who request ≡ None → n.need ≡ need_of s who request → n.free < n.need + 4
       → next seed s (events.Ask who request (replies.Full n)) ≡ Some s
@@ -62,6 +65,7 @@ write_changes to offset bytes small = record {
   claims = λ handles s who reply. refl;
   alone = λ s who. refl;
   delete = refl;
+  sets = λ is. cc;
   wants = refl;
   full = λ seed s who n run goes need few. let less : nat_lt n.free (n.need + 4) ≡ true = grind (arith, nat_tests) in rw (run, goes, eq-eqb n.need _ need, less) refl;
   speaks = λ who. small;
@@ -76,6 +80,7 @@ resize_changes to size = record {
   claims = λ handles s who reply. refl;
   alone = λ s who. refl;
   delete = refl;
+  sets = λ is. refl;
   wants = refl;
   full = λ seed s who n run goes need few. let less : nat_lt n.free (n.need + 4) ≡ true = grind (arith, nat_tests) in rw (run, goes, eq-eqb n.need _ need, less) refl;
   speaks = λ who. refl;
@@ -118,7 +123,7 @@ is_file (Overwrite offset bytes) f = refl
 is_file (SetSize size) f = refl
 is_file (Fill slot what) f = refl
 
-same_kinds : (change : Change) (f : File) → kind_of (changed_object change (objects.File f)) ≡ kind_of (objects.File f)
+same_kinds : (change : Change) (f : File) → object_kind (changed_object change (objects.File f)) ≡ object_kind (objects.File f)
 same_kinds (Overwrite offset bytes) f = refl
 same_kinds (SetSize size) f = refl
 same_kinds (Fill slot what) f = refl
@@ -190,7 +195,7 @@ module _ {D : Type 0} (g : Ghosts D) (left_sized : (d : D) (t : ℕ) (c : Image)
   abbrev new : Kernel D
   new = record k { disk = d; space = space }
 
-  module _ (s : State) (who : ℕ) (f : File) (serves : Serves g k s) (none : k.stop ≡ None) (reach : Reaches s who request id (objects.File f)) (shut : drafts_of (drafts_of_handles k.handles s.grants) id ≡ []) (kind_is : f.kind ≡ kind) (inside : IsInside change (objects.File f))
+  module _ (s : State) (who : ℕ) (f : File) (serves : CoreServes g k s) (none : k.stop ≡ None) (reach : Reaches s who request id (objects.File f)) (shut : drafts_of (drafts_of_handles k.handles s.grants) id ≡ []) (kind_is : f.kind ≡ kind) (inside : IsInside change (objects.File f))
       (goes : refusal_of s who request ≡ None) where
     abbrev drafts : List Opened
     drafts = drafts_of_handles k.handles s.grants
@@ -198,7 +203,7 @@ module _ {D : Type 0} (g : Ghosts D) (left_sized : (d : D) (t : ℕ) (c : Image)
     abbrev o : Object
     o = changed_object change (objects.File f)
 
-    has : MayChange g id.block kind change s.graph drafts id f k.disk k.space
+    has : MayChangeFile g id.block kind change s.graph drafts id f k.disk k.space
     has = record { has = record { store = serves.store; root = refl; there = reach.there; shut = shut }; kind_is = kind_is; inside = inside }
 
     need : need_of s who request ≡ need_for kind change f
@@ -210,7 +215,7 @@ module _ {D : Type 0} (g : Ghosts D) (left_sized : (d : D) (t : ℕ) (c : Image)
     wide : length (g.content k.disk) ≡ g.blocks d
     wide = sized k.disk serves.store.carries.tells.honest ∙ sym size
 
-    fits_cut : need_for kind change f + 4 ≤ sum k.space.free → (x : File) → HoldsOfEither f (file_of change f) x → Fits (g.blocks d) (with_object s.graph id (objects.File x))
+    fits_cut : need_for kind change f + 4 ≤ sum k.space.free → (x : File) → HoldsOfEither f (file_of change f) x → FitsDisk (g.blocks d) (with_object s.graph id (objects.File x))
     fits_cut free x either = may_fit g k s serves (with_object s.graph id (objects.File x)) (need_for kind change f) (g.blocks d) (still_closed s.graph (closed_graph s.graph serves.state.graph) id f x reach.there)
         (replaced_blocks s.graph id (objects.File f) (objects.File x) (need_for kind change f) serves.store.ordered reach.there (few kind change f x either)) free wide
 
@@ -230,7 +235,7 @@ module _ {D : Type 0} (g : Ghosts D) (left_sized : (d : D) (t : ℕ) (c : Image)
     left : need_for kind change f + 4 ≤ sum k.space.free → LeavesThese g k.disk d s who request replies.Done (with_object s.graph id o)
     left free = wider g k.disk d _ _ (changes.leaves s.graph drafts id f has) (λ c may. by c kind change refl refl may)
       where
-        by : (c : Image) (x : FileKind) (y : Change) → kind ≡ x → change ≡ y → MayLeave x y s.graph id f c → (Holds c s.graph ⊎ Holds c (with_object s.graph id o)) ⊎ IsCut (g.blocks d) s who request replies.Done c
+        by : (c : Image) (x : FileKind) (y : Change) → kind ≡ x → change ≡ y → MayLeaveFile x y s.graph id f c → (Holds c s.graph ⊎ Holds c (with_object s.graph id o)) ⊎ IsCut (g.blocks d) s who request replies.Done c
         by c kinds.Special y at same either = inl (subst (λ (z : Change). Holds c s.graph ⊎ Holds c (with_object s.graph id (changed_object z (objects.File f)))) (sym same) either)
         by c kinds.Normal (Overwrite offset bytes) at same partly = inr (cut free at c (subst (λ (z : Change). IsPartly c s.graph id f (file_of z f)) (sym same) partly))
         by c kinds.Normal (SetSize bytes) at same partly = inr (cut free at c (subst (λ (z : Change). IsPartly c s.graph id f (file_of z f)) (sym same) partly))
@@ -246,7 +251,7 @@ module _ {D : Type 0} (g : Ghosts D) (left_sized : (d : D) (t : ℕ) (c : Image)
     more = subst (λ (x : Object). blocks_of x ≤ blocks_of (objects.File f) + need_for kind change f) (sym (is_file change f))
         (few kind change f (file_of change f) (itself change f (rising_of f (object_whole s.graph serves.state.graph id (objects.File f) reach.there))))
 
-    roomy : need_for kind change f + 4 ≤ sum k.space.free → ¬ IsShort s who request (sum k.space.free)
+    roomy : need_for kind change f + 4 ≤ sum k.space.free → ¬ IsShortOfBlocks s who request (sum k.space.free)
     roomy free short = omega (arith, short.few, need, free)
 
     as_it_was : (space ≡ k.space) × OnlyReads g 31093 k.disk d → new ≡ record k { disk = d }
@@ -276,7 +281,7 @@ module _ {D : Type 0} (g : Ghosts D) (left_sized : (d : D) (t : ℕ) (c : Image)
       leaves = wider g k.disk d _ _ still (λ c holds. record { graph = s.graph; may = Undone; fits = fits g k s serves (g.blocks d) wide; holds = holds });
     }
 
-    takes : ChangesOnly (λ entry. of_owner id.block entry) (g.content k.disk) (g.content d) → ClaimsFor kind change id.block f (g.content k.disk) (g.content d) → Takes k.handles s who request replies.Done (g.content k.disk) (g.content d)
+    takes : ChangesOnly (λ entry. of_owner id.block entry) (g.content k.disk) (g.content d) → ClaimsFor kind change id.block f (g.content k.disk) (g.content d) → TakesForRequest k.handles s who request replies.Done (g.content k.disk) (g.content d)
     takes only order = elim (by kind change kind_is order) [
       | inl two ↦ takes_alone k.handles s who request replies.Done (g.content k.disk) (g.content d) (is.alone s who ∙ beside_is ∙ ap not two.1)
           (subst (λ (cs : List MapEntry). ClaimsInOrder cs (owners_of s who request replies.Done) (g.content k.disk) (g.content d)) (sym claims_are) (subst (λ (ns : List ℕ). ClaimsInOrder (claims_in_file id.block change f) ns (g.content k.disk) (g.content d)) (sym owners_are) two.0))
@@ -334,16 +339,25 @@ module _ {D : Type 0} (g : Ghosts D) (left_sized : (d : D) (t : ℕ) (c : Image)
 -- a call that read the size first, or nothing
 pub tries_changed : {D : Type 0} (g : Ghosts D) (left_sized : (d : D) (t : ℕ) (c : Image) → g.left_since d t c → length c ≡ g.blocks d) (sized : (d : D) → IsTrue (g.honest d) → length (g.content d) ≡ g.blocks d)
     (n : ℕ) (k : Kernel D) (mid d : D) (space : Kept) → OnlyReads g n k.disk mid → (id : Puid) (kind : FileKind) (change : Change) (request : Request) → IsChanging request change
-    → (result : Result (Unit {0}) Refused) → (Tells g k.disk → AltersFile g id.block kind 4 change mid d k.space space result) → EndsAltered g id.block kind 4 change mid d k.space space result → (who : ℕ) → ReachesAll g objects.File k who request id
-    → ((s : State) (f : File) → Serves g k s → Reaches s who request id (objects.File f) → Knows g k.disk id.block (objects.File f) → (f.kind ≡ kind) × IsInside change (objects.File f) × (refusal_of s who request ≡ None))
+    → (result : Result (Unit {0}) Refused) → (Tells g k.disk → AltersFile g id.block kind 4 change mid d k.space space result)
+    → (top : Top) → top.block ≡ id.block → ((size : ℕ) → top.IsFar size → (disk_top g id.block k.disk).IsFar size) → EndsAltered g top kind 4 change mid d k.space space result → (who : ℕ) → ReachesAll g objects.File k who request id
+    → ((s : State) (f : File) → CoreServes g k s → Reaches s who request id (objects.File f) → KnowsObject g k.disk id.block (objects.File f) → (f.kind ≡ kind) × IsInside change (objects.File f) × (refusal_of s who request ≡ None))
     → Tries g k (record k { disk = d; space = space }) who request (done_or result)
-tries_changed g left_sized sized n k mid d space reads id kind change request is result changes end who reaches goes = record {
+tries_changed {D = D} g left_sized sized n k mid d space reads id kind change request is result changes top at far end who reaches goes = record {
   ends = λ s serves none.
       let r = reaches.0 s serves in
       let may = goes s r.0 serves r.1 (knows_that g k s serves id (objects.File r.0) r.1.there r.2) in
       ends g n k mid (record k { disk = d; space = space }) reads request s who (done_or result)
       (did g left_sized sized (record k { disk = mid }) d space id kind change request is result (changes serves.store.carries.tells) s who r.0 (serves_on g n k (record k { disk = mid }) reads refl s serves) none r.1 r.2 may.0 may.1 may.2);
-  went = went_then g n k mid (record k { disk = d; space = space }) reads request (done_or result)
-      (went_done g (record k { disk = mid }) d space k.handles end.calls.calls.same.size end.calls.calls.faults end.calls.calls.later request result (λ tried is. rw is at end.refused)
-      (λ damage met. told_of_file g (record k { disk = mid }) (record k { disk = d; space = space }) (Some request) id.block (inl reaches.1) damage end.calls.calls.same.size sized end.calls.calls.same.honesty kind change is.wants (λ r same. let one : request ≡ r = cc in ap is_delete (sym one) ∙ is.delete) (rw met at end.refused)));
+  went = went_done g k d space k.handles size (omega (arith, reads.faults, end.calls.calls.faults)) (omega (arith, reads.images.later, end.calls.calls.later)) request result
+      (λ tried is. stopped_after_reads g k.disk mid d n tried reads (rw is at end.refused))
+      (λ damage met. told_of_file g (record k { disk = mid }) new (Some request) id.block (inl reaches.1) damage end.calls.calls.same.size top at (IsDamageTold g k new (Some request) damage) (told_then g k new n mid (Some request) damage reads)
+      (λ code block is. far_on_disk g k new (Some request) id.block (inl reaches.1) damage size code block (far (g.blocks k.disk) (subst top.IsFar reads.same.size is))) kind change is.wants (λ set. inr (is.sets set, refl)) (rw met at end.refused))
+      (λ need want. let why = rw want at end.refused in let kept = ((rw want at end.untried) refl).0 in (is.delete, why.0 ∙ ap (λ (x : Kept). sum x.free) kept, why.1));
 }
+  where
+    new : Kernel D
+    new = record k { disk = d; space = space }
+
+    size : g.blocks d ≡ g.blocks k.disk
+    size = end.calls.calls.same.size ∙ reads.same.size

@@ -9,7 +9,7 @@ use Rattle.ufs_model.specs.declared.asked.Request.TheVariants as asks
 use Rattle.cfs_core.specs.Calls.{Answers, ByOutcome, Tries}
 use Rattle.cfs_core.specs.Kernel.{Kernel, Handle, is_drawn_by}
 use Rattle.cfs_core.specs.Handles.{have_draft, is_at, is_drawn, handles_but}
-use Rattle.cfs_core.specs.StandsFor.{Serves, Stores}
+use Rattle.cfs_core.specs.StandsFor.{CoreServes, StoresState}
 use Rattle.cfs_core.proofs.Answering.{owes}
 use Rattle.cfs_core.proofs.Moved.{IsStepped}
 use Rattle.cfs_core.proofs.Regranted.{KeepsDrafts, but_keeps, but_table, draft_none, drawn_more, makes_after, stores_after}
@@ -55,26 +55,26 @@ module _ (seed : ℕ) (s : State) (who : ℕ) (t : Tuid) (commit : Bool) where
   close_goes x found = rw found refl
 
 -- the state without it, of which these are the objects
-pub closed_stepped : {D : Type 0} (g : Ghosts D) (k : Kernel D) (s : State) → Serves g k s → (who : ℕ) (t : Tuid) (commit : Bool) (d : D) (space : Kept) (h : Graph) → (closed s who t commit).graph ≡ h → h.root ≡ s.graph.root → kinds_of h ≡ kinds_of s.graph
-    → IsStepped k (record k { disk = d; space = space; handles = handles_but (tables.is_grant who t) k.handles }) s (closed s who t commit) h
+pub closed_stepped : {D : Type 0} (g : Ghosts D) (k : Kernel D) (s : State) → CoreServes g k s → (who : ℕ) (t : Tuid) (commit : Bool) (d : D) (space : Kept) (h : Graph) → (closed s who t commit).graph ≡ h → h.root ≡ s.graph.root → kinds_of h ≡ kinds_of s.graph
+    → IsStepped k (record k { disk = d; space = space; handles = handles_but (tables.is_session_grant who t) k.handles }) s (closed s who t commit) h
 closed_stepped g k s serves who t commit d space h graph rooted kinds = record {
   graph = graph;
   rooted = rooted;
   stopped = refl;
   sweeping = refl;
   drawn = serves.front.drawn;
-  named = serves.front.names ∙ sym kinds;
+  named = serves.front.directory ∙ sym kinds;
   root = refl;
   stop = refl;
-  table = but_table (tables.is_grant who t) k.handles s.grants serves.front.grants;
+  table = but_table (tables.is_session_grant who t) k.handles s.grants serves.front.grants;
 }
 
 -- where its handle has no draft
-module _ {D : Type 0} (g : Ghosts D) (k : Kernel D) (s : State) (serves : Serves g k s) (who : ℕ) (t : Tuid) (commit : Bool) (x : Grant) (found : grant_of s who t ≡ Some x) (bare : have_draft (is_at t.draw) k.handles ≡ false) where
+module _ {D : Type 0} (g : Ghosts D) (k : Kernel D) (s : State) (serves : CoreServes g k s) (who : ℕ) (t : Tuid) (commit : Bool) (x : Grant) (found : grant_of s who t ≡ Some x) (bare : have_draft (is_at t.draw) k.handles ≡ false) where
   abbrev left : List Handle
-  left = handles_but (tables.is_grant who t) k.handles
+  left = handles_but (tables.is_session_grant who t) k.handles
 
-  none_of_it : have_draft (tables.is_grant who t) k.handles ≡ false
+  none_of_it : have_draft (tables.is_session_grant who t) k.handles ≡ false
   none_of_it = none_of_grant who t k.handles bare
 
   closed_graph : (closed s who t commit).graph ≡ s.graph
@@ -91,9 +91,9 @@ module _ {D : Type 0} (g : Ghosts D) (k : Kernel D) (s : State) (serves : Serves
   stepped = closed_stepped g k s serves who t commit k.disk k.space s.graph closed_graph refl refl
 
   keeps : KeepsDrafts k.handles left s.grants (closed s who t commit).grants
-  keeps = but_keeps (tables.is_grant who t) _ k.handles s.grants serves.front.grants serves.drafts none_of_it
+  keeps = but_keeps (tables.is_session_grant who t) _ k.handles s.grants serves.front.grants serves.drafts none_of_it
 
-  pub stores_closed : Stores g (record k { handles = left }) (closed s who t commit)
+  pub stores_closed : StoresState g (record k { handles = left }) (closed s who t commit)
   stores_closed = stores_after g k left s (closed s who t commit) serves stepped (closed_keeps s who t commit serves.state) keeps
 
   pub answers_closed : ((d : D) (t : ℕ) (c : Image) → g.left_since d t c → length c ≡ g.blocks d) → ((d : D) → IsTrue (g.honest d) → length (g.content d) ≡ g.blocks d) → k.stop ≡ None
@@ -111,11 +111,11 @@ module _ {D : Type 0} (g : Ghosts D) (k : Kernel D) (s : State) (serves : Serves
       goes = close_goes 0 s who t commit x found
 
 pub tries_closed : {D : Type 0} (g : Ghosts D) → ((d : D) (t : ℕ) (c : Image) → g.left_since d t c → length c ≡ g.blocks d) → ((d : D) → IsTrue (g.honest d) → length (g.content d) ≡ g.blocks d)
-    → (k : Kernel D) (who : ℕ) (t : Tuid) (commit : Bool) → have_draft (is_at t.draw) k.handles ≡ false → ((s : State) → Serves g k s → (x : Grant) × (grant_of s who t ≡ Some x))
-    → Tries g k (record k { handles = handles_but (tables.is_grant who t) k.handles }) who (asks.Close t commit) (Ok replies.Done)
+    → (k : Kernel D) (who : ℕ) (t : Tuid) (commit : Bool) → have_draft (is_at t.draw) k.handles ≡ false → ((s : State) → CoreServes g k s → (x : Grant) × (grant_of s who t ≡ Some x))
+    → Tries g k (record k { handles = handles_but (tables.is_session_grant who t) k.handles }) who (asks.Close t commit) (Ok replies.Done)
 tries_closed g left_sized sized k who t commit bare the = record {
   ends = λ s serves none. let x = the s serves in answers_closed g k s serves who t commit x.0 x.1 bare left_sized sized none;
-  went = went_so g k k.disk k.space (handles_but (tables.is_grant who t) k.handles) refl (omega arith) (omega arith) (asks.Close t commit) (Ok replies.Done) tt tt;
+  went = went_so g k k.disk k.space (handles_but (tables.is_session_grant who t) k.handles) refl (omega arith) (omega arith) (asks.Close t commit) (Ok replies.Done) tt tt;
 }
 
 -- ---- what is drawn next is of no grant yet

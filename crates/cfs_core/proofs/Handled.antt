@@ -2,7 +2,7 @@
 use Rattle.std.proofs.Common.{◌≡◌, ℕ, List, [], ◌∷◌, ◌++◌, Bool, true, false, cond, not, ◌||◌, ◌&&◌, Option, Some, None, Result, Ok, Err, is_some, refl, sym, ◌∙◌, ap, subst, arith, ◌==◌, IfSome, IsOk, OnErr, OnOk, filter}
 use Rattle.cfs_core.proofs.Words.{and_right, Drafting, eq-eqb, eqb-true, false_from_ne_true, list_any, list_any-append, nat_tests, or_from, or_parts, same_tuid, true≢false, Tuid}
 use Rattle.open_table.specs.declared.grant.Grant.{Grant}
-use Rattle.open_table.specs.Grants.{is_grant}
+use Rattle.open_table.specs.Grants.{is_session_grant}
 use Rattle.cfs_core.specs.Kernel.{Handle, grants_in}
 use Rattle.cfs_core.specs.Handles.{AreOfGrants, drafting_at, have_draft, is_at, is_drawn, handled, handles_but, with_drafting}
 
@@ -130,21 +130,21 @@ no_tuid (g ∷ gs) t none =
     apart a b other = grind (arith, nat_tests)
 
 -- where no handle of a draw has a draft, none of a grant of that draw has
-pub none_of_grant : (who : ℕ) (t : Tuid) (ss : List Handle) → have_draft (is_at t.draw) ss ≡ false → have_draft (is_grant who t) ss ≡ false
+pub none_of_grant : (who : ℕ) (t : Tuid) (ss : List Handle) → have_draft (is_at t.draw) ss ≡ false → have_draft (is_session_grant who t) ss ≡ false
 none_of_grant who t [] none = refl
 none_of_grant who t (handle ∷ ss) none =
     let two = or_parts (is_at t.draw handle.grant && is_some handle.drafting) (have_draft (is_at t.draw) ss) none in
-    or_from (is_grant who t handle.grant && is_some handle.drafting) _ (at (is_some handle.drafting) two.0) (none_of_grant who t ss two.1)
+    or_from (is_session_grant who t handle.grant && is_some handle.drafting) _ (at (is_some handle.drafting) two.0) (none_of_grant who t ss two.1)
   where
-    at : (b : Bool) → (is_at t.draw handle.grant && b) ≡ false → (is_grant who t handle.grant && b) ≡ false
-    at false other = and_right (is_grant who t handle.grant) false refl
+    at : (b : Bool) → (is_at t.draw handle.grant && b) ≡ false → (is_session_grant who t handle.grant && b) ≡ false
+    at false other = and_right (is_session_grant who t handle.grant) false refl
     at true other = apart who t handle.grant (and_cases_true (is_at t.draw handle.grant) other)
       where
         and_cases_true : (a : Bool) → (a && true) ≡ false → a ≡ false
         and_cases_true true h = h
         and_cases_true false h = refl
 
-        apart : (who : ℕ) (t : Tuid) (g : Grant) → (t.draw == g.tuid.draw) ≡ false → (is_grant who t g && true) ≡ false
+        apart : (who : ℕ) (t : Tuid) (g : Grant) → (t.draw == g.tuid.draw) ≡ false → (is_session_grant who t g && true) ≡ false
         apart who t g other = grind (arith, nat_tests)
 
 -- a consequence of what a call does

@@ -11,14 +11,14 @@ use Rattle.cfs_core.specs.Kernel.{Kernel, grants_in}
 use Rattle.cfs_base.proofs.Calls.{failed_since}
 use Rattle.cfs_core.specs.Leaving.{ServesFewer, Sheds, StopsSo, halt_of, of_others}
 use Rattle.cfs_core.proofs.Damages.{told_as}
-use Rattle.cfs_core.specs.StandsFor.{IsFront, Serves, Stands, StandsFor, bare, front_of}
+use Rattle.cfs_core.specs.StandsFor.{IsFront, CoreServes, Stands, StandsFor, bare, front_of}
 use Rattle.cfs_core.proofs.Serving.{fewer_lost, fits, none_more, pending, running, nothing_left}
 
 module _ {D : Type 0} (g : Ghosts D) (who : ℕ) where
   pub sheds_none : (k : Kernel D) → Sheds g who k k
   sheds_none k = record {
     words = refl;
-    names = refl;
+    directory = refl;
     collections = refl;
     others = refl;
     size = refl;
@@ -38,19 +38,19 @@ module _ {D : Type 0} (g : Ghosts D) (who : ℕ) where
     between None is none = is
     between (Some stop) is none = let no : None ≡ Some stop = sym none ∙ (two.idle stop is).0 in cc
 
-    leaves_both : (s : State) → Serves g a s → a.stop ≡ None → (o : Option Stop) → b.stop ≡ o → Leaves g a.disk c.disk (λ i. Holds i s.graph)
+    leaves_both : (s : State) → CoreServes g a s → a.stop ≡ None → (o : Option Stop) → b.stop ≡ o → Leaves g a.disk c.disk (λ i. Holds i s.graph)
     leaves_both s serves none None is =
         let mid = one.serves s serves none is in
         then g a.disk b.disk c.disk (λ i. Holds i s.graph) (λ i. Holds i s.graph) (one.leaves s serves none) (two.leaves (record s { grants = mid.grants }) mid.serves is) (λ i h. h)
     leaves_both s serves none (Some stop) is = subst (λ d. Leaves g a.disk d (λ i. Holds i s.graph)) (sym (two.idle stop is).1) (one.leaves s serves none)
 
-    serves_both : (s : State) → Serves g a s → a.stop ≡ None → c.stop ≡ None → ServesFewer g c s who
+    serves_both : (s : State) → CoreServes g a s → a.stop ≡ None → c.stop ≡ None → ServesFewer g c s who
     serves_both s serves none runs =
         let mid = one.serves s serves none (between b.stop refl runs) in
         let last = two.serves (record s { grants = mid.grants }) mid.serves (between b.stop refl runs) runs in
         record { grants = last.grants; serves = last.serves; others = last.others ∙ mid.others }
 
-    strays_both : (s : State) → Serves g a s → a.stop ≡ None → c.stop ≡ None → AddsNoStray (g.content a.disk) (g.content c.disk) s.graph s.graph
+    strays_both : (s : State) → CoreServes g a s → a.stop ≡ None → c.stop ≡ None → AddsNoStray (g.content a.disk) (g.content c.disk) s.graph s.graph
     strays_both s serves none runs n stray =
         let mid = one.serves s serves none (between b.stop refl runs) in
         let last = two.strays (record s { grants = mid.grants }) mid.serves (between b.stop refl runs) runs n stray in
@@ -71,7 +71,7 @@ module _ {D : Type 0} (g : Ghosts D) (who : ℕ) where
           damaged = λ damage met. (let m = so.damaged damage met in (record { mid = m.0.mid; later = m.0.later; told = told_as g m.0.mid b c None damage still.1 still.2 m.0.told }, m.1 ∙ ap g.moment (sym still.1)));
         }
 
-    sound_both : (s : State) → Serves g a s → a.stop ≡ None → (stop : Stop) → c.stop ≡ Some stop → (o : Option Stop) → b.stop ≡ o → stop.damage ≡ None
+    sound_both : (s : State) → CoreServes g a s → a.stop ≡ None → (stop : Stop) → c.stop ≡ Some stop → (o : Option Stop) → b.stop ≡ o → stop.damage ≡ None
     sound_both s serves none stop is None mid = let then_it = one.serves s serves none mid in two.sound (record s { grants = then_it.grants }) then_it.serves mid stop is
     sound_both s serves none stop is (Some was) mid =
         let same : was ≡ stop = (let both : Some was ≡ Some stop = sym (two.idle was mid).0 ∙ is in cc) in
@@ -80,7 +80,7 @@ module _ {D : Type 0} (g : Ghosts D) (who : ℕ) where
     pub sheds_then : Sheds g who a c
     sheds_then = record {
       words = two.words ∙ one.words;
-      names = two.names ∙ one.names;
+      directory = two.directory ∙ one.directory;
       collections = two.collections ∙ one.collections;
       others = two.others ∙ one.others;
       size = two.size ∙ one.size;
@@ -96,7 +96,7 @@ module _ {D : Type 0} (g : Ghosts D) (who : ℕ) where
 
   -- ---- none of its grants is left
 
-  none_left : (gs : List handles.Grant) (grants : List Grant) → gs ≡ map bare grants → tables.first_of gs who ≡ None → of_others who grants ≡ grants
+  none_left : (gs : List handles.Grant) (grants : List Grant) → gs ≡ map bare grants → tables.first_grant gs who ≡ None → of_others who grants ≡ grants
   none_left [] [] table none = refl
   none_left [] (x ∷ grants) table none = cc
   none_left (y ∷ gs) [] table none = cc
@@ -120,12 +120,12 @@ module _ {D : Type 0} (g : Ghosts D) (who : ℕ) where
   -- ---- the session has left
 
   module _ (left_sized : (d : D) (t : ℕ) (c : Image) → g.left_since d t c → length c ≡ g.blocks d) (sized : (d : D) → IsTrue (g.honest d) → length (g.content d) ≡ g.blocks d)
-      (old new : Kernel D) (sheds : Sheds g who old new) (none : tables.first_of (grants_in new.handles) who ≡ None) (s : State) where
+      (old new : Kernel D) (sheds : Sheds g who old new) (none : tables.first_grant (grants_in new.handles) who ≡ None) (s : State) where
     -- what any core says then, that stopped so
     front_left : IsFront old s → IsFront new (record (after_leave s who) { stopped = option_map (λ stop. stop.moment) new.stop })
     front_left front = record {
       drawn = front.drawn ∙ sym (ap (λ w. w.drawn) sheds.words);
-      names = ap (λ n. n.named) sheds.names ∙ front.names;
+      directory = ap (λ n. n.named) sheds.directory ∙ front.directory;
       grants = sym (without_session-none (grants_in new.handles) who none) ∙ sheds.others ∙ ap (λ gs. tables.without_session gs who) front.grants ∙ others_bare s.grants;
       stopped = refl;
     }
@@ -149,7 +149,7 @@ module _ {D : Type 0} (g : Ghosts D) (who : ℕ) where
         record {
           after = after_leave s who;
           step = refl;
-          stands = subst (Stands g new (after_leave s who)) (sym is) (subst (λ (gs : List Grant). Serves g new (record s { grants = gs })) all fewer.serves);
+          stands = subst (Stands g new (after_leave s who)) (sym is) (subst (λ (gs : List Grant). CoreServes g new (record s { grants = gs })) all fewer.serves);
           survives = inl (loose g left_sized old.words.seed s old.disk new.disk (fits g old s serves (g.blocks new.disk) (sized old.disk serves.store.carries.tells.honest ∙ sym sheds.size)) (events.Leave who None) (after_leave s who) refl refl
               (sheds.leaves s serves was) (pending g old s serves));
           lost = λ runs. fewer_lost (g.content old.disk) (g.content new.disk) s.graph s.graph

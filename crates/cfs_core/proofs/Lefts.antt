@@ -7,15 +7,15 @@ use Rattle.ufs_model.specs.declared.asked.Event.TheVariants as events
 use Rattle.cfs_core.specs.declared.collecting.Collections.{Collections}
 use Rattle.cfs_core.specs.declared.collecting.Step.{Step}
 use Rattle.cfs_core.specs.declared.collecting.Step.TheVariants as steps
-use Rattle.cfs_core.specs.Kernel.{marks_in, runs, sweeps_in}
-use Rattle.cfs_core.specs.Left.{AddsOne, GoesOn, RunsBy, events_due, steps_of, to_begin}
+use Rattle.cfs_core.specs.Kernel.{marks_in, collection_runs, sweeps_in}
+use Rattle.cfs_core.specs.Left.{AddsOne, LeavesFewer, RunsBy, events_due, steps_of, to_begin}
 use Rattle.cfs_core.specs.Rescues.{AreRescued, HasRescued, while_marking}
-use Rattle.collector_marks.specs.Kept.{Marked, blocks_of, colours_of}
+use Rattle.collector_marks.specs.Kept.{Marked, blocks_marked, colours_of}
 
 -- ---- a step
 
 -- nothing is left of a collection that doesn't run
-at_rest : (o : Option Collecting) → runs o ≡ false → (steps_of o ≡ 0) × (events_due o ≡ 0)
+at_rest : (o : Option Collecting) → collection_runs o ≡ false → (steps_of o ≡ 0) × (events_due o ≡ 0)
 at_rest None none = (refl, refl)
 at_rest (Some k) none = by k.phase refl none
   where
@@ -27,12 +27,12 @@ at_rest (Some k) none = by k.phase refl none
     by phases.Swept is none = let no : true ≡ false = ap (λ q. marks_in q || sweeps_in q) (sym is) ∙ none in cc
 
 -- with one that runs, or none
-count_of : (b : Bool) (c : Collections) → runs c.collector ≡ b → cond {A = ℕ} (runs c.collector) 1 0 ≡ cond b 1 0
+count_of : (b : Bool) (c : Collections) → collection_runs c.collector ≡ b → cond {A = ℕ} (collection_runs c.collector) 1 0 ≡ cond b 1 0
 count_of b c is = ap {B = ℕ} (λ r. cond r 1 0) is
 
 -- that of a collection that runs, and runs on
-pub goes_within : (blocks : ℕ) (c d : Collections) (step : Step) (event : Option Event) → d.called ≡ c.called → d.finished ≡ c.finished → runs c.collector ≡ true → runs d.collector ≡ true → RunsBy step true true
-    → steps_of d.collector < steps_of c.collector → events_due d.collector + length (option_to_list event) ≡ events_due c.collector → GoesOn blocks c d step event
+pub goes_within : (blocks : ℕ) (c d : Collections) (step : Step) (event : Option Event) → d.called ≡ c.called → d.finished ≡ c.finished → collection_runs c.collector ≡ true → collection_runs d.collector ≡ true → RunsBy step true true
+    → steps_of d.collector < steps_of c.collector → events_due d.collector + length (option_to_list event) ≡ events_due c.collector → LeavesFewer blocks c d step event
 goes_within blocks c d step event called finished before after by less events =
     let same : to_begin d ≡ to_begin c = omega (arith, called, finished, count_of true c before, count_of true d after) in
     let steps = ap (λ n. n * most_steps blocks) same in
@@ -43,10 +43,10 @@ goes_within blocks c d step event called finished before after by less events =
     }
 
 -- a collection begins
-pub goes_begun : (blocks : ℕ) (c d : Collections) (l : Collecting) → d.called ≡ c.called → d.finished ≡ c.finished → runs c.collector ≡ false → c.finished < c.called → d.collector ≡ Some l → l.phase ≡ phases.Marking
-    → steps_left l < most_steps blocks → GoesOn blocks c d steps.Began (Some events.Began)
+pub goes_begun : (blocks : ℕ) (c d : Collections) (l : Collecting) → d.called ≡ c.called → d.finished ≡ c.finished → collection_runs c.collector ≡ false → c.finished < c.called → d.collector ≡ Some l → l.phase ≡ phases.Marking
+    → steps_left l < most_steps blocks → LeavesFewer blocks c d steps.Began (Some events.Began)
 goes_begun blocks c d l called finished before more there phase less =
-    let now : runs d.collector ≡ true = ap runs there ∙ ap (λ p. marks_in p || sweeps_in p) phase in
+    let now : collection_runs d.collector ≡ true = ap collection_runs there ∙ ap (λ p. marks_in p || sweeps_in p) phase in
     let rest = at_rest c.collector before in
     let one : to_begin c ≡ to_begin d + 1 = omega (arith, called, finished, more, count_of false c before, count_of true d now) in
     let steps = ap (λ n. n * most_steps blocks) one ∙ add-mul (to_begin d) 1 (most_steps blocks) in
@@ -60,10 +60,10 @@ goes_begun blocks c d l called finished before more there phase less =
 
 -- and ends
 pub goes_ended : (blocks : ℕ) (c d : Collections) (k l : Collecting) → d.called ≡ c.called → d.finished ≡ c.finished + 1 → c.collector ≡ Some k → d.collector ≡ Some l → k.phase ≡ phases.Swept → l.phase ≡ phases.Idle
-    → GoesOn blocks c d steps.Finished (Some events.Finished)
+    → LeavesFewer blocks c d steps.Finished (Some events.Finished)
 goes_ended blocks c d k l called finished was there swept idle =
-    let before : runs c.collector ≡ true = ap runs was ∙ ap (λ p. marks_in p || sweeps_in p) swept in
-    let now : runs d.collector ≡ false = ap runs there ∙ ap (λ p. marks_in p || sweeps_in p) idle in
+    let before : collection_runs c.collector ≡ true = ap collection_runs was ∙ ap (λ p. marks_in p || sweeps_in p) swept in
+    let now : collection_runs d.collector ≡ false = ap collection_runs there ∙ ap (λ p. marks_in p || sweeps_in p) idle in
     let rest = at_rest d.collector now in
     let same : to_begin d ≡ to_begin c = omega (arith, called, finished, count_of true c before, count_of false d now) in
     let steps = ap (λ n. n * most_steps blocks) same in
@@ -93,21 +93,21 @@ rescued_left : (k l : Collecting) (more : List Rescue) → HasRescued k l more �
 rescued_left k l more is = subst (λ p. left_in p l ≤ left_in k.phase k + length more) (sym is.phase) (at k.phase)
   where
     volume : volume_of l ≡ volume_of k
-    volume = ap blocks_of is.marks
+    volume = ap blocks_marked is.marks
 
     at : (p : Phase) → left_in p l ≤ left_in p k + length more
     at phases.Idle = omega arith
     at phases.Marking =
         let waits = ap length is.waiting ∙ length-append (waiting_in k) (while_marking k more) in
         let few = few_wait (marks_in k.phase) more in
-        let cylinders = ap (λ (m : Marked). blocks_of m / 64) is.marks in
-        let reads = ap (λ (m : Marked). reads_left (blocks_of m) (colours_of m)) is.marks in
+        let cylinders = ap (λ (m : Marked). blocks_marked m / 64) is.marks in
+        let reads = ap (λ (m : Marked). reads_left (blocks_marked m) (colours_of m)) is.marks in
         omega (arith, waits, few, cylinders, reads)
     at (phases.Inner c) = omega (arith, volume)
     at (phases.Roots c) = omega (arith, volume)
     at phases.Swept = omega arith
 
-rescued_runs : (o p : Option Collecting) (more : List Rescue) → AreRescued o p more → (runs p ≡ runs o) × (steps_of p ≤ steps_of o + length more) × (events_due p ≡ events_due o)
+rescued_runs : (o p : Option Collecting) (more : List Rescue) → AreRescued o p more → (collection_runs p ≡ collection_runs o) × (steps_of p ≤ steps_of o + length more) × (events_due p ≡ events_due o)
 rescued_runs None None more is = (refl, omega arith, refl)
 rescued_runs (Some k) (Some l) more is = (ap (λ p. marks_in p || sweeps_in p) is.phase, rescued_left k l more is, ap events_left is.phase)
 rescued_runs None (Some l) more is = absurd is

@@ -6,7 +6,7 @@ use Rattle.cfs_base.specs.declared.kind.Kind.TheVariants as kinds
 use Rattle.ufs_model.specs.declared.asked.Reply.TheVariants as replies
 use Rattle.ufs_model.specs.declared.asked.Request.TheVariants as asks
 use Rattle.ufs_model.specs.declared.object.Object.TheVariants as objects
-use Rattle.cfs_core.specs.Makes.{IsMaking, file_kind}
+use Rattle.cfs_core.specs.Makes.{IsMaking, made_kind}
 use Rattle.cfs_core.specs.Ways.{Reaches}
 use Rattle.cfs_core.proofs.Refusing.{within}
 
@@ -49,13 +49,13 @@ module _ (s : State) (who : ℕ) (to : Ref) (index : Puid) (i : Index) (slot : �
 
 -- ---- as the store is asked for them
 
-pub file_makes : (kind : FileKind) (k : Kind) (fill : ℕ) (to : Ref) (slot : ℕ) → k ≡ file_kind kind → fill < 256 → IsMaking (asks.CreateFile kind fill to slot) slot (made_of k fill 0)
+pub file_makes : (kind : FileKind) (k : Kind) (fill : ℕ) (to : Ref) (slot : ℕ) → k ≡ made_kind kind → fill < 256 → IsMaking (asks.CreateFile kind fill to slot) slot (made_of k fill 0)
 file_makes kind k fill to slot is few = subst (λ (x : Kind). IsMaking (asks.CreateFile kind fill to slot) slot (made_of x fill 0)) (sym is) (at kind)
   where
     bytes : nat_lt fill 256 ≡ true
     bytes = grind (arith, nat_tests)
 
-    at : (y : FileKind) → IsMaking (asks.CreateFile y fill to slot) slot (made_of (file_kind y) fill 0)
+    at : (y : FileKind) → IsMaking (asks.CreateFile y fill to slot) slot (made_of (made_kind y) fill 0)
     at file_kinds.Normal = file_making file_kinds.Normal fill to slot bytes
     at file_kinds.Special = file_making file_kinds.Special fill to slot bytes
 

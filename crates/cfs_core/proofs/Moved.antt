@@ -1,10 +1,10 @@
 -- What a step of a draft, its commit or its end makes of the state.
 use Rattle.std.proofs.Common.{◌≡◌, ◌⊎◌, ℕ, ◌+◌, ◌/◌, ◌≤◌, List, [], ◌∷◌, length, Bool, true, false, cond, Option, Some, sym, ◌∙◌, ap, subst, arith, filter, map, sum, option_map, None, sum_by}
-use Rattle.cfs_core.proofs.Words.{blocks_taken, ChangesOnly, done, draft_blocks, Event, Fits, Ghosts, Graph, Holds, Image, IsOfThese, IsSettled, IsState, IsSwept, kinds_of, Leaves, loose, MapEntry, next, Opened, room, State, stays_swept, StoreHas, stray_was, strays_stay, sum_by-cons, sum_is}
+use Rattle.cfs_core.proofs.Words.{blocks_taken, ChangesOnly, done, draft_blocks, Event, FitsDisk, Ghosts, Graph, Holds, Image, IsOfThese, IsSettled, IsState, IsSwept, kinds_of, Leaves, loose, MapEntry, next, Opened, room, State, stays_swept, StoreHas, stray_was, strays_stay, sum_by-cons, sum_is}
 use Rattle.cfs_core.specs.declared.kernel.Stop.{Stop}
-use Rattle.cfs_core.specs.Calls.{AddsNoStray, Makes}
+use Rattle.cfs_core.specs.Calls.{AddsNoStray, MakesEvent}
 use Rattle.cfs_core.specs.Kernel.{Kernel, grants_in}
-use Rattle.cfs_core.specs.StandsFor.{AreDraftsOf, Serves, Stores, bare, drafts_of_handles, is_sweeping}
+use Rattle.cfs_core.specs.StandsFor.{AreDraftsOf, CoreServes, StoresState, bare, drafts_of_handles, sweeps_now}
 use Rattle.cfs_core.proofs.Serving.{fits, pending}
 
 -- the state afterwards, with these objects
@@ -12,9 +12,9 @@ pub record IsStepped {D : Type 0} (old new : Kernel D) (s after : State) (h : Gr
   pub graph : after.graph ≡ h
   pub rooted : h.root ≡ s.graph.root
   pub stopped : after.stopped ≡ s.stopped
-  pub sweeping : is_sweeping after.collection ≡ is_sweeping s.collection
+  pub sweeping : sweeps_now after.collection ≡ sweeps_now s.collection
   pub drawn : after.drawn ≡ new.words.drawn
-  pub named : new.names.named ≡ kinds_of h
+  pub named : new.directory.named ≡ kinds_of h
   pub root : new.root ≡ old.root
   pub stop : new.stop ≡ old.stop
   pub table : grants_in new.handles ≡ map bare after.grants
@@ -34,7 +34,7 @@ fewer_take P (d ∷ ds) = elim (P d) as (λ b. sum_by draft_blocks (cond b (d �
   | false ↦ omega (arith, sum_by-cons draft_blocks d ds, fewer_take P ds)
 ]
 
-module _ {D : Type 0} (g : Ghosts D) (old new : Kernel D) (s after : State) (h : Graph) (serves : Serves g old s) (T : Option MapEntry → Bool) (es : List Opened) (has : HasStepped g old new s h T es) where
+module _ {D : Type 0} (g : Ghosts D) (old new : Kernel D) (s after : State) (h : Graph) (serves : CoreServes g old s) (T : Option MapEntry → Bool) (es : List Opened) (has : HasStepped g old new s h T es) where
   -- where it takes n blocks more, and so many and four were Free, four still are
   pub four_left : (n : ℕ) → blocks_taken h es ≤ blocks_taken s.graph (drafts_of_handles old.handles s.grants) + n → n + 4 ≤ sum old.space.free → 4 ≤ sum new.space.free
   four_left n few free =
@@ -44,11 +44,11 @@ module _ {D : Type 0} (g : Ghosts D) (old new : Kernel D) (s after : State) (h :
       omega (arith, before, now, strays, few, free, sum_is (g.content old.disk) old.space serves.store.counts, sum_is (g.content new.disk) new.space has.store.counts, ap (λ (m : ℕ). m / 64) has.only.size)
 
   module _ (is : IsStepped old new s after h) (state : IsState after) (drafts_are : drafts_of_handles new.handles after.grants ≡ es) (have : AreDraftsOf es new.handles after.grants) (four : 4 ≤ sum new.space.free) where
-    pub stores_stepped : Stores g new after
+    pub stores_stepped : StoresState g new after
     stores_stepped = λ c collecting. record {
       front = record {
         drawn = is.drawn;
-        names = is.named ∙ ap kinds_of (sym is.graph);
+        directory = is.named ∙ ap kinds_of (sym is.graph);
         grants = is.table;
         stopped = is.stopped ∙ serves.front.stopped ∙ ap (option_map (λ (stop : Stop). stop.moment)) (sym is.stop);
       };
@@ -69,7 +69,7 @@ module _ {D : Type 0} (g : Ghosts D) (old new : Kernel D) (s after : State) (h :
 
     module _ (left_sized : (d : D) (t : ℕ) (c : Image) → g.left_since d t c → length c ≡ g.blocks d) (wide : length (g.content old.disk) ≡ g.blocks new.disk) (e : Event) (step : next old.words.seed s e ≡ Some after) where
       -- the objects stay
-      pub makes_stepped : h ≡ s.graph → Leaves g old.disk new.disk (λ c. Holds c s.graph) → Makes g old new s e
+      pub makes_stepped : h ≡ s.graph → Leaves g old.disk new.disk (λ c. Holds c s.graph) → MakesEvent g old new s e
       makes_stepped same leaves = record {
         after = after;
         step = step;
@@ -79,14 +79,14 @@ module _ {D : Type 0} (g : Ghosts D) (old new : Kernel D) (s after : State) (h :
       }
 
       -- they are committed
-      pub makes_committed : Fits (g.blocks new.disk) h → IsSettled g new.disk → Leaves g old.disk new.disk (λ c. Holds c s.graph ⊎ Holds c h) → Makes g old new s e
+      pub makes_committed : FitsDisk (g.blocks new.disk) h → IsSettled g new.disk → Leaves g old.disk new.disk (λ c. Holds c s.graph ⊎ Holds c h) → MakesEvent g old new s e
       makes_committed fits_after settled leaves = record {
         after = after;
         step = step;
         stores = stores_stepped;
         strays = strays_stepped;
         survives = done g left_sized old.words.seed s old.disk new.disk (fits g old s serves (g.blocks new.disk) wide) e after step
-            (subst (Fits (g.blocks new.disk)) (sym is.graph) fits_after)
+            (subst (FitsDisk (g.blocks new.disk)) (sym is.graph) fits_after)
             (subst (λ (x : Graph). Leaves g old.disk new.disk (λ c. Holds c s.graph ⊎ Holds c x)) (sym is.graph) leaves)
             (λ c left. subst (Holds c) (sym is.graph) (subst (λ (x : Image). Holds x h) (sym (settled.only c left)) has.store.account.holds));
       }

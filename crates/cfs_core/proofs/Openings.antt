@@ -1,7 +1,7 @@
 -- How an opening ends.
 use Rattle.std.proofs.Common.{◌≡◌, inl, ℕ, ◌+◌, ◌<◌, ◌≤◌, List, [], ◌∷◌, ◌++◌, length, Bool, true, false, cond, get_or, Option, Some, None, Ok, Err, IsTrue, refl, sym, ◌∙◌, ap, subst, arith, IfSome, Result, is_some, map, nat_le, nat_lt, option_to_list, sum}
-use Rattle.cfs_core.proofs.Words.{AcquireFault, begun_at, begun_fresh, block_there, changes_begin, differs, draft_blocks, Drafting, drafts_of, Draws, fault_by, FileKind, first_draft, first_here, first_others, fresh_of, Ghosts, Grant, granted, granted_keeps, Graph, had_tried, has_all_grants, Holds, Image, is_damaged, is_full_refusal, is_locked, is_normal, is_reading, is_there, is_unwanted_index, IsOpen}
-use Rattle.cfs_core.proofs.Words.{IsPlainReply, IsState, Kept, Kind, kind_in, kind_of, Leaves, length-none, list_any, Mode, MOST_GRANTS, nat_tests, need_of, next, Object, object_at, of_draft, one_if, OnlyReads, Opened, opened_as, or_parts, outcome_legal, outcome_of, Puid, Reading, refusal_of, Refused, Reply, Request, same_puid, start_stays, State, sum_by-cons, takes_draft, Tuid}
+use Rattle.cfs_core.proofs.Words.{AcquireFault, begun_at, begun_fresh, block_there, changes_begin, differs, draft_blocks, Drafting, drafts_of, Draws, fault_by, FileKind, first_draft, first_here, first_others, fresh_of, Ghosts, Grant, granted, granted_keeps, Graph, had_tried, has_all_grants, Holds, Image, has_met_damage, is_full_refusal, is_locked, is_normal, is_reading, is_there, is_unwanted_index, IsOpen}
+use Rattle.cfs_core.proofs.Words.{IsPlainReply, IsState, Kept, Kind, directory_kind, object_kind, Leaves, length-none, list_any, Mode, MOST_GRANTS, nat_tests, need_of, next, Object, object_at, of_draft, one_if, OnlyReads, Opened, opened_as, or_parts, outcome_legal, outcome_of, Puid, Reading, refusal_of, Refused, Reply, Request, same_puid, start_stays, State, sum_by-cons, takes_draft, Tuid}
 use Rattle.cfs_core.proofs.Words.{wanted, wider, word, Writing, MapEntry, stands_for, entry_in, the_draft}
 use Rattle.cfs_base.specs.declared.kind.FileKind.TheVariants as file_kinds
 use Rattle.cfs_base.specs.declared.kind.Kind.TheVariants as kinds
@@ -15,17 +15,17 @@ use Rattle.ufs_model.specs.declared.object.Object.TheVariants as objects
 use Rattle.cfs_core.specs.Calls.{Answers, ByOutcome, ByWant, EndsSo, IsCause, Owes, Tries, Undone}
 use Rattle.cfs_core.specs.Kernel.{Kernel, Handle, grants_in, is_ready}
 use Rattle.cfs_core.specs.Opening.{Begins, BeginsSo, IsBegun, gets_draft, is_unfit, reply_to_fault}
-use Rattle.cfs_core.specs.StandsFor.{HasDraftOf, Serves, bare, drafts_at, drafts_of_handles, is_sweeping}
+use Rattle.cfs_core.specs.StandsFor.{HasDraftOf, CoreServes, bare, drafts_at, drafts_of_handles, sweeps_now}
 use Rattle.cfs_core.proofs.Answering.{disk_failed, memory, owes}
 use Rattle.cfs_core.proofs.Drafted.{others_have}
 use Rattle.cfs_core.proofs.Ended.{of_its_draft}
 use Rattle.cfs_core.proofs.Readied.{for_ready}
 use Rattle.cfs_core.proofs.Regranted.{grants_push, push_drafts, push_have}
 use Rattle.cfs_core.proofs.Granted.{locked_by, many_by, none_by}
-use Rattle.cfs_core.specs.Damage.{IsRootHere}
-use Rattle.special_files.specs.Refusal.{IsRefusal}
+use Rattle.cfs_core.specs.Damage.{IsRootHere, asks_delete}
+use Rattle.special_files.specs.Refusal.{IsDraftRefusal}
 use Rattle.cfs_core.specs.Opening.{IsRefusalOrMemory}
-use Rattle.cfs_core.proofs.Damages.{told_of_draft}
+use Rattle.cfs_core.proofs.Damages.{told_still}
 use Rattle.cfs_core.proofs.Went.{went_so}
 use Rattle.cfs_core.proofs.Serving.{fits, kind_is, named_root, object_listed, running, stays, nothing_left}
 use Rattle.cfs_core.proofs.Ways.{adds_none}
@@ -34,26 +34,28 @@ use Rattle.cfs_core.specs.Claimed.{ClaimsInOrder, claims_for}
 use Rattle.cfs_core.proofs.Claimed.{claims_none, claims_shadow, takes_alone}
 use Rattle.cyl_alloc.specs.Space.{intended}
 use Rattle.cfs_base.specs.declared.kind.Place.TheVariants as places
+use Rattle.cfs_base.specs.declared.refusal.Need.{Need}
+use Rattle.leaf_changes.specs.Tops.{Top, still_top}
 
 -- ---- by its kind
 
-pub unfit_is : (o : Object) (kind : Kind) → kind_of o ≡ kind → (id : Puid) (mode : Mode) → is_unwanted_index (wanted (asks.OpenFor id mode)) (Some o) ≡ is_unfit kind mode
+pub unfit_is : (o : Object) (kind : Kind) → object_kind o ≡ kind → (id : Puid) (mode : Mode) → is_unwanted_index (wanted (asks.OpenFor id mode)) (Some o) ≡ is_unfit kind mode
 unfit_is (objects.Index i) kind is id Reading = ap (λ k. is_unfit k Reading) is
 unfit_is (objects.Index i) kind is id Writing = ap (λ k. is_unfit k Writing) is
 unfit_is (objects.File f) kind is id mode = at f.kind mode ∙ ap (λ k. is_unfit k mode) is
   where
-    at : (k : FileKind) (m : Mode) → is_unwanted_index (wanted (asks.OpenFor id m)) (Some (objects.File f)) ≡ is_unfit (kind_of (objects.File (record f { kind = k }))) m
+    at : (k : FileKind) (m : Mode) → is_unwanted_index (wanted (asks.OpenFor id m)) (Some (objects.File f)) ≡ is_unfit (object_kind (objects.File (record f { kind = k }))) m
     at file_kinds.Normal Reading = refl
     at file_kinds.Normal Writing = refl
     at file_kinds.Special Reading = refl
     at file_kinds.Special Writing = refl
 
-pub gets_is : (o : Object) (kind : Kind) → kind_of o ≡ kind → (mode : Mode) → takes_draft mode (Some o) ≡ gets_draft kind mode
+pub gets_is : (o : Object) (kind : Kind) → object_kind o ≡ kind → (mode : Mode) → takes_draft mode (Some o) ≡ gets_draft kind mode
 gets_is (objects.Index i) kind is Reading = ap (λ k. gets_draft k Reading) is
 gets_is (objects.Index i) kind is Writing = ap (λ k. gets_draft k Writing) is
 gets_is (objects.File f) kind is mode = at f.kind mode ∙ ap (λ k. gets_draft k mode) is
   where
-    at : (k : FileKind) (m : Mode) → takes_draft m (Some (objects.File (record f { kind = k }))) ≡ gets_draft (kind_of (objects.File (record f { kind = k }))) m
+    at : (k : FileKind) (m : Mode) → takes_draft m (Some (objects.File (record f { kind = k }))) ≡ gets_draft (object_kind (objects.File (record f { kind = k }))) m
     at file_kinds.Normal Reading = refl
     at file_kinds.Normal Writing = refl
     at file_kinds.Special Reading = refl
@@ -117,11 +119,11 @@ module _ (s : State) (who : ℕ) (id : Puid) where
 
 -- ---- as the core finds it
 
-module _ {D : Type 0} (g : Ghosts D) (k : Kernel D) (s : State) (serves : Serves g k s) (id : Puid) (kind : Kind) (listed : kind_in k.names.named id ≡ Some kind) where
+module _ {D : Type 0} (g : Ghosts D) (k : Kernel D) (s : State) (serves : CoreServes g k s) (id : Puid) (kind : Kind) (listed : directory_kind k.directory.named id ≡ Some kind) where
   pub the_object : (o : Object) × (object_at s.graph id ≡ Some o)
   the_object = object_listed g k s serves id kind listed
 
-  pub the_kind : kind_of the_object.0 ≡ kind
+  pub the_kind : object_kind the_object.0 ≡ kind
   the_kind = kind_is g k s serves id the_object.0 kind listed the_object.1
 
   pub there_now : is_there s.graph id ≡ true
@@ -164,7 +166,7 @@ unopened id (handle ∷ ss) (x ∷ grants) table none =
 -- one that couldn't be begun
 pub refusal_so : {D : Type 0} (g : Ghosts D) (graph : Graph) (ds : List Opened) (id : Puid) (o : Object) (old new : D) (before after : Kept) (wanted_draft : Bool) → wanted_draft ≡ true → (e : Refused)
     → (is_full_refusal e ≡ true → (e ≡ refusals.Full (record { free = sum before.free; need = 1 })) × (sum before.free < 5) × (new ≡ old)) → (had_tried e ≡ false → (after ≡ before) × OnlyReads g 2 old new)
-    → is_damaged e ≡ false → Leaves g old new (λ c. Holds c graph) → BeginsSo g graph ds id o wanted_draft old new before after (Err e)
+    → has_met_damage e ≡ false → Leaves g old new (λ c. Holds c graph) → BeginsSo g graph ds id o wanted_draft old new before after (Err e)
 refusal_so g graph ds id o old new before after w wants (refusals.Full need) full untried sound leaves = (let is = full refl in let same : need ≡ record { free = sum before.free; need = 1 } = (let both = is.0 in cc) in (wants, same, is.1, (untried refl).1, (untried refl).0))
 refusal_so g graph ds id o old new before after w wants (refusals.Disk true) full untried sound leaves = leaves
 refusal_so g graph ds id o old new before after w wants (refusals.Disk false) full untried sound leaves = ((untried refl).1, (untried refl).0)
@@ -193,7 +195,7 @@ begun_ready blocks kind grant (Some d) is less =
 
 module _ {D : Type 0} (g : Ghosts D) (left_sized : (d : D) (t : ℕ) (c : Image) → g.left_since d t c → length c ≡ g.blocks d) (sized : (d : D) → IsTrue (g.honest d) → length (g.content d) ≡ g.blocks d)
     (k : Kernel D) (who : ℕ) (id : Puid) (mode : Mode) (wanted_draft : Bool) (tuid : Tuid) (tuid_is : tuid ≡ record { draw = k.words.drawn + 1; word = word k.words.seed (k.words.drawn + 1) })
-    (s : State) (serves : Serves g k s) (none : k.stop ≡ None) (o : Object) (there : object_at s.graph id ≡ Some o) (gets : takes_draft mode (Some o) ≡ wanted_draft) (goes : refusal_of s who (asks.OpenFor id mode) ≡ None) where
+    (s : State) (serves : CoreServes g k s) (none : k.stop ≡ None) (o : Object) (there : object_at s.graph id ≡ Some o) (gets : takes_draft mode (Some o) ≡ wanted_draft) (goes : refusal_of s who (asks.OpenFor id mode) ≡ None) where
   abbrev request : Request
   request = asks.OpenFor id mode
 
@@ -253,9 +255,9 @@ module _ {D : Type 0} (g : Ghosts D) (left_sized : (d : D) (t : ℕ) (c : Image)
       graph = refl;
       rooted = refl;
       stopped = refl;
-      sweeping = start_stays is_sweeping (λ a b c e. refl) id s.collection;
+      sweeping = start_stays sweeps_now (λ a b c e. refl) id s.collection;
       drawn = ap (λ (n : ℕ). n + 1) serves.front.drawn ∙ sym (ap (λ (w : Draws). w.drawn) words_are);
-      named = serves.front.names;
+      named = serves.front.directory;
       root = refl;
       stop = refl;
       table = table;
@@ -363,25 +365,25 @@ module _ {D : Type 0} (g : Ghosts D) (left_sized : (d : D) (t : ℕ) (c : Image)
     not_opened refusals.Memory is = memory g left_sized sized 2 k stays_as is.0 (as_it_was is.1) s who serves none request
 
 -- why it couldn't be, as the store says it
-pub or_memory : {D : Type 0} (g : Ghosts D) (at floor : ℕ) (old new : D) (kept : Kept) (e : Refused) → IsRefusal g at floor old new kept e → IsRefusalOrMemory g at floor old new kept e
-or_memory g at floor old now kept (refusals.Full need) is = is
-or_memory g at floor old now kept (refusals.Disk was) is = is
-or_memory g at floor old now kept (refusals.Damaged damage) is = is
-or_memory g at floor old now kept refusals.Memory is = tt
+pub or_memory : {D : Type 0} (g : Ghosts D) (at : Top) (floor : ℕ) (old new : D) (before after : Kept) (e : Refused) → IsDraftRefusal g at floor old new after e → (is_full_refusal e ≡ true → (e ≡ refusals.Full (record { free = sum before.free; need = 1 })) × (sum before.free < 1 + floor) × (new ≡ old)) → IsRefusalOrMemory g at floor old new before after e
+or_memory g at floor old new before after (refusals.Full need) is full = (let same : refusals.Full need ≡ refusals.Full (record { free = sum before.free; need = 1 }) = (full refl).0 in let one : need ≡ record { free = sum before.free; need = 1 } = cc in ap (λ (n : Need). n.free) one, is.1)
+or_memory g at floor old new before after (refusals.Disk was) is full = is
+or_memory g at floor old new before after (refusals.Damaged damage) is full = is
+or_memory g at floor old new before after refusals.Memory is full = tt
 
-begin_cause : {D : Type 0} (g : Ghosts D) (old now : Kernel D) (asked : Option Request) (at : ℕ) → IsRootHere old asked at → g.blocks now.disk ≡ g.blocks old.disk → (e : Refused) → IsRefusalOrMemory g at 4 old.disk now.disk now.space e → IsCause g old now asked e
-begin_cause g old now asked at here size (refusals.Full need) is = tt
-begin_cause g old now asked at here size (refusals.Disk tried) is = is
-begin_cause g old now asked at here size (refusals.Damaged damage) is = told_of_draft g old now asked at here damage size is
-begin_cause g old now asked at here size refusals.Memory is = tt
+begin_cause : {D : Type 0} (g : Ghosts D) (old now : Kernel D) (request : Request) (at : ℕ) → IsRootHere old (Some request) at → asks_delete request ≡ false → g.blocks now.disk ≡ g.blocks old.disk → (e : Refused) → IsRefusalOrMemory g (still_top at) 4 old.disk now.disk old.space now.space e → IsCause g old now (Some request) e
+begin_cause g old now request at here delete size (refusals.Full need) is = (delete, is.0, is.1)
+begin_cause g old now request at here delete size (refusals.Disk tried) is = is
+begin_cause g old now request at here delete size (refusals.Damaged damage) is = told_still g old now (Some request) at here damage size is
+begin_cause g old now request at here delete size refusals.Memory is = tt
 
 -- ---- the whole call
 
 module _ {D : Type 0} (g : Ghosts D) (left_sized : (d : D) (t : ℕ) (c : Image) → g.left_since d t c → length c ≡ g.blocks d) (sized : (d : D) → IsTrue (g.honest d) → length (g.content d) ≡ g.blocks d)
-    (k : Kernel D) (who : ℕ) (id : Puid) (mode : Mode) (kind : Kind) (listed : kind_in k.names.named id ≡ Some kind) (tuid : Tuid) (tuid_is : tuid ≡ record { draw = k.words.drawn + 1; word = word k.words.seed (k.words.drawn + 1) })
-    (goes : (s : State) → Serves g k s → (refusal_of s who (asks.OpenFor id mode) ≡ None) × (is_locked s who (asks.OpenFor id mode) ≡ false)) (d : D) (space : Kept) where
+    (k : Kernel D) (who : ℕ) (id : Puid) (mode : Mode) (kind : Kind) (listed : directory_kind k.directory.named id ≡ Some kind) (tuid : Tuid) (tuid_is : tuid ≡ record { draw = k.words.drawn + 1; word = word k.words.seed (k.words.drawn + 1) })
+    (goes : (s : State) → CoreServes g k s → (refusal_of s who (asks.OpenFor id mode) ≡ None) × (is_locked s who (asks.OpenFor id mode) ≡ false)) (d : D) (space : Kept) where
   -- where it is to have a draft no grant is on it
-  shut : (s : State) (serves : Serves g k s) → gets_draft kind mode ≡ true → drafts_of (drafts_of_handles k.handles s.grants) id ≡ []
+  shut : (s : State) (serves : CoreServes g k s) → gets_draft kind mode ≡ true → drafts_of (drafts_of_handles k.handles s.grants) id ≡ []
   shut s serves wants = unopened id k.handles s.grants serves.front.grants (alone mode kind wants (goes s serves).1)
     where
       alone : (m : Mode) (n : Kind) → gets_draft n m ≡ true → is_locked s who (asks.OpenFor id m) ≡ false → list_any (λ x. same_puid id x.id) s.grants ≡ false
@@ -390,7 +392,7 @@ module _ {D : Type 0} (g : Ghosts D) (left_sized : (d : D) (t : ℕ) (c : Image)
       alone Reading kinds.Normal gets free = cc
       alone Reading kinds.Index gets free = cc
 
-  begins_so : (result : Result (Option Drafting) Refused) → Begins g id.block (gets_draft kind mode) k.disk d k.space space result → (s : State) (serves : Serves g k s)
+  begins_so : (result : Result (Option Drafting) Refused) → Begins g id.block (gets_draft kind mode) k.disk d k.space space result → (s : State) (serves : CoreServes g k s)
       → BeginsSo g s.graph (drafts_of_handles k.handles s.grants) id (the_object g k s serves id kind listed).0 (gets_draft kind mode) k.disk d k.space space result
   begins_so result begins s serves = (let o = the_object g k s serves id kind listed in begins.ends s.graph _ id o.0 serves.store refl o.1 (shut s serves))
 
@@ -416,7 +418,7 @@ module _ {D : Type 0} (g : Ghosts D) (left_sized : (d : D) (t : ℕ) (c : Image)
       };
     }
       where
-        ends : (o : Option Drafting) (s : State) (serves : Serves g k s) → k.stop ≡ None → BeginsSo g s.graph (drafts_of_handles k.handles s.grants) id (the_object g k s serves id kind listed).0 (gets_draft kind mode) k.disk d k.space space (Ok o)
+        ends : (o : Option Drafting) (s : State) (serves : CoreServes g k s) → k.stop ≡ None → BeginsSo g s.graph (drafts_of_handles k.handles s.grants) id (the_object g k s serves id kind listed).0 (gets_draft kind mode) k.disk d k.space space (Ok o)
             → Answers g k (record k { disk = d; space = space; words = words; handles = k.handles ++ handle_with o ∷ [] }) s who (asks.OpenFor id mode) (replies.Grant tuid)
         ends None s serves none is =
             let o = the_object g k s serves id kind listed in
@@ -433,5 +435,5 @@ module _ {D : Type 0} (g : Ghosts D) (left_sized : (d : D) (t : ℕ) (c : Image)
     ends = λ s serves none. let o = the_object g k s serves id kind listed in
         not_opened g left_sized sized k who id mode (gets_draft kind mode) tuid tuid_is s serves none o.0 o.1 (gets_now g k s serves id kind listed mode) (goes s serves).0 d space begins.calls.same.size e (begins_so (Err e) begins s serves);
     went = went_so g k d space k.handles begins.calls.same.size begins.calls.faults begins.calls.later (asks.OpenFor id mode) (Err e) tt
-        (begin_cause g k (record k { disk = d; space = space }) (Some (asks.OpenFor id mode)) id.block (inl (named_root k.names.named id kind listed)) begins.calls.same.size e begins.cause);
+        (begin_cause g k (record k { disk = d; space = space }) (asks.OpenFor id mode) id.block (inl (named_root k.directory.named id kind listed)) refl begins.calls.same.size e begins.cause);
   }

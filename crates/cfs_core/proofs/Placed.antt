@@ -1,6 +1,6 @@
 -- What the store says of an object that is made, as the core has it.
 use Rattle.std.proofs.Common.{Bool, ◌≡◌, ◌⊎◌, inl, inr, ⊎_elim, ℕ, ◌+◌, ◌<◌, ◌≤◌, List, [], ◌∷◌, length, true, false, None, Some, Result, Ok, Err, IsTrue, refl, sym, ◌∙◌, ap, subst, arith, ◌==◌, IfErr, sum, ◌/◌}
-use Rattle.cfs_core.proofs.Words.{blocks_of, created, Ghosts, Graph, has_block, has_root_in, HasSlot, HasStopped, Holds, Image, Index, insert_entry, is_damaged, IsIndexRefusal, IsLeastFree, IsOpenMap, Kept, keys_of-kinds_in, Kind, kind_of, kinds_of, list_any, Need, Object, OnlyReads, Puid, puid_cmp, refusal_of, Refused, Reply, Request, State, StoreHas, sum_is, target, wider}
+use Rattle.cfs_core.proofs.Words.{blocks_of, created, Ghosts, Graph, has_block, has_root_in, HasSlot, HasStopped, Holds, Image, Index, insert_entry, has_met_damage, IsIndexRefusal, IsLeastFree, IsOpenMap, Kept, keys_of-kinds_in, Kind, object_kind, kinds_of, list_any, Need, Object, OnlyReads, Puid, puid_cmp, refusal_of, Refused, Reply, Request, State, StoreHas, sum_is, target, wider}
 use Rattle.cfs_core.proofs.Words.{with_made, word, block_named}
 use Rattle.cfs_base.specs.declared.refusal.Refused.TheVariants as refusals
 use Rattle.special_files.specs.Committing.{puid_at}
@@ -8,13 +8,13 @@ use Rattle.ufs_model.specs.declared.asked.Reply.TheVariants as replies
 use Rattle.ufs_model.specs.declared.object.Object.TheVariants as objects
 use Rattle.ufs_model.specs.declared.asked.Event.TheVariants as events
 use Rattle.cfs_core.specs.Carried.{PlacesObject}
-use Rattle.cfs_core.specs.Calls.{Answers, ByWant, EndsSo, IsCause, IsInDoubt, IsShort, TriesOn}
+use Rattle.cfs_core.specs.Calls.{Answers, ByWant, EndsSo, IsCause, IsInDoubt, IsShortOfBlocks, TriesOn}
 use Rattle.cfs_core.specs.Kernel.{Kernel}
 use Rattle.cfs_core.specs.Damage.{NotOwned}
-use Rattle.cfs_core.specs.Makes.{IsAstray, IsMaking, Names}
+use Rattle.cfs_core.specs.Makes.{IsAstray, IsMaking, NamesMade}
 use Rattle.puid_space.specs.Directory.{Listing}
 use Rattle.ufs_model.specs.Outcome.{creates}
-use Rattle.cfs_core.specs.StandsFor.{Serves, drafts_of_handles}
+use Rattle.cfs_core.specs.StandsFor.{CoreServes, drafts_of_handles}
 use Rattle.cfs_core.specs.Ways.{Reaches}
 use Rattle.cfs_core.proofs.Answering.{disk_failed, reads_none}
 use Rattle.cfs_core.proofs.Committed.{LeavesThese, did, in_doubt, uncut}
@@ -22,7 +22,7 @@ use Rattle.cfs_core.proofs.Created.{filled_is, inside, least_one, least_there, n
 use Rattle.cfs_core.proofs.Damages.{told_of_making}
 use Rattle.cfs_core.proofs.Went.{cause_of, went_so}
 use Rattle.cfs_core.proofs.Serving.{running, shut, stays}
-use Rattle.cfs_core.specs.Claimed.{Takes}
+use Rattle.cfs_core.specs.Claimed.{TakesForRequest}
 use Rattle.cfs_core.proofs.Claimed.{claims_then, takes_last}
 use Rattle.index_ops.specs.Changes.{leaf_and_node}
 use Rattle.cyl_alloc.specs.Space.{intended}
@@ -33,9 +33,9 @@ root_is : (named : List (Puid × Kind)) (g : Graph) (b : ℕ) → named ≡ kind
 root_is named g b is = ap (λ ns. has_root_in ns b) is ∙ ap (λ ids. list_any (λ (id : Puid). id.block == b) ids) (keys_of-kinds_in g.objects)
 
 -- an object that was made where a root is
-if_astray : {D : Type 0} (g : Ghosts D) (old new : Kernel D) (request : Request) (id : Puid) (names : Listing) (result : Result Reply Refused) → creates request ≡ true → names ≡ old.names → old.names.room ≡ g.blocks old.disk → IfErr result (IsAstray names id) → IfErr result (IsCause g old new (Some request))
-if_astray g old new request id names (Ok reply) makes same room is = tt
-if_astray g old new request id names (Err e) makes same room is =
+if_astray : {D : Type 0} (g : Ghosts D) (old new : Kernel D) (request : Request) (id : Puid) (directory : Listing) (result : Result Reply Refused) → creates request ≡ true → directory ≡ old.directory → old.directory.room ≡ g.blocks old.disk → IfErr result (IsAstray directory id) → IfErr result (IsCause g old new (Some request))
+if_astray g old new request id directory (Ok reply) makes same room is = tt
+if_astray g old new request id directory (Err e) makes same room is =
     subst (IsCause g old new (Some request)) (sym is.is) (NotOwned request refl makes refl (rw (sym room, ap (λ (l : Listing). l.room) (sym same), ap (λ (l : Listing). l.named) (sym same)) is.why))
 
 stopped_so : {D : Type 0} (g : Ghosts D) (at slot : ℕ) (old new : D) (before after : Kept) (e : Refused) → IsIndexRefusal g at slot old new after e ⊎ IsOpenMap g old before e → (tried : Bool) → e ≡ refusals.Disk tried → HasStopped g tried old new
@@ -51,7 +51,7 @@ never_wanted g at slot old new before after (inl none) = none
 never_wanted g at slot old new before after (inr map) = let no = map.is in cc
 
 module _ {D : Type 0} (g : Ghosts D) (left_sized : (d : D) (t : ℕ) (c : Image) → g.left_since d t c → length c ≡ g.blocks d) (sized : (d : D) → IsTrue (g.honest d) → length (g.content d) ≡ g.blocks d)
-    (k : Kernel D) (d : D) (space : Kept) (room : k.names.room ≡ g.blocks k.disk) (index : Puid) (slot : ℕ) (o : Object) (one : blocks_of o ≡ 1) (w : ℕ) (word_is : w ≡ word k.words.seed (k.words.drawn + 1))
+    (k : Kernel D) (d : D) (space : Kept) (room : k.directory.room ≡ g.blocks k.disk) (index : Puid) (slot : ℕ) (o : Object) (one : blocks_of o ≡ 1) (w : ℕ) (word_is : w ≡ word k.words.seed (k.words.drawn + 1))
     (r : Result Puid Refused) (puts : PlacesObject g index.block slot o w k.disk d k.space space r) (enough : 8 ≤ sum k.space.free) where
   abbrev mid : Kernel D
   mid = record k { disk = d; space = space }
@@ -59,7 +59,7 @@ module _ {D : Type 0} (g : Ghosts D) (left_sized : (d : D) (t : ℕ) (c : Image)
   size : g.blocks d ≡ g.blocks k.disk
   size = puts.calls.calls.same.size
 
-  module _ (request : Request) (making : IsMaking request slot o) (s : State) (who : ℕ) (i : Index) (serves : Serves g k s) (none : k.stop ≡ None) (reach : Reaches s who request index (objects.Index i)) (within : slot < length i.slots) (goes : refusal_of s who request ≡ None) where
+  module _ (request : Request) (making : IsMaking request slot o) (s : State) (who : ℕ) (i : Index) (serves : CoreServes g k s) (none : k.stop ≡ None) (reach : Reaches s who request index (objects.Index i)) (within : slot < length i.slots) (goes : refusal_of s who request ≡ None) where
     has : HasSlot g s.graph (drafts_of_handles k.handles s.grants) k.disk k.space index.block index i slot
     has = record {
       store = serves.store;
@@ -79,15 +79,15 @@ module _ {D : Type 0} (g : Ghosts D) (left_sized : (d : D) (t : ℕ) (c : Image)
     leaves_at b least = uncut g k.disk d s who request (replies.Id (id_at b)) _ (wider g k.disk d _ _ (puts.leaves s.graph (drafts_of_handles k.handles s.grants) index i has) (λ c p. ⊎_elim inl (λ t. inr
         (subst (λ (q : Puid). Holds c (with_made s.graph index i slot q o)) (ap (λ n. puid_at n w) (least_one (g.content k.disk) t.0 b t.1 least) ∙ ap (λ n. puid_at b n) word_drawn) t.2)) p))
 
-    short : ¬ IsShort s who request (sum k.space.free)
+    short : ¬ IsShortOfBlocks s who request (sum k.space.free)
     short is = omega (arith, is.few, enough, need_is s who index i slot o request making reach)
 
-    takes : (reply : Reply) (b : ℕ) → block_named reply ≡ b → ops.Takes (intended places.Root b ∷ leaf_and_node (slot / 64) index.block) index.block (b ∷ []) (g.content k.disk) (g.content d) → Takes k.handles s who request reply (g.content k.disk) (g.content d)
+    takes : (reply : Reply) (b : ℕ) → block_named reply ≡ b → ops.TakesEntries (intended places.Root b ∷ leaf_and_node (slot / 64) index.block) index.block (b ∷ []) (g.content k.disk) (g.content d) → TakesForRequest k.handles s who request reply (g.content k.disk) (g.content d)
     takes reply b is taken =
         takes_last k.handles s who request reply (g.content k.disk) (g.content d) (intended places.Root b ∷ leaf_and_node (slot / 64) index.block) (index.block ∷ b ∷ []) index.block (making.claims k.handles s who reply ∙ rw (is, reach.name) refl) (rw (making.makes, is, reach.name) refl) (rw reach.name refl)
         (claims_then (intended places.Root b ∷ leaf_and_node (slot / 64) index.block) index.block (b ∷ []) (g.content k.disk) (g.content d) taken)
 
-    made : (p : Puid) → r ≡ Ok p → (new : Kernel D) (result : Result Reply Refused) → Names mid new p (kind_of o) result → EndsSo g k new s who request result
+    made : (p : Puid) → r ≡ Ok p → (new : Kernel D) (result : Result Reply Refused) → NamesMade mid new p (object_kind o) result → EndsSo g k new s who request result
     made p is new result names =
         let two = rw is at (puts.done s.graph (drafts_of_handles k.handles s.grants) index i has) in
         let least = two.1.least in
@@ -95,7 +95,7 @@ module _ {D : Type 0} (g : Ghosts D) (left_sized : (d : D) (t : ℕ) (c : Image)
         let b = p.block in
         let there = inside g k s who serves index i slot o one request making reach goes enough b least in
         let named_so = names.named (not_zero g k s who serves index i slot o one request making reach goes enough b least) (omega (arith, there, room, sized k.disk serves.store.carries.tells.honest))
-        (root_is k.names.named s.graph b serves.front.names ∙ no_root g k s who serves index i slot o one request making reach goes enough b least) in
+        (root_is k.directory.named s.graph b serves.front.directory ∙ no_root g k s who serves index i slot o one request making reach goes enough b least) in
         let answers = did g left_sized sized k (kernel_with (id_at b)) size none s (created k.words.seed s who (target request) slot o b).1 who b request (replies.Id (id_at b)) serves (with_made s.graph index i slot (id_at b) o) 3
         (outcome g k s who serves index i slot o one request making reach goes enough b least) (leaves_at b least) (stepped g k s who serves index i slot o one request making reach goes enough b least d space) refl
         (ap (λ (t : State). t.grants) (filled_is g k s who serves index i slot o one request making reach goes enough b least)) (index.block ∷ b ∷ [])
@@ -114,7 +114,7 @@ module _ {D : Type 0} (g : Ghosts D) (left_sized : (d : D) (t : ℕ) (c : Image)
         kernel_with q = record k {
           disk = d;
           space = space;
-          names = record { named = insert_entry puid_cmp k.names.named q (kind_of o); room = k.names.room };
+          directory = record { named = insert_entry puid_cmp k.directory.named q (object_kind o); room = k.directory.room };
           words = record { seed = k.words.seed; drawn = k.words.drawn + 1 };
         }
 
@@ -128,23 +128,23 @@ module _ {D : Type 0} (g : Ghosts D) (left_sized : (d : D) (t : ℕ) (c : Image)
     as_it_was two = ap (λ (x : Kept). record k { disk = d; space = x }) two.0
 
     failed : (e : Refused) → (e ≡ refusals.Disk false → (space ≡ k.space) × OnlyReads g 9 k.disk d)
-        → (IsIndexRefusal g index.block slot k.disk d space e ⊎ IsOpenMap g k.disk k.space e) → is_damaged e ≡ false → EndsSo g k mid s who request (Err e)
+        → (IsIndexRefusal g index.block slot k.disk d space e ⊎ IsOpenMap g k.disk k.space e) → has_met_damage e ≡ false → EndsSo g k mid s who request (Err e)
     failed (refusals.Full need) untried refused sound = absurd (never_full g index.block slot k.disk d k.space space need refused)
     failed (refusals.Disk false) untried refused sound = let two = untried refl in disk_failed g left_sized sized 9 k mid two.1 (as_it_was two) s who serves none request
     failed (refusals.Disk true) untried refused sound = doubtful
     failed (refusals.Damaged damage) untried refused sound = cc
     failed refusals.Memory untried refused sound = absurd (never_wanted g index.block slot k.disk d k.space space refused)
 
-    sound_at : (e : Refused) → r ≡ Err e → is_damaged e ≡ false
-    sound_at e is = subst (λ (x : Result Puid Refused). IfErr x (λ f. is_damaged f ≡ false)) is (puts.sound s.graph (drafts_of_handles k.handles s.grants) index i has)
+    sound_at : (e : Refused) → r ≡ Err e → has_met_damage e ≡ false
+    sound_at e is = subst (λ (x : Result Puid Refused). IfErr x (λ f. has_met_damage f ≡ false)) is (puts.sound s.graph (drafts_of_handles k.handles s.grants) index i has)
 
   module _ (request : Request) (making : IsMaking request slot o) where
-    pub tries_made : (p : Puid) → r ≡ Ok p → (new : Kernel D) (result : Result Reply Refused) → Names mid new p (kind_of o) result → TriesOn g k new index slot request result
+    pub tries_made : (p : Puid) → r ≡ Ok p → (new : Kernel D) (result : Result Reply Refused) → NamesMade mid new p (object_kind o) result → TriesOn g k new index slot request result
     tries_made p is new result names = record {
       ends = λ s who i serves none reach within goes. made request making s who i serves none reach within goes p is new result names;
       went = λ named. record {
         plain = names.plain;
-        cause = if_astray g k new request p k.names result making.makes refl room names.astray;
+        cause = if_astray g k new request p k.directory result making.makes refl room names.astray;
         size = ap g.blocks names.disk ∙ size;
         faults = omega (arith, ap g.faults names.disk, puts.calls.calls.faults);
         later = omega (arith, ap g.moment names.disk, puts.calls.calls.later);
@@ -163,7 +163,8 @@ module _ {D : Type 0} (g : Ghosts D) (left_sized : (d : D) (t : ℕ) (c : Image)
           (subst (λ (x : Result Puid Refused). IfErr x (λ f. IsIndexRefusal g index.block slot k.disk d space f ⊎ IsOpenMap g k.disk k.space f)) is puts.refused)
           (sound_at request making s who i serves none reach within goes e is);
       went = λ named. went_so g k d space k.handles size puts.calls.calls.faults puts.calls.calls.later request (Err e) tt (cause_of g k mid (Some request) e (stopped_so g index.block slot k.disk d k.space space e (rw is at puts.refused))
-          (λ damage same. told_of_making g k mid (Some request) index.block (inl named) damage size slot making.wants (rw same at (rw is at puts.refused))));
+          (λ damage same. told_of_making g k mid (Some request) index.block (inl named) damage size slot making.wants (rw same at (rw is at puts.refused)))
+          (λ need same. absurd (never_full g index.block slot k.disk d k.space space need (rw same at (rw is at puts.refused)))));
     }
 
 -- ---- too few blocks are Free
@@ -183,5 +184,5 @@ module _ {D : Type 0} (g : Ghosts D) (left_sized : (d : D) (t : ℕ) (c : Image)
           taken = λ done. let no : false ≡ true = done in cc;
           owed = ByWant goes (record { delete = making.delete; few = omega (arith, few, need) }) (ap (λ (n : ℕ). replies.Full (record { free = sum k.space.free; need = n })) (sym need));
         };
-    went = λ named. went_so g k d space k.handles (ap g.blocks same_disk) reads.faults reads.images.later request (Err (refusals.Full (record { free = sum k.space.free; need = 4 }))) tt tt;
+    went = λ named. went_so g k d space k.handles (ap g.blocks same_disk) reads.faults reads.images.later request (Err (refusals.Full (record { free = sum k.space.free; need = 4 }))) tt (making.delete, refl, omega (arith, few));
   }

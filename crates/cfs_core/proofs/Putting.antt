@@ -6,11 +6,11 @@ use Rattle.ufs_model.specs.declared.asked.Event.TheVariants as events
 use Rattle.ufs_model.specs.declared.asked.Reply.TheVariants as replies
 use Rattle.ufs_model.specs.declared.asked.Request.TheVariants as asks
 use Rattle.ufs_model.specs.declared.object.Object.TheVariants as objects
-use Rattle.cfs_core.specs.Carried.{FillsSlot}
-use Rattle.cfs_core.specs.Calls.{ByWant, EndsSo, IsShort, TriesOn, done_or}
+use Rattle.cfs_core.specs.Carried.{FillsIndexSlot}
+use Rattle.cfs_core.specs.Calls.{ByWant, EndsSo, IsShortOfBlocks, TriesOn, done_or}
 use Rattle.cfs_core.specs.Damage.{bytes_wanted}
 use Rattle.cfs_core.specs.Kernel.{Kernel}
-use Rattle.cfs_core.specs.StandsFor.{Serves, drafts_of_handles}
+use Rattle.cfs_core.specs.StandsFor.{CoreServes, drafts_of_handles}
 use Rattle.cfs_core.specs.Ways.{Reaches}
 use Rattle.cfs_core.proofs.Answering.{disk_failed, memory, reads_none}
 use Rattle.cfs_core.proofs.Changed.{object_did, object_in_doubt}
@@ -22,7 +22,7 @@ use Rattle.cfs_core.proofs.Went.{went_done, went_so}
 use Rattle.cfs_core.proofs.Serving.{running, shut, stays}
 use Rattle.std.proofs.lemmas.List.{get_or-set_same}
 use Rattle.std.proofs.lemmas.Option.{unwrap_or-slice_get}
-use Rattle.cfs_core.specs.Claimed.{Takes, claims_for, owners_of, root_reached}
+use Rattle.cfs_core.specs.Claimed.{TakesForRequest, claims_for, owners_of, root_reached}
 use Rattle.cfs_core.proofs.Claimed.{Commits, claims_then, takes_last}
 use Rattle.index_ops.specs.Changes.{leaf_and_node}
 use Rattle.vol_image.proofs.Unique.{held_object}
@@ -31,16 +31,16 @@ use Rattle.index_ops.specs.Changes as ops
 
 module _ {D : Type 0} (g : Ghosts D) (left_sized : (d : D) (t : ℕ) (c : Image) → g.left_since d t c → length c ≡ g.blocks d) (sized : (d : D) → IsTrue (g.honest d) → length (g.content d) ≡ g.blocks d)
     (k : Kernel D) (d : D) (space : Kept) (index : Puid) (slot : ℕ) (what : Option Puid) (request : Request) (makes : creates request ≡ false) (bytes : bytes_wanted (Some request) ≡ 8 * slot + 8)
-    (speaks : IsSpeakable (events.Ask 0 request replies.Done)) (result : Result (Unit {0}) Refused) (puts : FillsSlot g index.block slot what k.disk d k.space space result)
-    (out : (s : State) (who : ℕ) (i : Index) → Serves g k s → Reaches s who request index (objects.Index i)
+    (speaks : IsSpeakable (events.Ask 0 request replies.Done)) (result : Result (Unit {0}) Refused) (puts : FillsIndexSlot g index.block slot what k.disk d k.space space result)
+    (out : (s : State) (who : ℕ) (i : Index) → CoreServes g k s → Reaches s who request index (objects.Index i)
     → (outcome_of k.words.seed s who request 0 ≡ (replies.Done, (outcome_of k.words.seed s who request 0).1)) × Puts s (outcome_of k.words.seed s who request 0).1 index (index_with i slot what))
-    (room : (s : State) (who : ℕ) (i : Index) → Serves g k s → Reaches s who request index (objects.Index i) → (¬ IsShort s who request (sum k.space.free)) × (added_by what + 4 ≤ sum k.space.free))
+    (room : (s : State) (who : ℕ) (i : Index) → CoreServes g k s → Reaches s who request index (objects.Index i) → (¬ IsShortOfBlocks s who request (sum k.space.free)) × (added_by what + 4 ≤ sum k.space.free))
     (claims : (s : State) (who : ℕ) → (claims_for k.handles s who request replies.Done ≡ leaf_and_node (slot / 64) (root_reached s who (target request))) × (owners_of s who request replies.Done ≡ root_reached s who (target request) ∷ []))
     (holds : (s : State) (who : ℕ) (i : Index) → Reaches s who request index (objects.Index i) → refusal_of s who request ≡ None → what ≡ None → is_none (slot_of i slot) ≡ false) where
   abbrev new : Kernel D
   new = record k { disk = d; space = space }
 
-  module _ (s : State) (who : ℕ) (i : Index) (serves : Serves g k s) (none : k.stop ≡ None) (reach : Reaches s who request index (objects.Index i)) (inside : slot < length i.slots) (goes : refusal_of s who request ≡ None) where
+  module _ (s : State) (who : ℕ) (i : Index) (serves : CoreServes g k s) (none : k.stop ≡ None) (reach : Reaches s who request index (objects.Index i)) (inside : slot < length i.slots) (goes : refusal_of s who request ≡ None) where
     has : HasSlot g s.graph (drafts_of_handles k.handles s.grants) k.disk k.space index.block index i slot
     has = record {
       store = serves.store;
@@ -68,12 +68,12 @@ module _ {D : Type 0} (g : Ghosts D) (left_sized : (d : D) (t : ℕ) (c : Image)
         let none : slot_of i slot ≡ None = ap (λ (o : Object). slot_of (the_index o) slot) one ∙ unwrap_or-slice_get (set i.slots slot what) slot None ∙ get_or-set_same i.slots slot what None inside ∙ two.0 in
         let no : true ≡ false = sym (ap is_none none) ∙ holds s who i reach goes two.0 in cc
 
-    takes : StoreHas g (with_object s.graph index (index_with i slot what)) (drafts_of_handles k.handles s.grants) d space → ((what ≡ None) × (g.content d ≡ g.content k.disk)) ⊎ ops.Takes (leaf_and_node (slot / 64) index.block) index.block [] (g.content k.disk) (g.content d) → Takes k.handles s who request replies.Done (g.content k.disk) (g.content d)
+    takes : StoreHas g (with_object s.graph index (index_with i slot what)) (drafts_of_handles k.handles s.grants) d space → ((what ≡ None) × (g.content d ≡ g.content k.disk)) ⊎ ops.TakesEntries (leaf_and_node (slot / 64) index.block) index.block [] (g.content k.disk) (g.content d) → TakesForRequest k.handles s who request replies.Done (g.content k.disk) (g.content d)
     takes store leaf =
         let at : root_reached s who (target request) ≡ index.block = rw reach.name refl in
         takes_last k.handles s who request replies.Done (g.content k.disk) (g.content d) (leaf_and_node (slot / 64) index.block) (index.block ∷ []) index.block ((claims s who).0 ∙ ap (leaf_and_node (slot / 64)) at) ((claims s who).1 ∙ ap (λ n. n ∷ []) at) at (by leaf)
       where
-        by : ((what ≡ None) × (g.content d ≡ g.content k.disk)) ⊎ ops.Takes (leaf_and_node (slot / 64) index.block) index.block [] (g.content k.disk) (g.content d)
+        by : ((what ≡ None) × (g.content d ≡ g.content k.disk)) ⊎ ops.TakesEntries (leaf_and_node (slot / 64) index.block) index.block [] (g.content k.disk) (g.content d)
             → Commits (leaf_and_node (slot / 64) index.block) (index.block ∷ []) index.block (g.content k.disk) (g.content d)
         by (inl still) = not_still store still
         by (inr taken) = claims_then (leaf_and_node (slot / 64) index.block) index.block [] (g.content k.disk) (g.content d) taken
@@ -93,7 +93,8 @@ module _ {D : Type 0} (g : Ghosts D) (left_sized : (d : D) (t : ℕ) (c : Image)
   tries_put = record {
     ends = λ s who i serves none reach inside goes. ends s who i serves none reach inside goes result refl;
     went = λ named. went_done g k d space k.handles puts.calls.calls.same.size puts.calls.calls.faults puts.calls.calls.later request result (λ tried is. rw is at puts.refused)
-        (λ damage is. told_of_index g k new (Some request) index.block (inl named) damage puts.calls.calls.same.size slot bytes (rw is at puts.refused));
+        (λ damage is. told_of_index g k new (Some request) index.block (inl named) damage puts.calls.calls.same.size slot bytes (rw is at puts.refused))
+        (λ need is. absurd (rw is at puts.refused));
   }
 
 -- ---- too few blocks are Free
@@ -122,7 +123,7 @@ module _ {D : Type 0} (g : Ghosts D) (left_sized : (d : D) (t : ℕ) (c : Image)
       owed = ByWant goes (record { delete = refl; few = omega (arith, few, retain_need k.words.seed s who to index i slot id reach) })
           (ap (λ (n : ℕ). replies.Full (record { free = sum k.space.free; need = n })) (sym (retain_need k.words.seed s who to index i slot id reach)));
     };
-    went = λ named. went_so g k d space k.handles (ap g.blocks same_disk) reads.faults reads.images.later request (Err (refusals.Full need)) tt tt;
+    went = λ named. went_so g k d space k.handles (ap g.blocks same_disk) reads.faults reads.images.later request (Err (refusals.Full need)) tt (refl, refl, omega (arith, few));
   }
 
 -- ---- memory is wanted

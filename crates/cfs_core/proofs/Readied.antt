@@ -6,7 +6,7 @@ use Rattle.vol_owners.specs.Room as owners
 use Rattle.cfs_core.specs.declared.collecting.Collections.{Collections}
 use Rattle.cfs_core.specs.Room.{blocks_of_grant}
 use Rattle.cfs_core.specs.StandsFor.{AreDraftsOf, HasDraftOf, drafts_at, drafts_of_handles}
-use Rattle.cfs_core.specs.Kernel.{IsSized, Handle, is_drawn_by, is_ready, is_ready_for}
+use Rattle.cfs_core.specs.Kernel.{IsSizedKernel, Handle, is_drawn_by, is_ready, is_ready_for}
 use Rattle.cfs_core.specs.Handles.{drafting_at, is_drawn, handles_but, with_drafting}
 
 pub record IsReadyFor (blocks : ℕ) (d : Drafting) : Type 0 where
@@ -109,9 +109,9 @@ all_filter P M (x ∷ xs) is =
 
 -- ---- what a core keeps on any disk
 
-module _ {D : Type 0} {blocks : D → ℕ} {d : D} {names : Listing} {before : Kept} {ss : List Handle} {drawn : ℕ} {c : Collections} (sized : IsSized blocks d names before ss drawn c) where
+module _ {D : Type 0} {blocks : D → ℕ} {d : D} {directory : Listing} {before : Kept} {ss : List Handle} {drawn : ℕ} {c : Collections} (sized : IsSizedKernel blocks d directory before ss drawn c) where
   -- with other handles, on a disk of its size
-  pub sized_with : (e : D) (after : Kept) (new : List Handle) (more : ℕ) → blocks e ≡ blocks d → length after.free ≡ length before.free → list_all (is_drawn_by more) new ≡ true → list_all (is_ready names.room) new ≡ true → IsSized blocks e names after new more c
+  pub sized_with : (e : D) (after : Kept) (new : List Handle) (more : ℕ) → blocks e ≡ blocks d → length after.free ≡ length before.free → list_all (is_drawn_by more) new ≡ true → list_all (is_ready directory.room) new ≡ true → IsSizedKernel blocks e directory after new more c
   sized_with e after new more size cylinders drawn_all ready = record {
     size = size ∙ sized.size ∙ ap (λ (n : ℕ). 64 * n) (sym cylinders);
     room = sized.room ∙ sym size;
@@ -122,11 +122,11 @@ module _ {D : Type 0} {blocks : D → ℕ} {d : D} {names : Listing} {before : K
   }
 
   -- without a draft, and with fewer handles
-  pub sized_taken : (draw : ℕ) (new : List Handle) → new ≡ with_drafting draw None ss → IsSized blocks d names before new drawn c
-  sized_taken draw new is = sized_with d before new drawn refl refl (ap (list_all (is_drawn_by drawn)) is ∙ drawn_taken drawn draw ss sized.drawn_all) (ap (list_all (is_ready names.room)) is ∙ ready_taken names.room draw ss sized.ready)
+  pub sized_taken : (draw : ℕ) (new : List Handle) → new ≡ with_drafting draw None ss → IsSizedKernel blocks d directory before new drawn c
+  sized_taken draw new is = sized_with d before new drawn refl refl (ap (list_all (is_drawn_by drawn)) is ∙ drawn_taken drawn draw ss sized.drawn_all) (ap (list_all (is_ready directory.room)) is ∙ ready_taken directory.room draw ss sized.ready)
 
-  pub sized_but : (test : handles.Grant → Bool) (new : List Handle) → new ≡ handles_but test ss → IsSized blocks d names before new drawn c
-  sized_but test new is = sized_with d before new drawn refl refl (ap (list_all (is_drawn_by drawn)) is ∙ all_filter (is_drawn_by drawn) _ ss sized.drawn_all) (ap (list_all (is_ready names.room)) is ∙ all_filter (is_ready names.room) _ ss sized.ready)
+  pub sized_but : (test : handles.Grant → Bool) (new : List Handle) → new ≡ handles_but test ss → IsSizedKernel blocks d directory before new drawn c
+  sized_but test new is = sized_with d before new drawn refl refl (ap (list_all (is_drawn_by drawn)) is ∙ all_filter (is_drawn_by drawn) _ ss sized.drawn_all) (ap (list_all (is_ready directory.room)) is ∙ all_filter (is_ready directory.room) _ ss sized.ready)
 
 -- ---- what drafts take
 

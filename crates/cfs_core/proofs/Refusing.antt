@@ -1,6 +1,6 @@
 -- Requests on an index that they reach: when they are refused, and what they do.
 use Rattle.std.proofs.Common.{◌≡◌, ◌⊎◌, inl, inr, ℕ, List, ◌<◌, length, Bool, true, false, Option, Some, None, is_none, refl, sym, ◌∙◌, ap, subst, arith, nat_le, nat_lt}
-use Rattle.cfs_core.proofs.Words.{AFile, AnIndex, Change, changed, changed_draft, changed_object, Draft, draft_of, edge_stays, File, FileKind, Fill, has_no_slot, Index, index_with, is_id, is_range, is_running, kind_of, named, nat_tests, need_of, next, Object, object_at, outcome_of, Puid, put_object-at, Ref, refusal_of, Reply, Request, seen, seen_object, slot_named, slot_of, State, with_object}
+use Rattle.cfs_core.proofs.Words.{AFile, AnIndex, Change, changed, changed_draft, changed_object, Draft, draft_of, edge_stays, File, FileKind, Fill, has_no_slot, Index, index_with, is_id, is_range, is_running, object_kind, named, nat_tests, need_of, next, Object, object_at, outcome_of, Puid, put_object-at, Ref, refusal_of, Reply, Request, seen, seen_object, slot_named, slot_of, State, with_object}
 use Rattle.cfs_base.specs.declared.kind.FileKind.TheVariants as file_kinds
 use Rattle.ufs_model.specs.declared.asked.Reply.TheVariants as replies
 use Rattle.ufs_model.specs.declared.asked.Request.TheVariants as asks
@@ -8,8 +8,8 @@ use Rattle.ufs_model.specs.declared.object.Object.TheVariants as objects
 use Rattle.ufs_model.specs.declared.asked.Event.TheVariants as events
 use Rattle.cfs_core.specs.Calls.{looked}
 use Rattle.cfs_core.specs.Looks.{content_reply, counted, measured}
-use Rattle.cfs_core.specs.Makes.{file_kind}
-use Rattle.cfs_core.specs.StandsFor.{is_sweeping}
+use Rattle.cfs_core.specs.Makes.{made_kind}
+use Rattle.cfs_core.specs.StandsFor.{sweeps_now}
 use Rattle.cfs_core.specs.Ways.{Reaches, unfit_of}
 
 -- ---- the state with another object in the place of one
@@ -19,7 +19,7 @@ pub record Puts (s after : State) (id : Puid) (o : Object) : Type 0 where
   pub grants : after.grants ≡ s.grants
   pub drawn : after.drawn ≡ s.drawn
   pub stopped : after.stopped ≡ s.stopped
-  pub sweeping : is_sweeping after.collection ≡ is_sweeping s.collection
+  pub sweeping : sweeps_now after.collection ≡ sweeps_now s.collection
 
 -- an object that has no draft through the reference, changed
 pub put_is : (s : State) (who : ℕ) (to : Ref) (id : Puid) (o : Object) (change : Change) → named s who to ≡ Some id → draft_of s who to ≡ None → object_at s.graph id ≡ Some o
@@ -27,22 +27,22 @@ pub put_is : (s : State) (who : ℕ) (to : Ref) (id : Puid) (o : Object) (change
 put_is s who to id o change name bare there = put_object-at s who to id (changed_draft change (seen s who to)) name bare
     ∙ ap (λ (d : Draft). record s { graph = with_object s.graph id (changed_draft change d).object }) (seen_object s who to id o name bare there)
 
-pub index_there : (o : Object) → unfit_of AnIndex (Some (kind_of o)) ≡ None → (i : Index) × (o ≡ objects.Index i)
+pub index_there : (o : Object) → unfit_of AnIndex (Some (object_kind o)) ≡ None → (i : Index) × (o ≡ objects.Index i)
 index_there (objects.Index i) is = (i, refl)
 index_there (objects.File f) is = absurd (at f.kind is)
   where
-    at : (k : FileKind) → unfit_of AnIndex (Some (kind_of (objects.File (record f { kind = k })))) ≡ None → ⊥
+    at : (k : FileKind) → unfit_of AnIndex (Some (object_kind (objects.File (record f { kind = k })))) ≡ None → ⊥
     at file_kinds.Normal is = cc
     at file_kinds.Special is = cc
 
-pub file_there : (o : Object) → unfit_of AFile (Some (kind_of o)) ≡ None → (f : File) × (o ≡ objects.File f)
+pub file_there : (o : Object) → unfit_of AFile (Some (object_kind o)) ≡ None → (f : File) × (o ≡ objects.File f)
 file_there (objects.File f) is = (f, refl)
 file_there (objects.Index i) is = cc
 
-pub file_kind_is : (f : File) (kind : FileKind) → kind_of (objects.File f) ≡ file_kind kind → f.kind ≡ kind
+pub file_kind_is : (f : File) (kind : FileKind) → object_kind (objects.File f) ≡ made_kind kind → f.kind ≡ kind
 file_kind_is f kind is = at f.kind kind is
   where
-    at : (a b : FileKind) → kind_of (objects.File (record f { kind = a })) ≡ file_kind b → a ≡ b
+    at : (a b : FileKind) → object_kind (objects.File (record f { kind = a })) ≡ made_kind b → a ≡ b
     at file_kinds.Normal file_kinds.Normal is = refl
     at file_kinds.Normal file_kinds.Special is = cc
     at file_kinds.Special file_kinds.Normal is = cc
@@ -103,7 +103,7 @@ module _ (seed : ℕ) (s : State) (who : ℕ) (to : Ref) (index : Puid) (i : Ind
     grants = ap (λ (t : State). t.grants) (put_is s who to index (objects.Index i) (Fill slot (Some id)) r.name r.bare r.there);
     drawn = ap (λ (t : State). t.drawn) (put_is s who to index (objects.Index i) (Fill slot (Some id)) r.name r.bare r.there);
     stopped = ap (λ (t : State). t.stopped) (put_is s who to index (objects.Index i) (Fill slot (Some id)) r.name r.bare r.there);
-    sweeping = edge_stays is_sweeping (λ a b c d. refl) (named s who to) id s.collection;
+    sweeping = edge_stays sweeps_now (λ a b c d. refl) (named s who to) id s.collection;
   }
 
   pub delete_out : (slot : ℕ) → Reached (asks.Delete to slot) → Puts s (outcome_of seed s who (asks.Delete to slot) 0).1 index (index_with i slot None)

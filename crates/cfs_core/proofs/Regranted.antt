@@ -3,10 +3,10 @@ use Rattle.std.proofs.Common.{◌≡◌, ℕ, List, [], ◌∷◌, ◌++◌, len
 use Rattle.cfs_core.proofs.Words.{and_parts, changes_begin, Draft, Drafting, Event, Ghosts, Grant, Holds, Image, is_grant, IsState, list_all, nat_tests, next, Opened, or_parts, State, Tuid}
 use Rattle.open_table.specs.declared.grant.Grant as handles
 use Rattle.open_table.specs.Grants as tables
-use Rattle.cfs_core.specs.Calls.{Makes}
+use Rattle.cfs_core.specs.Calls.{MakesEvent}
 use Rattle.cfs_core.specs.Kernel.{Kernel, Handle, grants_in, is_drawn_by}
 use Rattle.cfs_core.specs.Handles.{have_draft, handles_but}
-use Rattle.cfs_core.specs.StandsFor.{AreDraftsOf, HasDraftOf, Serves, Stores, bare, drafts_at, drafts_of_handles}
+use Rattle.cfs_core.specs.StandsFor.{AreDraftsOf, HasDraftOf, CoreServes, StoresState, bare, drafts_at, drafts_of_handles}
 use Rattle.cfs_core.proofs.Moved.{HasStepped, IsStepped, makes_stepped, stores_stepped}
 use Rattle.cfs_core.proofs.Serving.{nothing_left}
 
@@ -25,7 +25,7 @@ grants_push [] x = refl
 grants_push (y ∷ ss) x = ap (λ more. y.grant ∷ more) (grants_push ss x)
 
 -- a grant whose handle has no draft has none
-pub draft_none : (ds : List Opened) (who : ℕ) (t : Tuid) (ss : List Handle) (grants : List Grant) → grants_in ss ≡ map bare grants → AreDraftsOf ds ss grants → have_draft (tables.is_grant who t) ss ≡ false
+pub draft_none : (ds : List Opened) (who : ℕ) (t : Tuid) (ss : List Handle) (grants : List Grant) → grants_in ss ≡ map bare grants → AreDraftsOf ds ss grants → have_draft (tables.is_session_grant who t) ss ≡ false
     → (x : Grant) → find (is_grant who t) grants ≡ Some x → x.draft ≡ None
 draft_none ds who t [] [] table are none x found = cc
 draft_none ds who t [] (y ∷ grants) table are none x found = absurd are
@@ -33,8 +33,8 @@ draft_none ds who t (handle ∷ ss) [] table are none x found = cc
 draft_none ds who t (handle ∷ ss) (y ∷ grants) table are none x found =
     let head : handle.grant ≡ bare y = cc in
     let tail : grants_in ss ≡ map bare grants = cc in
-    let two = or_parts (tables.is_grant who t handle.grant && is_some handle.drafting) (have_draft (tables.is_grant who t) ss) none in
-    at (draft_none ds who t ss grants tail are.1 two.1 x) (is_grant who t y) (subst (λ (e : handles.Grant). (tables.is_grant who t e && is_some handle.drafting) ≡ false) head two.0) found
+    let two = or_parts (tables.is_session_grant who t handle.grant && is_some handle.drafting) (have_draft (tables.is_session_grant who t) ss) none in
+    at (draft_none ds who t ss grants tail are.1 two.1 x) (is_grant who t y) (subst (λ (e : handles.Grant). (tables.is_session_grant who t e && is_some handle.drafting) ≡ false) head two.0) found
   where
     here : (drafting : Option Drafting) (d : Option Draft) → is_some drafting ≡ false → HasDraftOf ds handle drafting d → d ≡ None
     here None None none has = refl
@@ -124,7 +124,7 @@ module _ (test : handles.Grant → Bool) where
 
 -- ---- the state with these grants
 
-module _ {D : Type 0} (g : Ghosts D) (k : Kernel D) (left : List Handle) (s after : State) (serves : Serves g k s) (is : IsStepped k (record k { handles = left }) s after s.graph) (state : IsState after) (keeps : KeepsDrafts k.handles left s.grants after.grants) where
+module _ {D : Type 0} (g : Ghosts D) (k : Kernel D) (left : List Handle) (s after : State) (serves : CoreServes g k s) (is : IsStepped k (record k { handles = left }) s after s.graph) (state : IsState after) (keeps : KeepsDrafts k.handles left s.grants after.grants) where
   abbrev new : Kernel D
   new = record k { handles = left }
 
@@ -139,8 +139,8 @@ module _ {D : Type 0} (g : Ghosts D) (k : Kernel D) (left : List Handle) (s afte
     left = serves.left;
   }
 
-  pub stores_after : Stores g new after
+  pub stores_after : StoresState g new after
   stores_after = stores_stepped g k new s after s.graph serves (λ entry. false) ds has is state keeps.same (keeps.have ds serves.drafts) serves.four
 
-  pub makes_after : ((d : D) (t : ℕ) (c : Image) → g.left_since d t c → length c ≡ g.blocks d) → length (g.content k.disk) ≡ g.blocks k.disk → (e : Event) → next k.words.seed s e ≡ Some after → Makes g k new s e
+  pub makes_after : ((d : D) (t : ℕ) (c : Image) → g.left_since d t c → length c ≡ g.blocks d) → length (g.content k.disk) ≡ g.blocks k.disk → (e : Event) → next k.words.seed s e ≡ Some after → MakesEvent g k new s e
   makes_after left_sized wide e step = makes_stepped g k new s after s.graph serves (λ entry. false) ds has is state keeps.same (keeps.have ds serves.drafts) serves.four left_sized wide e step refl (nothing_left g k.disk (λ c. Holds c s.graph))

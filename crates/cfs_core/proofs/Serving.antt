@@ -1,20 +1,20 @@
 -- What a core that serves knows of its disk, and what it goes on to know after calls that only read.
 use Rattle.std.proofs.Common.{◌≡◌, ◌≢◌, cond, ℕ, ◌+◌, ◌*◌, ◌/◌, ◌≤◌, List, [], ◌∷◌, length, Bool, true, false, Option, Some, None, refl, sym, ◌∙◌, ap, subst, arith, ◌==◌, ◌||◌, is_some, option_map, sum, eq-eqb, inl}
-use Rattle.cfs_core.proofs.Words.{blocks_taken, closed_graph, drafts_of, entry_in, Event, Fits, frames_hold, Ghosts, Graph, graph_blocks, has_root_in, Holds, Image, Index, is_running, is_stray, is_there, IsClosedGraph, IsSwept, Kind, kind_in, kind_in-kinds_in, kind_of, left_now, loose, next, no_strays, Object, object_at, ones_le, OnlyReads, Opened, Puid, room, same_puid, same_puid_is, State}
+use Rattle.cfs_core.proofs.Words.{blocks_taken, closed_graph, drafts_of, entry_in, Event, FitsDisk, frames_hold, Ghosts, Graph, graph_blocks, has_root_in, Holds, Image, Index, is_running, is_stray, is_there, IsClosedGraph, IsSwept, Kind, directory_kind, directory_kind-kinds_in, object_kind, left_now, loose, next, no_strays, Object, object_at, ones_le, OnlyReads, Opened, Puid, room, same_puid, same_puid_is, State}
 use Rattle.cfs_core.proofs.Words.{store_reads, stray_blocks, sum_is, wider, Leaves}
 use Rattle.ufs_model.specs.declared.object.Object.TheVariants as objects
-use Rattle.cfs_core.specs.Calls.{AddsNoStray, Makes}
+use Rattle.cfs_core.specs.Calls.{AddsNoStray, MakesEvent}
 use Rattle.cfs_core.specs.Kernel.{Kernel}
 use Rattle.cfs_core.specs.Room.{lost_blocks}
-use Rattle.cfs_core.specs.StandsFor.{HasCollection, Serves, Stands, StandsFor, Stores, drafts_of_handles, is_sweeping}
+use Rattle.cfs_core.specs.StandsFor.{HasCollection, CoreServes, Stands, StandsFor, StoresState, drafts_of_handles, sweeps_now}
 use Rattle.cfs_core.proofs.Ways.{shut_at}
 
 -- ---- the directory
 
 -- an identifier that is named has a root block
-pub named_root : (named : List (Puid × Kind)) (id : Puid) (kind : Kind) → kind_in named id ≡ Some kind → has_root_in named id.block ≡ true
+pub named_root : (named : List (Puid × Kind)) (id : Puid) (kind : Kind) → directory_kind named id ≡ Some kind → has_root_in named id.block ≡ true
 named_root [] id kind found = cc
-named_root (e ∷ es) id kind found = elim (same_puid id e.0) as (λ b. same_puid id e.0 ≡ b → cond b (Some e.1) (kind_in es id) ≡ Some kind → has_root_in (e ∷ es) id.block ≡ true) [
+named_root (e ∷ es) id kind found = elim (same_puid id e.0) as (λ b. same_puid id e.0 ≡ b → cond b (Some e.1) (directory_kind es id) ≡ Some kind → has_root_in (e ∷ es) id.block ≡ true) [
   | true ↦ λ is here. rw (same_puid_is id e.0 is, eq-eqb e.0.block e.0.block refl) refl
   | false ↦ λ other rest. rw (named_root es id kind rest) (or_true (e.0.block == id.block))
 ] refl found
@@ -23,20 +23,20 @@ named_root (e ∷ es) id kind found = elim (same_puid id e.0) as (λ b. same_pui
     or_true true = refl
     or_true false = refl
 
-pub named_some : (named : List (Puid × Kind)) (id : Puid) (kind : Kind) → has_root_in named 0 ≡ false → kind_in named id ≡ Some kind → id.block ≢ 0
+pub named_some : (named : List (Puid × Kind)) (id : Puid) (kind : Kind) → has_root_in named 0 ≡ false → directory_kind named id ≡ Some kind → id.block ≢ 0
 named_some named id kind none found = λ zero_is. let has = named_root named id kind found in let no : has_root_in named 0 ≡ true = subst (λ (n : ℕ). has_root_in named n ≡ true) zero_is has in cc
 
 -- ---- a core that serves
 
-pub serves_from : {D : Type 0} (g : Ghosts D) (k : Kernel D) (s : State) → k.stop ≡ None → StandsFor g k s → Serves g k s
+pub serves_from : {D : Type 0} (g : Ghosts D) (k : Kernel D) (s : State) → k.stop ≡ None → StandsFor g k s → CoreServes g k s
 serves_from g k s none stands = subst (Stands g k s) none stands
 
-pub stands_from : {D : Type 0} (g : Ghosts D) (k : Kernel D) (s : State) → k.stop ≡ None → Serves g k s → StandsFor g k s
+pub stands_from : {D : Type 0} (g : Ghosts D) (k : Kernel D) (s : State) → k.stop ≡ None → CoreServes g k s → StandsFor g k s
 stands_from g k s none serves = subst (Stands g k s) (sym none) serves
 
-pub stored : {D : Type 0} (g : Ghosts D) (k : Kernel D) (s : State) → Serves g k s → Stores g k s
+pub stored : {D : Type 0} (g : Ghosts D) (k : Kernel D) (s : State) → CoreServes g k s → StoresState g k s
 stored g k s serves = λ c has. record {
-  front = record { drawn = serves.front.drawn; names = serves.front.names; grants = serves.front.grants; stopped = serves.front.stopped };
+  front = record { drawn = serves.front.drawn; directory = serves.front.directory; grants = serves.front.grants; stopped = serves.front.stopped };
   state = serves.state;
   root = serves.root;
   store = serves.store;
@@ -60,7 +60,7 @@ pub fewer_lost : (a b : Image) (g h : Graph) → length b ≡ length a → AddsN
 fewer_lost a b g h wide adds =
     omega (arith, ones_le (λ n. is_stray h (entry_in b n)) (λ n. is_stray g (entry_in a n)) 0 (length a) (λ n stray. (adds n stray).1), ap (λ n. stray_blocks b h n) wide)
 
-module _ {D : Type 0} (g : Ghosts D) (k : Kernel D) (s : State) (serves : Serves g k s) where
+module _ {D : Type 0} (g : Ghosts D) (k : Kernel D) (s : State) (serves : CoreServes g k s) where
   abbrev drafts : List Opened
   drafts = drafts_of_handles k.handles s.grants
 
@@ -71,24 +71,24 @@ module _ {D : Type 0} (g : Ghosts D) (k : Kernel D) (s : State) (serves : Serves
   pub shut : (index : Puid) (i : Index) → object_at s.graph index ≡ Some (objects.Index i) → drafts_of drafts index ≡ []
   shut index i found = shut_at s.graph index i found k.handles s.grants serves.front.grants serves.state.grants
 
-  pub kind_there : (id : Puid) → kind_in k.names.named id ≡ option_map kind_of (object_at s.graph id)
-  kind_there id = ap (λ named. kind_in named id) serves.front.names ∙ kind_in-kinds_in s.graph.objects id
+  pub kind_there : (id : Puid) → directory_kind k.directory.named id ≡ option_map object_kind (object_at s.graph id)
+  kind_there id = ap (λ named. directory_kind named id) serves.front.directory ∙ directory_kind-kinds_in s.graph.objects id
 
-  pub object_listed : (id : Puid) (kind : Kind) → kind_in k.names.named id ≡ Some kind → (o : Object) × (object_at s.graph id ≡ Some o)
+  pub object_listed : (id : Puid) (kind : Kind) → directory_kind k.directory.named id ≡ Some kind → (o : Object) × (object_at s.graph id ≡ Some o)
   object_listed id kind listed = at (object_at s.graph id) (sym (kind_there id) ∙ listed)
     where
-      at : (found : Option Object) → option_map kind_of found ≡ Some kind → (o : Object) × (found ≡ Some o)
+      at : (found : Option Object) → option_map object_kind found ≡ Some kind → (o : Object) × (found ≡ Some o)
       at None is = cc
       at (Some o) is = (o, refl)
 
   -- an object that is there is of the kind that is listed
-  pub kind_is : (id : Puid) (o : Object) (kind : Kind) → kind_in k.names.named id ≡ Some kind → object_at s.graph id ≡ Some o → kind_of o ≡ kind
-  kind_is id o kind listed there = let same : Some (kind_of o) ≡ Some kind = sym (ap (option_map kind_of) there) ∙ sym (kind_there id) ∙ listed in cc
+  pub kind_is : (id : Puid) (o : Object) (kind : Kind) → directory_kind k.directory.named id ≡ Some kind → object_at s.graph id ≡ Some o → object_kind o ≡ kind
+  kind_is id o kind listed there = let same : Some (object_kind o) ≡ Some kind = sym (ap (option_map object_kind) there) ∙ sym (kind_there id) ∙ listed in cc
 
-  pub there_is : (id : Puid) → is_there s.graph id ≡ is_some (kind_in k.names.named id)
+  pub there_is : (id : Puid) → is_there s.graph id ≡ is_some (directory_kind k.directory.named id)
   there_is id = sym (ap is_some (kind_there id) ∙ at (object_at s.graph id))
     where
-      at : (o : Option Object) → is_some (option_map kind_of o) ≡ is_some o
+      at : (o : Option Object) → is_some (option_map object_kind o) ≡ is_some o
       at None = refl
       at (Some o) = refl
 
@@ -102,7 +102,7 @@ module _ {D : Type 0} (g : Ghosts D) (k : Kernel D) (s : State) (serves : Serves
       let image = g.content k.disk in
       omega (arith, room image s.graph drafts serves.store.account serves.store.ordered, sum_is image k.space serves.store.counts, serves.store.counts.size)
 
-  pub room_is : (free : ℕ) → is_sweeping s.collection ≡ false → free ≡ sum k.space.free → free + blocks_taken s.graph drafts + 1 ≡ 63 * length k.space.free
+  pub room_is : (free : ℕ) → sweeps_now s.collection ≡ false → free ≡ sum k.space.free → free + blocks_taken s.graph drafts + 1 ≡ 63 * length k.space.free
   room_is free none is =
       let image = g.content k.disk in
       omega (arith, room image s.graph drafts serves.store.account serves.store.ordered, no_strays image s.graph (serves.swept none), sum_is image k.space serves.store.counts, serves.store.counts.size, is)
@@ -111,22 +111,22 @@ module _ {D : Type 0} (g : Ghosts D) (k : Kernel D) (s : State) (serves : Serves
   taken_less = omega (arith, room (g.content k.disk) s.graph drafts serves.store.account serves.store.ordered, sum_is (g.content k.disk) k.space serves.store.counts)
 
   -- objects that take n blocks more fit, where n and four are Free
-  pub may_fit : (h : Graph) (n size : ℕ) → IsClosedGraph h → graph_blocks h ≤ graph_blocks s.graph + n → n + 4 ≤ sum k.space.free → length (g.content k.disk) ≡ size → Fits size h
+  pub may_fit : (h : Graph) (n size : ℕ) → IsClosedGraph h → graph_blocks h ≤ graph_blocks s.graph + n → n + 4 ≤ sum k.space.free → length (g.content k.disk) ≡ size → FitsDisk size h
   may_fit h n size closed few free wide = record {
     closed = closed;
     room = omega (arith, few, free, taken_less, ap (λ (m : ℕ). m / 64) wide);
   }
 
-  pub fits : (size : ℕ) → length (g.content k.disk) ≡ size → Fits size s.graph
+  pub fits : (size : ℕ) → length (g.content k.disk) ≡ size → FitsDisk size s.graph
   fits size wide = may_fit s.graph 0 size (closed_graph s.graph serves.state.graph) (omega arith) serves.four wide
 
 -- ---- after calls that only read
 
-module _ {D : Type 0} (g : Ghosts D) (n : ℕ) (old new : Kernel D) (reads : OnlyReads g n old.disk new.disk) (same : new ≡ record old { disk = new.disk }) (s : State) (serves : Serves g old s) where
-  pub serves_on : Serves g new s
+module _ {D : Type 0} (g : Ghosts D) (n : ℕ) (old new : Kernel D) (reads : OnlyReads g n old.disk new.disk) (same : new ≡ record old { disk = new.disk }) (s : State) (serves : CoreServes g old s) where
+  pub serves_on : CoreServes g new s
   serves_on =
-      subst (λ (k : Kernel D). Serves g k s) (sym same) (record {
-        front = record { drawn = serves.front.drawn; names = serves.front.names; grants = serves.front.grants; stopped = serves.front.stopped };
+      subst (λ (k : Kernel D). CoreServes g k s) (sym same) (record {
+        front = record { drawn = serves.front.drawn; directory = serves.front.directory; grants = serves.front.grants; stopped = serves.front.stopped };
         state = serves.state;
         root = serves.root;
         store = store_reads g s.graph (drafts_of_handles old.handles s.grants) old.disk new.disk old.space n serves.store reads;
@@ -139,7 +139,7 @@ module _ {D : Type 0} (g : Ghosts D) (n : ℕ) (old new : Kernel D) (reads : Onl
 
   module _ (left_sized : (d : D) (t : ℕ) (c : Image) → g.left_since d t c → length c ≡ g.blocks d) (wide : length (g.content old.disk) ≡ g.blocks old.disk) where
     -- an event that leaves the state, as a refusal
-    pub stays : (e : Event) → next old.words.seed s e ≡ Some s → Makes g old new s e
+    pub stays : (e : Event) → next old.words.seed s e ≡ Some s → MakesEvent g old new s e
     stays e step = record {
       after = s;
       step = step;

@@ -1,6 +1,6 @@
 -- The steps of the collector, of a core.
 use Rattle.std.proofs.Common.{◌≡◌, inl, ℕ, ◌+◌, ◌-◌, ◌*◌, ◌/◌, ◌^◌, ◌<◌, ◌≤◌, cond, ◌||◌, List, [], ◌∷◌, length, true, false, Result, Ok, Err, Option, Some, None, IsTrue, refl, sym, ◌∙◌, ap, subst, arith, IfSome, map}
-use Rattle.cfs_core.proofs.Words.{Accounts, Collecting, count_after, done, Event, Fits, Ghosts, Grant, had_tried, Holds, Image, IsCollecting, keeps, Kept, list_all, Listing, loose, most_steps, next, Puid, Refused, State, steps_left, stopped_at, volume_of, wider}
+use Rattle.cfs_core.proofs.Words.{Accounts, Collecting, count_after, done, Event, FitsDisk, Ghosts, Grant, had_tried, Holds, Image, IsCollecting, keeps, Kept, list_all, Listing, loose, most_steps, next, Puid, Refused, State, steps_left, stopped_at, volume_of, wider}
 use Rattle.cfs_base.specs.declared.refusal.Refused.TheVariants as refusals
 use Rattle.collector_steps.specs.Collecting as Keeps
 use Rattle.collector_steps.specs.declared.phase.Phase.TheVariants as phases
@@ -13,10 +13,10 @@ use Rattle.cfs_core.specs.declared.collecting.Step.TheVariants as steps
 use Rattle.cfs_core.specs.declared.kernel.Stop.{Stop}
 use Rattle.cfs_core.proofs.Damages.{told_as}
 use Rattle.cfs_core.specs.Calls.{IsCause}
-use Rattle.cfs_core.specs.Collect.{Collects, EndsUnmade, HappensOrRests, HasBegun, IsFaultCause, IsMadeOrNot, IsNoDamage, IsStep, IsTidy, IsUnchanged, LeavesAll, MovesTo, StepsSo, TriesStep, event_of, fault_for, is_starved, phase_of, stop_by}
-use Rattle.cfs_core.specs.Kernel.{AreKept, IsSized, Kernel, Handle, is_ready, marks_in, runs, sweeps_in}
+use Rattle.cfs_core.specs.Collect.{CollectsStep, EndsUnmade, HappensOrRests, HasBegunCollection, IsFaultCause, IsMadeOrNot, IsNoDamage, IsCollectStep, IsTidyVolume, IsUnchanged, LeavesAll, MovesTo, StepsSo, TriesStep, event_of, fault_for, is_starved, phase_of, stop_by}
+use Rattle.cfs_core.specs.Kernel.{AreCollections, IsSizedKernel, Kernel, Handle, is_ready, marks_in, collection_runs, sweeps_in}
 use Rattle.cfs_core.specs.Room.{lost_blocks}
-use Rattle.cfs_core.specs.StandsFor.{AreDraftsOf, HasCollection, HasCollector, Serves, StandsFor, bare, drafts_of_handles}
+use Rattle.cfs_core.specs.StandsFor.{AreDraftsOf, HasCollection, HasCollector, CoreServes, StandsFor, bare, drafts_of_handles}
 use Rattle.cfs_core.proofs.Answering.{reads_none}
 use Rattle.cfs_core.specs.Rescues.{AreRescued}
 use Rattle.cfs_core.proofs.Collected.{collection_ready}
@@ -28,7 +28,7 @@ use Rattle.cfs_core.proofs.Tidied.{tidy}
 -- ---- what is told of it
 
 -- a core that stopped
-pub collects_stopped : {D : Type 0} (g : Ghosts D) (k : Kernel D) (stop : Stop) → k.stop ≡ Some stop → Collects g k k (Err (faults.Stopped stop.moment))
+pub collects_stopped : {D : Type 0} (g : Ghosts D) (k : Kernel D) (stop : Stop) → k.stop ≡ Some stop → CollectsStep g k k (Err (faults.Stopped stop.moment))
 collects_stopped g k stop is = record {
   event = λ s stands. refl;
   stopped = λ other same. let one : stop ≡ other = cc in (refl, ap (λ (x : Stop). Err (faults.Stopped x.moment)) one);
@@ -52,10 +52,10 @@ collects_stopped g k stop is = record {
 
 module _ {D : Type 0} (g : Ghosts D) (left_sized : (d : D) (t : ℕ) (c : Image) → g.left_since d t c → length c ≡ g.blocks d) (sized : (d : D) → IsTrue (g.honest d) → length (g.content d) ≡ g.blocks d)
     (old new : Kernel D) (size : g.blocks new.disk ≡ g.blocks old.disk) (none : old.stop ≡ None) where
-  fits_before : (s : State) → Serves g old s → Fits (g.blocks new.disk) s.graph
+  fits_before : (s : State) → CoreServes g old s → FitsDisk (g.blocks new.disk) s.graph
   fits_before s serves = fits g old s serves (g.blocks new.disk) (sized old.disk serves.store.carries.tells.honest ∙ sym size)
 
-  happens : new.stop ≡ None → (s : State) (e : Option Event) → Serves g old s → MovesTo g old new s e → HappensOrRests g old new s e
+  happens : new.stop ≡ None → (s : State) (e : Option Event) → CoreServes g old s → MovesTo g old new s e → HappensOrRests g old new s e
   happens runs s None serves is = record {
     stands = subst (StandsFor g new) is.comes (stands_from g new is.after runs is.serves);
     keeps = keeps g left_sized old.words.seed s old.disk new.disk (fits_before s serves) is.leaves;
@@ -71,7 +71,7 @@ module _ {D : Type 0} (g : Ghosts D) (left_sized : (d : D) (t : ℕ) (c : Image)
         (wider g old.disk new.disk _ _ is.leaves (λ c holds. inl holds)) (pending g new is.after is.serves));
   }
 
-  pub collects_ok : AreKept (g.blocks old.disk) old.collections → (step : Step) → TriesStep g old new (Ok step) → Collects g old new (Ok step)
+  pub collects_ok : AreCollections (g.blocks old.disk) old.collections → (step : Step) → TriesStep g old new (Ok step) → CollectsStep g old new (Ok step)
   collects_ok kept step is = record {
     event = λ s stands. let serves = serves_from g old s none stands in happens (ap (λ (k : Kernel D). k.stop) is.same ∙ none) s (event_of step) serves (is.ends.moves s serves none);
     stopped = λ stop same. cc;
@@ -99,7 +99,7 @@ module _ {D : Type 0} (g : Ghosts D) (left_sized : (d : D) (t : ℕ) (c : Image)
   abbrev stopped_as : Refused → Kernel D
   stopped_as refused = record mid { stop = stop_by (fault_for refused (g.moment mid.disk)) mid.stop }
 
-  halted : (refused : Refused) (moment : ℕ) (s : State) → TriesStep g old mid (Err refused) → Serves g old s → EndsUnmade g old mid s refused → IsStep g old (record mid { stop = stop_by (fault_for refused moment) mid.stop }) s (Err (fault_for refused moment))
+  halted : (refused : Refused) (moment : ℕ) (s : State) → TriesStep g old mid (Err refused) → CoreServes g old s → EndsUnmade g old mid s refused → IsCollectStep g old (record mid { stop = stop_by (fault_for refused moment) mid.stop }) s (Err (fault_for refused moment))
   halted (refusals.Full need) moment s tries serves is = absurd is
   halted (refusals.Disk false) moment s tries serves is = happens g left_sized sized old mid tries.calls.same.size none (ap (λ (k : Kernel D). k.stop) tries.same ∙ none) s None serves is
   halted (refusals.Disk true) moment s tries serves is =
@@ -108,7 +108,7 @@ module _ {D : Type 0} (g : Ghosts D) (left_sized : (d : D) (t : ℕ) (c : Image)
       record {
         after = stopped_at stop s;
         step = step;
-        stands = record { drawn = is.1.drawn; names = is.1.names; grants = is.1.grants; stopped = refl };
+        stands = record { drawn = is.1.drawn; directory = is.1.directory; grants = is.1.grants; stopped = refl };
         lost = λ none. cc;
         survives = inl (loose g left_sized old.words.seed s old.disk mid.disk (fits_before g left_sized sized old mid tries.calls.same.size none s serves) (events.Halted stop) (stopped_at stop s) step refl is.0 (pending g old s serves));
       }
@@ -123,7 +123,7 @@ module _ {D : Type 0} (g : Ghosts D) (left_sized : (d : D) (t : ℕ) (c : Image)
   told_cause refusals.Memory stop is = tt
 
   with_stop : (stop : Option Stop) → IsUnchanged g old mid → IsUnchanged g old (record mid { stop = stop })
-  with_stop stop is = record { reads = is.reads; names = is.names; space = is.space; collector = is.collector; finished = is.finished }
+  with_stop stop is = record { reads = is.reads; directory = is.directory; space = is.space; collector = is.collector; finished = is.finished }
 
   still_told : (refused : Refused) (moment : ℕ) → (had_tried refused ≡ false → IsUnchanged g old mid) → LeavesAll g old (record mid { stop = stop_by (fault_for refused moment) mid.stop }) (fault_for refused moment)
   still_told (refusals.Full need) moment still = with_stop mid.stop (still refl)
@@ -149,8 +149,8 @@ module _ {D : Type 0} (g : Ghosts D) (left_sized : (d : D) (t : ℕ) (c : Image)
   same_err : {e f : CollectFault} → ◌≡◌ {A = Result Step CollectFault} (Err e) (Err f) → e ≡ f
   same_err is = cc
 
-  pub collects_err : (refused : Refused) (new : Kernel D) → new ≡ stopped_as refused → TriesStep g old mid (Err refused) → Collects g old new (Err (fault_for refused (g.moment mid.disk)))
-  collects_err refused new is tries = subst (λ (k : Kernel D). Collects g old k (Err (fault_for refused (g.moment mid.disk)))) (sym is) (record {
+  pub collects_err : (refused : Refused) (new : Kernel D) → new ≡ stopped_as refused → TriesStep g old mid (Err refused) → CollectsStep g old new (Err (fault_for refused (g.moment mid.disk)))
+  collects_err refused new is tries = subst (λ (k : Kernel D). CollectsStep g old k (Err (fault_for refused (g.moment mid.disk)))) (sym is) (record {
     event = λ s stands. let serves = serves_from g old s none stands in halted refused (g.moment mid.disk) s tries serves (tries.ends.ends s serves none);
     stopped = λ stop same. cc;
     due = tt;
@@ -173,7 +173,7 @@ module _ {D : Type 0} (g : Ghosts D) (left_sized : (d : D) (t : ℕ) (c : Image)
 
 -- ---- no collection runs
 
-runs_not : (o : Option Collecting) → phase_of o ≡ phases.Idle → runs o ≡ false
+runs_not : (o : Option Collecting) → phase_of o ≡ phases.Idle → collection_runs o ≡ false
 runs_not None is = refl
 runs_not (Some k) is = ap (λ p. marks_in p || sweeps_in p) is
 
@@ -197,7 +197,7 @@ module _ {D : Type 0} (g : Ghosts D) (k : Kernel D) where
       leaves = nothing_left g k.disk (λ i. Holds i s.graph);
       lost = omega arith;
     };
-    still = λ untried. record { reads = reads_none g 4 k.disk; names = refl; space = refl; collector = same; finished = finished };
+    still = λ untried. record { reads = reads_none g 4 k.disk; directory = refl; space = refl; collector = same; finished = finished };
     cause = tt;
     wants = λ some. (runs_not k.collections.collector idle, more);
   }) called
@@ -213,7 +213,7 @@ module _ {D : Type 0} (g : Ghosts D) (k : Kernel D) where
       let rest : map (λ (z : Handle). z.grant) handles ≡ map bare grants = cc in
       rw (here, open_are handles grants rest) refl
 
-  pub steps_begun : (roots : List Puid) → roots ≡ k.root ∷ map (λ (x : Handle). x.grant.id) k.handles → (l : Collecting) → HasBegun roots k.names.named l
+  pub steps_begun : (roots : List Puid) → roots ≡ k.root ∷ map (λ (x : Handle). x.grant.id) k.handles → (l : Collecting) → HasBegunCollection roots k.directory.named l
       → phase_of k.collections.collector ≡ phases.Idle → k.collections.finished < k.collections.called → volume_of l ≡ g.blocks k.disk → TriesStep g k (record k { collections = record k.collections { collector = Some l } }) (Ok steps.Began)
   steps_begun roots are l begun idle more volume = steps_here (record k.collections { collector = Some l }) (Ok steps.Began) (record {
     moves = λ s serves none.
@@ -233,7 +233,7 @@ module _ {D : Type 0} (g : Ghosts D) (k : Kernel D) where
     abbrev ended_as : Collections
     ended_as = record k.collections { collector = Some l; finished = k.collections.finished + 1 }
 
-    col_there : (s : State) → Serves g k s → HasCollector (g.content k.disk) s col
+    col_there : (s : State) → CoreServes g k s → HasCollector (g.content k.disk) s col
     col_there s serves = subst (HasCollection (g.content k.disk) s) there serves.collecting
 
     none_open : (handles : List Handle) (grants : List Grant) → handles ≡ [] → AreDraftsOf (drafts_of_handles handles grants) handles grants → drafts_of_handles handles grants ≡ []
@@ -241,7 +241,7 @@ module _ {D : Type 0} (g : Ghosts D) (k : Kernel D) where
     none_open [] (y ∷ grants) none drafts = absurd drafts
     none_open (x ∷ handles) grants none drafts = cc
 
-    over : (s : State) → Serves g k s → k.handles ≡ [] → IsTidy (g.content k.disk) s.graph
+    over : (s : State) → CoreServes g k s → k.handles ≡ [] → IsTidyVolume (g.content k.disk) s.graph
     over s serves none =
         tidy (g.content k.disk) s.graph (subst (λ ds. Accounts (g.content k.disk) s.graph ds) (none_open k.handles s.grants none serves.drafts) serves.store.account) serves.store.ordered
         (subst (λ p. IsCollecting p (g.content k.disk) s col) swept (col_there s serves).collects).0
@@ -261,24 +261,24 @@ module _ {D : Type 0} (g : Ghosts D) (k : Kernel D) where
       goes = λ kept. goes_ended (g.blocks k.disk) k.collections ended_as col l refl refl there refl swept idle;
     }) refl
 
-    pub few_ended : (room : ℕ) → AreKept room k.collections → k.collections.finished + 1 ≤ k.collections.called
-    few_ended room kept = omega (arith, kept.few, ap {B = ℕ} (λ o. cond (runs o) 1 0) there, ap {B = ℕ} (λ p. cond (marks_in p || sweeps_in p) 1 0) swept)
+    pub few_ended : (room : ℕ) → AreCollections room k.collections → k.collections.finished + 1 ≤ k.collections.called
+    few_ended room kept = omega (arith, kept.few, ap {B = ℕ} (λ o. cond (collection_runs o) 1 0) there, ap {B = ℕ} (λ p. cond (marks_in p || sweeps_in p) 1 0) swept)
 
 -- ---- a collector that goes on
 
-pub kept_on : (room : ℕ) (c : Collections) (col l : Collecting) → c.collector ≡ Some col → runs (Some col) ≡ true → runs (Some l) ≡ true → volume_of l ≡ volume_of col → AreKept room c → AreKept room (record c { collector = Some l })
+pub kept_on : (room : ℕ) (c : Collections) (col l : Collecting) → c.collector ≡ Some col → collection_runs (Some col) ≡ true → collection_runs (Some l) ≡ true → volume_of l ≡ volume_of col → AreCollections room c → AreCollections room (record c { collector = Some l })
 kept_on room c col l there before after volume kept = record {
   volume = volume ∙ subst (λ o. IfSome o (λ k. volume_of k ≡ room)) there kept.volume;
-  few = omega (arith, kept.few, ap {B = ℕ} (λ o. cond (runs o) 1 0) there, ap {B = ℕ} (λ b. cond b 1 0) before, ap {B = ℕ} (λ b. cond b 1 0) after);
+  few = omega (arith, kept.few, ap {B = ℕ} (λ o. cond (collection_runs o) 1 0) there, ap {B = ℕ} (λ b. cond b 1 0) before, ap {B = ℕ} (λ b. cond b 1 0) after);
 }
 
-pub sized_on : {D : Type 0} (g : Ghosts D) (d e : D) (names left : Listing) (before after : Kept) (ss : List Handle) (drawn : ℕ) (c : Collections) (col l : Collecting) (result : Result Step Refused)
-    → c.collector ≡ Some col → runs (Some col) ≡ true → StepsSo g d e before after names left col l result → IsSized g.blocks d names before ss drawn c → IsSized g.blocks e left after ss drawn (record c { collector = Some l })
-sized_on g d e names left before after ss drawn c col l result there running is sized = record {
+pub sized_on : {D : Type 0} (g : Ghosts D) (d e : D) (directory left : Listing) (before after : Kept) (ss : List Handle) (drawn : ℕ) (c : Collections) (col l : Collecting) (result : Result Step Refused)
+    → c.collector ≡ Some col → collection_runs (Some col) ≡ true → StepsSo g d e before after directory left col l result → IsSizedKernel g.blocks d directory before ss drawn c → IsSizedKernel g.blocks e left after ss drawn (record c { collector = Some l })
+sized_on g d e directory left before after ss drawn c col l result there running is sized = record {
   size = is.size ∙ sized.size ∙ ap (λ (n : ℕ). 64 * n) (sym is.cylinders);
   room = is.room ∙ sized.room ∙ sym is.size;
   some = is.some sized.some;
   drawn_all = sized.drawn_all;
   ready = subst (λ (n : ℕ). list_all (is_ready n) ss ≡ true) (sym is.room) sized.ready;
-  kept = subst (λ (n : ℕ). AreKept n (record c { collector = Some l })) (sym is.room) (kept_on names.room c col l there running is.runs is.volume sized.kept);
+  kept = subst (λ (n : ℕ). AreCollections n (record c { collector = Some l })) (sym is.room) (kept_on directory.room c col l there running is.runs is.volume sized.kept);
 }

@@ -16,11 +16,11 @@ use Rattle.cfs_core.specs.declared.collecting.Step.TheVariants as steps
 use Rattle.cfs_core.proofs.Damages.{told_of_map, told_of_scan}
 use Rattle.cfs_core.specs.Calls.{IsCause}
 use Rattle.cfs_core.specs.Damage.{IsOfGrey}
-use Rattle.cfs_core.specs.Collect.{EndsUnmade, HasBegun, IsMade, IsMadeOrNot, IsNext, MovesTo, StepsSo, is_starved, phase_of, sweeps_blocks, told_as, with_parts}
-use Rattle.cfs_core.specs.Kernel.{Kernel, Handle, marks_in, runs, sweeps_in}
-use Rattle.cfs_core.specs.Left.{GoesOn, RunsBy}
+use Rattle.cfs_core.specs.Collect.{EndsUnmade, HasBegunCollection, IsStepMade, IsMadeOrNot, IsNextStep, MovesTo, StepsSo, is_starved, phase_of, sweeps_blocks, told_as, with_parts}
+use Rattle.cfs_core.specs.Kernel.{Kernel, Handle, marks_in, collection_runs, sweeps_in}
+use Rattle.cfs_core.specs.Left.{LeavesFewer, RunsBy}
 use Rattle.cfs_core.specs.Room.{MayLose, lost_blocks}
-use Rattle.cfs_core.specs.StandsFor.{HasCollection, HasCollector, Serves, bare, drafts_of_handles, is_sweeping}
+use Rattle.cfs_core.specs.StandsFor.{HasCollection, HasCollector, CoreServes, bare, drafts_of_handles, sweeps_now}
 use Rattle.cfs_core.proofs.Answering.{reads_none}
 use Rattle.cfs_core.proofs.Collected.{as_before, collection_ready, none_is}
 use Rattle.cfs_core.proofs.Lefts.{events_swept, goes_within}
@@ -31,7 +31,7 @@ use Rattle.cfs_core.proofs.Went.{fewer_calls}
 -- ---- a sweep
 
 -- an entry that goes is Free, and so is no stray
-swept_stray : (g : Graph) (e : MapEntry) (b : Bool) → is_stray g (Some (cond b Rattle.cyl_alloc.specs.Space.free_entry e)) ≡ true → is_stray g (Some e) ≡ true
+swept_stray : (g : Graph) (e : MapEntry) (b : Bool) → is_stray g (Some (cond b Rattle.cyl_alloc.specs.Space.unheld_entry e)) ≡ true → is_stray g (Some e) ≡ true
 swept_stray g e true stray = cc
 swept_stray g e false stray = stray
 
@@ -76,29 +76,29 @@ drafts_open all (x ∷ handles) (y ∷ grants) are opened =
     at None d one rest = ap (list_all (λ e. is_among e.id all)) (append-nil (drafts_of_handles handles grants)) ∙ rest
 
 -- A core with a collector `col`, of a state that it serves; and where its step leaves it.
-module _ {D : Type 0} (g : Ghosts D) (k : Kernel D) (old : D) (space : Kept) (names : Listing) (col : Collecting) (s : State) (serves : Serves g (with_parts k old space names col) s) (l : Collecting) where
+module _ {D : Type 0} (g : Ghosts D) (k : Kernel D) (old : D) (space : Kept) (directory : Listing) (col : Collecting) (s : State) (serves : CoreServes g (with_parts k old space directory col) s) (l : Collecting) where
   abbrev core : Kernel D
-  core = with_parts k old space names col
+  core = with_parts k old space directory col
 
   abbrev ds : List Opened
   ds = drafts_of_handles k.handles s.grants
 
-  pub served : IsServed g old names.named s ds
-  served = record { state = serves.state; named = serves.front.names; carries = serves.store.carries; accounts = serves.store.account }
+  pub served : IsServed g old directory.named s ds
+  served = record { state = serves.state; named = serves.front.directory; carries = serves.store.carries; accounts = serves.store.account }
 
   -- one that reads at most
-  pub read_on : (n : ℕ) (new : D) → OnlyReads g n old new → l.phase ≡ col.phase → Collects (g.content new) s l → MovesTo g core (with_parts k new space names l) s None
+  pub read_on : (n : ℕ) (new : D) → OnlyReads g n old new → l.phase ≡ col.phase → Collects (g.content new) s l → MovesTo g core (with_parts k new space directory l) s None
   read_on n new reads phase collects = record {
     after = s;
     comes = refl;
-    serves = stored g (with_parts k new space names col) s (serves_on g n core (with_parts k new space names col) reads refl s serves) (record k.collections { collector = Some l })
+    serves = stored g (with_parts k new space directory col) s (serves_on g n core (with_parts k new space directory col) reads refl s serves) (record k.collections { collector = Some l })
         (record { marking = serves.collecting.marking ∙ ap marks_in (sym phase); sweeping = serves.collecting.sweeping ∙ ap sweeps_in (sym phase); collects = collects });
     leaves = wider g old new _ _ reads.images (λ c no. absurd no);
     lost = omega (arith, ap (λ (i : Image). lost_blocks i s.graph) reads.content);
   }
 
   -- one that failed, with nothing tried
-  pub stayed : (n : ℕ) (new : D) → OnlyReads g n old new → IsAsBefore col l → MovesTo g core (with_parts k new space names l) s None
+  pub stayed : (n : ℕ) (new : D) → OnlyReads g n old new → IsAsBefore col l → MovesTo g core (with_parts k new space directory l) s None
   stayed n new reads same =
       read_on n new reads same.phase (subst (λ (i : Image). Collects i s l) (sym reads.content) (collection_ready (g.content old) s (Some col) (Some l) (as_before col l same) serves.collecting).collects)
 
@@ -134,7 +134,7 @@ module _ {D : Type 0} (g : Ghosts D) (k : Kernel D) (old : D) (space : Kept) (na
       after = gone;
       comes = condemns;
       serves = record {
-        front = record { drawn = serves.front.drawn; names = named; grants = serves.front.grants; stopped = serves.front.stopped };
+        front = record { drawn = serves.front.drawn; directory = named; grants = serves.front.grants; stopped = serves.front.stopped };
         state = next_keeps 0 s gone (events.Vanish ids) serves.state tt (condemns 0);
         root = serves.root;
         store = record {
@@ -155,16 +155,16 @@ module _ {D : Type 0} (g : Ghosts D) (k : Kernel D) (old : D) (space : Kept) (na
 
   -- ---- a cylinder is swept
 
-  module _ (new : D) (after : Kept) (pass : Pass) (cylinder : ℕ) (phase : IsPhaseOf pass col.phase) (sweeps : IsSweptOf names.named pass cylinder (g.content old) (g.content new)) where
+  module _ (new : D) (after : Kept) (pass : Pass) (cylinder : ℕ) (phase : IsPhaseOf pass col.phase) (sweeps : IsSweptOf directory.named pass cylinder (g.content old) (g.content new)) where
     stray_was : (n : ℕ) → is_stray s.graph (entry_in (g.content new) n) ≡ true → is_stray s.graph (entry_in (g.content old) n) ≡ true
     stray_was n stray = elim (Rattle.std.proofs.lemmas.Bool.cases_eq (n / 64) cylinder) [
       | inl here ↦ at (entry_in (g.content old) n) (subst (λ (e : Option MapEntry). is_stray s.graph e ≡ true) (sweeps.here n here) stray)
       | inr away ↦ subst (λ (e : Option MapEntry). is_stray s.graph e ≡ true) (sweeps.elsewhere n away) stray
     ]
       where
-        at : (e : Option MapEntry) → is_stray s.graph (option_map (swept names.named pass) e) ≡ true → is_stray s.graph e ≡ true
+        at : (e : Option MapEntry) → is_stray s.graph (option_map (swept directory.named pass) e) ≡ true → is_stray s.graph e ≡ true
         at None h = h
-        at (Some e) h = swept_stray s.graph e (goes names.named pass e) h
+        at (Some e) h = swept_stray s.graph e (goes directory.named pass e) h
 
     fewer : lost_blocks (g.content new) s.graph ≤ lost_blocks (g.content old) s.graph
     fewer = omega (
@@ -173,13 +173,13 @@ module _ {D : Type 0} (g : Ghosts D) (k : Kernel D) (old : D) (space : Kept) (na
       ap (λ n. stray_blocks (g.content new) s.graph n) sweeps.size,
     )
 
-    pub swept_one : after.left ≡ space.left → IsServed g new names.named s ds → AreCounts (g.content new) after → Collects (g.content new) s l → l.phase ≡ next_phase (volume_of col / 64) col.phase → Leaves g old new (λ c. Holds c s.graph)
-        → MovesTo g core (with_parts k new after names l) s None
+    pub swept_one : after.left ≡ space.left → IsServed g new directory.named s ds → AreCounts (g.content new) after → Collects (g.content new) s l → l.phase ≡ next_phase (volume_of col / 64) col.phase → Leaves g old new (λ c. Holds c s.graph)
+        → MovesTo g core (with_parts k new after directory l) s None
     swept_one left has counts collects next leaves = record {
       after = s;
       comes = refl;
       serves = record {
-        front = record { drawn = serves.front.drawn; names = serves.front.names; grants = serves.front.grants; stopped = serves.front.stopped };
+        front = record { drawn = serves.front.drawn; directory = serves.front.directory; grants = serves.front.grants; stopped = serves.front.stopped };
         state = serves.state;
         root = serves.root;
         store = record { carries = has.carries; account = has.accounts; counts = counts; ordered = serves.store.ordered };
@@ -225,17 +225,17 @@ starts_are s x = cmp.both_ways _ _
 
 -- ---- one begins, and one ends: only the collection changes
 
-module _ {D : Type 0} (g : Ghosts D) (k : Kernel D) (s : State) (serves : Serves g k s) (runs : is_running s ≡ true) (c : Collections) where
+module _ {D : Type 0} (g : Ghosts D) (k : Kernel D) (s : State) (serves : CoreServes g k s) (runs : is_running s ≡ true) (c : Collections) where
   abbrev in_stage : Collection → State
   in_stage stage = record s { collection = stage }
 
-  staged : (e : Event) (stage : Collection) → IsSpeakable e → ((seed : ℕ) → next seed s e ≡ Some (in_stage stage)) → (is_sweeping stage ≡ false → IsSwept (g.content k.disk) s.graph) → HasCollection (g.content k.disk) (in_stage stage) c.collector
+  staged : (e : Event) (stage : Collection) → IsSpeakable e → ((seed : ℕ) → next seed s e ≡ Some (in_stage stage)) → (sweeps_now stage ≡ false → IsSwept (g.content k.disk) s.graph) → HasCollection (g.content k.disk) (in_stage stage) c.collector
       → MayLose e s.graph s.graph (lost_blocks (g.content k.disk) s.graph) (lost_blocks (g.content k.disk) s.graph) → MovesTo g k (record k { collections = c }) s (Some e)
   staged e stage speaks comes swept collecting lost = record {
     after = in_stage stage;
     comes = comes;
     serves = record {
-      front = record { drawn = serves.front.drawn; names = serves.front.names; grants = serves.front.grants; stopped = serves.front.stopped };
+      front = record { drawn = serves.front.drawn; directory = serves.front.directory; grants = serves.front.grants; stopped = serves.front.stopped };
       state = next_keeps 0 s (in_stage stage) e serves.state speaks (comes 0);
       root = serves.root;
       store = serves.store;
@@ -250,11 +250,11 @@ module _ {D : Type 0} (g : Ghosts D) (k : Kernel D) (s : State) (serves : Serves
   }
 
   module _ (l : Collecting) (there : c.collector ≡ Some l) where
-    pub begins : phase_of k.collections.collector ≡ phases.Idle → (roots : List Puid) → roots ≡ s.graph.root ∷ open_ids s → HasBegun roots k.names.named l → MovesTo g k (record k { collections = c }) s (Some events.Began)
-    begins idle roots are begun = staged events.Began stage tt comes (λ calm. serves.swept (ap is_sweeping none)) (rw there (record {
+    pub begins : phase_of k.collections.collector ≡ phases.Idle → (roots : List Puid) → roots ≡ s.graph.root ∷ open_ids s → HasBegunCollection roots k.directory.named l → MovesTo g k (record k { collections = c }) s (Some events.Began)
+    begins idle roots are begun = staged events.Began stage tt comes (λ calm. serves.swept (ap sweeps_now none)) (rw there (record {
       marking = ap marks_in (sym begun.phase);
       sweeping = ap sweeps_in (sym begun.phase);
-      collects = begun.keeps 0 s (in_stage stage) (g.content k.disk) serves.state serves.front.names (λ x. ap (is_among x) are ∙ starts_are s x) (comes 0);
+      collects = begun.keeps 0 s (in_stage stage) (g.content k.disk) serves.state serves.front.directory (λ x. ap (is_among x) are ∙ starts_are s x) (comes 0);
     })) (omega arith)
       where
         none : s.collection ≡ collections.None
@@ -303,19 +303,19 @@ never : {A : Type 0} (e : Refused) → is_starved e ≡ false → is_starved e �
 never e none some = let no : false ≡ true = sym none ∙ some in cc
 
 -- a collection that marks goes on to
-runs_on : (k l : Collecting) → k.phase ≡ phases.Marking → l.phase ≡ k.phase → runs (Some l) ≡ true
+runs_on : (k l : Collecting) → k.phase ≡ phases.Marking → l.phase ≡ k.phase → collection_runs (Some l) ≡ true
 runs_on k l marking phase = ap (λ p. marks_in p || sweeps_in p) (phase ∙ marking)
 
-module _ {D : Type 0} (g : Ghosts D) (old : D) (space : Kept) (names : Listing) (k l : Collecting) (volume : volume_of l ≡ volume_of k) where
+module _ {D : Type 0} (g : Ghosts D) (old : D) (space : Kept) (directory : Listing) (k l : Collecting) (volume : volume_of l ≡ volume_of k) where
   abbrev before : Kernel D → Kernel D
-  before core = with_parts core old space names k
+  before core = with_parts core old space directory k
 
   -- one that reads at most
   module _ (n : ℕ) (new : D) (reads : OnlyReads g n old new) (few : n ≤ 4) (marking : k.phase ≡ phases.Marking) where
     abbrev after_read : Kernel D → Kernel D
-    after_read core = with_parts core new space names l
+    after_read core = with_parts core new space directory l
 
-    read_step : l.phase ≡ k.phase → (result : Result Step Refused) → ((core : Kernel D) → IsMadeOrNot g (before core) (after_read core) result) → StepsSo g old new space space names names k l result
+    read_step : l.phase ≡ k.phase → (result : Result Step Refused) → ((core : Kernel D) → IsMadeOrNot g (before core) (after_read core) result) → StepsSo g old new space space directory directory k l result
     read_step phase result ends = record {
       tries = λ core. record { ends = ends core; calls = read_calls g old new n reads few; same = refl };
       size = reads.same.size;
@@ -327,18 +327,18 @@ module _ {D : Type 0} (g : Ghosts D) (old : D) (space : Kept) (names : Listing) 
       commit = refl;
     }
 
-    pub steps_read : l.phase ≡ k.phase → ((s : State) (ds : List Opened) → IsServed g old names.named s ds → Collects (g.content old) s k → Collects (g.content new) s l) → (step : Step)
-        → ((core : Kernel D) → ((s : State) → Serves g (before core) s → core.stop ≡ None → MovesTo g (before core) (after_read core) s None) → IsMade g (before core) (after_read core) step) → StepsSo g old new space space names names k l (Ok step)
+    pub steps_read : l.phase ≡ k.phase → ((s : State) (ds : List Opened) → IsServed g old directory.named s ds → Collects (g.content old) s k → Collects (g.content new) s l) → (step : Step)
+        → ((core : Kernel D) → ((s : State) → CoreServes g (before core) s → core.stop ≡ None → MovesTo g (before core) (after_read core) s None) → IsStepMade g (before core) (after_read core) step) → StepsSo g old new space space directory directory k l (Ok step)
     steps_read phase keeps step made = read_step phase (Ok step)
-        (λ core. made core (λ s serves none. read_on g core old space names k s serves l n new reads phase (keeps s _ (served g core old space names k s serves l) serves.collecting.collects)))
+        (λ core. made core (λ s serves none. read_on g core old space directory k s serves l n new reads phase (keeps s _ (served g core old space directory k s serves l) serves.collecting.collects)))
 
     -- one that failed, with nothing tried: of a disk that serves only for want of memory, or since a device call failed
-    pub steps_failed : IsAsBefore k l → (e : Refused) → ((core : Kernel D) → IsCause g (before core) (after_read core) None e) → is_starved e ≡ false → ((s : State) (ds : List Opened) → IsServed g old names.named s ds → Collects (g.content old) s k → is_calm_refusal e ≡ true)
-        → StepsSo g old new space space names names k l (Err e)
+    pub steps_failed : IsAsBefore k l → (e : Refused) → ((core : Kernel D) → IsCause g (before core) (after_read core) None e) → is_starved e ≡ false → ((s : State) (ds : List Opened) → IsServed g old directory.named s ds → Collects (g.content old) s k → is_calm_refusal e ≡ true)
+        → StepsSo g old new space space directory directory k l (Err e)
     steps_failed same e cause no_want calm = read_step same.phase (Err e) (λ core. record {
-      ends = λ s serves none. subst (EndsUnmade g (before core) (after_read core) s) (sym (calm_is e no_want (calm s _ (served g core old space names k s serves l) serves.collecting.collects)))
-          (stayed g core old space names k s serves l n new reads same);
-      still = λ untried. record { reads = reads_within g old new n 4 few reads; names = refl; space = refl; collector = as_before k l same; finished = refl };
+      ends = λ s serves none. subst (EndsUnmade g (before core) (after_read core) s) (sym (calm_is e no_want (calm s _ (served g core old space directory k s serves l) serves.collecting.collects)))
+          (stayed g core old space directory k s serves l n new reads same);
+      still = λ untried. record { reads = reads_within g old new n 4 few reads; directory = refl; space = refl; collector = as_before k l same; finished = refl };
       cause = cause core;
       wants = λ some. never e no_want some;
     })
@@ -356,12 +356,12 @@ module _ {D : Type 0} (g : Ghosts D) (old : D) (space : Kept) (names : Listing) 
       neither true b is = cc
       neither false b is = (refl, is)
 
-  pub steps_condemned : (left : Listing) (ids : List Puid) (test : ℕ → Bool) → left.named ≡ kept_by test names.named → left.room ≡ names.room → l.phase ≡ phases.Inner 0 → IsNext k (steps.Condemned ids)
+  pub steps_condemned : (left : Listing) (ids : List Puid) (test : ℕ → Bool) → left.named ≡ kept_by test directory.named → left.room ≡ directory.room → l.phase ≡ phases.Inner 0 → IsNextStep k (steps.Condemned ids)
       → (l.steps ≡ count_after k.steps) × (l.added ≡ k.added)
-      → ((s : State) → IsState s → names.named ≡ kinds_of s.graph → Collects (g.content old) s k → MayVanish s ids)
-      → ((s t : State) → names.named ≡ kinds_of s.graph → Collects (g.content old) s k → graph_blocks s.graph ≤ volume_of k → next 0 s (events.Vanish ids) ≡ Some t → Collects (g.content old) t l)
-      → ((s t : State) → names.named ≡ kinds_of s.graph → next 0 s (events.Vanish ids) ≡ Some t → left.named ≡ kinds_of t.graph)
-      → (IsTrue (g.honest old) → length (g.content old) ≤ volume_of k) → steps_left l < steps_left k → StepsSo g old old space space names left k l (Ok (steps.Condemned ids))
+      → ((s : State) → IsState s → directory.named ≡ kinds_of s.graph → Collects (g.content old) s k → MayVanish s ids)
+      → ((s t : State) → directory.named ≡ kinds_of s.graph → Collects (g.content old) s k → graph_blocks s.graph ≤ volume_of k → next 0 s (events.Vanish ids) ≡ Some t → Collects (g.content old) t l)
+      → ((s t : State) → directory.named ≡ kinds_of s.graph → next 0 s (events.Vanish ids) ≡ Some t → left.named ≡ kinds_of t.graph)
+      → (IsTrue (g.honest old) → length (g.content old) ≤ volume_of k) → steps_left l < steps_left k → StepsSo g old old space space directory left k l (Ok (steps.Condemned ids))
   steps_condemned left ids test kept room_is phase due counted legal keeps lists wide less = record {
     tries = λ core. record {
       ends = record {
@@ -380,7 +380,7 @@ module _ {D : Type 0} (g : Ghosts D) (old : D) (space : Kept) (names : Listing) 
     runs = ap (λ p. marks_in p || sweeps_in p) phase;
     volume = volume;
     room = room_is;
-    some = λ none. ap (λ named. has_root_in named 0) kept ∙ no_root_left test names.named none;
+    some = λ none. ap (λ named. has_root_in named 0) kept ∙ no_root_left test directory.named none;
     cylinders = refl;
     commit = refl;
   }
@@ -388,20 +388,20 @@ module _ {D : Type 0} (g : Ghosts D) (old : D) (space : Kept) (names : Listing) 
       blocks_less : (h : Graph) (ds : List Opened) → graph_blocks h ≤ blocks_taken h ds
       blocks_less h ds = omega arith
 
-      moves : (core : Kernel D) (s : State) → Serves g (before core) s → core.stop ≡ None → MovesTo g (before core) (with_parts core old space left l) s (Some (events.Vanish ids))
+      moves : (core : Kernel D) (s : State) → CoreServes g (before core) s → core.stop ≡ None → MovesTo g (before core) (with_parts core old space left l) s (Some (events.Vanish ids))
       moves core s serves none =
-          let may = legal s serves.state serves.front.names serves.collecting.collects in
+          let may = legal s serves.state serves.front.directory serves.collecting.collects in
           let runs = running g (before core) s serves none in
-          let step = condemns g core old space names k s serves l ids may runs 0 in
-          let t = gone g core old space names k s serves l ids may runs in
+          let step = condemns g core old space directory k s serves l ids may runs 0 in
+          let t = gone g core old space directory k s serves l ids may runs in
           let ds = drafts_of_handles core.handles s.grants in
-          condemned g core old space names k s serves l ids may runs left phase (lists s t serves.front.names step)
-          (keeps s t serves.front.names serves.collecting.collects (omega (arith, wide serves.store.carries.tells.honest, room (g.content old) s.graph ds serves.store.account serves.store.ordered, blocks_less s.graph ds)) step)
+          condemned g core old space directory k s serves l ids may runs left phase (lists s t serves.front.directory step)
+          (keeps s t serves.front.directory serves.collecting.collects (omega (arith, wide serves.store.carries.tells.honest, room (g.content old) s.graph ds serves.store.account serves.store.ordered, blocks_less s.graph ds)) step)
 
   -- ---- a cylinder is swept
 
-  pub steps_swept : (new : D) (after : Kept) (pass : Pass) (result : Result (Unit {0}) Trouble) (told : Result Step Refused) → IsPhaseOf pass k.phase → g.blocks old ≡ volume_of k → HasSwept g names.named pass old new space after k l result → told ≡ told_as result → StepsSo g old new space after names names k l told
-  steps_swept new after pass result told phase blocks is same = subst (StepsSo g old new space after names names k l) (sym same) (by result refl)
+  pub steps_swept : (new : D) (after : Kept) (pass : Pass) (result : Result (Unit {0}) Trouble) (told : Result Step Refused) → IsPhaseOf pass k.phase → g.blocks old ≡ volume_of k → HasSwept g directory.named pass old new space after k l result → told ≡ told_as result → StepsSo g old new space after directory directory k l told
+  steps_swept new after pass result told phase blocks is same = subst (StepsSo g old new space after directory directory k l) (sym same) (by result refl)
     where
       sweeping : (p : Phase) → IsPhaseOf pass p → sweeps_blocks p ≡ true
       sweeping phases.Idle h = absurd h
@@ -417,7 +417,7 @@ module _ {D : Type 0} (g : Ghosts D) (old : D) (space : Kept) (names : Listing) 
       sweeps_on (phases.Roots c) h = refl
       sweeps_on phases.Swept h = absurd h
 
-      swept_step : (r : Result (Unit {0}) Trouble) → runs (Some l) ≡ true → ((core : Kernel D) → IsMadeOrNot g (before core) (with_parts core new after names l) (told_as r)) → StepsSo g old new space after names names k l (told_as r)
+      swept_step : (r : Result (Unit {0}) Trouble) → collection_runs (Some l) ≡ true → ((core : Kernel D) → IsMadeOrNot g (before core) (with_parts core new after directory l) (told_as r)) → StepsSo g old new space after directory directory k l (told_as r)
       swept_step r runs ends = record {
         tries = λ core. record { ends = ends core; calls = fewer_calls g 2 1 4 1 old new (omega arith) (omega arith) is.sweep.calls; same = refl };
         size = is.sweep.calls.same.size;
@@ -429,17 +429,17 @@ module _ {D : Type 0} (g : Ghosts D) (old : D) (space : Kept) (names : Listing) 
         commit = is.sweep.left;
       }
 
-      by : (r : Result (Unit {0}) Trouble) → result ≡ r → StepsSo g old new space after names names k l (told_as r)
+      by : (r : Result (Unit {0}) Trouble) → result ≡ r → StepsSo g old new space after directory directory k l (told_as r)
       by (Ok u) at = swept_step (Ok u) (or_right (marks_in l.phase) (sweeps_in l.phase) (ap sweeps_in (rw at at is.phase) ∙ sweeps_still (volume_of k / 64) pass k.phase phase)) (λ core. record {
         moves = λ s serves none.
-            let has = served g core old space names k s serves l in
+            let has = served g core old space directory k s serves l in
             let ds = drafts_of_handles core.handles s.grants in
-            swept_one g core old space names k s serves l new after pass _ phase (rw at at (is.sweep.swept serves.store.carries.tells)) is.sweep.left (rw at at (is.serves s ds has serves.collecting.collects)) (rw at at (is.sweep.counts serves.store.carries.tells serves.store.counts))
+            swept_one g core old space directory k s serves l new after pass _ phase (rw at at (is.sweep.swept serves.store.carries.tells)) is.sweep.left (rw at at (is.serves s ds has serves.collecting.collects)) (rw at at (is.sweep.counts serves.store.carries.tells serves.store.counts))
             (rw at at (is.keeps s ds has serves.collecting.collects)) (rw at at is.phase) (is.sweep.leaves s ds has);
         due = sweeping k.phase phase;
         counted = (rw at at is.steps, is.added, refl);
         sweeps = λ s serves. (
-          frees_strays names.named s.graph serves.front.names pass k.phase phase (g.content old) (g.content new) (rw at at (is.sweep.swept serves.store.carries.tells)),
+          frees_strays directory.named s.graph serves.front.directory pass k.phase phase (g.content old) (g.content new) (rw at at (is.sweep.swept serves.store.carries.tells)),
           (rw at at is.phase) ∙ ap (λ (n : ℕ). next_phase (n / 64) k.phase) (sym blocks),
         );
         over = λ s serves. tt;
@@ -451,7 +451,7 @@ module _ {D : Type 0} (g : Ghosts D) (old : D) (space : Kept) (names : Listing) 
         ends = λ s serves none. failed core s serves t at;
         still = λ untried. record {
           reads = reads_within g old new 1 4 (omega arith) ((rw at at is.sweep.unless_tried) (untried_too t untried));
-          names = refl;
+          directory = refl;
           space = rw at at is.sweep.kept;
           collector = as_before k l as_it_was;
           finished = refl;
@@ -467,21 +467,21 @@ module _ {D : Type 0} (g : Ghosts D) (old : D) (space : Kept) (names : Listing) 
           untried_too (trouble.Disk tried) h = h
           untried_too (trouble.Damaged damage) h = refl
 
-          caused : (core : Kernel D) (u : Trouble) → IsMapTrouble g old new (64 * cylinder_of k.phase) u → IsCause g (before core) (with_parts core new after names l) None (refused_by u)
+          caused : (core : Kernel D) (u : Trouble) → IsMapTrouble g old new (64 * cylinder_of k.phase) u → IsCause g (before core) (with_parts core new after directory l) None (refused_by u)
           caused core (trouble.Disk tried) h = h
-          caused core (trouble.Damaged damage) h = told_of_map g (before core) (with_parts core new after names l) damage (64 * cylinder_of k.phase) h
+          caused core (trouble.Damaged damage) h = told_of_map g (before core) (with_parts core new after directory l) damage (64 * cylinder_of k.phase) h
 
-          failed : (core : Kernel D) (s : State) → Serves g (before core) s → (t : Trouble) → result ≡ Err t → EndsUnmade g (before core) (with_parts core new after names l) s (refused_by t)
+          failed : (core : Kernel D) (s : State) → CoreServes g (before core) s → (t : Trouble) → result ≡ Err t → EndsUnmade g (before core) (with_parts core new after directory l) s (refused_by t)
           failed core s serves (trouble.Disk false) at =
-              subst (λ (sp : Kept). MovesTo g (before core) (with_parts core new sp names l) s None) (sym (rw at at is.sweep.kept))
-              (stayed g core old space names k s serves l 1 new ((rw at at is.sweep.unless_tried) refl) as_it_was)
+              subst (λ (sp : Kept). MovesTo g (before core) (with_parts core new sp directory l) s None) (sym (rw at at is.sweep.kept))
+              (stayed g core old space directory k s serves l 1 new ((rw at at is.sweep.unless_tried) refl) as_it_was)
           failed core s serves (trouble.Disk true) at =
-              (is.sweep.leaves s _ (served g core old space names k s serves l), record { drawn = serves.front.drawn; names = serves.front.names; grants = serves.front.grants; stopped = serves.front.stopped })
-          failed core s serves (trouble.Damaged damage) at = absurd ((rw at at (is.sweep.sound s _ (served g core old space names k s serves l))) tt)
+              (is.sweep.leaves s _ (served g core old space directory k s serves l), record { drawn = serves.front.drawn; directory = serves.front.directory; grants = serves.front.grants; stopped = serves.front.stopped })
+          failed core s serves (trouble.Damaged damage) at = absurd ((rw at at (is.sweep.sound s _ (served g core old space directory k s serves l))) tt)
 
 -- a step of the marking leaves less
 pub marks_on : (blocks : ℕ) (c : Collections) (k l : Collecting) (step : Step) → k.phase ≡ phases.Marking → l.phase ≡ k.phase → steps_left l < steps_left k → RunsBy step true true
-    → GoesOn blocks (record c { collector = Some k }) (record c { collector = Some l }) step None
+    → LeavesFewer blocks (record c { collector = Some k }) (record c { collector = Some l }) step None
 marks_on blocks c k l step marks phase less by =
     goes_within blocks (record c { collector = Some k }) (record c { collector = Some l }) step None refl refl (ap (λ p. marks_in p || sweeps_in p) marks) (ap (λ p. marks_in p || sweeps_in p) (phase ∙ marks)) by less
     (omega (arith, ap events_left phase))

@@ -1,7 +1,7 @@
 -- Once all is swept, and nothing is open, exactly the blocks of the objects aren't Free beside the maps and the label.
 use Rattle.std.proofs.Common.{◌≡◌, ◌⊎◌, inl, inr, ℕ, [], Bool, true, false, refl, ap, arith}
 use Rattle.cfs_core.proofs.Words.{Accounts, and_from, and_parts, both_ways, entry_in, eq-eqb, false_from_ne_true, free_unplaced, Graph, has_block, ids_of, Image, is_fixed, is_had, is_made, is_meant, is_of_draft, is_of_object, is_placed, IsHeldBy, IsSwept, object_of_block, one_of, one_use, or_cases, owner_of, rises}
-use Rattle.cfs_core.specs.Collect.{IsTidy}
+use Rattle.cfs_core.specs.Collect.{IsTidyVolume}
 
 module _ (image : Image) (g : Graph) (has : Accounts image g []) (up : rises (ids_of g) ≡ true) where
   -- no draft has a block
@@ -21,7 +21,7 @@ module _ (image : Image) (g : Graph) (has : Accounts image g []) (up : rises (id
       let o = object_of_block g up (owner_of (entry_in image n)) two.1 in
       (o.0, o.1, o.2, (has.objects o.0 o.1 o.2).no_other n (and_from _ _ two.0 (eq-eqb o.0.block (owner_of (entry_in image n)) o.3)))
 
-  pub tidy : IsSwept image g → IsTidy image g
+  pub tidy : IsSwept image g → IsTidyVolume image g
   tidy swept = λ n below. (
     λ taken.
         let one = one_use image g [] has up n below in

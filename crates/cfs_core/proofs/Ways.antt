@@ -1,6 +1,6 @@
 -- What refuses a request on its way, and what a table of grants tells of it.
 use Rattle.std.proofs.Common.{◌≡◌, ℕ, List, [], ◌∷◌, ◌++◌, Bool, true, false, cond, not, ◌&&◌, ◌||◌, Option, Some, None, is_some, is_none, refl, sym, ◌∙◌, ap, subst, map, option_map, option_and_then}
-use Rattle.cfs_core.proofs.Words.{AFile, and_parts, AnIndex, Direct, Draft, draft_of, Drafting, drafts_of, Either, FileKind, filter-append, goes_nowhere, goes_through_reading, Grant, grant_found, grant_of, Graph, has_no_such_grant, Index, is_for_reading, is_grant_in, is_open_so, is_unwanted_file, is_unwanted_index, IsState, kind_of, list_all, meets_a_grant, named, Object, object_at, object_of}
+use Rattle.cfs_core.proofs.Words.{AFile, and_parts, AnIndex, Direct, Draft, draft_of, Drafting, drafts_of, Either, FileKind, filter-append, goes_nowhere, goes_through_reading, Grant, grant_found, grant_of, Graph, has_no_such_grant, Index, is_for_reading, is_grant_in, is_open_so, is_unwanted_file, is_unwanted_index, IsState, object_kind, list_all, meets_a_grant, named, Object, object_at, object_of}
 use Rattle.cfs_core.proofs.Words.{open_there, Puid, Ref, refusal_of, Reply, Request, same_puid, same_puid_is, shown, State, target, Through, Wanted}
 use Rattle.cfs_base.specs.declared.kind.FileKind.TheVariants as file_kinds
 use Rattle.open_table.specs.declared.grant.Grant as handles
@@ -82,13 +82,13 @@ module _ (s : State) (who : ℕ) (request : Request) (wants : Wanted) (way : Way
   open_way is = ap first_of (goes_by.each s who) ∙ first_later (on_the_way s who wants way) (once_there s who request) is
 
 -- the kind of what is there tells whether it is wanted
-kind_tells : (wants : Wanted) (o : Object) → first_of ((is_unwanted_file wants (Some o), replies.NotIndex) ∷ (is_unwanted_index wants (Some o), replies.NotFile) ∷ []) ≡ unfit_of wants (Some (kind_of o))
+kind_tells : (wants : Wanted) (o : Object) → first_of ((is_unwanted_file wants (Some o), replies.NotIndex) ∷ (is_unwanted_index wants (Some o), replies.NotFile) ∷ []) ≡ unfit_of wants (Some (object_kind o))
 kind_tells AnIndex (objects.Index i) = refl
 kind_tells AFile (objects.Index i) = refl
 kind_tells Either (objects.Index i) = refl
 kind_tells wants (objects.File f) = at wants f.kind
   where
-    at : (w : Wanted) (k : FileKind) → first_of ((is_unwanted_file w (Some (objects.File f)), replies.NotIndex) ∷ (is_unwanted_index w (Some (objects.File f)), replies.NotFile) ∷ []) ≡ unfit_of w (Some (kind_of (objects.File (record f { kind = k }))))
+    at : (w : Wanted) (k : FileKind) → first_of ((is_unwanted_file w (Some (objects.File f)), replies.NotIndex) ∷ (is_unwanted_index w (Some (objects.File f)), replies.NotFile) ∷ []) ≡ unfit_of w (Some (object_kind (objects.File (record f { kind = k }))))
     at AnIndex file_kinds.Normal = refl
     at AnIndex file_kinds.Special = refl
     at AFile file_kinds.Normal = refl
@@ -147,16 +147,16 @@ module _ (s : State) (who : ℕ) (wants : Wanted) (way : Way) where
     somewhere o (Through t) is there = refl
 
     module _ (also : is_gone s way.also ≡ false) where
-      pub unfit_on_way : (reply : Reply) → unfit_of wants (option_map kind_of (object_at s.graph id)) ≡ Some reply → refusal ≡ Some reply
+      pub unfit_on_way : (reply : Reply) → unfit_of wants (option_map object_kind (object_at s.graph id)) ≡ Some reply → refusal ≡ Some reply
       unfit_on_way reply is = at (object_at s.graph id) refl is
         where
-          at : (o : Option Object) → object_at s.graph id ≡ o → unfit_of wants (option_map kind_of o) ≡ Some reply → refusal ≡ Some reply
+          at : (o : Option Object) → object_at s.graph id ≡ o → unfit_of wants (option_map object_kind o) ≡ Some reply → refusal ≡ Some reply
           at None there h = rw (granted way.to name, nowhere way.to name there) h
           at (Some o) there h = rw (granted way.to name, somewhere o way.to name there, also, named_object, there)
               (first_held ((is_unwanted_file wants (Some o), replies.NotIndex) ∷ (is_unwanted_index wants (Some o), replies.NotFile) ∷ [])
               ((way.changes && goes_through_reading s who way.to, replies.ReadOnly) ∷ (meets_a_grant s way.changes way.to, replies.Locked) ∷ []) reply (kind_tells wants o ∙ h))
 
-      module _ (o : Object) (there : object_at s.graph id ≡ Some o) (fit : unfit_of wants (Some (kind_of o)) ≡ None) where
+      module _ (o : Object) (there : object_at s.graph id ≡ Some o) (fit : unfit_of wants (Some (object_kind o)) ≡ None) where
         -- then the last two conditions are left
         left : refusal ≡ first_of ((way.changes && goes_through_reading s who way.to, replies.ReadOnly) ∷ (meets_a_grant s way.changes way.to, replies.Locked) ∷ [])
         left = rw (granted way.to name, somewhere o way.to name there, also, named_object, there)

@@ -1,9 +1,10 @@
 -- What a call did, however it ended: of one that draws no word, and of one after reads.
-use Rattle.std.proofs.Common.{◌≡◌, ℕ, ◌≤◌, Bool, Result, Ok, Err, Option, Some, refl, ◌∙◌, ap, arith, IfErr, IfOk, List}
+use Rattle.std.proofs.Common.{◌≡◌, ℕ, ◌≤◌, Bool, Result, Ok, Err, Option, Some, refl, ◌∙◌, ap, arith, IfErr, IfOk, List, sum}
 use Rattle.cfs_core.proofs.Words.{Ghosts, HasStopped, IsPlainReply, Kept, MakesAtMost, OnlyReads, Refused, Reply, Request, stopped_after_reads}
 use Rattle.cfs_base.specs.declared.refusal.Refused.TheVariants as refusals
 use Rattle.cfs_base.specs.declared.refusal.Damage.{Damage}
-use Rattle.cfs_core.specs.Calls.{IsCause, Went, done_or}
+use Rattle.cfs_base.specs.declared.refusal.Need.{Need}
+use Rattle.cfs_core.specs.Calls.{IsCause, IsWant, Went, done_or}
 use Rattle.cfs_core.specs.Damage.{IsDamageTold}
 use Rattle.cfs_core.specs.Kernel.{Kernel, Handle}
 use Rattle.cfs_core.proofs.Damages.{told_then}
@@ -20,13 +21,13 @@ fewer_calls g n t m u old new less fewer calls = record {
   no_fewer = calls.no_fewer;
 }
 
--- only a failure of the disk and a damage want a cause
+-- all but want of memory has a cause
 pub cause_of : {D : Type 0} (g : Ghosts D) (old new : Kernel D) (request : Option Request) (e : Refused) → ((tried : Bool) → e ≡ refusals.Disk tried → HasStopped g tried old.disk new.disk) → ((damage : Damage) → e ≡ refusals.Damaged damage → IsDamageTold g old new request damage)
-    → IsCause g old new request e
-cause_of g old new request (refusals.Full need) stopped met = tt
-cause_of g old new request (refusals.Disk tried) stopped met = stopped tried refl
-cause_of g old new request (refusals.Damaged damage) stopped met = met damage refl
-cause_of g old new request refusals.Memory stopped met = tt
+    → ((need : Need) → e ≡ refusals.Full need → IsWant request (sum old.space.free) need) → IsCause g old new request e
+cause_of g old new request (refusals.Full need) stopped met wants = wants need refl
+cause_of g old new request (refusals.Disk tried) stopped met wants = stopped tried refl
+cause_of g old new request (refusals.Damaged damage) stopped met wants = met damage refl
+cause_of g old new request refusals.Memory stopped met wants = tt
 
 module _ {D : Type 0} (g : Ghosts D) (k : Kernel D) (d : D) (space : Kept) (handles : List Handle) (size : g.blocks d ≡ g.blocks k.disk) (faults : g.faults k.disk ≤ g.faults d) (later : g.moment k.disk ≤ g.moment d) (request : Request) where
   abbrev after_it : Kernel D
@@ -47,15 +48,15 @@ module _ {D : Type 0} (g : Ghosts D) (k : Kernel D) (d : D) (space : Kept) (hand
   }
 
   pub went_done : (result : Result (Unit {0}) Refused) → ((tried : Bool) → result ≡ Err (refusals.Disk tried) → HasStopped g tried k.disk d) → ((damage : Damage) → result ≡ Err (refusals.Damaged damage) → IsDamageTold g k after_it (Some request) damage)
-      → Went g k (record k { disk = d; space = space; handles = handles }) request (done_or result)
-  went_done (Ok u) stopped met = went_so (done_or (Ok u)) tt tt
-  went_done (Err e) stopped met = went_so (Err e) tt (cause_of g k after_it (Some request) e (λ tried is. stopped tried (ap (λ x. Err x) is)) (λ damage is. met damage (ap (λ x. Err x) is)))
+      → ((need : Need) → result ≡ Err (refusals.Full need) → IsWant (Some request) (sum k.space.free) need) → Went g k (record k { disk = d; space = space; handles = handles }) request (done_or result)
+  went_done (Ok u) stopped met wants = went_so (done_or (Ok u)) tt tt
+  went_done (Err e) stopped met wants = went_so (Err e) tt (cause_of g k after_it (Some request) e (λ tried is. stopped tried (ap (λ x. Err x) is)) (λ damage is. met damage (ap (λ x. Err x) is)) (λ need is. wants need (ap (λ x. Err x) is)))
 
 -- a call after reads
 module _ {D : Type 0} (g : Ghosts D) (n : ℕ) (old : Kernel D) (d : D) (new : Kernel D) (reads : OnlyReads g n old.disk d) where
   cause_then : (request : Option Request) (r : Result Reply Refused) → IfErr r (IsCause g (record old { disk = d }) new request) → IfErr r (IsCause g old new request)
   cause_then request (Ok reply) is = tt
-  cause_then request (Err (refusals.Full need)) is = tt
+  cause_then request (Err (refusals.Full need)) is = is
   cause_then request (Err (refusals.Disk tried)) is = stopped_after_reads g old.disk d new.disk n tried reads is
   cause_then request (Err (refusals.Damaged damage)) is = told_then g old new n d request damage reads is
   cause_then request (Err refusals.Memory) is = tt

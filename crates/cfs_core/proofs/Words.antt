@@ -21,7 +21,7 @@ pub use Rattle.cfs_recover.specs.Recovered.{IsRecovered}
 pub use Rattle.collector_marks.specs.Kept.{colours_of}
 pub use Rattle.collector_steps.proofs.Shaded.{kind_below}
 pub use Rattle.collector_steps.proofs.Sweeping.{goes_stray, stray_goes}
-pub use Rattle.collector_steps.specs.Collecting.{Collecting, Collects, IsAsBefore, IsCollecting, IsWithin, colours_in, volume_of, waiting_in}
+pub use Rattle.collector_steps.specs.Collecting.{Collecting, Collects, IsAsBefore, IsCollecting, AreStepsWithin, colours_in, volume_of, waiting_in}
 pub use Rattle.collector_steps.specs.Left.{cylinders_of, events_left, left_in, most_steps, reads_left, steps_left}
 pub use Rattle.collector_steps.specs.Scan.{IsDamaged, IsScanTrouble}
 pub use Rattle.collector_steps.specs.Sweep.{IsSweptOf, NoInner, NoStray, goes, is_of_pass, swept}
@@ -30,10 +30,10 @@ pub use Rattle.collector_steps.specs.declared.phase.Phase.{Phase}
 pub use Rattle.collector_steps.specs.declared.sweep.Pass.{Pass}
 pub use Rattle.cyl_alloc.proofs.Counted.{sum_is}
 pub use Rattle.cyl_alloc.specs.Refusals.{IsMapTrouble}
-pub use Rattle.cyl_alloc.specs.Space.{AreCounts, IsLeastFree, Kept, free_entry}
+pub use Rattle.cyl_alloc.specs.Space.{AreCounts, IsLeastFree, Kept, unheld_entry}
 pub use Rattle.cyl_map.specs.Volume.{entry_in, free_from, is_free_entry, is_free_in}
 pub use Rattle.cyl_map.specs.declared.entry.MapEntry.{MapEntry}
-pub use Rattle.file_ops.specs.Changes.{ChangesFile, EndsChange, MayChange, MayLeave, need_for}
+pub use Rattle.file_ops.specs.Changes.{ChangesFile, EndsChange, MayChangeFile, MayLeaveFile, need_for}
 pub use Rattle.file_ops.specs.Files.{IsReadRefusal}
 pub use Rattle.index_ops.specs.Changes.{HasSlot, IsIndexRefusal, PutsSlot, index_with}
 pub use Rattle.index_ops.specs.Creates.{IsOpenMap, PutsObject, made_of, with_made}
@@ -49,31 +49,31 @@ pub use Rattle.marking.proofs.Paces.{pace_change, pace_rescue}
 pub use Rattle.marking.proofs.Wells.{well}
 pub use Rattle.marking.specs.Colours.{Colours}
 pub use Rattle.marking.specs.Marking.{IsMarking}
-pub use Rattle.marking.specs.Meanwhile.{Changes, is_done, rescues_of}
+pub use Rattle.marking.specs.Meanwhile.{Changes, is_carried_out, rescues_of}
 pub use Rattle.marking.specs.Pace.{IsPaced}
 pub use Rattle.marking.specs.declared.memory.Rescue.{Rescue}
 pub use Rattle.normal_files.specs.Standing.{HoldsOfEither, IsPartly}
 pub use Rattle.normal_files.specs.Touched.{leaves_touched, nodes_touched}
-pub use Rattle.open_table.proofs.Lists.{grant_in-first, grants_of-fewer, without_session-none, without_session-without_grant}
-pub use Rattle.open_table.specs.Grants.{collides, conflicts, fault_by, fault_of, few_each, first_of, grant_in, grants_of, is_held, mode_against, mode_in, none_collide, tuids_differ, without_grant}
+pub use Rattle.open_table.proofs.Lists.{session_grant-first, grants_of-fewer, without_session-none, without_session-without_grant}
+pub use Rattle.open_table.specs.Grants.{collides, conflicts, fault_by, fault_of, few_each, first_grant, session_grant, grants_of, is_grant_table, mode_against, open_mode, none_collide, tuids_differ, without_grant}
 pub use Rattle.open_table.specs.Model.{is_writing, shown, table_of}
 pub use Rattle.open_table.specs.declared.fault.AcquireFault.{AcquireFault}
 pub use Rattle.open_table.specs.declared.fault.NoGrant.{NoGrant}
-pub use Rattle.puid_space.proofs.Graphs.{insert_entry-same, keys_of-kinds_in, kind_in-kinds_in, kinds_in-insert_entry}
-pub use Rattle.puid_space.specs.Directory.{Listing, has_root_in, kept_by, kind_in}
+pub use Rattle.puid_space.proofs.Graphs.{insert_entry-same, keys_of-kinds_in, directory_kind-kinds_in, kinds_in-insert_entry}
+pub use Rattle.puid_space.specs.Directory.{Listing, has_root_in, kept_by, directory_kind}
 pub use Rattle.puid_space.specs.Draw.{Draws}
-pub use Rattle.puid_space.specs.Kinds.{kind_of, kinds_of}
+pub use Rattle.puid_space.specs.Kinds.{object_kind, kinds_of}
 pub use Rattle.special_files.proofs.Begun.{begun_fresh, store_reads}
 pub use Rattle.special_files.proofs.CommitDraft.{nothing_made, without_none, without_others}
 pub use Rattle.special_files.proofs.Levels.{length-none}
 pub use Rattle.special_files.proofs.Lists.{differs, first_here, first_others, replaced_others}
 pub use Rattle.special_files.proofs.PutStore.{the_draft}
-pub use Rattle.special_files.specs.Becomes.{Becomes}
+pub use Rattle.special_files.specs.Becomes.{DraftBecomes}
 pub use Rattle.special_files.specs.Committing.{Committed, Dropped, IsOldOrNew}
 pub use Rattle.special_files.specs.Drafting.{Drafting, IsOpen, begun_at, fresh_of, need_beside, opened_as, shadow_need}
-pub use Rattle.special_files.specs.Ends.{Ends}
+pub use Rattle.special_files.specs.Ends.{EndsCall}
 pub use Rattle.block_tree.specs.Reads.{is_damage}
-pub use Rattle.special_files.specs.Refusal.{IsTrouble, is_damaged, is_full_refusal}
+pub use Rattle.special_files.specs.Refusal.{IsDraftTrouble, has_met_damage, is_full_refusal}
 pub use Rattle.special_files.specs.Shed.{Resizes}
 pub use Rattle.special_files.specs.Store.{replaced, without_draft}
 pub use Rattle.std.proofs.Math.Seq.{take-append_seam}
@@ -93,7 +93,7 @@ pub use Rattle.std.specs.Map.{keys_of, lookup, set_value}
 pub use Rattle.std.specs.Ordering.{match_ordering}
 pub use Rattle.survival.proofs.Calls.{call, done, keeps, loose}
 pub use Rattle.survival.specs.Call.{After, Before, Cut, CutInDoubt, Early, InDoubt, Late}
-pub use Rattle.survival.specs.Held.{Fits, HoldsSome}
+pub use Rattle.survival.specs.Held.{FitsDisk, HoldsSome}
 pub use Rattle.ufs_model.proofs.Entries.{insert_entry-there}
 pub use Rattle.ufs_model.proofs.Graphs.{found, index_has_pair, is_there-ids, object_at-with_object, object_at-without, object_there, pair_from_index, rises-with_object, rises-without, sorted_from_rises}
 pub use Rattle.ufs_model.proofs.KeepsStates.{next_keeps, opening_state}

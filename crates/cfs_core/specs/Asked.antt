@@ -4,7 +4,7 @@ use Rattle.cfs_base.specs.Calls.{HasStopped}
 use Rattle.cfs_base.specs.declared.disk.Disk.{Ghosts}
 use Rattle.cfs_base.specs.declared.refusal.Refused.{Refused}
 use Rattle.cfs_base.specs.declared.refusal.Refused.TheVariants as refusals
-use Rattle.marking.specs.Meanwhile.{is_done, rescues_of}
+use Rattle.marking.specs.Meanwhile.{is_carried_out, rescues_of}
 use Rattle.survival.specs.Call.{Survived}
 use Rattle.ufs_model.specs.declared.asked.Event.{Event}
 use Rattle.ufs_model.specs.declared.asked.Event.TheVariants as events
@@ -17,8 +17,8 @@ use Rattle.ufs_model.specs.Outcome.{draws}
 use Rattle.ufs_model.specs.State.{State}
 use Rattle.cfs_core.specs.declared.kernel.Halt.{Halt}
 use Rattle.cfs_core.specs.declared.kernel.Stop.{Stop}
-use Rattle.cfs_core.specs.Calls.{IsAsItWas, Owes, leaves_all}
-use Rattle.cfs_core.specs.Claimed.{Takes}
+use Rattle.cfs_core.specs.Calls.{IsAsItWas, IsWant, Owes, leaves_all}
+use Rattle.cfs_core.specs.Claimed.{TakesForRequest}
 use Rattle.cfs_core.specs.Damage.{IsDamageTold}
 use Rattle.cfs_core.specs.Kernel.{Kernel}
 use Rattle.cfs_core.specs.Left.{AddsOne}
@@ -63,8 +63,8 @@ pub record Happens {D : Type 0} (g : Ghosts D) (old new : Kernel D) (s : State) 
       (lost_blocks (g.content new.disk) after.graph)
 
 -- A device call failed in this call. With a doubt something had been tried, and the moment is the one before that
--- which the disk has now. At a damage a block is outside its table, and the moment is the disk's now. A core that
--- runs tells no stop.
+-- which the disk has now. At a damage a block is outside its table, and the moment is the disk's now. A request that
+-- finds too few blocks tells how many were counted Free. A core that runs tells no stop.
 abbrev pub IsToldCause : {D : Type 0} → Ghosts D → Kernel D → Kernel D → Request → Reply → Type 0
 IsToldCause g old new request (replies.Disk None) = HasStopped g false old.disk new.disk
 IsToldCause g old new request (replies.Disk (Some moment)) =
@@ -72,6 +72,7 @@ IsToldCause g old new request (replies.Disk (Some moment)) =
 IsToldCause g old new request (replies.Damaged damage moment) =
     IsDamageTold g old new (Some request) damage × (moment ≡ g.moment new.disk)
 IsToldCause g old new request (replies.Stopped moment) = ⊥
+IsToldCause g old new request (replies.Full need) = IsWant (Some request) (sum old.space.free) need
 IsToldCause g old new request reply = Unit {0}
 
 pub record Asks {D : Type 0} (g : Ghosts D) (old new : Kernel D) (who : ℕ) (request : Request)
@@ -85,8 +86,8 @@ pub record Asks {D : Type 0} (g : Ghosts D) (old new : Kernel D) (who : ℕ) (re
   pub still : old.stop ≡ None → (s : State) → StandsFor g old s → leaves_all reply ≡ true
       → IsAsItWas g (record old { collections = new.collections }) new
   -- of one that is done each block that it takes is the least-numbered Free one, in the stated order
-  pub taken : old.stop ≡ None → (s : State) → StandsFor g old s → is_done reply ≡ true
-      → Takes old.handles s who request reply (g.content old.disk) (g.content new.disk)
+  pub taken : old.stop ≡ None → (s : State) → StandsFor g old s → is_carried_out reply ≡ true
+      → TakesForRequest old.handles s who request reply (g.content old.disk) (g.content new.disk)
   -- one that stopped makes no call of the disk
   pub stopped : (stop : Stop) → old.stop ≡ Some stop → (new ≡ old) × (reply ≡ replies.Stopped stop.moment)
   -- it stops after a doubt and at a damage alone

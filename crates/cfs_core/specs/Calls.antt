@@ -6,11 +6,12 @@ use Rattle.cfs_base.specs.Disk.{Image}
 use Rattle.cfs_base.specs.Run.{Leaves}
 use Rattle.cfs_base.specs.declared.disk.Disk.{Ghosts}
 use Rattle.cfs_base.specs.declared.identifier.Puid.{Puid}
+use Rattle.cfs_base.specs.declared.refusal.Need.{Need}
 use Rattle.cfs_base.specs.declared.refusal.Refused.{Refused}
 use Rattle.cfs_base.specs.declared.refusal.Refused.TheVariants as refusals
 use Rattle.cyl_alloc.specs.Space.{IsLeastFree}
 use Rattle.cyl_map.specs.Volume.{entry_in}
-use Rattle.marking.specs.Meanwhile.{is_done}
+use Rattle.marking.specs.Meanwhile.{is_carried_out}
 use Rattle.puid_space.specs.Directory.{has_root_in}
 use Rattle.survival.specs.Call.{CallSurvives}
 use Rattle.survival.specs.Held.{HoldsSome}
@@ -33,17 +34,17 @@ use Rattle.ufs_model.specs.Refusal.{refusal_of}
 use Rattle.ufs_model.specs.State.{State}
 use Rattle.vol_image.specs.Survives.{ChangesInPlace, IsBetween, MayName}
 use Rattle.vol_owners.specs.Owner.{is_stray}
-use Rattle.cfs_core.specs.Claimed.{Takes}
-use Rattle.cfs_core.specs.Damage.{IsDamageTold, is_delete}
+use Rattle.cfs_core.specs.Claimed.{TakesForRequest}
+use Rattle.cfs_core.specs.Damage.{IsDamageTold, asks_delete}
 use Rattle.cfs_core.specs.Kernel.{Kernel, grants_in}
-use Rattle.cfs_core.specs.StandsFor.{Serves, Stores}
+use Rattle.cfs_core.specs.StandsFor.{CoreServes, StoresState}
 use Rattle.cfs_core.specs.Ways.{Reaches}
 
 -- ---- replies
 
 -- the request takes blocks, isn't a delete, and more than may be taken
-pub record IsShort (s : State) (who : ℕ) (request : Request) (free : ℕ) : Type 0 where
-  pub delete : is_delete request ≡ false
+pub record IsShortOfBlocks (s : State) (who : ℕ) (request : Request) (free : ℕ) : Type 0 where
+  pub delete : asks_delete request ≡ false
   pub few : free < need_of s who request + reserve
 
 -- the outcome of the definitions, with the least Free block as a new object's root; so many as it takes were Free
@@ -52,13 +53,13 @@ pub record IsDone (seed : ℕ) (s : State) (who : ℕ) (request : Request) (imag
   pub block : ℕ
   pub least : creates request ≡ true → IsLeastFree image block
   pub reply_is : reply ≡ (outcome_of seed s who request block).0
-  pub room : ¬ IsShort s who request free
+  pub room : ¬ IsShortOfBlocks s who request free
 
 -- The reply that is owed where no device call failed and memory is there.
 pub data IsOwed (seed : ℕ) (s : State) (who : ℕ) (request : Request) (image : Image) (free : ℕ)
     (reply : Reply) : Type 0 where
   ByRefusal : refusal_of s who request ≡ Some reply → IsOwed seed s who request image free reply
-  ByWant : refusal_of s who request ≡ None → IsShort s who request free
+  ByWant : refusal_of s who request ≡ None → IsShortOfBlocks s who request free
       → reply ≡ replies.Full (record { free = free; need = need_of s who request })
       → IsOwed seed s who request image free reply
   ByOutcome : refusal_of s who request ≡ None → IsDone seed s who request image free reply
@@ -81,10 +82,10 @@ AddsNoStray a b g h =
 
 -- The event may come in the state, the store has the state after it, and what a crash leaves survives. The collector
 -- isn't told of it yet.
-pub record Makes {D : Type 0} (g : Ghosts D) (old new : Kernel D) (s : State) (e : Event) : Type 0 where
+pub record MakesEvent {D : Type 0} (g : Ghosts D) (old new : Kernel D) (s : State) (e : Event) : Type 0 where
   pub after : State
   pub step : next old.words.seed s e ≡ Some after
-  pub stores : Stores g new after
+  pub stores : StoresState g new after
   pub strays : AddsNoStray (g.content old.disk) (g.content new.disk) s.graph after.graph
   pub survives : CallSurvives g old.words.seed s e old.disk new.disk
 
@@ -106,27 +107,28 @@ pub record IsAsItWas {D : Type 0} (g : Ghosts D) (old new : Kernel D) : Type 0 w
 -- The call answered so.
 pub record Answers {D : Type 0} (g : Ghosts D) (old new : Kernel D) (s : State) (who : ℕ) (request : Request)
     (reply : Reply) : Type 0 where
-  pub event : Makes g old new s (events.Ask who request reply)
+  pub event : MakesEvent g old new s (events.Ask who request reply)
   pub still : leaves_all reply ≡ true → IsAsItWas g old new
   pub owed : Owes old.words.seed s who request (g.content old.disk) (sum old.space.free) reply
-  pub taken : is_done reply ≡ true → Takes old.handles s who request reply (g.content old.disk) (g.content new.disk)
+  pub taken : is_carried_out reply ≡ true → TakesForRequest old.handles s who request reply (g.content old.disk)
+      (g.content new.disk)
 
 -- the objects that may be read of a request which isn't refused: those of before, those of after, or those with a
 -- normal file whose change was cut short
-pub data MayStand (seed : ℕ) (s : State) (who : ℕ) (request : Request) : Graph → Type 0 where
-  Undone : MayStand seed s who request s.graph
-  Whole : (b : ℕ) → MayName s request b → MayStand seed s who request (outcome_of seed s who request b).1.graph
+pub data MayBeRead (seed : ℕ) (s : State) (who : ℕ) (request : Request) : Graph → Type 0 where
+  Undone : MayBeRead seed s who request s.graph
+  Whole : (b : ℕ) → MayName s request b → MayBeRead seed s who request (outcome_of seed s who request b).1.graph
   CutShort : (id : Puid) (old new f : File) → ChangesInPlace s who request id old new → IsBetween old new f
-      → MayStand seed s who request (with_object s.graph id (objects.File f))
+      → MayBeRead seed s who request (with_object s.graph id (objects.File f))
 
 -- The call failed after its first write: what it would have done may have been done, or a part of it.
 pub record IsInDoubt {D : Type 0} (g : Ghosts D) (old new : Kernel D) (s : State) (who : ℕ)
     (request : Request) : Type 0 where
   pub allowed : refusal_of s who request ≡ None
   pub drawn : new.words.drawn ≡ old.words.drawn
-  pub named : new.names ≡ old.names
+  pub named : new.directory ≡ old.directory
   pub grants : grants_in new.handles ≡ grants_in old.handles
-  pub leaves : Leaves g old.disk new.disk (HoldsSome (g.blocks new.disk) (MayStand old.words.seed s who request))
+  pub leaves : Leaves g old.disk new.disk (HoldsSome (g.blocks new.disk) (MayBeRead old.words.seed s who request))
 
 -- how a call ends that tries to answer
 abbrev pub EndsSo : {D : Type 0} → Ghosts D → Kernel D → Kernel D → State → ℕ → Request → Result Reply Refused → Type 0
@@ -137,9 +139,16 @@ EndsSo g old new s who request (Err (refusals.Disk true)) = IsInDoubt g old new 
 EndsSo g old new s who request (Err (refusals.Damaged damage)) = ⊥
 EndsSo g old new s who request (Err refusals.Memory) = Answers g old new s who request replies.Memory
 
--- a device call failed in this call, of a request or of none; or a block that was read is outside its table
+-- a request that isn't a delete finds so many blocks counted Free as it tells, too few beside the last four
+abbrev pub IsWant : Option Request → (free : ℕ) → Need → Type 0
+IsWant None free need = ⊥
+IsWant (Some request) free need =
+    (asks_delete request ≡ false) × (need.free ≡ free) × (need.free < need.need + reserve)
+
+-- a device call failed in this call, of a request or of none; a block that was read is outside its table; or too few
+-- blocks are counted Free
 abbrev pub IsCause : {D : Type 0} → Ghosts D → (old new : Kernel D) → Option Request → Refused → Type 0
-IsCause g old new request (refusals.Full need) = Unit {0}
+IsCause g old new request (refusals.Full need) = IsWant request (sum old.space.free) need
 IsCause g old new request (refusals.Disk tried) = HasStopped g tried old.disk new.disk
 IsCause g old new request (refusals.Damaged damage) = IsDamageTold g old new request damage
 IsCause g old new request refusals.Memory = Unit {0}
@@ -162,16 +171,16 @@ pub record Went {D : Type 0} (g : Ghosts D) (old new : Kernel D) (request : Requ
 -- A call that tries to answer a session's request of a core that hasn't stopped.
 pub record Tries {D : Type 0} (g : Ghosts D) (old new : Kernel D) (who : ℕ) (request : Request)
     (result : Result Reply Refused) : Type 0 where
-  pub ends : (s : State) → Serves g old s → old.stop ≡ None → EndsSo g old new s who request result
+  pub ends : (s : State) → CoreServes g old s → old.stop ≡ None → EndsSo g old new s who request result
   pub went : Went g old new request result
 
 -- The same of a request on a slot that an index has, which has a name.
 pub record TriesOn {D : Type 0} (g : Ghosts D) (old new : Kernel D) (index : Puid) (slot : ℕ) (request : Request)
     (result : Result Reply Refused) : Type 0 where
-  pub ends : (s : State) (who : ℕ) (i : Index) → Serves g old s → old.stop ≡ None
+  pub ends : (s : State) (who : ℕ) (i : Index) → CoreServes g old s → old.stop ≡ None
       → Reaches s who request index (objects.Index i)
       → slot < length i.slots → refusal_of s who request ≡ None → EndsSo g old new s who request result
-  pub went : has_root_in old.names.named index.block ≡ true → Went g old new request result
+  pub went : has_root_in old.directory.named index.block ≡ true → Went g old new request result
 
 -- ---- what a slot holds, as a reply
 

@@ -11,17 +11,18 @@ use Rattle.cfs_base.specs.declared.kind.Place.TheVariants as places
 use Rattle.cfs_base.specs.declared.refusal.Refused.{Refused}
 use Rattle.cfs_base.specs.declared.refusal.Refused.TheVariants as refusals
 use Rattle.cfs_base.specs.declared.refusal.Trouble.{Trouble}
-use Rattle.cyl_alloc.specs.Left.{Left}
+use Rattle.cyl_alloc.specs.Left.{LeftCommit}
 use Rattle.cyl_alloc.specs.Space.{IsLeastFree, Kept, intended}
-use Rattle.file_ops.specs.Changes.{ClaimsFor, IsFileRefusal, MayChange, MayLeave, need_for}
+use Rattle.file_ops.specs.Changes.{ClaimsFor, IsFileRefusal, MayChangeFile, MayLeaveFile, need_for}
 use Rattle.finisher.specs.Going.{Goes, IsLeftTrouble, calls_left, tries_left}
 use Rattle.index_ops.specs.Changes as index
 use Rattle.index_ops.specs.Changes.{HasSlot, IsIndexRefusal, index_with, leaf_and_node}
 use Rattle.index_ops.specs.Creates.{IsOpenMap, with_made}
 use Rattle.intentions.specs.Store.{StoreHas}
+use Rattle.leaf_changes.specs.Tops.{Top, disk_top}
 use Rattle.normal_files.specs.WriteRefusal.{is_untried}
 use Rattle.special_files.specs.Committing.{IsOldOrNew, as_refused, puid_at}
-use Rattle.special_files.specs.Refusal.{is_damaged, is_full_refusal}
+use Rattle.special_files.specs.Refusal.{has_met_damage, is_full_refusal}
 use Rattle.ufs_model.specs.Graph.{Graph, with_object}
 use Rattle.ufs_model.specs.Object.{changed_object}
 use Rattle.ufs_model.specs.declared.change.Change.{Change}
@@ -66,24 +67,24 @@ pub record Stands {D : Type 0} (g : Ghosts D) (graph : Graph) (ds : List Opened)
 
 -- at most these device calls of a change, and those of what it left
 pub record CallsInAll {D : Type 0} (g : Ghosts D) (most most_tries : ℕ) (old new : D) : Type 0 where
-  pub left : Option Left
+  pub left : Option LeftCommit
   pub calls : MakesAtMost g (most + calls_left left) (most_tries + tries_left left) old new
 
 -- ---- a slot
 
 -- A slot of the index at a block gets this.
-pub record FillsSlot {D : Type 0} (g : Ghosts D) (at slot : ℕ) (what : Option Puid) (old new : D)
+pub record FillsIndexSlot {D : Type 0} (g : Ghosts D) (at slot : ℕ) (what : Option Puid) (old new : D)
     (before after : Kept) (result : Result (Unit {0}) Refused) : Type 0 where
   pub done : (graph : Graph) (ds : List Opened) (id : Puid) (i : Index) → HasSlot g graph ds old before at id i slot
       → OnOk result (Stands g (with_object graph id (index_with i slot what)) ds (id.block ∷ []) old new after)
   -- its leaf and that one's node take blocks; or a slot that is empty was to be, and nothing changed
   pub takes : (graph : Graph) (ds : List Opened) (id : Puid) (i : Index) → HasSlot g graph ds old before at id i slot
       → OnOk result (((what ≡ None) × (g.content new ≡ g.content old))
-      ⊎ index.Takes (leaf_and_node (slot / 64) at) at [] (g.content old) (g.content new))
+      ⊎ index.TakesEntries (leaf_and_node (slot / 64) at) at [] (g.content old) (g.content new))
   pub leaves : (graph : Graph) (ds : List Opened) (id : Puid) (i : Index) → HasSlot g graph ds old before at id i slot
       → Leaves g old new (IsOldOrNew graph graph id (index_with i slot what))
   pub sound : (graph : Graph) (ds : List Opened) (id : Puid) (i : Index) → HasSlot g graph ds old before at id i slot
-      → IfErr result (λ e. is_damaged e ≡ false)
+      → IfErr result (λ e. has_met_damage e ≡ false)
   pub refused : IfErr result (IsIndexRefusal g at slot old new after)
   -- before a write or barrier is tried all is as it was
   pub untried : IfErr result (λ e. e ≡ refusals.Disk false → (after ≡ before) × OnlyReads g 9 old new)
@@ -98,7 +99,7 @@ pub record IsPlaced {D : Type 0} (g : Ghosts D) (graph : Graph) (ds : List Opene
     (new : Puid) (made : Object) (old now : D) (space : Kept) : Type 0 where
   pub least : IsLeastFree (g.content old) new.block
   pub stands : Stands g (with_made graph id i slot new made) ds (id.block ∷ new.block ∷ []) old now space
-  pub takes : index.Takes (intended places.Root new.block ∷ leaf_and_node (slot / 64) id.block) id.block
+  pub takes : index.TakesEntries (intended places.Root new.block ∷ leaf_and_node (slot / 64) id.block) id.block
       (new.block ∷ []) (g.content old) (g.content now)
 
 -- A slot of the index at a block gets an object that is made, with this word.
@@ -110,7 +111,7 @@ pub record PlacesObject {D : Type 0} (g : Ghosts D) (at slot : ℕ) (made : Obje
       → Leaves g old new (λ c. Holds c graph ⊎ ((b : ℕ) × IsLeastFree (g.content old) b
       × Holds c (with_made graph id i slot (puid_at b word) made)))
   pub sound : (graph : Graph) (ds : List Opened) (id : Puid) (i : Index) → HasSlot g graph ds old before at id i slot
-      → IfErr result (λ e. is_damaged e ≡ false)
+      → IfErr result (λ e. has_met_damage e ≡ false)
   pub refused : IfErr result (λ e. IsIndexRefusal g at slot old new after e ⊎ IsOpenMap g old before e)
   pub untried : IfErr result (λ e. e ≡ refusals.Disk false → (after ≡ before) × OnlyReads g 9 old new)
   pub cylinders : length after.free ≡ length before.free
@@ -119,7 +120,7 @@ pub record PlacesObject {D : Type 0} (g : Ghosts D) (at slot : ℕ) (made : Obje
 -- ---- a file
 
 -- how it ends on any disk
-pub record EndsAltered {D : Type 0} (g : Ghosts D) (at : ℕ) (kind : FileKind) (floor : ℕ) (change : Change)
+pub record EndsAltered {D : Type 0} (g : Ghosts D) (at : Top) (kind : FileKind) (floor : ℕ) (change : Change)
     (old new : D) (before after : Kept) (result : Result (Unit {0}) Refused) : Type 0 where
   pub refused : IfErr result (IsFileRefusal g at kind floor change old new after)
   pub untried : IfErr result (λ e. is_untried e ≡ true → (after ≡ before) × OnlyReads g 31093 old new)
@@ -130,25 +131,25 @@ pub record EndsAltered {D : Type 0} (g : Ghosts D) (at : ℕ) (kind : FileKind) 
 pub record AltersFile {D : Type 0} (g : Ghosts D) (at : ℕ) (kind : FileKind) (floor : ℕ) (change : Change)
     (old new : D) (before after : Kept) (result : Result (Unit {0}) Refused) : Type 0 where
   pub done : (graph : Graph) (ds : List Opened) (id : Puid) (f : File)
-      → MayChange g at kind change graph ds id f old before
+      → MayChangeFile g at kind change graph ds id f old before
       → OnOk result (Stands g (with_object graph id (changed_object change (objects.File f))) ds (id.block ∷ [])
       old new after)
   pub order : (graph : Graph) (ds : List Opened) (id : Puid) (f : File)
-      → MayChange g at kind change graph ds id f old before
+      → MayChangeFile g at kind change graph ds id f old before
       → OnOk result (ClaimsFor kind change at f (g.content old) (g.content new))
   pub leaves : (graph : Graph) (ds : List Opened) (id : Puid) (f : File)
-      → MayChange g at kind change graph ds id f old before → Leaves g old new (MayLeave kind change graph id f)
+      → MayChangeFile g at kind change graph ds id f old before → Leaves g old new (MayLeaveFile kind change graph id f)
   pub room : (graph : Graph) (ds : List Opened) (id : Puid) (f : File)
-      → MayChange g at kind change graph ds id f old before
+      → MayChangeFile g at kind change graph ds id f old before
       → OnOk result (need_for kind change f + floor ≤ sum before.free)
   pub full : (graph : Graph) (ds : List Opened) (id : Puid) (f : File)
-      → MayChange g at kind change graph ds id f old before → IfErr result (λ e. is_full_refusal e ≡ true →
+      → MayChangeFile g at kind change graph ds id f old before → IfErr result (λ e. is_full_refusal e ≡ true →
       (e ≡ refusals.Full (record { free = sum before.free; need = need_for kind change f }))
       × (sum before.free < need_for kind change f + floor))
   -- where a write was tried they were, or the file stayed as it was
   pub begun : (graph : Graph) (ds : List Opened) (id : Puid) (f : File)
-      → MayChange g at kind change graph ds id f old before → IfErr result (λ e. e ≡ refusals.Disk true →
+      → MayChangeFile g at kind change graph ds id f old before → IfErr result (λ e. e ≡ refusals.Disk true →
       (need_for kind change f + floor ≤ sum before.free) ⊎ Leaves g old new (λ c. Holds c graph))
   pub sound : (graph : Graph) (ds : List Opened) (id : Puid) (f : File)
-      → MayChange g at kind change graph ds id f old before → IfErr result (λ e. is_damaged e ≡ false)
-  pub ends : EndsAltered g at kind floor change old new before after result
+      → MayChangeFile g at kind change graph ds id f old before → IfErr result (λ e. has_met_damage e ≡ false)
+  pub ends : EndsAltered g (disk_top g at old) kind floor change old new before after result

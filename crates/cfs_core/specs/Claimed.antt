@@ -117,7 +117,7 @@ commits_alone s who (asks.Resize file size) = is_beside s who file
 commits_alone s who request = false
 
 -- From image a to image b the blocks are taken that the request takes, and the shadow root of its own commit last.
-pub record Takes (handles : List Handle) (s : State) (who : ℕ) (request : Request) (reply : Reply)
+pub record TakesForRequest (handles : List Handle) (s : State) (who : ℕ) (request : Request) (reply : Reply)
     (a b : Image) : Type 0 where
   pub order : ClaimsInOrder (claims_for handles s who request reply) (owners_of s who request reply) a b
   pub shadow : commits_alone s who request ≡ true → TakesShadow (root_reached s who (target request)) order.mid b

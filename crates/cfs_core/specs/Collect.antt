@@ -43,11 +43,11 @@ use Rattle.cfs_core.specs.declared.kernel.Stop.{Stop}
 use Rattle.cfs_core.specs.Asked.{Happens}
 use Rattle.cfs_core.specs.Calls.{IsCause}
 use Rattle.cfs_core.specs.Damage.{IsDamageTold}
-use Rattle.cfs_core.specs.Kernel.{AreKept, Kernel, runs}
-use Rattle.cfs_core.specs.Left.{GoesOn}
+use Rattle.cfs_core.specs.Kernel.{AreCollections, Kernel, collection_runs}
+use Rattle.cfs_core.specs.Left.{LeavesFewer}
 use Rattle.cfs_core.specs.Rescues.{AreRescued}
 use Rattle.cfs_core.specs.Room.{MayLoseBy, lost_blocks}
-use Rattle.cfs_core.specs.StandsFor.{IsFront, Serves, StandsFor}
+use Rattle.cfs_core.specs.StandsFor.{IsFront, CoreServes, StandsFor}
 use Rattle.cfs_core.specs.Sweeping.{FreesStrays}
 
 -- ---- which step is due: the first that fits
@@ -60,23 +60,23 @@ sweeps_blocks (phases.Roots cylinder) = true
 sweeps_blocks phases.Swept = false
 
 -- of a collection that runs
-abbrev pub IsNext : Collecting → Step → Type 0
-IsNext k steps.Idle = ⊥
-IsNext k steps.Began = ⊥
-IsNext k steps.Took = (k.phase ≡ phases.Marking) × ¬ (waiting_in k ≡ [])
-IsNext k steps.Scanned = (k.phase ≡ phases.Marking) × (waiting_in k ≡ []) × ¬ (k.marks.grey ≡ [])
-IsNext k (steps.Condemned ids) = (k.phase ≡ phases.Marking) × (waiting_in k ≡ []) × (k.marks.grey ≡ [])
-IsNext k steps.Swept = sweeps_blocks k.phase ≡ true
-IsNext k steps.Finished = k.phase ≡ phases.Swept
+abbrev pub IsNextStep : Collecting → Step → Type 0
+IsNextStep k steps.Idle = ⊥
+IsNextStep k steps.Began = ⊥
+IsNextStep k steps.Took = (k.phase ≡ phases.Marking) × ¬ (waiting_in k ≡ [])
+IsNextStep k steps.Scanned = (k.phase ≡ phases.Marking) × (waiting_in k ≡ []) × ¬ (k.marks.grey ≡ [])
+IsNextStep k (steps.Condemned ids) = (k.phase ≡ phases.Marking) × (waiting_in k ≡ []) × (k.marks.grey ≡ [])
+IsNextStep k steps.Swept = sweeps_blocks k.phase ≡ true
+IsNextStep k steps.Finished = k.phase ≡ phases.Swept
 
 abbrev pub IsNextOf : Option Collecting → Step → Type 0
 IsNextOf None step = ⊥
-IsNextOf (Some k) step = IsNext k step
+IsNextOf (Some k) step = IsNextStep k step
 
-abbrev pub IsDue : Collections → Step → Type 0
-IsDue c steps.Idle = (runs c.collector ≡ false) × (c.finished ≡ c.called)
-IsDue c steps.Began = (runs c.collector ≡ false) × (c.finished < c.called)
-IsDue c step = IsNextOf c.collector step
+abbrev pub IsDueStep : Collections → Step → Type 0
+IsDueStep c steps.Idle = (collection_runs c.collector ≡ false) × (c.finished ≡ c.called)
+IsDueStep c steps.Began = (collection_runs c.collector ≡ false) × (c.finished < c.called)
+IsDueStep c step = IsNextOf c.collector step
 
 -- ---- what it is as an event
 
@@ -106,7 +106,7 @@ told_as (Ok u) = Ok steps.Swept
 told_as (Err t) = Err (refused_by t)
 
 -- A collection has begun: whatever the state, if these are its starts and its identifiers.
-pub record HasBegun (roots : List Puid) (named : List (Puid × Kind)) (l : Collecting) : Type 0 where
+pub record HasBegunCollection (roots : List Puid) (named : List (Puid × Kind)) (l : Collecting) : Type 0 where
   pub phase : l.phase ≡ phases.Marking
   pub steps : l.steps ≡ 1
   pub added : l.added ≡ 0
@@ -121,7 +121,7 @@ pub record HasBegun (roots : List Puid) (named : List (Puid × Kind)) (l : Colle
 pub record MovesTo {D : Type 0} (g : Ghosts D) (old new : Kernel D) (s : State) (e : Option Event) : Type 0 where
   pub after : State
   pub comes : ComesBy s e after
-  pub serves : Serves g new after
+  pub serves : CoreServes g new after
   pub leaves : Leaves g old.disk new.disk (λ c. Holds c s.graph)
   pub lost : MayLoseBy e s.graph after.graph (lost_blocks (g.content old.disk) s.graph)
       (lost_blocks (g.content new.disk) after.graph)
@@ -169,8 +169,8 @@ SweepsNext g old new s step = Unit {0}
 -- ---- once a collection is over
 
 -- Beside the maps and the label exactly the blocks of the objects aren't Free.
-abbrev pub IsTidy : Image → Graph → Type 0
-IsTidy image graph =
+abbrev pub IsTidyVolume : Image → Graph → Type 0
+IsTidyVolume image graph =
     (n : ℕ) → n < length image → (is_free_in image n ≡ false) ↔ ((is_fixed n ≡ true) ⊎ IsHeldBy image graph n)
 
 -- It took no more steps than one for each block and each rescue, two for each cylinder, and three; as long as rescues
@@ -182,7 +182,7 @@ IsBounded blocks c =
 -- and where nothing is open the volume is tidy
 abbrev pub IsOver : {D : Type 0} → Ghosts D → Kernel D → Kernel D → State → Step → Type 0
 IsOver g old new s steps.Finished =
-    IsBounded (g.blocks new.disk) new.collections × (new.handles ≡ [] → IsTidy (g.content new.disk) s.graph)
+    IsBounded (g.blocks new.disk) new.collections × (new.handles ≡ [] → IsTidyVolume (g.content new.disk) s.graph)
 IsOver g old new s step = Unit {0}
 
 -- ---- a refusal with nothing tried
@@ -190,7 +190,7 @@ IsOver g old new s step = Unit {0}
 -- all but room is as it was
 pub record IsUnchanged {D : Type 0} (g : Ghosts D) (old new : Kernel D) : Type 0 where
   pub reads : OnlyReads g 4 old.disk new.disk
-  pub names : new.names ≡ old.names
+  pub directory : new.directory ≡ old.directory
   pub space : new.space ≡ old.space
   pub collector : AreRescued old.collections.collector new.collections.collector []
   pub finished : new.collections.finished ≡ old.collections.finished
@@ -198,52 +198,62 @@ pub record IsUnchanged {D : Type 0} (g : Ghosts D) (old new : Kernel D) : Type 0
 -- ---- a call that tries to make a step of a core, on any disk
 
 -- the first that is due was made
-pub record IsMade {D : Type 0} (g : Ghosts D) (old new : Kernel D) (step : Step) : Type 0 where
-  pub moves : (s : State) → Serves g old s → old.stop ≡ None → MovesTo g old new s (event_of step)
-  pub due : IsDue old.collections step
+pub record IsStepMade {D : Type 0} (g : Ghosts D) (old new : Kernel D) (step : Step) : Type 0 where
+  pub moves : (s : State) → CoreServes g old s → old.stop ≡ None → MovesTo g old new s (event_of step)
+  pub due : IsDueStep old.collections step
   pub counted : AreCounted old.collections new.collections step
-  pub sweeps : (s : State) → Serves g old s → SweepsNext g old new s step
-  pub over : (s : State) → Serves g old s → IsOver g old new s step
-  pub goes : AreKept (g.blocks old.disk) old.collections
-      → GoesOn (g.blocks old.disk) old.collections new.collections step (event_of step)
+  pub sweeps : (s : State) → CoreServes g old s → SweepsNext g old new s step
+  pub over : (s : State) → CoreServes g old s → IsOver g old new s step
+  pub goes : AreCollections (g.blocks old.disk) old.collections
+      → LeavesFewer (g.blocks old.disk) old.collections new.collections step (event_of step)
 
 -- none was
 pub record IsUnmade {D : Type 0} (g : Ghosts D) (old new : Kernel D) (e : Refused) : Type 0 where
-  pub ends : (s : State) → Serves g old s → old.stop ≡ None → EndsUnmade g old new s e
+  pub ends : (s : State) → CoreServes g old s → old.stop ≡ None → EndsUnmade g old new s e
   pub still : had_tried e ≡ false → IsUnchanged g old new
   pub cause : IsCause g old new None e
-  pub wants : is_starved e ≡ true → IsDue old.collections steps.Began
+  pub wants : is_starved e ≡ true → IsDueStep old.collections steps.Began
 
 abbrev pub IsMadeOrNot : {D : Type 0} → Ghosts D → Kernel D → Kernel D → Result Step Refused → Type 0
-IsMadeOrNot g old new (Ok step) = IsMade g old new step
+IsMadeOrNot g old new (Ok step) = IsStepMade g old new step
 IsMadeOrNot g old new (Err e) = IsUnmade g old new e
 
 -- only the collector moves, and what it moves
 abbrev pub moved_to : {D : Type 0} → Kernel D → D → Kept → Listing → Collections → Kernel D
-moved_to k disk space names c =
-    record k { disk = disk; space = space; names = names; collections = record c { called = k.collections.called } }
+moved_to k disk space directory c =
+    record k {
+      disk = disk;
+      space = space;
+      directory = directory;
+      collections = record c { called = k.collections.called };
+    }
 
 pub record TriesStep {D : Type 0} (g : Ghosts D) (old new : Kernel D) (result : Result Step Refused) : Type 0 where
   pub ends : IsMadeOrNot g old new result
   pub calls : MakesAtMost g 4 1 old.disk new.disk
-  pub same : new ≡ moved_to old new.disk new.space new.names new.collections
+  pub same : new ≡ moved_to old new.disk new.space new.directory new.collections
 
 -- the core with these parts
 abbrev pub with_parts : {D : Type 0} → Kernel D → D → Kept → Listing → Collecting → Kernel D
-with_parts k disk space names l =
-    record k { disk = disk; space = space; names = names; collections = record k.collections { collector = Some l } }
+with_parts k disk space directory l =
+    record k {
+      disk = disk;
+      space = space;
+      directory = directory;
+      collections = record k.collections { collector = Some l };
+    }
 
 -- The same of these parts of any core, with a collection that runs, and runs on.
-pub record StepsSo {D : Type 0} (g : Ghosts D) (old new : D) (before after : Kept) (names left : Listing)
+pub record StepsSo {D : Type 0} (g : Ghosts D) (old new : D) (before after : Kept) (directory left : Listing)
     (k l : Collecting)
     (result : Result Step Refused) : Type 0 where
   pub tries : (core : Kernel D)
-      → TriesStep g (with_parts core old before names k) (with_parts core new after left l) result
+      → TriesStep g (with_parts core old before directory k) (with_parts core new after left l) result
   pub size : g.blocks new ≡ g.blocks old
-  pub runs : runs (Some l) ≡ true
+  pub runs : collection_runs (Some l) ≡ true
   pub volume : volume_of l ≡ volume_of k
-  pub room : left.room ≡ names.room
-  pub some : has_root_in names.named 0 ≡ false → has_root_in left.named 0 ≡ false
+  pub room : left.room ≡ directory.room
+  pub some : has_root_in directory.named 0 ≡ false → has_root_in left.named 0 ≡ false
   pub cylinders : length after.free ≡ length before.free
   pub commit : after.left ≡ before.left
 
@@ -275,13 +285,13 @@ HappensOrRests g old new s None = Rests g old new s
 HappensOrRests g old new s (Some e) = Happens g old new s e
 
 -- A step is one event or none, and one at which the core stops is told as such.
-abbrev pub IsStep : {D : Type 0} → Ghosts D → Kernel D → Kernel D → State → Result Step CollectFault → Type 0
-IsStep g old new s (Ok step) = HappensOrRests g old new s (event_of step)
-IsStep g old new s (Err faults.Memory) = Rests g old new s
-IsStep g old new s (Err (faults.Disk None)) = Rests g old new s
-IsStep g old new s (Err (faults.Disk (Some moment))) = Happens g old new s (events.Halted moment)
-IsStep g old new s (Err (faults.Damaged damage moment)) = Happens g old new s (events.Halted moment)
-IsStep g old new s (Err (faults.Stopped moment)) = new ≡ old
+abbrev pub IsCollectStep : {D : Type 0} → Ghosts D → Kernel D → Kernel D → State → Result Step CollectFault → Type 0
+IsCollectStep g old new s (Ok step) = HappensOrRests g old new s (event_of step)
+IsCollectStep g old new s (Err faults.Memory) = Rests g old new s
+IsCollectStep g old new s (Err (faults.Disk None)) = Rests g old new s
+IsCollectStep g old new s (Err (faults.Disk (Some moment))) = Happens g old new s (events.Halted moment)
+IsCollectStep g old new s (Err (faults.Damaged damage moment)) = Happens g old new s (events.Halted moment)
+IsCollectStep g old new s (Err (faults.Stopped moment)) = new ≡ old
 
 -- A device call failed; with a doubt the moment is the one before that which the disk has now. At a damage a
 -- block is outside its table, and the moment is the disk's now.
@@ -311,12 +321,13 @@ IsNoDamage (faults.Damaged damage moment) = ⊥
 IsNoDamage (faults.Stopped moment) = ⊥
 
 -- A step that was asked for.
-pub record Collects {D : Type 0} (g : Ghosts D) (old new : Kernel D) (result : Result Step CollectFault) : Type 0 where
-  pub event : (s : State) → StandsFor g old s → IsStep g old new s result
+pub record CollectsStep {D : Type 0} (g : Ghosts D) (old new : Kernel D)
+    (result : Result Step CollectFault) : Type 0 where
+  pub event : (s : State) → StandsFor g old s → IsCollectStep g old new s result
   -- one that stopped makes no call of the disk
   pub stopped : (stop : Stop) → old.stop ≡ Some stop → (new ≡ old) × (result ≡ Err (faults.Stopped stop.moment))
   -- the first that fits
-  pub due : IfOk result (IsDue old.collections)
+  pub due : IfOk result (IsDueStep old.collections)
   pub counted : IfOk result (AreCounted old.collections new.collections)
   -- one that swept freed exactly the strays of its pass in one cylinder, the next, and changed no other block
   pub sweeps : IfOk result (λ step. (s : State) → StandsFor g old s → SweepsNext g old new s step)
@@ -330,11 +341,11 @@ pub record Collects {D : Type 0} (g : Ghosts D) (old new : Kernel D) (result : R
   pub goes_on : IfOk result (λ step. new.stop ≡ old.stop)
   pub cause : IfErr result (IsFaultCause g old new)
   -- memory is wanted where a collection would begin, and nowhere else: one that began comes to its end
-  pub wants : result ≡ Err faults.Memory → IsDue old.collections steps.Began
+  pub wants : result ≡ Err faults.Memory → IsDueStep old.collections steps.Began
   pub calls : MakesAtMost g 4 1 old.disk new.disk
   pub root : new.root ≡ old.root
   pub words : new.words ≡ old.words
   pub handles : new.handles ≡ old.handles
   -- whatever disk it is, less is left to do
   pub goes : IfOk result (λ step.
-      GoesOn (g.blocks old.disk) old.collections new.collections step (event_of step))
+      LeavesFewer (g.blocks old.disk) old.collections new.collections step (event_of step))

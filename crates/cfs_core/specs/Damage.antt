@@ -5,15 +5,18 @@ use Rattle.cfs_base.specs.Disk.{Image, block_at}
 use Rattle.cfs_base.specs.Run.{Tells}
 use Rattle.cfs_base.specs.declared.disk.Disk.{Ghosts}
 use Rattle.cfs_base.specs.declared.refusal.Damage.{Damage}
+use Rattle.block_tree.specs.Pointers.{node_pointers}
 use Rattle.block_tree.specs.Root.{IsRootBlock}
 use Rattle.block_tree.specs.declared.root.Root.{Root}
 use Rattle.collector_steps.specs.Collecting.{Collecting, colours_in}
 use Rattle.collector_steps.specs.Scan.{LeadsPast}
-use Rattle.cyl_alloc.specs.Space.{AreCounts, IsBadMap}
-use Rattle.cyl_map.specs.Volume.{is_free_in}
+use Rattle.cyl_alloc.specs.Space.{AreCounts, IsBadMap, IsMiscounted}
+use Rattle.cyl_map.specs.Volume.{is_free_in, map_of}
+use Rattle.leaf_changes.specs.Tops.{IsFarBlock}
 use Rattle.marking.specs.Colours.{first_grey}
 use Rattle.marking.specs.declared.memory.Grey.{Grey}
 use Rattle.puid_space.specs.Directory.{has_root_in}
+use Rattle.special_files.specs.Committing.{IsFarPart}
 use Rattle.special_files.specs.Drafting.{Drafting}
 use Rattle.special_files.specs.Refusal.{IsFarNode}
 use Rattle.ufs_model.specs.declared.asked.Request.{Request}
@@ -43,7 +46,7 @@ bytes_wanted (Some (asks.Resize file size)) = 0
 pub data IsOutside (Told : Type 0) (image : Image) (size : ℕ) (IsRoot : ℕ → Type 0) (bytes : ℕ)
     (damage : Damage) : Type 0 where
   -- an entry of a map is none
-  NoEntry : damage.code ≡ no_entry → (Told → IsBadMap image damage.block)
+  NoEntry : damage.code ≡ no_entry → damage.block ≡ map_of damage.block → (Told → IsBadMap image damage.block)
       → IsOutside Told image size IsRoot bytes damage
   -- no root of so many bytes
   NoRoot : damage.code ≡ no_root → IsRoot damage.block
@@ -52,8 +55,9 @@ pub data IsOutside (Told : Type 0) (image : Image) (size : ℕ) (IsRoot : ℕ �
   -- a node that has a pointer past the disk
   FarNode : damage.code ≡ past_disk → (Told → IsFarNode size image damage.block)
       → IsOutside Told image size IsRoot bytes damage
-  -- a root that has, on the disk or of a draft
-  FarRoot : damage.code ≡ past_disk → IsRoot damage.block → IsOutside Told image size IsRoot bytes damage
+  -- a root that the disk has
+  FarRoot : damage.code ≡ past_disk → IsRoot damage.block
+      → (Told → IsFarBlock size image node_pointers damage.block) → IsOutside Told image size IsRoot bytes damage
   -- a block of the tree of a root that has
   FarBelow : damage.code ≡ past_disk → (at : ℕ) → IsRoot at → (Told → LeadsPast image size at damage.block)
       → IsOutside Told image size IsRoot bytes damage
@@ -71,17 +75,21 @@ IsOfGrey k at = (c : Collecting) × (e : Grey) × (k.collections.collector ≡ S
 -- of a grey index, and where a session leaves that of one that has a draft.
 abbrev pub IsRootHere : {D : Type 0} → Kernel D → Option Request → ℕ → Type 0
 IsRootHere k None at = IsOfDraft k at ⊎ IsOfGrey k at
-IsRootHere k (Some request) at = (has_root_in k.names.named at ≡ true) ⊎ IsOfDraft k at
+IsRootHere k (Some request) at = (has_root_in k.directory.named at ≡ true) ⊎ IsOfDraft k at
 
-abbrev pub is_delete : Request → Bool
-is_delete (asks.Delete index slot) = true
-is_delete request = false
+abbrev pub asks_delete : Request → Bool
+asks_delete (asks.Delete index slot) = true
+asks_delete request = false
 
--- fewer blocks were counted Free than a delete takes; of all other calls none is left
+abbrev pub is_set_size : Request → Bool
+is_set_size (asks.Resize file size) = true
+is_set_size request = false
+
+-- fewer blocks were counted Free than a delete takes, or none is left after a resize
 abbrev pub FindsFew : Option Request → (before after : ℕ) → Type 0
-FindsFew None before after = after ≡ 0
+FindsFew None before after = ⊥
 FindsFew (Some request) before after =
-    ((is_delete request ≡ true) × (before < 3)) ⊎ ((is_delete request ≡ false) × (after ≡ 0))
+    ((asks_delete request ≡ true) × (before < 3)) ⊎ ((is_set_size request ≡ true) × (after ≡ 0))
 
 -- A damage that is met in a call, in a request or in none. Where the disk tells its content, it is so in what the disk
 -- had before the call or has after it.
@@ -95,12 +103,17 @@ pub data IsDamageTold {D : Type 0} (g : Ghosts D) (old new : Kernel D) (request 
   OpenMap : damage.code ≡ no_entry → damage.block ≡ 0 → (Tells g old.disk → AreCounts (g.content old.disk) old.space
       → (is_free_in (g.content old.disk) 0 ≡ true) ⊎ (is_free_in (g.content new.disk) 0 ≡ true))
       → IsDamageTold g old new request damage
-  -- a map doesn't have so many Free blocks as were counted
-  OtherCount : damage.code ≡ other_count → (Tells g old.disk → ¬ AreCounts (g.content new.disk) new.space)
+  -- a map has no Free block, where some of its blocks are counted Free
+  OtherCount : damage.code ≡ other_count → IsMiscounted (Tells g old.disk) (g.content new.disk) new.space damage.block
+      → IsDamageTold g old new request damage
+  -- a draft leads past the disk, as it is in memory: by its object's root, its own, its shadow root or what it makes
+  FarDraft : damage.code ≡ past_disk → (draw : ℕ) (was : Drafting) → drafting_at old.handles draw ≡ Some was
+      → damage.block ≡ was.at → IsFarPart (g.blocks new.disk) was.shadow was.own was.root was.created
       → IsDamageTold g old new request damage
   -- a Free block was taken for a new object that is the root of one, or none of the disk's
   NotOwned : (made : Request) → request ≡ Some made → creates made ≡ true → damage.code ≡ not_owned
-      → (damage.block ≡ 0) ⊎ ((g.blocks old.disk ≤ damage.block) ⊎ (has_root_in old.names.named damage.block ≡ true))
+      → (damage.block ≡ 0)
+      ⊎ ((g.blocks old.disk ≤ damage.block) ⊎ (has_root_in old.directory.named damage.block ≡ true))
       → IsDamageTold g old new request damage
   FewLeft : damage.code ≡ too_full → damage.block ≡ 0 → FindsFew request (sum old.space.free) (sum new.space.free)
       → IsDamageTold g old new request damage

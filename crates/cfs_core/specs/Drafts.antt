@@ -13,11 +13,11 @@ use Rattle.cfs_base.specs.declared.refusal.Trouble.TheVariants as troubles
 use Rattle.cyl_alloc.specs.Space.{Kept}
 use Rattle.intentions.specs.Store.{StoreHas}
 use Rattle.open_table.specs.declared.grant.Grant.{Grant}
-use Rattle.open_table.specs.Grants.{grant_in}
-use Rattle.special_files.specs.Becomes.{Becomes}
-use Rattle.special_files.specs.Committing.{AbortEnds, CommitEnds}
+use Rattle.open_table.specs.Grants.{session_grant}
+use Rattle.special_files.specs.Becomes.{DraftBecomes}
+use Rattle.special_files.specs.Committing.{AbortEnds, CommitEnds, draft_top}
 use Rattle.special_files.specs.Drafting.{Drafting, IsOpen, need_beside}
-use Rattle.special_files.specs.Refusal.{IsRefusal, IsTrouble, is_damaged, is_full_refusal}
+use Rattle.special_files.specs.Refusal.{IsDraftRefusal, IsDraftTrouble, has_met_damage, is_full_refusal, top_of}
 use Rattle.ufs_model.specs.declared.change.Change.{Change}
 use Rattle.ufs_model.specs.declared.object.Draft.{Draft}
 use Rattle.ufs_model.specs.declared.object.File.{File}
@@ -36,7 +36,7 @@ use Rattle.cfs_core.specs.Claimed.{ClaimsInOrder, claims_in_draft}
 -- the session has the grant, and it has a draft
 pub record IsDrafted {D : Type 0} (k : Kernel D) (who : ℕ) (t : Tuid) : Type 0 where
   pub grant : Grant
-  pub found : grant_in (grants_in k.handles) who t ≡ Some grant
+  pub found : session_grant (grants_in k.handles) who t ≡ Some grant
   pub drafting : Drafting
   pub has : drafting_at k.handles t.draw ≡ Some drafting
 
@@ -50,12 +50,11 @@ pub record KnowsDraft {D : Type 0} (g : Ghosts D) (graph : Graph) (ds : List Ope
   pub file : File
   pub is_file : d.object ≡ objects.File file
 
--- A draft that the store has is changed so, beside the last four blocks: done, it is the model's, and where it is Full
--- all is as it was.
+-- A draft that the store has is changed so, beside the last four blocks: done, it is the model's.
 pub record AltersDraft {D : Type 0} (g : Ghosts D) (change : Change) (graph : Graph) (ds : List Opened) (id : Puid)
     (d : Draft)
     (old new : D) (before after : Kept) (was now : Drafting) (result : Result (Unit {0}) Refused) : Type 0 where
-  pub done : OnOk result (Becomes g graph ds id (changed_draft change d) old new after now)
+  pub done : OnOk result (DraftBecomes g graph ds id (changed_draft change d) old new after now)
   pub room : OnOk result (need_beside change d was + reserve ≤ sum before.free)
   -- in their order
   pub order : OnOk result (ClaimsInOrder (claims_in_draft change d was) (id.block ∷ []) (g.content old) (g.content new))
@@ -63,17 +62,17 @@ pub record AltersDraft {D : Type 0} (g : Ghosts D) (change : Change) (graph : Gr
   pub full : IfErr result (λ e. is_full_refusal e ≡ true
       → (e ≡ refusals.Full (record { free = sum before.free; need = need_beside change d was }))
       × (sum before.free < need_beside change d was + reserve))
-  pub spared : IfErr result (λ e. is_full_refusal e ≡ true → OnlyReads g 31092 old new × (after ≡ before) × (now ≡ was))
-  pub sound : IfErr result (λ e. is_damaged e ≡ false)
+  pub sound : IfErr result (λ e. has_met_damage e ≡ false)
 
--- And of any draft, on any disk: where a call failed before anything was tried, all is as it was.
+-- And of any draft, on any disk: where it is Full, or a call failed before anything was tried, all is as it was.
 pub record ChangesDraft {D : Type 0} (g : Ghosts D) (change : Change) (old new : D) (before after : Kept)
     (was now : Drafting)
     (result : Result (Unit {0}) Refused) : Type 0 where
   pub alters : (graph : Graph) (ds : List Opened) (id : Puid) (d : Draft) → KnowsDraft g graph ds old before id was d
       → AltersDraft g change graph ds id d old new before after was now result
   pub untried : IfErr result (λ e. e ≡ refusals.Disk false → OnlyReads g 31092 old new × (after ≡ before) × (now ≡ was))
-  pub refused : IfErr result (IsRefusal g was.at reserve old new after)
+  pub spared : IfErr result (λ e. is_full_refusal e ≡ true → OnlyReads g 31092 old new × (after ≡ before) × (now ≡ was))
+  pub refused : IfErr result (IsDraftRefusal g (top_of was) reserve old new after)
   pub at : now.at ≡ was.at
   pub shadow : now.shadow ≡ was.shadow
   pub created : now.created ≡ was.created
@@ -96,7 +95,7 @@ pub record EndsDraft {D : Type 0} (g : Ghosts D) (commit : Bool) (was : Drafting
       → object_at graph id ≡ Some o → IsOpen ds id was d → DraftEnds g commit graph ds id d was old new after result
   -- one that fails had tried something
   pub tried : IfErr result (λ t. t ≢ troubles.Disk false)
-  pub refused : IfErr result (IsTrouble g was.at old new after)
+  pub refused : IfErr result (IsDraftTrouble g (draft_top was) old new after)
   pub cylinders : length after.free ≡ length before.free
   pub left : OnOk result (after.left ≡ None)
   pub calls : CallsInAll g 31207 15485 old new

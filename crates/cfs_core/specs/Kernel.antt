@@ -39,7 +39,7 @@ pub record Kernel (D : Type 0) : Type 0 where
   pub disk : D
   pub root : Puid
   -- the identifiers of all objects, with their kinds
-  pub names : Listing
+  pub directory : Listing
   -- how many blocks of each cylinder are Free
   pub space : Kept
   -- the seed of the random words, and how many were drawn
@@ -65,25 +65,26 @@ sweeps_in (phases.Roots cylinder) = true
 sweeps_in phases.Swept = true
 
 -- a collection runs
-abbrev pub runs : Option Collecting → Bool
-runs None = false
-runs (Some k) = marks_in k.phase || sweeps_in k.phase
+abbrev pub collection_runs : Option Collecting → Bool
+collection_runs None = false
+collection_runs (Some k) = marks_in k.phase || sweeps_in k.phase
 
 -- A collector is one of the volume. No more collections were finished than called for, and one that runs was called
 -- for.
-pub record AreKept (room : ℕ) (c : Collections) : Type 0 where
+pub record AreCollections (room : ℕ) (c : Collections) : Type 0 where
   pub volume : IfSome c.collector (λ k. volume_of k ≡ room)
-  pub few : c.finished + (if runs c.collector then 1 else 0) ≤ c.called
+  pub few : c.finished + (if collection_runs c.collector then 1 else 0) ≤ c.called
 
 -- ---- on any disk
 
 -- On any disk: it has 64 blocks a cylinder, there is room for the identifier of each, and none has block 0. Each grant
 -- was drawn.
-pub record IsSized {D : Type 0} (blocks : D → ℕ) (disk : D) (names : Listing) (space : Kept) (handles : List Handle)
+pub record IsSizedKernel {D : Type 0} (blocks : D → ℕ) (disk : D) (directory : Listing) (space : Kept)
+    (handles : List Handle)
     (drawn : ℕ) (collections : Collections) : Type 0 where
   pub size : blocks disk ≡ 64 * length space.free
-  pub room : names.room ≡ blocks disk
-  pub some : has_root_in names.named 0 ≡ false
+  pub room : directory.room ≡ blocks disk
+  pub some : has_root_in directory.named 0 ≡ false
   pub drawn_all : list_all (is_drawn_by drawn) handles ≡ true
-  pub kept : AreKept names.room collections
-  pub ready : list_all (is_ready names.room) handles ≡ true
+  pub kept : AreCollections directory.room collections
+  pub ready : list_all (is_ready directory.room) handles ≡ true

@@ -7,9 +7,9 @@ use Rattle.cfs_base.specs.declared.identifier.Puid.{Puid}
 use Rattle.cfs_base.specs.declared.refusal.Damage.{Damage}
 use Rattle.intentions.specs.Store.{StoreHas}
 use Rattle.open_table.specs.Grants.{without_session}
-use Rattle.special_files.specs.Committing.{Dropped}
+use Rattle.special_files.specs.Committing.{Dropped, draft_top}
 use Rattle.special_files.specs.Drafting.{Drafting, IsOpen}
-use Rattle.special_files.specs.Refusal.{IsDamage}
+use Rattle.special_files.specs.Refusal.{IsDraftDamage}
 use Rattle.ufs_model.specs.declared.object.Draft.{Draft}
 use Rattle.ufs_model.specs.declared.object.Grant.{Grant}
 use Rattle.ufs_model.specs.declared.object.Object.{Object}
@@ -22,7 +22,7 @@ use Rattle.cfs_core.specs.declared.kernel.Stop.{Stop}
 use Rattle.cfs_core.specs.Calls.{AddsNoStray}
 use Rattle.cfs_core.specs.Damage.{IsDamageTold}
 use Rattle.cfs_core.specs.Kernel.{Kernel, grants_in}
-use Rattle.cfs_core.specs.StandsFor.{Serves}
+use Rattle.cfs_core.specs.StandsFor.{CoreServes}
 
 -- the grants of all others
 abbrev pub of_others : ℕ → List Grant → List Grant
@@ -31,7 +31,7 @@ of_others who grants = filter (λ g. not (g.session == who)) grants
 -- it serves the state with fewer grants of the session
 pub record ServesFewer {D : Type 0} (g : Ghosts D) (k : Kernel D) (s : State) (who : ℕ) : Type 0 where
   pub grants : List Grant
-  pub serves : Serves g k (record s { grants = grants })
+  pub serves : CoreServes g k (record s { grants = grants })
   pub others : of_others who grants ≡ of_others who s.grants
 
 -- A block was damaged when a draft was given up, of the core as it was then.
@@ -51,7 +51,7 @@ pub record StopsSo {D : Type 0} (g : Ghosts D) (old new : Kernel D) (stop : Stop
 -- stopped.
 pub record Sheds {D : Type 0} (g : Ghosts D) (who : ℕ) (old new : Kernel D) : Type 0 where
   pub words : new.words ≡ old.words
-  pub names : new.names ≡ old.names
+  pub directory : new.directory ≡ old.directory
   pub collections : new.collections ≡ old.collections
   pub others : without_session (grants_in new.handles) who ≡ without_session (grants_in old.handles) who
   pub size : g.blocks new.disk ≡ g.blocks old.disk
@@ -61,15 +61,16 @@ pub record Sheds {D : Type 0} (g : Ghosts D) (who : ℕ) (old new : Kernel D) : 
   pub idle : (stop : Stop) → old.stop ≡ Some stop
       → (new.stop ≡ Some stop) × (new.disk ≡ old.disk) × (new.space ≡ old.space)
   -- one that ran gives up the drafts, and each image that a crash leaves has the objects
-  pub leaves : (s : State) → Serves g old s → old.stop ≡ None → Leaves g old.disk new.disk (λ c. Holds c s.graph)
-  pub serves : (s : State) → Serves g old s → old.stop ≡ None → new.stop ≡ None → ServesFewer g new s who
+  pub leaves : (s : State) → CoreServes g old s → old.stop ≡ None → Leaves g old.disk new.disk (λ c. Holds c s.graph)
+  pub serves : (s : State) → CoreServes g old s → old.stop ≡ None → new.stop ≡ None → ServesFewer g new s who
   -- no block is left behind
-  pub strays : (s : State) → Serves g old s → old.stop ≡ None → new.stop ≡ None
+  pub strays : (s : State) → CoreServes g old s → old.stop ≡ None → new.stop ≡ None
       → AddsNoStray (g.content old.disk) (g.content new.disk) s.graph s.graph
   -- it stops where a device call failed, or at a damage
   pub halts : (stop : Stop) → old.stop ≡ None → new.stop ≡ Some stop → StopsSo g old new stop
   -- and at no damage where it served a state
-  pub sound : (s : State) → Serves g old s → old.stop ≡ None → (stop : Stop) → new.stop ≡ Some stop → stop.damage ≡ None
+  pub sound : (s : State) → CoreServes g old s → old.stop ≡ None → (stop : Stop) → new.stop ≡ Some stop
+      → stop.damage ≡ None
 
 -- ---- one draft
 
@@ -94,7 +95,7 @@ pub record GivesUp {D : Type 0} (g : Ghosts D) (was : Drafting) (old new : Kerne
   pub failed : (stop : Stop) → old.stop ≡ None → new.stop ≡ Some stop → stop.damage ≡ None
       → HasFailed g old.disk new.disk × (stop.moment ≡ g.moment new.disk - 1)
   pub damaged : (stop : Stop) (damage : Damage) → old.stop ≡ None → new.stop ≡ Some stop → stop.damage ≡ Some damage
-      → IsDamage g was.at old.disk new.disk new.space damage × (stop.moment ≡ g.moment new.disk)
+      → IsDraftDamage g (draft_top was) old.disk new.disk new.space damage × (stop.moment ≡ g.moment new.disk)
 
 -- ---- what is told
 

@@ -7,11 +7,11 @@ use Rattle.ufs_model.specs.declared.asked.Event.{Event}
 use Rattle.cfs_core.specs.declared.collecting.Collections.{Collections}
 use Rattle.cfs_core.specs.declared.collecting.Step.{Step}
 use Rattle.cfs_core.specs.declared.collecting.Step.TheVariants as steps
-use Rattle.cfs_core.specs.Kernel.{runs}
+use Rattle.cfs_core.specs.Kernel.{collection_runs}
 
 -- those that have yet to begin
 abbrev pub to_begin : Collections → ℕ
-to_begin c = c.called - (c.finished + (if runs c.collector then 1 else 0))
+to_begin c = c.called - (c.finished + (if collection_runs c.collector then 1 else 0))
 
 -- what the one that runs has left
 abbrev pub steps_of : Option Collecting → ℕ
@@ -40,8 +40,8 @@ RunsBy steps.Finished before after = (before ≡ true) × (after ≡ false)
 RunsBy step before after = (before ≡ true) × (after ≡ true)
 
 -- One that was made leaves fewer steps, and one event less where it is one.
-pub record GoesOn (blocks : ℕ) (c d : Collections) (step : Step) (event : Option Event) : Type 0 where
-  pub runs_by : RunsBy step (runs c.collector) (runs d.collector)
+pub record LeavesFewer (blocks : ℕ) (c d : Collections) (step : Step) (event : Option Event) : Type 0 where
+  pub runs_by : RunsBy step (collection_runs c.collector) (collection_runs d.collector)
   pub fewer : ¬ (step ≡ steps.Idle) → steps_ahead blocks d < steps_ahead blocks c
   pub events : events_ahead d + length (option_to_list event) ≡ events_ahead c
 
@@ -49,6 +49,6 @@ pub record GoesOn (blocks : ℕ) (c d : Collections) (step : Step) (event : Opti
 
 -- It moves no collection on, and adds one step at most, for a rescue.
 pub record AddsOne (blocks : ℕ) (c d : Collections) : Type 0 where
-  pub running : runs d.collector ≡ runs c.collector
+  pub running : collection_runs d.collector ≡ collection_runs c.collector
   pub more : steps_ahead blocks d ≤ steps_ahead blocks c + 1
   pub events : events_ahead d ≡ events_ahead c

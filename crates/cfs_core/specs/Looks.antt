@@ -1,6 +1,5 @@
 -- Reads of an object.
 use Rattle.std.specs.Prelude.{◌≡◌, ℕ, ◌+◌, true, false, List, [], length, slice_range, if◌then◌else◌, IfErr, Result}
-use Rattle.std.specs.Prelude.{Some}
 use Rattle.cfs_base.specs.Calls.{HasStopped, OnlyReads}
 use Rattle.cfs_base.specs.declared.disk.Disk.{Ghosts}
 use Rattle.cfs_base.specs.declared.identifier.Puid.{Puid}
@@ -9,36 +8,37 @@ use Rattle.cfs_base.specs.declared.refusal.Refused.TheVariants as refusals
 use Rattle.cyl_alloc.specs.Space.{Kept}
 use Rattle.intentions.specs.Left.{IsShownAt}
 use Rattle.puid_space.specs.Directory.{has_root_in}
-use Rattle.special_files.specs.Refusal.{IsDamage, is_damaged}
+use Rattle.leaf_changes.specs.Tops.{Top}
+use Rattle.special_files.specs.Refusal.{IsDraftDamage, has_met_damage}
 use Rattle.ufs_model.specs.declared.asked.Reply.{Reply}
 use Rattle.ufs_model.specs.declared.asked.Reply.TheVariants as replies
 use Rattle.ufs_model.specs.declared.asked.Request.{Request}
 use Rattle.ufs_model.specs.declared.object.File.{File}
 use Rattle.ufs_model.specs.declared.object.Index.{Index}
 use Rattle.ufs_model.specs.declared.object.Object.{Object}
-use Rattle.ufs_model.specs.Graph.{Graph, object_at}
+use Rattle.ufs_model.specs.Graph.{Graph}
 use Rattle.ufs_model.specs.Refusal.{is_range}
 use Rattle.ufs_model.specs.State.{State}
 use Rattle.vol_owners.specs.Account.{Opened, drafts_of}
 use Rattle.cfs_base.specs.Run.{Tells}
 use Rattle.cfs_core.specs.Damage.{IsOutside}
 use Rattle.cfs_core.specs.Kernel.{Kernel}
-use Rattle.cfs_core.specs.StandsFor.{Serves, drafts_of_handles}
+use Rattle.cfs_core.specs.StandsFor.{CoreServes, drafts_of_handles}
 use Rattle.cfs_core.specs.Ways.{Reaches}
 
 -- ---- an object that is reached
 
 -- Whatever the core stands for, the request reaches such an object, of which there is no draft.
 abbrev pub ReachesIn : {D A : Type 0} → Ghosts D → (A → Object) → Kernel D → ℕ → Request → Puid → Type 0
-ReachesIn {A = A} g sort k who request id = (s : State) → Serves g k s → (a : A) × Reaches s who request id (sort a)
+ReachesIn {A = A} g sort k who request id = (s : State) → CoreServes g k s → (a : A) × Reaches s who request id (sort a)
     × (drafts_of (drafts_of_handles k.handles s.grants) id ≡ [])
 
 -- and it has a name, whatever disk it is
 abbrev pub ReachesAll : {D A : Type 0} → Ghosts D → (A → Object) → Kernel D → ℕ → Request → Puid → Type 0
-ReachesAll g sort k who request id = ReachesIn g sort k who request id × (has_root_in k.names.named id.block ≡ true)
+ReachesAll g sort k who request id = ReachesIn g sort k who request id × (has_root_in k.directory.named id.block ≡ true)
 
 -- the store has this object, which is shown at the block, and it has no draft
-pub record Knows {D : Type 0} (g : Ghosts D) (d : D) (at : ℕ) (o : Object) : Type 0 where
+pub record KnowsObject {D : Type 0} (g : Ghosts D) (d : D) (at : ℕ) (o : Object) : Type 0 where
   pub graph : Graph
   pub drafts : List Opened
   pub space : Kept
@@ -58,17 +58,17 @@ IsCalmCause g at old new (refusals.Damaged damage) =
 IsCalmCause g at old new refusals.Memory = Unit {0}
 
 -- the same of a draft of the object with this root, of which nothing is written
-abbrev pub IsDraftCause : {D : Type 0} → Ghosts D → (at : ℕ) → D → D → Refused → Type 0
+abbrev pub IsDraftCause : {D : Type 0} → Ghosts D → Top → D → D → Refused → Type 0
 IsDraftCause g at old new (refusals.Full need) = ⊥
 IsDraftCause g at old new (refusals.Disk tried) = (tried ≡ false) × HasStopped g false old new
-IsDraftCause g at old new (refusals.Damaged damage) = (kept : Kept) → IsDamage g at old new kept damage
+IsDraftCause g at old new (refusals.Damaged damage) = (kept : Kept) → IsDraftDamage g at old new kept damage
 IsDraftCause g at old new refusals.Memory = Unit {0}
 
 -- a call that only reads, and meets no damage where such an object is
 pub record IsCalm {D A B : Type 0} (g : Ghosts D) (sort : A → Object) (n at : ℕ) (old new : D)
     (result : Result B Refused) : Type 0 where
   pub reads : OnlyReads g n old new
-  pub sound : (a : A) → Knows g old at (sort a) → IfErr result (λ e. is_damaged e ≡ false)
+  pub sound : (a : A) → KnowsObject g old at (sort a) → IfErr result (λ e. has_met_damage e ≡ false)
   pub cause : IfErr result (IsCalmCause g at old new)
 
 -- ---- what is read, as a reply

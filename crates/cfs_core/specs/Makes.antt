@@ -25,7 +25,7 @@ use Rattle.ufs_model.specs.Refusal.{refusal_of, target}
 use Rattle.ufs_model.specs.State.{State, is_running}
 use Rattle.ufs_model.specs.WellFormed.{IsSpeakable}
 use Rattle.cfs_base.specs.Codes.{not_owned}
-use Rattle.cfs_core.specs.Damage.{bytes_wanted, is_delete}
+use Rattle.cfs_core.specs.Damage.{bytes_wanted, asks_delete}
 use Rattle.cfs_core.specs.Kernel.{Kernel, Handle}
 use Rattle.cfs_core.specs.Claimed.{claims_for, root_reached}
 use Rattle.cyl_alloc.specs.Space.{intended}
@@ -33,9 +33,9 @@ use Rattle.index_ops.specs.Changes.{leaf_and_node}
 use Rattle.cfs_base.specs.declared.kind.Place.TheVariants as places
 
 -- the kind of an object that is such a file
-abbrev pub file_kind : FileKind → Kind
-file_kind file_kinds.Normal = kinds.Normal
-file_kind file_kinds.Special = kinds.Special
+abbrev pub made_kind : FileKind → Kind
+made_kind file_kinds.Normal = kinds.Normal
+made_kind file_kinds.Special = kinds.Special
 
 -- the request makes this object, and puts its identifier into a slot of the index that it goes to
 pub record IsMaking (request : Request) (slot : ℕ) (o : Object) : Type 0 where
@@ -44,7 +44,7 @@ pub record IsMaking (request : Request) (slot : ℕ) (o : Object) : Type 0 where
   pub makes : creates request ≡ true
   pub draw : draws request ≡ 1
   pub need : (s : State) (who : ℕ) → need_of s who request ≡ 1 + change_need s who (target request) (Fill slot None)
-  pub delete : is_delete request ≡ false
+  pub delete : asks_delete request ≡ false
   pub claims : (handles : List Handle) (s : State) (who : ℕ) (reply : Reply) → claims_for handles s who request reply
       ≡ intended places.Root (block_named reply) ∷ leaf_and_node (slot / 64) (root_reached s who (target request))
   pub wants : bytes_wanted (Some request) ≡ 8 * slot + 8
@@ -54,20 +54,20 @@ pub record IsMaking (request : Request) (slot : ℕ) (o : Object) : Type 0 where
   pub speaks : (who : ℕ) (reply : Reply) → IsSpeakable (events.Ask who request reply)
 
 -- it isn't given its name: its block is 0, none of the disk's, or the root of an object already
-pub record IsAstray (names : Listing) (id : Puid) (e : Refused) : Type 0 where
+pub record IsAstray (directory : Listing) (id : Puid) (e : Refused) : Type 0 where
   pub is : e ≡ refusals.Damaged (record { block = id.block; code = not_owned })
-  pub why : (id.block ≡ 0) ⊎ ((names.room ≤ id.block) ⊎ (has_root_in names.named id.block ≡ true))
+  pub why : (id.block ≡ 0) ⊎ ((directory.room ≤ id.block) ⊎ (has_root_in directory.named id.block ≡ true))
 
 -- An object that was made has its name, with the word that is drawn for it; or, on a disk that lies, none.
-pub record Names {D : Type 0} (old new : Kernel D) (id : Puid) (kind : Kind)
+pub record NamesMade {D : Type 0} (old new : Kernel D) (id : Puid) (kind : Kind)
     (result : Result Reply Refused) : Type 0 where
-  pub named : id.block ≢ 0 → id.block < old.names.room → has_root_in old.names.named id.block ≡ false
+  pub named : id.block ≢ 0 → id.block < old.directory.room → has_root_in old.directory.named id.block ≡ false
       → (result ≡ Ok (replies.Id id)) × (new ≡ record old {
-        names = record { named = insert_entry puid_cmp old.names.named id kind; room = old.names.room };
+        directory = record { named = insert_entry puid_cmp old.directory.named id kind; room = old.directory.room };
         words = record { seed = old.words.seed; drawn = old.words.drawn + 1 };
       })
   pub plain : IfOk result IsPlainReply
-  pub astray : IfErr result (IsAstray old.names id)
+  pub astray : IfErr result (IsAstray old.directory id)
   pub disk : new.disk ≡ old.disk
   pub stop : new.stop ≡ old.stop
   pub collections : new.collections ≡ old.collections

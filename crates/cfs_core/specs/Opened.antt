@@ -8,7 +8,7 @@ use Rattle.cfs_core.specs.Kernel.{Kernel}
 use Rattle.cfs_core.specs.StandsFor.{StandsFor}
 
 -- the core stands for these objects, with nothing open, and no word of the seed was drawn
-pub record IsOpened {D : Type 0} (g : Ghosts D) (graph : Graph) (seed : ℕ) (k : Kernel D) : Type 0 where
+pub record IsOpenedCore {D : Type 0} (g : Ghosts D) (graph : Graph) (seed : ℕ) (k : Kernel D) : Type 0 where
   pub stands : StandsFor g k (opening graph)
   pub words : k.words ≡ record { seed = seed; drawn = 0 }
 

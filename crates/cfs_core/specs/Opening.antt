@@ -13,10 +13,11 @@ use Rattle.cfs_base.specs.declared.refusal.Refused.{Refused}
 use Rattle.cfs_base.specs.declared.refusal.Refused.TheVariants as refusals
 use Rattle.cyl_alloc.specs.Space.{Kept, IsLeastFree}
 use Rattle.intentions.specs.Store.{StoreHas}
+use Rattle.leaf_changes.specs.Tops.{Top, still_top}
 use Rattle.open_table.specs.declared.fault.AcquireFault.{AcquireFault}
 use Rattle.open_table.specs.declared.fault.AcquireFault.TheVariants as faults
 use Rattle.special_files.specs.Drafting.{Drafting, IsOpen, opened_as}
-use Rattle.special_files.specs.Refusal.{IsDamage}
+use Rattle.special_files.specs.Refusal.{IsDraftDamage}
 use Rattle.special_files.specs.Store.{Steps}
 use Rattle.ufs_model.specs.declared.asked.Reply.{Reply}
 use Rattle.ufs_model.specs.declared.asked.Reply.TheVariants as replies
@@ -77,13 +78,14 @@ BeginsSo g graph ds id o wanted old new before after (Err (refusals.Disk true)) 
 BeginsSo g graph ds id o wanted old new before after (Err (refusals.Damaged damage)) = ⊥
 BeginsSo g graph ds id o wanted old new before after (Err refusals.Memory) = OnlyReads g 2 old new × (after ≡ before)
 
--- why it isn't begun: too few blocks are Free beside the floor, a device call failed, a block that was read is damaged,
--- or memory is wanted
-abbrev pub IsRefusalOrMemory : {D : Type 0} → Ghosts D → ℕ → ℕ → D → D → Kept → Refused → Type 0
-IsRefusalOrMemory g at floor old new kept (refusals.Full need) = need.free < need.need + floor
-IsRefusalOrMemory g at floor old new kept (refusals.Disk tried) = HasStopped g tried old new
-IsRefusalOrMemory g at floor old new kept (refusals.Damaged damage) = IsDamage g at old new kept damage
-IsRefusalOrMemory g at floor old new kept refusals.Memory = Unit {0}
+-- why it isn't begun: as many blocks as it tells were counted Free, too few beside the floor; a device call failed; a
+-- block that was read is damaged; or memory is wanted
+abbrev pub IsRefusalOrMemory : {D : Type 0} → Ghosts D → Top → ℕ → D → D → (before after : Kept) → Refused → Type 0
+IsRefusalOrMemory g at floor old new before after (refusals.Full need) =
+    (need.free ≡ sum before.free) × (need.free < need.need + floor)
+IsRefusalOrMemory g at floor old new before after (refusals.Disk tried) = HasStopped g tried old new
+IsRefusalOrMemory g at floor old new before after (refusals.Damaged damage) = IsDraftDamage g at old new after damage
+IsRefusalOrMemory g at floor old new before after refusals.Memory = Unit {0}
 
 pub record Begins {D : Type 0} (g : Ghosts D) (at : ℕ) (wanted : Bool) (old new : D) (before after : Kept)
     (result : Result (Option Drafting) Refused) : Type 0 where
@@ -93,6 +95,6 @@ pub record Begins {D : Type 0} (g : Ghosts D) (at : ℕ) (wanted : Bool) (old ne
   pub ready : IfOk result (λ o.
       IfSome o (λ drafting. (wanted ≡ true) × (drafting.at ≡ at) × ((s : ℕ) × (drafting.shadow ≡ Some s))
       × (drafting.created ≡ None)))
-  pub cause : IfErr result (IsRefusalOrMemory g at reserve old new after)
+  pub cause : IfErr result (IsRefusalOrMemory g (still_top at) reserve old new before after)
   pub left : after.left ≡ before.left
   pub calls : MakesAtMost g 3 1 old new

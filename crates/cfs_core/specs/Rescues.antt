@@ -5,7 +5,7 @@ use Rattle.cfs_base.specs.Outside.{count_after}
 use Rattle.cfs_base.specs.declared.identifier.Puid.{Puid}
 use Rattle.collector_steps.specs.Collecting.{Collecting, waiting_in}
 use Rattle.marking.specs.declared.memory.Rescue.{Rescue}
-use Rattle.marking.specs.Meanwhile.{is_done}
+use Rattle.marking.specs.Meanwhile.{is_carried_out}
 use Rattle.ufs_model.specs.declared.asked.Reply.{Reply}
 use Rattle.ufs_model.specs.declared.asked.Reply.TheVariants as replies
 use Rattle.ufs_model.specs.declared.asked.Request.{Request}
@@ -35,7 +35,7 @@ rescue_put index (asks.OpenFor id mode) reply = Some (record { index = None; id 
 rescue_put index request reply = None
 
 abbrev pub rescue_of : Option Puid → Request → Reply → Option Rescue
-rescue_of index request reply = if is_done reply then rescue_put index request reply else None
+rescue_of index request reply = if is_carried_out reply then rescue_put index request reply else None
 
 -- there is room for a rescue, where the request may add one
 abbrev pub HasRoomFor : Request → Option Collecting → Type 0

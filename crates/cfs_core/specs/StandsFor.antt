@@ -63,19 +63,19 @@ AreDraftsOf ds (handle ∷ handles) [] = ⊥
 
 -- ---- the collection
 
-abbrev pub is_sweeping : Collection → Bool
-is_sweeping collections.None = false
-is_sweeping (collections.Marking edges starts) = false
-is_sweeping collections.Sweeping = true
+abbrev pub sweeps_now : Collection → Bool
+sweeps_now collections.None = false
+sweeps_now (collections.Marking edges starts) = false
+sweeps_now collections.Sweeping = true
 
 -- a collection runs
 abbrev pub is_collecting : Collection → Bool
-is_collecting c = is_marking c || is_sweeping c
+is_collecting c = is_marking c || sweeps_now c
 
 -- The collector is as far as the state's collection, and keeps what holds of one between any two calls.
 pub record HasCollector (image : Image) (s : State) (k : Collecting) : Type 0 where
   pub marking : is_marking s.collection ≡ marks_in k.phase
-  pub sweeping : is_sweeping s.collection ≡ sweeps_in k.phase
+  pub sweeping : sweeps_now s.collection ≡ sweeps_in k.phase
   pub collects : Collects image s k
 
 -- a core without a collector has no collection
@@ -88,30 +88,30 @@ HasCollection image s (Some k) = HasCollector image s k
 -- what a core that stopped says too
 pub record IsFront {D : Type 0} (k : Kernel D) (s : State) : Type 0 where
   pub drawn : s.drawn ≡ k.words.drawn
-  pub names : k.names.named ≡ kinds_of s.graph
+  pub directory : k.directory.named ≡ kinds_of s.graph
   pub grants : grants_in k.handles ≡ map bare s.grants
   pub stopped : s.stopped ≡ option_map (λ stop. stop.moment) k.stop
 
 -- The store has the graph and the drafts, whatever writes wait for a barrier, and no commit is left to be carried out;
 -- the blocks of vanished objects are gone but in a sweep; four blocks are Free; and the collection is there.
-pub record Serves {D : Type 0} (g : Ghosts D) (k : Kernel D) (s : State) : Type 0 where
+pub record CoreServes {D : Type 0} (g : Ghosts D) (k : Kernel D) (s : State) : Type 0 where
   pub front : IsFront k s
   pub state : IsState s
   pub root : s.graph.root ≡ k.root
   pub store : StoreHas g s.graph (drafts_of_handles k.handles s.grants) k.disk k.space
   pub left : k.space.left ≡ None
   pub drafts : AreDraftsOf (drafts_of_handles k.handles s.grants) k.handles s.grants
-  pub swept : is_sweeping s.collection ≡ false → IsSwept (g.content k.disk) s.graph
+  pub swept : sweeps_now s.collection ≡ false → IsSwept (g.content k.disk) s.graph
   pub four : reserve ≤ sum k.space.free
   pub collecting : HasCollection (g.content k.disk) s k.collections.collector
 
 -- it serves the state with each collector that keeps up with it
-abbrev pub Stores : {D : Type 0} → Ghosts D → Kernel D → State → Type 0
-Stores g k s =
-    (c : Collections) → HasCollection (g.content k.disk) s c.collector → Serves g (record k { collections = c }) s
+abbrev pub StoresState : {D : Type 0} → Ghosts D → Kernel D → State → Type 0
+StoresState g k s =
+    (c : Collections) → HasCollection (g.content k.disk) s c.collector → CoreServes g (record k { collections = c }) s
 
 abbrev pub Stands : {D : Type 0} → Ghosts D → Kernel D → State → Option Stop → Type 0
-Stands g k s None = Serves g k s
+Stands g k s None = CoreServes g k s
 Stands g k s (Some stop) = IsFront k s
 
 abbrev pub StandsFor : {D : Type 0} → Ghosts D → Kernel D → State → Type 0

@@ -5,7 +5,7 @@ use Rattle.cfs_base.specs.Disk.{Image, block_at}
 use Rattle.collector_steps.specs.Swept.{cylinder_of}
 use Rattle.collector_steps.specs.declared.phase.Phase.{Phase}
 use Rattle.collector_steps.specs.declared.phase.Phase.TheVariants as phases
-use Rattle.cyl_alloc.specs.Space.{free_entry}
+use Rattle.cyl_alloc.specs.Space.{unheld_entry}
 use Rattle.cyl_map.specs.Volume.{entry_in}
 use Rattle.cyl_map.specs.declared.entry.MapEntry.{MapEntry}
 use Rattle.ufs_model.specs.Graph.{Graph}
@@ -29,4 +29,5 @@ pub record FreesStrays (g : Graph) (phase : Phase) (a b : Image) : Type 0 where
   -- no block is another but the cylinder's map
   pub contents : (n : ℕ) → n ≢ 64 * cylinder_of phase → block_at b n ≡ block_at a n
   pub entries : (n : ℕ) → entry_in b n
-      ≡ (if (n / 64 == cylinder_of phase) && is_swept_now g phase (entry_in a n) then Some free_entry else entry_in a n)
+      ≡ (if (n / 64 == cylinder_of phase) && is_swept_now g phase (entry_in a n) then Some unheld_entry
+      else entry_in a n)

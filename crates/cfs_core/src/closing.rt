@@ -7,9 +7,9 @@ ghost use Rattle.cfs_core.specs.Kernel.{Handle, grants_in, is_ready_for};
 ghost use Rattle.cfs_core.specs.Leaving as spec;
 ghost use Rattle.cfs_core.specs.Leaving.{GivesUp, Sheds, StopsSo};
 ghost use Rattle.cfs_core.specs.Handles.{drafting_at, have_draft, is_at, with_drafting};
-ghost use Rattle.cfs_core.specs.StandsFor.{Serves, StandsFor};
+ghost use Rattle.cfs_core.specs.StandsFor.{CoreServes, StandsFor};
 ghost use Rattle.cfs_core.specs.declared.kernel.Stop.{Stop};
-ghost use Rattle.open_table.specs.Grants.{grant_in, without_grant};
+ghost use Rattle.open_table.specs.Grants.{session_grant, without_grant};
 ghost use Rattle.ufs_model.specs.State.{State};
 ghost use Rattle.ufs_model.specs.declared.asked.Event.TheVariants as events;
 ghost use Rattle.ufs_model.specs.declared.asked.Request.TheVariants as asks;
@@ -88,7 +88,7 @@ impl<D: Disk> Core<D> {
         requires left { self.old.space.left ≡ None }
         requires ready { is_ready_for (D.blocks self.old.disk) draft ≡ true }
         requires taken { have_draft (is_at grant.draw) self.old.handles ≡ false }
-        requires found { IsSome (grant_in (grants_in self.old.handles) who grant) }
+        requires found { IsSome (session_grant (grants_in self.old.handles) who grant) }
         ensures { (handles : List Handle) → self.old.handles ≡ with_drafting grant.draw None handles
             → drafting_at handles grant.draw ≡ Some draft
             → Tries D.Disk (record self.old { handles = handles }) self.new who (asks.Close grant commit) result }
@@ -119,7 +119,7 @@ impl<D: Disk> Core<D> {
         ensures halts { IfErr result (λ halt. (stop : Stop) × (self.old.stop ≡ None) × (self.new.stop ≡ Some stop)
             × (stop.moment ≡ halt.moment) × StopsSo D.Disk self.old self.new stop) }
         // One that served a state stops at no damage.
-        ensures sound { (s : State) → Serves D.Disk self.old s → self.old.stop ≡ None
+        ensures sound { (s : State) → CoreServes D.Disk self.old s → self.old.stop ≡ None
             → (stop : Stop) → self.new.stop ≡ Some stop → stop.damage ≡ None }
         // One that had stopped makes no call of the disk.
         ensures idle { IsSome self.old.stop → self.new.disk ≡ self.old.disk }
@@ -134,7 +134,7 @@ impl<D: Disk> Core<D> {
     /// Drops a grant of a session. Its draft is given up, unless the core has stopped; where that fails, the core
     /// stops.
     fn drop_grant(&mut self, who: Session, grant: Tuid)
-        requires found { IsSome (grant_in (grants_in self.old.handles) who grant) }
+        requires found { IsSome (session_grant (grants_in self.old.handles) who grant) }
         ensures sheds { Sheds D.Disk who self.old self.new }
         ensures gone { grants_in self.new.handles ≡ without_grant (grants_in self.old.handles) who grant }
     {

@@ -1,16 +1,16 @@
 //! Collections: how many were called for, and the steps of the collector.
 ghost use Rattle.std.specs.Prelude.{◌≡◌, ◌||◌, ◌+◌, ◌*◌, ◌++◌, ◌∷◌, ◌<◌, ◌≤◌, IfOk};
 ghost use Rattle.std.specs.Prelude.{None, Ok, OnOk, length, map, sum, true};
-ghost use Rattle.cfs_core.specs.Collect.{Collects, HasBegun, StepsSo, TriesStep, fault_for};
+ghost use Rattle.cfs_core.specs.Collect.{CollectsStep, HasBegunCollection, StepsSo, TriesStep, fault_for};
 ghost use Rattle.cfs_core.specs.Collect.{phase_of, stop_by, sweeps_blocks, told_as};
-ghost use Rattle.cfs_core.specs.Kernel.{Handle, marks_in, runs, sweeps_in};
+ghost use Rattle.cfs_core.specs.Kernel.{Handle, marks_in, collection_runs, sweeps_in};
 ghost use Rattle.collector_steps.specs.Collecting.{volume_of};
 ghost use Rattle.collector_steps.specs.Left.{most_steps};
 ghost use Rattle.cyl_alloc.specs.Space as space;
 ghost use Rattle.open_table.specs.declared.grant.Grant as grant;
 
 use crate::kernel::{Core, Stop};
-use cfs_base::{Damage, Disk, Ids, NoMemory, Puid, Refused, Trouble, code};
+use cfs_base::{Damage, Disk, Ids, NoMemory, Puid, Refused, Trouble};
 use collector_steps::{Collector, Phase};
 use cyl_alloc::Space;
 use open_table::Grants;
@@ -69,7 +69,7 @@ impl Collections {
 
     /// Whether a collection runs.
     pub(crate) fn is_running(&self) -> bool
-        ensures { result ≡ runs self.now.collector }
+        ensures { result ≡ collection_runs self.now.collector }
     {
         match &self.collector {
             Some(collector) => is_going(collector.phase()),
@@ -102,25 +102,25 @@ fn is_going(phase: Phase) -> bool
 fn mark<D: Disk>(
     collector: &mut Collector,
     disk: &mut D,
-    names: &mut Directory,
+    directory: &mut Directory,
 ) -> Result<Step, Refused>
     requires marks { collector.old.phase ≡ Phase.Marking }
-    requires room { names.old.room ≤ volume_of collector.old }
+    requires room { directory.old.room ≤ volume_of collector.old }
     requires size { D.blocks disk.old ≡ volume_of collector.old }
     ensures { (kept : space.Kept)
-        → StepsSo D.Disk disk.old disk.new kept kept names.old names.new collector.old collector.new result }
+        → StepsSo D.Disk disk.old disk.new kept kept directory.old directory.new collector.old collector.new result }
 {
     if collector.has_rescue() {
-        collector.take(names);
+        collector.take(directory);
         return Ok(Step::Took);
     }
     if collector.has_grey() {
-        return match collector.scan(disk, names) {
+        return match collector.scan(disk, directory) {
             Ok(()) => Ok(Step::Scanned),
             Err(trouble) => Err(Refused::from(trouble)),
         };
     }
-    let ids = collector.condemn(names);
+    let ids = collector.condemn(directory);
     Ok(Step::Condemned { ids })
 }
 
@@ -129,17 +129,18 @@ fn sweep<D: Disk>(
     collector: &mut Collector,
     disk: &mut D,
     space: &mut Space,
-    names: &Directory,
+    directory: &Directory,
 ) -> Result<Step, Refused>
     requires sweeps { sweeps_blocks collector.old.phase ≡ true }
     requires size { D.blocks disk.old ≡ volume_of collector.old }
     requires counts { 64 * length space.old.free ≡ volume_of collector.old }
-    ensures { StepsSo D.Disk disk.old disk.new space.old space.new names.now names.now collector.old collector.new
+    ensures { StepsSo D.Disk disk.old disk.new space.old space.new directory.now directory.now collector.old
+        collector.new
         result }
 {
     match collector.phase() {
-        Phase::Inner { .. } => told(collector.sweep_inner(disk, space, names)),
-        Phase::Roots { .. } => told(collector.sweep_roots(disk, space, names)),
+        Phase::Inner { .. } => told(collector.sweep_inner(disk, space, directory)),
+        Phase::Roots { .. } => told(collector.sweep_roots(disk, space, directory)),
         Phase::Idle | Phase::Marking | Phase::Swept => unreachable!(),
     }
 }
@@ -159,15 +160,15 @@ fn begun(
     alloc: Global,
     blocks: u32,
     roots: &[Puid],
-    names: &Directory,
+    directory: &Directory,
 ) -> Result<Collector, NoMemory>
     requires some { 0 < blocks }
-    requires room { names.now.room ≤ blocks }
+    requires room { directory.now.room ≤ blocks }
     ensures volume { IfOk result (λ k. volume_of k ≡ blocks) }
-    ensures begun { IfOk result (HasBegun roots.now names.now.named) }
+    ensures begun { IfOk result (HasBegunCollection roots.now directory.now.named) }
 {
     let mut collector = Collector::new(alloc, blocks)?;
-    collector.begin(roots, names)?;
+    collector.begin(roots, directory)?;
     Ok(collector)
 }
 
@@ -206,7 +207,7 @@ impl<D: Disk> Core<D> {
     /// Makes one step of the collector, the first that is due. At most 4 device calls, at most one of them a write.
     /// Memory is taken where a collection begins, before anything changes, and nowhere else.
     pub fn collect(&mut self, alloc: Global) -> Result<Step, CollectFault>
-        ensures { Collects D.Disk self.old self.new result }
+        ensures { CollectsStep D.Disk self.old self.new result }
     {
         if let Some(stop) = self.stop {
             return Err(CollectFault::Stopped {
@@ -243,7 +244,7 @@ impl<D: Disk> Core<D> {
         ensures { TriesStep D.Disk self.old self.new result }
     {
         match &mut self.collections.collector {
-            Some(collector) => mark(collector, &mut self.disk, &mut self.names),
+            Some(collector) => mark(collector, &mut self.disk, &mut self.directory),
             None => unreachable!(),
         }
     }
@@ -254,7 +255,7 @@ impl<D: Disk> Core<D> {
         ensures { TriesStep D.Disk self.old self.new result }
     {
         match &mut self.collections.collector {
-            Some(collector) => sweep(collector, &mut self.disk, &mut self.space, &self.names),
+            Some(collector) => sweep(collector, &mut self.disk, &mut self.space, &self.directory),
             None => unreachable!(),
         }
     }
@@ -284,7 +285,7 @@ impl<D: Disk> Core<D> {
         Ok(roots)
     }
 
-    /// A collection begins. On a disk that lies there may be no block.
+    /// A collection begins.
     fn begin(&mut self, alloc: Global) -> Result<Step, Refused>
         requires idle { phase_of self.old.collections.collector ≡ Phase.Idle }
         requires more { self.old.collections.finished < self.old.collections.called }
@@ -292,16 +293,11 @@ impl<D: Disk> Core<D> {
     {
         let roots = self.roots(alloc)?;
         if let Some(collector) = &mut self.collections.collector {
-            collector.begin(&roots, &self.names)?;
+            collector.begin(&roots, &self.directory)?;
             return Ok(Step::Began);
         }
-        if self.names.room() == 0 {
-            return Err(Refused::Damaged(Damage {
-                block: 0,
-                code: code::TOO_FULL,
-            }));
-        }
-        let collector = begun(alloc, self.names.room(), &roots, &self.names)?;
+        self.space.free(); // there is a cylinder, and so a block
+        let collector = begun(alloc, self.directory.room(), &roots, &self.directory)?;
         self.collections.collector = Some(collector);
         Ok(Step::Began)
     }

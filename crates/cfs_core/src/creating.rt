@@ -2,7 +2,7 @@
 ghost use Rattle.std.specs.Prelude.{◌≡◌, ◌≢◌, ◌+◌, ◌*◌, ◌<◌, ◌≤◌, ℕ, length, sum, Err, None};
 ghost use Rattle.cfs_base.specs.declared.refusal.Refused.TheVariants as refusals;
 ghost use Rattle.cfs_core.specs.Calls.{Tries, TriesOn};
-ghost use Rattle.cfs_core.specs.Makes.{IsMaking, Names, file_kind};
+ghost use Rattle.cfs_core.specs.Makes.{IsMaking, NamesMade, made_kind};
 ghost use Rattle.index_ops.specs.Creates.{MayBeMade, PutsObject, made_of};
 ghost use Rattle.ufs_model.specs.declared.asked.Request.TheVariants as asks;
 ghost use Rattle.ufs_model.specs.declared.asked.Request.{Request};
@@ -18,7 +18,7 @@ use ufs_model::{MOST_SLOTS, Ref, Reply};
 
 /// The kind of an object that is such a file.
 fn kind_of(kind: FileKind) -> Kind
-    ensures { result ≡ file_kind kind }
+    ensures { result ≡ made_kind kind }
 {
     match kind {
         FileKind::Normal => Kind::Normal,
@@ -138,15 +138,15 @@ impl<D: Disk> Core<D> {
     /// another object's, or past the disk's end.
     fn name(&mut self, id: Puid, kind: Kind) -> Result<Reply, Refused>
         requires words { self.old.words.drawn < 4294967295 }
-        ensures { Names self.old self.new id kind result }
+        ensures { NamesMade self.old self.new id kind result }
     {
-        if id.block == 0 || id.block >= self.names.room() || self.names.has_root(id.block) {
+        if id.block == 0 || id.block >= self.directory.room() || self.directory.has_root(id.block) {
             return Err(Refused::Damaged(Damage {
                 block: id.block,
                 code: code::NOT_OWNED,
             }));
         }
-        self.names.add(id, kind);
+        self.directory.add(id, kind);
         self.words.next();
         Ok(Reply::Id(id))
     }

@@ -7,12 +7,12 @@ ghost use Rattle.cfs_core.specs.Calls.{Tries};
 ghost use Rattle.cfs_core.specs.Drafts.{ChangesDraft, IsDrafted};
 ghost use Rattle.cfs_core.specs.Looks.{IsDraftCause, content_reply};
 ghost use Rattle.cfs_core.specs.Handles.{drafting_at};
-ghost use Rattle.cfs_core.specs.StandsFor.{Serves};
+ghost use Rattle.cfs_core.specs.StandsFor.{CoreServes};
 ghost use Rattle.cyl_alloc.specs.Space.{Kept};
 ghost use Rattle.intentions.specs.Left.{StoreIs};
 ghost use Rattle.intentions.specs.Store.{StoreHas};
 ghost use Rattle.special_files.specs.Drafting.{IsOpen};
-ghost use Rattle.special_files.specs.Refusal.{is_damaged};
+ghost use Rattle.special_files.specs.Refusal.{has_met_damage, top_of};
 ghost use Rattle.ufs_model.specs.Graph.{Graph, object_at};
 ghost use Rattle.ufs_model.specs.Plain.{IsPlainReply};
 ghost use Rattle.ufs_model.specs.State.{State, draft_of};
@@ -60,8 +60,8 @@ fn content<D: Disk>(
     ensures plain { IfOk result IsPlainReply }
     ensures sound { (graph : Graph) (ds : List Opened) (space : Kept) (id : Puid) (o : Object) (d : drafts.Draft)
         → StoreIs D.Disk graph ds disk.old space → object_at graph id ≡ Some o → IsOpen ds id draft.now d
-        → IfErr result (λ e. is_damaged e ≡ false) }
-    ensures cause { IfErr result (IsDraftCause D.Disk draft.now.at disk.old disk.new) }
+        → IfErr result (λ e. has_met_damage e ≡ false) }
+    ensures cause { IfErr result (IsDraftCause D.Disk (top_of draft.now) disk.old disk.new) }
     ensures reads { OnlyReads D.Disk 18 disk.old disk.new }
 {
     if !is_range(draft.size(), offset, count) {
@@ -115,7 +115,7 @@ impl<D: Disk> Core<D> {
     pub(crate) fn drafted(&self, who: Session, to: Ref) -> Option<Tuid>
         ensures through { IfSome result (λ grant. to ≡ refs.Through grant) }
         ensures has { IfSome result (λ grant. IsDrafted self.now who grant) }
-        ensures bare { IfNone result ((s : State) → Serves D.Disk self.now s → draft_of s who to ≡ None) }
+        ensures bare { IfNone result ((s : State) → CoreServes D.Disk self.now s → draft_of s who to ≡ None) }
     {
         table_follows_the_model();
         let grant = match to {

@@ -5,7 +5,8 @@ ghost use Rattle.std.specs.List.{list_any};
 ghost use Rattle.cfs_core.specs.Drafts.{ChangesDraft};
 ghost use Rattle.cfs_core.specs.Kernel.{grants_in};
 ghost use Rattle.cfs_core.specs.Handles.{drafting_at, have_draft, is_at, is_drawn, handles_but, with_drafting};
-ghost use Rattle.open_table.specs.Grants.{fault_of, first_of, grant_in, is_grant, is_held, mode_in};
+ghost use Rattle.open_table.specs.Grants.{fault_of, first_grant, session_grant, is_session_grant, is_grant_table};
+ghost use Rattle.open_table.specs.Grants.{open_mode};
 ghost use Rattle.special_files.specs.Drafting.{Drafting};
 ghost use Rattle.ufs_model.specs.declared.change.Change.TheVariants.{Overwrite, SetSize};
 
@@ -88,21 +89,21 @@ impl Handles {
 
     /// The session's grant with this temporary identifier.
     pub fn find(&self, who: Session, tuid: Tuid) -> Option<Grant>
-        ensures { result ≡ grant_in (grants_in self.now.handles) who tuid }
+        ensures { result ≡ session_grant (grants_in self.now.handles) who tuid }
     {
         self.grants.find(who, tuid)
     }
 
     /// How an object is open.
     pub fn mode_on(&self, id: Puid) -> Option<Mode>
-        ensures { result ≡ mode_in (grants_in self.now.handles) id }
+        ensures { result ≡ open_mode (grants_in self.now.handles) id }
     {
         self.grants.mode_on(id)
     }
 
     /// The first of the session's grants.
     pub fn next_of(&self, who: Session) -> Option<Grant>
-        ensures { result ≡ first_of (grants_in self.now.handles) who }
+        ensures { result ≡ first_grant (grants_in self.now.handles) who }
     {
         self.grants.next_of(who)
     }
@@ -110,7 +111,7 @@ impl Handles {
     /// The number of grants.
     pub fn len(&self) -> u32
         ensures len { result ≡ length self.now.handles }
-        ensures held { IsTrue (is_held (grants_in self.now.handles)) }
+        ensures held { IsTrue (is_grant_table (grants_in self.now.handles)) }
     {
         self.grants.len()
     }
@@ -189,9 +190,9 @@ impl Handles {
     /// as it was. Takes no memory.
     pub fn close(&mut self, who: Session, tuid: Tuid) -> Result<Grant, NoGrant>
         requires undrafted { have_draft (is_at tuid.draw) self.old.handles ≡ false }
-        ensures found { IfOk result (λ grant. grant_in (grants_in self.old.handles) who tuid ≡ Some grant) }
-        ensures handles { OnOk result (self.new.handles ≡ handles_but (is_grant who tuid) self.old.handles) }
-        ensures none { OnErr result (grant_in (grants_in self.old.handles) who tuid ≡ None) }
+        ensures found { IfOk result (λ grant. session_grant (grants_in self.old.handles) who tuid ≡ Some grant) }
+        ensures handles { OnOk result (self.new.handles ≡ handles_but (is_session_grant who tuid) self.old.handles) }
+        ensures none { OnErr result (session_grant (grants_in self.old.handles) who tuid ≡ None) }
         ensures err { OnErr result (self.new ≡ self.old) }
     {
         self.grants.close(who, tuid)

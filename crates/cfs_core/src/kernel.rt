@@ -2,10 +2,10 @@
 ghost use Rattle.std.specs.Prelude.{◌≡◌, ◌≢◌, ◌+◌, ◌*◌, ◌<◌, ◌≤◌, length, false};
 ghost use Rattle.std.specs.Prelude.{IsSome, option_map, option_and_then, sum};
 ghost use Rattle.cfs_core.specs.Room.{IsRoom, lost_blocks};
-ghost use Rattle.cfs_core.specs.Kernel.{runs};
-ghost use Rattle.cfs_core.specs.StandsFor.{Serves, StandsFor, drafts_of_handles, is_collecting, is_sweeping};
+ghost use Rattle.cfs_core.specs.Kernel.{collection_runs};
+ghost use Rattle.cfs_core.specs.StandsFor.{CoreServes, StandsFor, drafts_of_handles, is_collecting, sweeps_now};
 ghost use Rattle.cyl_map.specs.Volume.{free_from};
-ghost use Rattle.puid_space.specs.Directory.{kind_in};
+ghost use Rattle.puid_space.specs.Directory.{directory_kind};
 ghost use Rattle.ufs_model.specs.State.{State};
 ghost use Rattle.vol_owners.specs.Room.{blocks_taken};
 
@@ -51,7 +51,7 @@ pub struct Status {
 pub struct Core<D: Disk> {
     pub(crate) disk: D,
     pub(crate) root: Puid,
-    pub(crate) names: Directory,
+    pub(crate) directory: Directory,
     pub(crate) space: Space,
     pub(crate) words: Draw,
     pub(crate) handles: Handles,
@@ -60,14 +60,14 @@ pub struct Core<D: Disk> {
 }
 
 impl<D: Disk> Model for Core<D> {
-    ghost use Rattle.cfs_core.specs.Kernel.{IsSized, Kernel};
+    ghost use Rattle.cfs_core.specs.Kernel.{IsSizedKernel, Kernel};
 
     ghost Value = { Kernel D };
 
     ghost view = { λ c. record {
       disk = c.disk;
       root = c.root;
-      names = c.names;
+      directory = c.directory;
       space = c.space;
       words = c.words;
       handles = c.handles.handles;
@@ -75,32 +75,33 @@ impl<D: Disk> Model for Core<D> {
       stop = c.stop;
     } };
 
-    ghost invariant = { λ c. IsSized D.blocks c.disk c.names c.space c.handles.handles c.words.drawn c.collections };
+    ghost invariant = { λ c. IsSizedKernel D.blocks c.disk c.directory c.space c.handles.handles c.words.drawn
+        c.collections };
 }
 
 impl<D: Disk> Core<D> {
     /// What it tells of itself. `free` is the number of Free blocks of the maps.
     pub fn status(&self) -> Status
-        ensures objects { result.objects ≡ length self.now.names.named }
-        ensures counted { (s : State) → Serves D.Disk self.now s
+        ensures objects { result.objects ≡ length self.now.directory.named }
+        ensures counted { (s : State) → CoreServes D.Disk self.now s
             → result.free ≡ free_from (D.content self.now.disk) 0 (length (D.content self.now.disk)) }
         ensures free { result.free ≡ sum self.now.space.free }
         // No block is lost.
-        ensures room { (s : State) → Serves D.Disk self.now s → is_sweeping s.collection ≡ false
+        ensures room { (s : State) → CoreServes D.Disk self.now s → sweeps_now s.collection ≡ false
             → result.free + blocks_taken s.graph (drafts_of_handles self.now.handles s.grants) + 1
             ≡ 63 * length self.now.space.free }
         ensures stopped { result.stopped ≡ option_map (λ stop. stop.moment) self.now.stop }
         ensures damage { result.damage ≡ option_and_then (λ stop. stop.damage) self.now.stop }
         ensures grants { result.grants ≡ length self.now.handles }
-        ensures running { result.running ≡ runs self.now.collections.collector }
-        ensures collects { (s : State) → Serves D.Disk self.now s → result.running ≡ is_collecting s.collection }
+        ensures running { result.running ≡ collection_runs self.now.collections.collector }
+        ensures collects { (s : State) → CoreServes D.Disk self.now s → result.running ≡ is_collecting s.collection }
         ensures called { result.called ≡ self.now.collections.called }
         ensures finished { result.finished ≡ self.now.collections.finished }
         // Never more are finished than were called for.
         ensures few { result.finished ≤ result.called }
     {
         Status {
-            objects: self.names.len(),
+            objects: self.directory.len(),
             grants: self.handles.len(),
             free: self.space.free(),
             running: self.collections.is_running(),
@@ -115,9 +116,9 @@ impl<D: Disk> Core<D> {
     /// of objects that are gone. This does nothing: it is a law.
     pub fn has_room(&self)
         ensures size { D.blocks self.now.disk ≡ 64 * length self.now.space.free }
-        ensures room { (s : State) → Serves D.Disk self.now s → is_sweeping s.collection ≡ false
+        ensures room { (s : State) → CoreServes D.Disk self.now s → sweeps_now s.collection ≡ false
             → IsRoom (length self.now.space.free) s (sum self.now.space.free) }
-        ensures lost { (s : State) → Serves D.Disk self.now s
+        ensures lost { (s : State) → CoreServes D.Disk self.now s
             → IsRoom (length self.now.space.free) s
             (sum self.now.space.free + lost_blocks (D.content self.now.disk) s.graph) }
     {
@@ -154,12 +155,12 @@ impl<D: Disk> Core<D> {
 
     /// The kind of an object. Its root block is one of the disk's, and not block 0.
     pub(crate) fn kind(&self, id: Puid) -> Option<Kind>
-        ensures kind { result ≡ kind_in self.now.names.named id }
+        ensures kind { result ≡ directory_kind self.now.directory.named id }
         ensures on_disk { IsSome result → id.block < D.blocks self.now.disk }
         ensures some { IsSome result → id.block ≢ 0 }
     {
-        self.names.room();
-        self.names.kind(id)
+        self.directory.room();
+        self.directory.kind(id)
     }
 }
 

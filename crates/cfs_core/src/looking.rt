@@ -1,7 +1,7 @@
 //! Requests that read an index.
 ghost use Rattle.std.specs.Prelude.{◌≡◌, ◌<◌, nat_lt, length, true, IfOk};
 ghost use Rattle.cfs_core.specs.Calls.{Tries, looked};
-ghost use Rattle.cfs_core.specs.Looks.{IsCalm, Knows, counted};
+ghost use Rattle.cfs_core.specs.Looks.{IsCalm, KnowsObject, counted};
 ghost use Rattle.ufs_model.specs.declared.asked.Request.TheVariants as asks;
 ghost use Rattle.ufs_model.specs.Plain.{IsPlainReply, is_id};
 ghost use Rattle.ufs_model.specs.declared.object.Index.{Index};
@@ -17,7 +17,7 @@ use ufs_model::{Ref, Reply};
 /// nothing.
 pub(crate) fn look<D: Disk>(disk: &mut D, index: BlockNo, slot: u64) -> Result<Reply, Refused>
     requires { index.0 < D.blocks disk.old }
-    ensures exact { (i : Index) → Knows D.Disk disk.old index.0 (objects.Index i)
+    ensures exact { (i : Index) → KnowsObject D.Disk disk.old index.0 (objects.Index i)
         → IfOk result (λ reply. reply ≡ looked i slot) }
     ensures few { IfOk result (λ reply. is_id reply ≡ true → slot < 983040) }
     ensures plain { IfOk result IsPlainReply }
@@ -40,7 +40,7 @@ pub(crate) fn look<D: Disk>(disk: &mut D, index: BlockNo, slot: u64) -> Result<R
 /// Whether the index at a block has such a slot.
 pub(crate) fn has_slot<D: Disk>(disk: &mut D, index: BlockNo, slot: u64) -> Result<bool, Refused>
     requires { index.0 < D.blocks disk.old }
-    ensures exact { (i : Index) → Knows D.Disk disk.old index.0 (objects.Index i)
+    ensures exact { (i : Index) → KnowsObject D.Disk disk.old index.0 (objects.Index i)
         → IfOk result (λ has. has ≡ nat_lt slot (length i.slots)) }
     ensures few { IfOk result (λ has. has ≡ true → slot < 983040) }
     ensures calm { IsCalm D.Disk objects.Index 1 index.0 disk.old disk.new result }
@@ -54,7 +54,7 @@ pub(crate) fn has_slot<D: Disk>(disk: &mut D, index: BlockNo, slot: u64) -> Resu
 /// How many slots the index at a block has, as a reply.
 fn count<D: Disk>(disk: &mut D, index: BlockNo) -> Result<Reply, Refused>
     requires { index.0 < D.blocks disk.old }
-    ensures exact { (i : Index) → Knows D.Disk disk.old index.0 (objects.Index i)
+    ensures exact { (i : Index) → KnowsObject D.Disk disk.old index.0 (objects.Index i)
         → IfOk result (λ reply. reply ≡ counted i) }
     ensures plain { IfOk result IsPlainReply }
     ensures calm { IsCalm D.Disk objects.Index 1 index.0 disk.old disk.new result }

@@ -7,7 +7,7 @@ ghost use Rattle.cfs_recover.specs.Grounds.{IsOpenFault};
 ghost use Rattle.cfs_recover.specs.Recovered.{IsUntouched, LeavesSinceBarrier};
 ghost use Rattle.cfs_recover.specs.Refusals.{IsCaused};
 ghost use Rattle.puid_space.specs.Directory.{has_root_in};
-ghost use Rattle.cfs_core.specs.Opened.{IsOpened, disk_of};
+ghost use Rattle.cfs_core.specs.Opened.{IsOpenedCore, disk_of};
 ghost use Rattle.ufs_model.specs.Graph.{Graph};
 ghost use Rattle.ufs_model.specs.Word.{word};
 ghost use Rattle.vol_format.specs.Fresh.{IsFormatted, MayBeFresh};
@@ -31,11 +31,12 @@ pub struct OpenFault<D: Disk> {
 
 /// What only a disk that lies can give: identifiers past its end, or of block 0.
 fn is_astray(recovered: &Recovered, blocks: u32) -> bool
-    ensures not { result ≡ false → (recovered.now.names.room ≡ blocks)
-        × (has_root_in recovered.now.names.named 0 ≡ false) }
-    ensures is { recovered.now.names.room ≡ blocks → has_root_in recovered.now.names.named 0 ≡ false → result ≡ false }
+    ensures not { result ≡ false → (recovered.now.directory.room ≡ blocks)
+        × (has_root_in recovered.now.directory.named 0 ≡ false) }
+    ensures is { recovered.now.directory.room ≡ blocks → has_root_in recovered.now.directory.named 0 ≡ false
+        → result ≡ false }
 {
-    recovered.names.room() != blocks || recovered.names.has_root(0)
+    recovered.directory.room() != blocks || recovered.directory.has_root(0)
 }
 
 impl<D: Disk> Core<D> {
@@ -58,7 +59,7 @@ impl<D: Disk> Core<D> {
     /// is drawn.
     pub fn open(alloc: Global, disk: D, seed: u64) -> Result<Core<D>, OpenFault<D>>
         ensures opened { IsTrue (D.honest disk) → (graph : Graph) → IsSoundAs (D.content disk) graph
-            → IfOk result (IsOpened D.Disk graph seed) }
+            → IfOk result (IsOpenedCore D.Disk graph seed) }
         // Whatever disk it is, no word is drawn, the core hasn't stopped, and no collection was called for.
         ensures begins { IfOk result (λ core. (core.words ≡ record { seed = seed; drawn = 0 }) × (core.stop ≡ None)) }
         ensures idle { IfOk result (λ core. core.collections ≡ record { collector = None; called = 0; finished = 0 }) }
@@ -94,7 +95,7 @@ impl<D: Disk> Core<D> {
                 Ok(Core {
                     disk,
                     root: recovered.label.root,
-                    names: recovered.names,
+                    directory: recovered.directory,
                     space: recovered.space,
                     words: Draw::new(seed),
                     handles: Handles::new(alloc),

@@ -2,8 +2,8 @@
 ghost use Rattle.std.specs.Prelude.{◌≡◌, ◌+◌, ◌<◌, ◌≤◌, IfOk, None, length};
 ghost use Rattle.cfs_base.specs.Run.{Tells};
 ghost use Rattle.cfs_core.specs.Calls.{Tries};
-ghost use Rattle.cfs_core.specs.Looks.{IsCalm, Knows, content_reply, measured};
-ghost use Rattle.cfs_core.specs.StandsFor.{Serves};
+ghost use Rattle.cfs_core.specs.Looks.{IsCalm, KnowsObject, content_reply, measured};
+ghost use Rattle.cfs_core.specs.StandsFor.{CoreServes};
 ghost use Rattle.normal_files.specs.Standing.{IsRootAt};
 ghost use Rattle.normal_files.specs.Touched.{leaves_touched, nodes_touched};
 ghost use Rattle.ufs_model.specs.Plain.{IsPlainReply};
@@ -31,7 +31,7 @@ pub(crate) fn is_range(size: u64, offset: u64, count: u64) -> bool
 pub(crate) fn root_in<D: Disk>(disk: &mut D, file: BlockNo) -> Result<Root, Refused>
     requires { file.0 < D.blocks disk.old }
     ensures rooted { Tells D.Disk disk.old → IfOk result (IsRootAt (D.content disk.old) file.0) }
-    ensures exact { (f : File) → Knows D.Disk disk.old file.0 (objects.File f)
+    ensures exact { (f : File) → KnowsObject D.Disk disk.old file.0 (objects.File f)
         → IfOk result (λ root. root.size ≡ length f.bytes) }
     ensures limit { IfOk result (λ root. root.size ≤ 7864320) }
     ensures calm { IsCalm D.Disk objects.File 1 file.0 disk.old disk.new result }
@@ -52,7 +52,7 @@ fn content<D: Disk>(
     count: u64,
 ) -> Result<Reply, Refused>
     requires { file.0 < D.blocks disk.old }
-    ensures exact { (f : File) → Knows D.Disk disk.old file.0 (objects.File f)
+    ensures exact { (f : File) → KnowsObject D.Disk disk.old file.0 (objects.File f)
         → IfOk result (λ reply. reply ≡ content_reply f offset count) }
     ensures plain { IfOk result IsPlainReply }
     ensures calm { IsCalm D.Disk objects.File (1 + nodes_touched offset count + leaves_touched offset count) file.0
@@ -74,7 +74,7 @@ fn content<D: Disk>(
 /// The size of the file at a block, as a reply.
 fn measure<D: Disk>(disk: &mut D, file: BlockNo) -> Result<Reply, Refused>
     requires { file.0 < D.blocks disk.old }
-    ensures exact { (f : File) → Knows D.Disk disk.old file.0 (objects.File f)
+    ensures exact { (f : File) → KnowsObject D.Disk disk.old file.0 (objects.File f)
         → IfOk result (λ reply. reply ≡ measured f) }
     ensures plain { IfOk result IsPlainReply }
     ensures calm { IsCalm D.Disk objects.File 1 file.0 disk.old disk.new result }
@@ -112,7 +112,7 @@ impl<D: Disk> Core<D> {
         offset: u64,
         count: u64,
     ) -> Result<Reply, Refused>
-        requires bare { (s : State) → Serves D.Disk self.old s → draft_of s who to ≡ None }
+        requires bare { (s : State) → CoreServes D.Disk self.old s → draft_of s who to ≡ None }
         ensures { Tries D.Disk self.old self.new who (asks.Read to offset count) result }
     {
         let way = Way {
@@ -139,7 +139,7 @@ impl<D: Disk> Core<D> {
 
     /// The same where the reference has no draft.
     fn size_of_object(&mut self, who: Session, to: Ref) -> Result<Reply, Refused>
-        requires bare { (s : State) → Serves D.Disk self.old s → draft_of s who to ≡ None }
+        requires bare { (s : State) → CoreServes D.Disk self.old s → draft_of s who to ≡ None }
         ensures { Tries D.Disk self.old self.new who (asks.Size to) result }
     {
         let way = Way {

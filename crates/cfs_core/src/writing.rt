@@ -1,7 +1,7 @@
 //! Requests that change a file.
 ghost use Rattle.std.specs.Prelude.{◌≡◌, None};
 ghost use Rattle.cfs_core.specs.Calls.{Tries};
-ghost use Rattle.cfs_core.specs.StandsFor.{Serves};
+ghost use Rattle.cfs_core.specs.StandsFor.{CoreServes};
 ghost use Rattle.ufs_model.specs.State.{State, draft_of};
 ghost use Rattle.ufs_model.specs.declared.asked.Request.TheVariants as asks;
 
@@ -45,7 +45,7 @@ impl<D: Disk> Core<D> {
         bytes: &[u8],
     ) -> Result<Reply, Refused>
         requires left { self.old.space.left ≡ None }
-        requires bare { (s : State) → Serves D.Disk self.old s → draft_of s who to ≡ None }
+        requires bare { (s : State) → CoreServes D.Disk self.old s → draft_of s who to ≡ None }
         ensures { Tries D.Disk self.old self.new who (asks.Write to offset bytes.now) result }
     {
         are_bytes(bytes);
@@ -101,7 +101,7 @@ impl<D: Disk> Core<D> {
         size: u64,
     ) -> Result<Reply, Refused>
         requires left { self.old.space.left ≡ None }
-        requires bare { (s : State) → Serves D.Disk self.old s → draft_of s who to ≡ None }
+        requires bare { (s : State) → CoreServes D.Disk self.old s → draft_of s who to ≡ None }
         ensures { Tries D.Disk self.old self.new who (asks.Resize to size) result }
     {
         let changes = true;

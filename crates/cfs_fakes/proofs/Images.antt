@@ -6,7 +6,7 @@ use Rattle.std.proofs.lemmas.Bool.Decides.{nat_tests}
 use Rattle.cfs_base.specs.Disk.{Image, block_at, Written}
 use Rattle.cfs_fakes.specs.declared.kept.Call.{Call}
 use Rattle.cfs_fakes.specs.declared.kept.Call.TheVariants.{Write, Barrier}
-use Rattle.cfs_fakes.specs.Replay.{State, after, writes_to, chosen, AreChoices, IsChoice, IsImage}
+use Rattle.cfs_fakes.specs.Replay.{DiskState, after, writes_to, chosen, AreChoices, IsChoice, IsImage}
 
 -- the writes to a block after a write to it
 writes_same : (n : ℕ) (b : List ℕ) (ws : List (ℕ × List ℕ)) → writes_to n ((n, b) ∷ ws) ≡ b ∷ writes_to n ws
@@ -53,7 +53,7 @@ chosen_old m n k base b ws le = elim (cases_eq m n) [
 ]
 
 -- the same choices by another name
-pub same_choice : (s : State) (f g : ℕ → ℕ) (c : Image) → IsChoice s f c → ((n : ℕ) → n < length c → f n ≡ g n) → IsChoice s g c
+pub same_choice : (s : DiskState) (f g : ℕ → ℕ) (c : Image) → IsChoice s f c → ((n : ℕ) → n < length c → f n ≡ g n) → IsChoice s g c
 same_choice s f g c is same = record { size = is.size; each = λ n le. is.each n le ∙ ap (λ (k : ℕ). chosen k (block_at s.base n) (writes_to n s.pending)) (same n le) }
 
 -- the choice k for block n, and those that were for the others
@@ -67,7 +67,7 @@ with_other : (n k : ℕ) (choice : ℕ → ℕ) (m : ℕ) → m ≢ n → with_c
 with_other n k choice m not = grind (arith, nat_tests)
 
 -- the image by other choices, at block n and at the others
-rechosen : (s : State) (n k : ℕ) (choice : ℕ → ℕ) (c : Image) → length c ≡ length s.base → (n < length c → block_at c n ≡ chosen k (block_at s.base n) (writes_to n s.pending)) → ((m : ℕ) → m ≢ n → m < length c → block_at c m ≡ chosen (choice m) (block_at s.base m) (writes_to m s.pending)) → IsImage s c
+rechosen : (s : DiskState) (n k : ℕ) (choice : ℕ → ℕ) (c : Image) → length c ≡ length s.base → (n < length c → block_at c n ≡ chosen k (block_at s.base n) (writes_to n s.pending)) → ((m : ℕ) → m ≢ n → m < length c → block_at c m ≡ chosen (choice m) (block_at s.base m) (writes_to m s.pending)) → IsImage s c
 rechosen s n k choice c size here others = (
   with_choice n k choice,
   record {
@@ -80,7 +80,7 @@ rechosen s n k choice c size here others = (
   },
 )
 
-module _ (s : State) (n : ℕ) (b : List ℕ) (done : Bool) where
+module _ (s : DiskState) (n : ℕ) (b : List ℕ) (done : Bool) where
   -- the write isn't chosen: the image might have been left before
   not_chosen : (choice : ℕ → ℕ) (c : Image) → IsChoice (after (Write n b done) s) choice c → (n < length c → choice n ≤ length (writes_to n s.pending)) → IsImage s c
   not_chosen choice c is older = (
@@ -112,11 +112,11 @@ module _ (s : State) (n : ℕ) (b : List ℕ) (done : Bool) where
   ]
 
 -- after a barrier a crash leaves the content
-pub flushed : (s : State) (c : Image) → IsImage (after Barrier s) c → c ≡ s.content
+pub flushed : (s : DiskState) (c : Image) → IsImage (after Barrier s) c → c ≡ s.content
 flushed s c h = ext_get_or [] c s.content h.1.size (λ n le. h.1.each n le)
 
 -- the content is one of the images
-pub after_content : (call : Call) (s : State) → IsImage s s.content → IsImage (after call s) (after call s).content
+pub after_content : (call : Call) (s : DiskState) → IsImage s s.content → IsImage (after call s) (after call s).content
 after_content (Write n b true) s h =
     let long : length (set s.content n b) ≡ length s.content = length-set s.content n b in
     let older : List (List ℕ) = writes_to n s.pending in

@@ -3,7 +3,7 @@ use Rattle.std.specs.Prelude.{◌≡◌, ◌⊎◌, ◌↔◌, ℕ, ◌-◌, ◌
 use Rattle.cfs_base.specs.Outside.{count_after}
 use Rattle.cfs_base.specs.Disk.{Image}
 use Rattle.cfs_fakes.specs.declared.kept.Call.TheVariants.{Write}
-use Rattle.cfs_fakes.specs.Replay.{State, zeros, after}
+use Rattle.cfs_fakes.specs.Replay.{DiskState, zeros, after}
 use Rattle.cfs_fakes.specs.Recorder.{clock, state_at, left_of as left_of_recorder}
 use Rattle.cfs_fakes.specs.declared.memory_disk.MemoryDisk.{MemoryDisk}
 
@@ -35,19 +35,19 @@ abbrev pub listed_calls : MemoryDisk → List ℕ
 listed_calls d = d.listed.calls.items
 
 -- what the calls before moment t have made of a recording disk, which began with zeros
-abbrev pub state_of : MemoryDisk → ℕ → State
-state_of d t = state_at d.recorder t
+abbrev pub disk_state_at : MemoryDisk → ℕ → DiskState
+disk_state_at d t = state_at d.recorder t
 
 -- what all calls have made of it
-abbrev pub now_of : MemoryDisk → State
-now_of d = state_of d (moment_of d)
+abbrev pub now_of : MemoryDisk → DiskState
+now_of d = disk_state_at d (moment_of d)
 
 -- The next call fails: it is listed, or the disk records and its clock has come to its end.
 abbrev pub IsDue : MemoryDisk → Type 0
 IsDue d = Contains (listed_calls d) (moment_of d) ⊎ (IsTrue (is_recording d) × (moment_of d ≡ 2 ^ 64 - 1))
 
 -- no call was made on it
-pub record IsMade (d : MemoryDisk) (blocks : Image) (calls : List ℕ) (records : Bool) : Type 0 where
+pub record IsUncalled (d : MemoryDisk) (blocks : Image) (calls : List ℕ) (records : Bool) : Type 0 where
   pub content : contents d ≡ blocks
   pub listed : (m : ℕ) → Contains (listed_calls d) m ↔ Contains calls m
   pub recording : is_recording d ≡ records
@@ -64,7 +64,7 @@ pub record IsSamePlan (old new : MemoryDisk) : Type 0 where
 
 -- what was made of it by each moment up to the call stays so
 abbrev pub KeepsStates : MemoryDisk → MemoryDisk → Type 0
-KeepsStates old new = (t : ℕ) → t ≤ moment_of old → state_of new t ≡ state_of old t
+KeepsStates old new = (t : ℕ) → t ≤ moment_of old → disk_state_at new t ≡ disk_state_at old t
 
 -- a call that is done
 pub record Succeeds (old new : MemoryDisk) : Type 0 where
@@ -80,7 +80,7 @@ pub record Fails (old new : MemoryDisk) : Type 0 where
   pub state : now_of new ≡ now_of old
 
 -- a write that fails as it must: unless the clock has come to its end, a crash may leave it
-pub record Misses (old new : MemoryDisk) (at : ℕ) (block : List ℕ) : Type 0 where
+pub record MissesWrite (old new : MemoryDisk) (at : ℕ) (block : List ℕ) : Type 0 where
   pub due : IsDue old
   pub faults : faults_of new ≡ count_after (faults_of old)
   pub starved : starved_of new ≡ starved_of old

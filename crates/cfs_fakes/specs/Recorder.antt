@@ -2,17 +2,17 @@
 use Rattle.std.specs.Prelude.{◌≡◌, ℕ, IsTrue}
 use Rattle.cfs_base.specs.Disk.{Image}
 use Rattle.cfs_base.specs.Replay.{Left}
-use Rattle.cfs_fakes.specs.Replay.{State, IsImage, zeros, replay}
+use Rattle.cfs_fakes.specs.Replay.{DiskState, IsImage, zeros, replayed_calls}
 use Rattle.cfs_fakes.specs.declared.recorder.Recorder.{Recorder}
 
 abbrev pub clock : Recorder → ℕ
 clock r = r.moment
 
 -- the state of a disk of zeros after the kept calls made before moment t
-abbrev pub state_at : Recorder → ℕ → State
-state_at r t = replay (zeros r.blocks) t r.kept.items
+abbrev pub state_at : Recorder → ℕ → DiskState
+state_at r t = replayed_calls (zeros r.blocks) t r.kept.items
 
-abbrev pub state_now : Recorder → State
+abbrev pub state_now : Recorder → DiskState
 state_now r = state_at r r.moment
 
 -- a crash at some moment since t may leave it, where calls are kept

@@ -8,13 +8,13 @@ use Rattle.cfs_fakes.specs.declared.kept.Call.TheVariants.{Write, Barrier}
 use Rattle.cfs_fakes.specs.declared.kept.KeptCall.{KeptCall}
 
 -- the content, the content at the last barrier, and the writes since then, the newest first, with their blocks
-pub record State : Type 0 where
+pub record DiskState : Type 0 where
   pub content : Image
   pub base : Image
   pub pending : List (ℕ × List ℕ)
 
 -- a disk of zeros
-abbrev pub zeros : ℕ → State
+abbrev pub zeros : ℕ → DiskState
 zeros blocks = record {
   content = replicate blocks (replicate 512 0);
   base = replicate blocks (replicate 512 0);
@@ -22,7 +22,7 @@ zeros blocks = record {
 }
 
 -- What a kept call does. A write that failed changes no content, and waits for the next barrier like one that is done.
-abbrev pub after : Call → State → State
+abbrev pub after : Call → DiskState → DiskState
 after (Write at block done) s = record {
   content = if done then set s.content at block else s.content;
   base = s.base;
@@ -33,12 +33,12 @@ after Barrier s = record { content = s.content; base = s.content; pending = [] }
 abbrev pub made_at : KeptCall → ℕ
 made_at kept = kept.moment
 
-abbrev pub made : KeptCall → State → State
+abbrev pub made : KeptCall → DiskState → DiskState
 made kept s = after kept.call s
 
 -- the state at moment t, after the calls made before it
-abbrev pub replay : State → ℕ → List KeptCall → State
-replay s t kept = calls.replay made_at made s t kept
+abbrev pub replayed_calls : DiskState → ℕ → List KeptCall → DiskState
+replayed_calls s t kept = calls.replay made_at made s t kept
 
 -- the writes to one block
 abbrev pub writes_to : ℕ → List (ℕ × List ℕ) → List (List ℕ)
@@ -46,11 +46,11 @@ writes_to n [] = []
 writes_to n (w ∷ older) = if nat_eq w.0 n then w.1 ∷ writes_to n older else writes_to n older
 
 -- the writes to one block that wait for a barrier, those that failed too, the newest first
-abbrev pub waiting : State → ℕ → List (List ℕ)
+abbrev pub waiting : DiskState → ℕ → List (List ℕ)
 waiting s n = writes_to n s.pending
 
 -- how many there are, as far as a choice can number them
-abbrev pub choices_of : State → ℕ → ℕ
+abbrev pub choices_of : DiskState → ℕ → ℕ
 choices_of s n = min (length (waiting s n)) (2 ^ 32 - 1)
 
 -- What a block holds by a choice: 0 is its content at the last barrier, k the k-th write since then, or the last where
@@ -67,10 +67,10 @@ pub record AreChoices (writes : List (List ℕ)) : Type 0 where
   pub last : (k : ℕ) (base : List ℕ) → length writes ≤ k → chosen k base writes ≡ chosen (length writes) base writes
 
 -- the image in which each block holds its choice
-pub record IsChoice (s : State) (choice : ℕ → ℕ) (c : Image) : Type 0 where
+pub record IsChoice (s : DiskState) (choice : ℕ → ℕ) (c : Image) : Type 0 where
   pub size : length c ≡ length s.base
   pub each : (n : ℕ) → n < length c → block_at c n ≡ chosen (choice n) (block_at s.base n) (writes_to n s.pending)
 
 -- a crash may leave it: each block holds some choice
-abbrev pub IsImage : State → Image → Type 0
+abbrev pub IsImage : DiskState → Image → Type 0
 IsImage s c = (choice : ℕ → ℕ) × IsChoice s choice c

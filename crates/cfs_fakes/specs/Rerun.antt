@@ -1,11 +1,11 @@
 -- What the calls of a disk made again stand for.
 use Rattle.std.specs.Prelude.{◌≡◌, ℕ, ◌-◌, ◌<◌, length, get_or}
-use Rattle.cfs_fakes.specs.Replay.{State, IsChoice, writes_to}
+use Rattle.cfs_fakes.specs.Replay.{DiskState, IsChoice, writes_to}
 use Rattle.cfs_fakes.specs.declared.rerun.Rerun.{Rerun}
 
 -- Content and image are those of the state, by the choices that are wanted. Of each block's choice as many writes are
 -- still to come as were not made since the last barrier.
-pub record Follows (r : Rerun) (s : State) : Type 0 where
+pub record Follows (r : Rerun) (s : DiskState) : Type 0 where
   pub content : r.content ≡ s.content
   pub base : length s.base ≡ length s.content
   pub image : IsChoice s (λ n. get_or r.wanted.items n 0) r.image

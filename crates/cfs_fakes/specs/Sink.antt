@@ -22,7 +22,7 @@ abbrev pub listed_calls : MemorySink → List ℕ
 listed_calls s = s.listed.calls.items
 
 -- no call was made on it
-pub record IsMade (s : MemorySink) (calls : List ℕ) : Type 0 where
+pub record IsUncalled (s : MemorySink) (calls : List ℕ) : Type 0 where
   pub taken : taken_of s ≡ []
   pub listed : (n : ℕ) → Contains (listed_calls s) n ↔ Contains calls n
   pub none : calls_of s ≡ 0

@@ -18,7 +18,7 @@ abbrev pub listed_calls : MemorySource → List ℕ
 listed_calls s = s.listed.calls.items
 
 -- no call was made on it
-pub record IsMade (s : MemorySource) (bytes calls : List ℕ) : Type 0 where
+pub record IsUncalled (s : MemorySource) (bytes calls : List ℕ) : Type 0 where
   pub left : left_of s ≡ bytes
   pub listed : (n : ℕ) → Contains (listed_calls s) n ↔ Contains calls n
   pub none : calls_of s ≡ 0

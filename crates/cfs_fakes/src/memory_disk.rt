@@ -37,7 +37,7 @@ pub struct MemoryDisk {
 
 impl Disk for MemoryDisk {
     ghost use Rattle.cfs_fakes.specs.Memory.{contents, is_recording, moment_of, tries_of, faults_of, left_of, now_of};
-    ghost use Rattle.cfs_fakes.specs.Memory.{IsSamePlan, KeepsStates, Succeeds, Fails, Misses, Starves};
+    ghost use Rattle.cfs_fakes.specs.Memory.{IsSamePlan, KeepsStates, Succeeds, Fails, MissesWrite, Starves};
 
     ghost blocks = { λ d. length d.store };
 
@@ -115,7 +115,7 @@ impl Disk for MemoryDisk {
         ensures kept { OnOk result (IsTrue (is_recording self.old)
             → now_of self.new ≡ after (Call.Write at.0 from.now true) (now_of self.old)) }
         ensures done { OnOk result (Succeeds self.old self.new) }
-        ensures failed { OnErr result (Misses self.old self.new at.0 from.now ⊎ Starves self.old self.new) }
+        ensures failed { OnErr result (MissesWrite self.old self.new at.0 from.now ⊎ Starves self.old self.new) }
     {
         self.tries = self.tries.saturating_add(1);
         if self.recorder.is_over() {
@@ -161,11 +161,12 @@ impl Disk for MemoryDisk {
 }
 
 impl MemoryDisk {
-    ghost use Rattle.cfs_fakes.specs.Memory.{contents, is_recording, moment_of, starved_of, state_of, IsDue, IsMade};
+    ghost use Rattle.cfs_fakes.specs.Memory.{contents, is_recording, moment_of, starved_of, disk_state_at, IsDue};
+    ghost use Rattle.cfs_fakes.specs.Memory.{IsUncalled};
 
     /// Zero blocks. No call fails.
     pub fn new(alloc: Global, blocks: u32) -> Result<MemoryDisk, NoMemory>
-        ensures { IfOk result (λ d. IsMade d (replicate blocks (replicate 512 0)) [] false) }
+        ensures { IfOk result (λ d. IsUncalled d (replicate blocks (replicate 512 0)) [] false) }
     {
         MemoryDisk::failing(alloc, blocks, Vec::new(alloc))
     }
@@ -174,14 +175,14 @@ impl MemoryDisk {
     pub fn of(alloc: Global, bytes: Vec<u8>) -> MemoryDisk
         requires whole { length bytes.items % 512 ≡ 0 }
         requires room { length bytes.items < 2 ^ 41 }
-        ensures { IsMade result (first_chunks 512 (length bytes.items / 512) bytes.items) [] false }
+        ensures { IsUncalled result (first_chunks 512 (length bytes.items / 512) bytes.items) [] false }
     {
         MemoryDisk::made(alloc, Store::of(bytes), Vec::new(alloc), false)
     }
 
     /// Zero blocks. The call at each of these moments fails.
     pub fn failing(alloc: Global, blocks: u32, calls: Vec<u64>) -> Result<MemoryDisk, NoMemory>
-        ensures { IfOk result (λ d. IsMade d (replicate blocks (replicate 512 0)) calls.items false) }
+        ensures { IfOk result (λ d. IsUncalled d (replicate blocks (replicate 512 0)) calls.items false) }
     {
         let store = Store::zeros(alloc, blocks)?;
         Ok(MemoryDisk::made(alloc, store, calls, false))
@@ -189,7 +190,7 @@ impl MemoryDisk {
 
     /// Zero blocks. The call at each of these moments fails. It keeps its calls and tells its crash images.
     pub fn recording(alloc: Global, blocks: u32, calls: Vec<u64>) -> Result<MemoryDisk, NoMemory>
-        ensures { IfOk result (λ d. IsMade d (replicate blocks (replicate 512 0)) calls.items true) }
+        ensures { IfOk result (λ d. IsUncalled d (replicate blocks (replicate 512 0)) calls.items true) }
     {
         let store = Store::zeros(alloc, blocks)?;
         Ok(MemoryDisk::made(alloc, store, calls, true))
@@ -199,9 +200,9 @@ impl MemoryDisk {
     pub fn image(&self, alloc: Global, at: u64, picks: &[Pick]) -> Result<MemoryDisk, NoMemory>
         requires recorded { IsTrue (is_recording self.now) }
         requires in_time { at ≤ moment_of self.now }
-        ensures picked { IfOk result (λ d. IsChoice (state_of self.now at) (choice_of picks.now) (contents d)) }
+        ensures picked { IfOk result (λ d. IsChoice (disk_state_at self.now at) (choice_of picks.now) (contents d)) }
         ensures allowed { IfOk result (λ d. ⟦<MemoryDisk as Disk>⟧.left_since self.now at (contents d)) }
-        ensures made { IfOk result (λ d. IsMade d (contents d) [] false) }
+        ensures made { IfOk result (λ d. IsUncalled d (contents d) [] false) }
         ensures size { IfOk result (λ d. length (contents d) ≡ length (contents self.now)) }
     {
         let store = self.recorder.image(alloc, at, picks)?;
@@ -212,8 +213,8 @@ impl MemoryDisk {
     /// before it: a pick has so many choices beside 0. Takes no memory.
     pub fn choices(&self, at: u64, block: u32) -> u32
         requires recorded { IsTrue (is_recording self.now) }
-        ensures counted { result ≡ choices_of (state_of self.now at) block }
-        ensures each { AreChoices (waiting (state_of self.now at) block) }
+        ensures counted { result ≡ choices_of (disk_state_at self.now at) block }
+        ensures each { AreChoices (waiting (disk_state_at self.now at) block) }
     {
         self.recorder.choices(at, block)
     }
@@ -235,7 +236,7 @@ impl MemoryDisk {
     // no call was made on it
     fn made(alloc: Global, store: Store, calls: Vec<u64>, recording: bool) -> MemoryDisk
         requires { IsTrue recording → store ≡ replicate (length store) (replicate 512 0) }
-        ensures { IsMade result store calls.items recording }
+        ensures { IsUncalled result store calls.items recording }
     {
         let blocks = store.count();
         MemoryDisk {

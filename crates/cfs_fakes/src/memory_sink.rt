@@ -19,11 +19,11 @@ pub struct MemorySink {
 }
 
 impl MemorySink {
-    ghost use Rattle.cfs_fakes.specs.Sink.{taken_of, starved_of, IsMade};
+    ghost use Rattle.cfs_fakes.specs.Sink.{taken_of, starved_of, IsUncalled};
 
     /// It has taken no bytes.
     pub fn new(alloc: Global, calls: Vec<u64>) -> MemorySink
-        ensures { IsMade result calls.items }
+        ensures { IsUncalled result calls.items }
     {
         MemorySink {
             bytes: Vec::new(alloc),

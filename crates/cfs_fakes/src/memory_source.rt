@@ -20,11 +20,11 @@ pub struct MemorySource {
 }
 
 impl MemorySource {
-    ghost use Rattle.cfs_fakes.specs.Source.{IsMade};
+    ghost use Rattle.cfs_fakes.specs.Source.{IsUncalled};
 
     /// Takes no memory.
     pub fn new(bytes: Vec<u8>, calls: Vec<u64>) -> MemorySource
-        ensures { IsMade result bytes.items calls.items }
+        ensures { IsUncalled result bytes.items calls.items }
     {
         MemorySource {
             bytes,

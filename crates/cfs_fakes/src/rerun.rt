@@ -2,7 +2,7 @@
 ghost use Rattle.std.specs.Prelude.{◌≡◌, length, IfOk};
 ghost use Rattle.cfs_base.specs.Replay.{after_before};
 ghost use Rattle.cfs_fakes.specs.Picks.{choice_of, IsWanted};
-ghost use Rattle.cfs_fakes.specs.Replay.{State, zeros, after, made, made_at, replay, choices_of, IsChoice};
+ghost use Rattle.cfs_fakes.specs.Replay.{DiskState, zeros, after, made, made_at, replayed_calls, choices_of, IsChoice};
 
 use crate::kept::{Call, KeptCall, Pick};
 use crate::store::Store;
@@ -47,7 +47,7 @@ impl Rerun {
 
     /// Makes the call again, if it was made before this moment.
     fn make_before(&mut self, at: u64, kept: &KeptCall)
-        ensures follows { (s : State) → Follows self.old s
+        ensures follows { (s : DiskState) → Follows self.old s
             → Follows self.new (after_before made_at made at kept.now s) }
         ensures wanted { self.new.wanted ≡ self.old.wanted }
     {
@@ -60,7 +60,8 @@ impl Rerun {
     }
 
     fn write(&mut self, at: u32, block: &Block, done: bool)
-        ensures follows { (s : State) → Follows self.old s → Follows self.new (after (Call.Write at block.now done) s) }
+        ensures follows { (s : DiskState) → Follows self.old s
+            → Follows self.new (after (Call.Write at block.now done) s) }
         ensures wanted { self.new.wanted ≡ self.old.wanted }
     {
         if at >= self.content.count() {
@@ -77,7 +78,7 @@ impl Rerun {
     }
 
     fn barrier(&mut self)
-        ensures follows { (s : State) → Follows self.old s → Follows self.new (after Call.Barrier s) }
+        ensures follows { (s : DiskState) → Follows self.old s → Follows self.new (after Call.Barrier s) }
         ensures wanted { self.new.wanted ≡ self.old.wanted }
     {
         self.image.copy_from(&self.content);
@@ -102,7 +103,7 @@ fn choices(alloc: Global, blocks: u32, picks: &[Pick]) -> Result<Vec<u32>, Alloc
 
 // how many writes to the block wait, after one call more if it was made before this moment
 fn waiting_after(count: u32, kept: &KeptCall, at: u64, block: u32) -> u32
-    ensures { (s : State) → count ≡ choices_of s block
+    ensures { (s : DiskState) → count ≡ choices_of s block
         → result ≡ choices_of (after_before made_at made at kept.now s) block }
 {
     if kept.moment >= at {
@@ -123,7 +124,7 @@ fn waiting_after(count: u32, kept: &KeptCall, at: u64, block: u32) -> u32
 /// How many choices a crash at this moment has for a block, beside 0, on a disk of zeros on which these calls were
 /// made.
 pub fn choices_at(blocks: u32, calls: &[KeptCall], at: u64, block: u32) -> u32
-    ensures { result ≡ choices_of (replay (zeros blocks) at calls.now) block }
+    ensures { result ≡ choices_of (replayed_calls (zeros blocks) at calls.now) block }
 {
     let mut count = 0u32;
     for kept in calls {
@@ -140,7 +141,7 @@ pub fn image_at(
     at: u64,
     picks: &[Pick],
 ) -> Result<Store, AllocError>
-    ensures { IfOk result (λ image. IsChoice (replay (zeros blocks) at calls.now) (choice_of picks.now) image) }
+    ensures { IfOk result (λ image. IsChoice (replayed_calls (zeros blocks) at calls.now) (choice_of picks.now) image) }
 {
     let mut rerun = Rerun::new(alloc, blocks, picks)?;
     for kept in calls {

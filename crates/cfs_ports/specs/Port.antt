@@ -16,7 +16,7 @@ use Rattle.cfs_ports.specs.Heard.{CanBind, Hears}
 
 -- the request lines that are left, the names, what is known of the sink, whether it failed, and whether the session
 -- has left
-pub record Reading : Type 0 where
+pub record PortReading : Type 0 where
   pub lines : List (List ℕ)
   pub names : NameTable
   pub sink : Intake
@@ -24,13 +24,13 @@ pub record Reading : Type 0 where
   pub has_left : Bool
 
 -- nothing was read: the session knows the root index alone, and its sink hasn't failed
-pub record IsNew (root : Puid) (p : Reading) : Type 0 where
+pub record IsNewPort (root : Puid) (p : PortReading) : Type 0 where
   pub names : names_of p.names ≡ no_names root
   pub goes : p.failed ≡ false
   pub stays : p.has_left ≡ false
 
 -- the next line was taken, and so it was heard
-pub record TakesLine (old new : Reading) (heard : Heard) : Type 0 where
+pub record TakesLine (old new : PortReading) (heard : Heard) : Type 0 where
   pub line : List ℕ
   pub taken : old.lines ≡ line ∷ new.lines
   pub hears : Hears (reading_of all_forms (names_of old.names) line) (name_spoken all_forms (words_of line)) heard
@@ -46,14 +46,14 @@ Replied old new text true = Wrote old new text
 Replied old new text false = WroteSome old new text
 
 -- the line of a reply was written, and its name bound
-pub record Answers (old new : Reading) (name : Option (List ℕ)) (reply : Reply) : Type 0 where
+pub record WritesReply (old new : PortReading) (name : Option (List ℕ)) (reply : Reply) : Type 0 where
   pub lines : new.lines ≡ old.lines
   pub names : names_of new.names ≡ names_after_reply (names_of old.names) name reply
   pub stays : new.has_left ≡ old.has_left
   pub replied : Replied old.sink new.sink (reply_line reply) (not new.failed)
 
 -- it was told why a line is no request
-pub record Tells (old new : Reading) (why : Unread) : Type 0 where
+pub record TellsWhy (old new : PortReading) (why : Unread) : Type 0 where
   pub lines : new.lines ≡ old.lines
   pub names : new.names ≡ old.names
   pub stays : new.has_left ≡ old.has_left

@@ -1,7 +1,7 @@
 //! What a reply binds.
 ghost use Rattle.std.specs.Prelude.{◌≡◌};
 ghost use Rattle.cfs_script.specs.NameTable.{names_of};
-ghost use Rattle.cfs_ports.specs.Heard.{HasRoom};
+ghost use Rattle.cfs_ports.specs.Heard.{HasRoomForName};
 ghost use Rattle.ufs_model.specs.Turns.{names_after_reply};
 
 use cfs_script::{Name, Names};
@@ -9,7 +9,7 @@ use ufs_model::{Bound, Reply};
 
 /// Binds the name of a request that was answered so. It takes no memory.
 pub(crate) fn bind_reply(names: &mut Names, name: Option<Name>, reply: &Reply)
-    requires { HasRoom name names.old.room }
+    requires { HasRoomForName name names.old.room }
     ensures { names_of names.new ≡ names_after_reply (names_of names.old) name reply.now }
 {
     let Some(name) = name else {

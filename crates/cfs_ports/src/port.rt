@@ -2,8 +2,8 @@
 ghost use Rattle.std.specs.Prelude.{◌≡◌, ◌∷◌, [], true, length, vec_capacity, IfErr, IfNone, IfOk, IfSome};
 ghost use Rattle.cfs_script.specs.Room.{FitsLine};
 ghost use Rattle.ufs_model.specs.Script.{request_lines};
-ghost use Rattle.cfs_ports.specs.Heard.{HasRoom};
-ghost use Rattle.cfs_ports.specs.Port.{Answers, IsNew, Replied, TakesLine, Tells};
+ghost use Rattle.cfs_ports.specs.Heard.{HasRoomForName};
+ghost use Rattle.cfs_ports.specs.Port.{WritesReply, IsNewPort, Replied, TakesLine, TellsWhy};
 
 use crate::binding::bind_reply;
 use crate::hearing::{Heard, hear};
@@ -33,9 +33,9 @@ impl<K: Sink> Model for Port<K> {
     ghost use Rattle.std.specs.Prelude.{◌≡◌, ◌≤◌, [], drop, length, vec_len, vec_capacity};
     ghost use Rattle.cfs_script.specs.declared.reply.TheConstants.{REPLY_ROOM};
     ghost use Rattle.ufs_model.specs.Script.{request_lines};
-    ghost use Rattle.cfs_ports.specs.Port.{Reading};
+    ghost use Rattle.cfs_ports.specs.Port.{PortReading};
 
-    ghost Value = { Reading };
+    ghost Value = { PortReading };
 
     ghost view = { λ p. record {
       lines = request_lines (drop p.at p.script.items);
@@ -78,7 +78,7 @@ impl<K: Sink> Port<K> {
         sink: K,
     ) -> Result<Port<K>, PortFault<K>>
         requires count { lines ≡ length (request_lines script.items) }
-        ensures new { IfOk result (IsNew root) }
+        ensures new { IfOk result (IsNewPort root) }
         ensures lines { IfOk result (λ p. p.lines ≡ request_lines script.items) }
         ensures sink { IfOk result (λ p. p.sink ≡ K.intake sink) }
         ensures back { IfErr result (λ e. (e.script ≡ script) × (e.sink ≡ sink)) }
@@ -113,9 +113,9 @@ impl<K: Sink> Port<K> {
 
     /// Writes the line of a reply, and binds the name to what it names. Takes no memory.
     pub fn answer(&mut self, name: Option<Name>, reply: &Reply)
-        requires name { HasRoom name self.old.names.room }
+        requires name { HasRoomForName name self.old.names.room }
         requires fits { FitsLine reply.now }
-        ensures { Answers self.old self.new name reply.now }
+        ensures { WritesReply self.old self.new name reply.now }
     {
         print_reply(reply, &mut self.text);
         bind_reply(&mut self.names, name, reply);
@@ -124,7 +124,7 @@ impl<K: Sink> Port<K> {
 
     /// Tells why a line is no request. Takes no memory.
     pub fn tell(&mut self, why: Unread)
-        ensures { Tells self.old self.new why }
+        ensures { TellsWhy self.old self.new why }
     {
         print_unread(why, &mut self.text);
         self.failed = !send(&mut self.sink, &mut self.text);

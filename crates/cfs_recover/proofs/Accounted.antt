@@ -1,6 +1,6 @@
 -- A volume that was tidied has nothing but its objects: each has exactly its blocks, and nothing is open or left over.
 use Rattle.std.proofs.Common.{◌≡◌, ◌⊎◌, inl, inr, ℕ, ◌<◌, Bool, true, false, ◌&&◌, ◌==◌, List, [], length, Option, Some, None, refl, sym, ◌∙◌, ap, subst, arith, is_some}
-use Rattle.cfs_recover.proofs.Words.{Accounts, Allocated, AreCopied, Graph, HasItsBlocks, HasRoot, Holds, Image, IsBlockOf, IsClean, IsHeldIn, IsIn, IsPlaced, IsSome, IsSwept, IsTidied, IsTree, MapEntry, Object, Place, Puid, StandsIn, Tidies, Tree, and_from, and_parts, block_at, block_there, entry_in, eq-eqb, eqb-true, first_or, free_entry, has_block, in_image, is_committed, is_fixed, is_had, is_leaving, is_made, is_meant, is_of, is_placed, is_root, is_root_place, is_stray, is_taken, levels_of, no_shadows, object_at, owner_of, part_at, part_of, place_at, reserved, root_placed, same_Some, same_block, sight, source, taken_apart, tidied, tree_in, tree_placed}
+use Rattle.cfs_recover.proofs.Words.{Accounts, Allocated, AreCopied, Graph, HasItsBlocks, HasRoot, Holds, Image, IsBlockOf, IsClean, IsHeldIn, IsIn, IsPlaced, IsSome, IsSwept, IsTidied, IsTree, MapEntry, Object, Place, Puid, StandsIn, Tidies, Tree, and_from, and_parts, block_at, block_there, entry_in, eq-eqb, eqb-true, first_or, unheld_entry, has_block, in_image, is_committed, is_fixed, is_had, is_leaving, is_made, is_meant, is_owned_by, is_placed, is_root, is_root_place, is_stray, is_taken, levels_of, no_shadows, object_at, owner_of, part_at, part_of, place_at, reserved, root_placed, same_Some, same_block, sight, source, taken_apart, tidied, tree_in, tree_placed}
 use Rattle.cfs_base.specs.declared.kind.Place.TheVariants.{Root}
 use Rattle.cfs_recover.proofs.Tidyings.{tidies_hold, tree_same}
 
@@ -14,7 +14,7 @@ module _ (a b : Image) (g : Graph) (held : ℕ → Bool) (holds : Holds a g) (co
   -- ---- the entries of b
 
   -- an entry is none, that of a fixed block, one that is held, or Free
-  which : (n : ℕ) (P : Option MapEntry → Type 0) → P None → (is_fixed n ≡ true → P (Some reserved)) → ((e : MapEntry) → entry_in a n ≡ Some e → is_fixed n ≡ false → held n ≡ true → P (Some (taken e))) → P (Some free_entry) → P (entry_in b n)
+  which : (n : ℕ) (P : Option MapEntry → Type 0) → P None → (is_fixed n ≡ true → P (Some reserved)) → ((e : MapEntry) → entry_in a n ≡ Some e → is_fixed n ≡ false → held n ≡ true → P (Some (taken e))) → P (Some unheld_entry) → P (entry_in b n)
   which n P none fixed is_held free = at (entry_in b n) refl
     where
       of : (e : MapEntry) → entry_in a n ≡ Some e → n < length a → (f h : Bool) → is_fixed n ≡ f → held n ≡ h → P (Some (tidied f h e))
@@ -60,11 +60,11 @@ module _ (a b : Image) (g : Graph) (held : ℕ → Bool) (holds : Holds a g) (co
     abbrev r : ℕ
     r = id.block
 
-    its : (n : ℕ) → (n ≡ r) ⊎ StandsIn (tree_in a (block_at a r)) n → is_of is_had r (entry_in b n) ≡ true
+    its : (n : ℕ) → (n ≡ r) ⊎ StandsIn (tree_in a (block_at a r)) n → is_owned_by is_had r (entry_in b n) ≡ true
     its n here =
         let of = of_object n id o at here in
         let e = of.placed.taken.is in
-        ap (is_of is_had r) (entry_of_held n id of (tidy.all n id o at here))
+        ap (is_owned_by is_had r) (entry_of_held n id of (tidy.all n id o at here))
         ∙ and_from (is_some e.place) (r == e.owner) (ap is_some of.placed.place_is) (eq-eqb r e.owner (sym of.placed.taken.owned))
 
     bit_gone : is_committed (part_at b r) ≡ false
@@ -73,7 +73,7 @@ module _ (a b : Image) (g : Graph) (held : ℕ → Bool) (holds : Holds a g) (co
     tree_is : tree_in b (block_at b (source b r)) ≡ tree_in a (block_at a r)
     tree_is = tree_same a g b holds copied tidies id o at ∙ ap (tree_in a) (copied id o at)
 
-    each : (n : ℕ) → IsBlockOf b r n → is_of is_had r (entry_in b n) ≡ true
+    each : (n : ℕ) → IsBlockOf b r n → is_owned_by is_had r (entry_in b n) ≡ true
     unfolding sight
     each n (inl is) = its n (inl is)
     each n (inr (inl is)) = its n (inl (is ∙ ap (first_or r) (no_shadows b r bit_gone)))
@@ -84,8 +84,8 @@ module _ (a b : Image) (g : Graph) (held : ℕ → Bool) (holds : Holds a g) (co
     back n (inl is) = inl is
     back n (inr s) = inr (inr (s.path, s.held, ap (λ (t : Tree). t.below s.path) tree_is ∙ s.there, s.is))
 
-    no_other : (n : ℕ) → is_of is_had r (entry_in b n) ≡ true → IsBlockOf b r n
-    no_other n = which n (λ x. is_of is_had r x ≡ true → IsBlockOf b r n) (λ none. cc) (λ fix none. cc)
+    no_other : (n : ℕ) → is_owned_by is_had r (entry_in b n) ≡ true → IsBlockOf b r n
+    no_other n = which n (λ x. is_owned_by is_had r x ≡ true → IsBlockOf b r n) (λ none. cc) (λ fix none. cc)
         (λ e is apart is_held passed.
         let one = tidy.only n is_held in
         let of = of_object n one.id one.object one.there one.here in
@@ -95,8 +95,8 @@ module _ (a b : Image) (g : Graph) (held : ℕ → Bool) (holds : Holds a g) (co
         back n (subst (λ (x : Puid). (n ≡ x.block) ⊎ StandsIn (tree_in a (block_at a x.block)) n) same one.here))
         (λ none. cc)
 
-    none_leaves : (n : ℕ) → is_of is_leaving r (entry_in b n) ≡ false
-    none_leaves n = which n (λ x. is_of is_leaving r x ≡ false) refl (λ fix. refl) (λ e is apart is_held. refl) refl
+    none_leaves : (n : ℕ) → is_owned_by is_leaving r (entry_in b n) ≡ false
+    none_leaves n = which n (λ x. is_owned_by is_leaving r x ≡ false) refl (λ fix. refl) (λ e is apart is_held. refl) refl
 
     has_its_blocks : HasItsBlocks b r
     has_its_blocks = record { no_bit = bit_gone; each = each; no_other = no_other; none_leaves = none_leaves }
@@ -125,14 +125,14 @@ module _ (a b : Image) (g : Graph) (held : ℕ → Bool) (holds : Holds a g) (co
         (λ d was other is_held same some.
         let one = owner_at n d was (tidy.only n is_held) in
         subst (λ (x : MapEntry). is_placed is_taken (Some x) ≡ true) (same_Some _ _ same) one.1)
-        (λ free some. let no : is_taken free_entry.state ≡ true = ap (λ (x : MapEntry). is_taken x.state) (same_Some _ _ free) ∙ some in cc) is;
+        (λ free some. let no : is_taken unheld_entry.state ≡ true = ap (λ (x : MapEntry). is_taken x.state) (same_Some _ _ free) ∙ some in cc) is;
     rooted = λ n. which n (λ x. is_placed is_taken x ≡ true → HasRoot b (owner_of x)) (λ none. cc) (λ fix none. cc)
         (λ e is apart is_held some.
         let one = tidy.only n is_held in
         subst (λ (m : ℕ). HasRoot b m) (sym (owner_at n e is one).0) (has_root one.id one.object one.there))
         (λ none. cc);
     objects = has_its_blocks;
-    drafts = λ id o at n. which n (λ x. is_of is_meant id.block x ≡ false) refl (λ fix. refl) (λ e is apart is_held. refl) refl;
+    drafts = λ id o at n. which n (λ x. is_owned_by is_meant id.block x ≡ false) refl (λ fix. refl) (λ e is apart is_held. refl) refl;
     on_objects = refl;
     made = λ c none. cc;
     made_by = λ n is. let no : is_made (entry_in b n) ≡ false = which n (λ x. is_made x ≡ false) refl (λ fix. refl) (λ e was apart is_held. refl) refl in let clash : true ≡ false = sym is ∙ no in cc;
@@ -179,7 +179,7 @@ module _ (a b : Image) (g : Graph) (held : ℕ → Bool) (holds : Holds a g) (co
 
   pub tidied_is_clean : IsClean b g
   tidied_is_clean = record {
-    free = λ n e is apart none. which n (λ x. x ≡ Some e → e ≡ free_entry)
+    free = λ n e is apart none. which n (λ x. x ≡ Some e → e ≡ unheld_entry)
         (λ no. cc)
         (λ fix same. let clash : true ≡ false = sym fix ∙ apart in cc)
         (λ d was other is_held same. absurd (none (is_in n (tidy.only n is_held))))

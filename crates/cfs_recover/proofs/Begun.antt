@@ -16,7 +16,7 @@ same_root image l m one two =
     let word = sym a.word ∙ b.word in
     λ i. record { block = block i; word = word i }
 
-pub begins : (image : Image) (w : Walk) (blocks : ℕ) (label : Label) → length image ≡ blocks → HasLabel image label → w.names.room ≡ blocks → w.names.named ≡ [] → w.found.items ≡ [] → w.held.items ≡ replicate blocks false → w.clash ≡ None → IsWalk image w 0
+pub begins : (image : Image) (w : Walk) (blocks : ℕ) (label : Label) → length image ≡ blocks → HasLabel image label → w.directory.room ≡ blocks → w.directory.named ≡ [] → w.found.items ≡ [] → w.held.items ≡ replicate blocks false → w.clash ≡ None → IsWalk image w 0
 begins image w blocks label size has room named found held clash =
     walk_begins image w label named (room ∙ sym size) found (λ n. ap (λ (hs : List Bool). get_or hs n false) held ∙ none_held blocks n) clash (λ other there. same_root image label other has there)
 

@@ -1,6 +1,6 @@
 -- The list of roots that are to be copied, as one is noted.
 use Rattle.std.proofs.Common.{◌≡◌, ◌≢◌, ◌⊎◌, inl, inr, ℕ, zero, suc, ◌+◌, ◌<◌, ◌≤◌, List, [], ◌∷◌, ◌++◌, length, Option, Some, None, refl, sym, ◌∙◌, ap, subst, arith, append-nil, length-append}
-use Rattle.cfs_recover.proofs.Words.{AreCopies, AreKept, Copied, Found, HasCopy, HasKept, Head, Image, IsCopy, IsRootBlock, Piece, all_pieces, block_at, cases_lt, copies_before, flat_map-append, copies_for, nat_tests, pieces_of, same_Some, slice_get, slice_get_within, source}
+use Rattle.cfs_recover.proofs.Words.{AreCopies, AreKeptPieces, Copied, Found, HasCopy, HasKept, Head, Image, IsCopy, IsRootBlock, Piece, all_pieces, block_at, cases_lt, copies_before, flat_map-append, copies_for, nat_tests, pieces_of, same_Some, slice_get, slice_get_within, source}
 use Rattle.cfs_recover.proofs.Noting.{push_from, push_new, push_old}
 
 past_none : {A : Type 0} (xs : List A) (k : ℕ) → slice_get xs k ≡ None → length xs ≤ k
@@ -151,11 +151,11 @@ module _ (image : Image) (a b : List Found) (grows : (k : ℕ) (x : Found) → s
     },
   )
 
-module _ (image : Image) (found : List Found) (done : ℕ) (pieces : List Piece) (copies : List Copied) (kept : AreKept image found done pieces copies) (x : Found) (at : slice_get found done ≡ Some x) where
+module _ (image : Image) (found : List Found) (done : ℕ) (pieces : List Piece) (copies : List Copied) (kept : AreKeptPieces image found done pieces copies) (x : Found) (at : slice_get found done ≡ Some x) where
   last_is : (k : ℕ) (y : Found) → k < done + 1 → ¬ (k < done) → slice_get found k ≡ Some y → (k ≡ done) × (x ≡ y)
   last_is k y less not there = let here : k ≡ done = omega (arith, less, not) in (here, same_Some _ _ (sym at ∙ ap (slice_get found) (sym here) ∙ there))
 
-  pub kept_same : source image x.block ≡ x.block → AreKept image found (done + 1) pieces copies
+  pub kept_same : source image x.block ≡ x.block → AreKeptPieces image found (done + 1) pieces copies
   kept_same own = record {
     are = copies_same image found done copies x kept.are at own;
     spelled = kept.spelled;
@@ -170,7 +170,7 @@ module _ (image : Image) (found : List Found) (done : ℕ) (pieces : List Piece)
     abbrev new_copy : Copied
     new_copy = record { block = block; root = head.root }
 
-    pub kept_more : (more : List Piece) → more ≡ pieces ++ pieces_of head.root → AreKept image found (done + 1) more (copies ++ new_copy ∷ [])
+    pub kept_more : (more : List Piece) → more ≡ pieces ++ pieces_of head.root → AreKeptPieces image found (done + 1) more (copies ++ new_copy ∷ [])
     kept_more more is =
         let other : source image x.block ≢ x.block = λ own. elsewhere (copy.from ∙ ap (source image) (sym same) ∙ own ∙ same) in
         record {

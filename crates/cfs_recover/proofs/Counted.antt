@@ -1,6 +1,6 @@
 -- How many blocks a finished walk holds: those that the graph's objects take.
 use Rattle.std.proofs.Common.{◌≡◌, ◌⊎◌, inl, inr, ℕ, zero, suc, ◌+◌, ◌*◌, ◌≤◌, Bool, true, false, ◌&&◌, ◌==◌, List, [], ◌∷◌, length, get_or, count_by, Some, None, refl, sym, ◌∙◌, ap, subst, arith}
-use Rattle.cfs_recover.proofs.Words.{AreGrounds, Graph, Holds, Image, IsNoted, IsWalk, Label, LeavesFour, Object, Puid, StandsIn, Walk, and_from, and_parts, below_apart, block_at, block_there, blocks_are, blocks_of, count_in, count_owned, count_with_tree, entry_in, eq-eqb, eqb-true, graph_blocks, has_block, holds, in_image, levels_all, levels_of, object_at, one_of, owned_sum_by, owner_of, range_with_len, root_placed, run-suc, same_block, shown_tree, sight, source, sum_by, sum_by-cons, sum_each, sum_objects, sum_run, tree_in, tree_placed}
+use Rattle.cfs_recover.proofs.Words.{AreGrounds, Graph, Holds, Image, IsNotedIn, IsWalk, Label, LeavesFour, Object, Puid, StandsIn, Walk, and_from, and_parts, below_apart, block_at, block_there, blocks_are, blocks_of, count_in, count_owned, count_with_tree, entry_in, eq-eqb, eqb-true, graph_blocks, has_block, holds, in_image, levels_all, levels_of, object_at, one_of, owned_sum_by, owner_of, range_with_len, root_placed, run-suc, same_block, shown_tree, sight, source, sum_by, sum_by-cons, sum_each, sum_objects, sum_run, tree_in, tree_placed}
 use Rattle.cfs_recover.proofs.Finished.{all_taken, held_in, in_held, walk_holds}
 
 -- ---- marks
@@ -19,7 +19,7 @@ marks_count (h ∷ hs) =
 
 -- ---- the objects of a finished walk
 
-module _ (image : Image) (label : Label) (grounds : AreGrounds image label) (w : Walk) (walk : IsWalk image w (length w.found.items)) (no_clash : w.clash ≡ None) (noted : IsNoted w label.root) where
+module _ (image : Image) (label : Label) (grounds : AreGrounds image label) (w : Walk) (walk : IsWalk image w (length w.found.items)) (no_clash : w.clash ≡ None) (noted : IsNotedIn w label.root) where
   abbrev g : Graph
   g = walk.graph
 

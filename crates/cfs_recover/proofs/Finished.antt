@@ -1,12 +1,12 @@
 -- A walk that took all that it found: the volume is sound, or has a fault.
 use Rattle.std.proofs.Common.{◌≡◌, ◌⊎◌, inl, inr, ℕ, ◌*◌, true, List, length, Some, None, refl, sym, ◌∙◌, ap, subst}
-use Rattle.cfs_recover.proofs.Words.{AreGrounds, Fault, Graph, HasLabel, Holds, Image, IsClosedGraph, IsFault, IsIn, IsNoted, IsReached, IsRootBlock, IsRootIndex, IsSome, IsSoundAs, IsTaken, IsWalk, Kind, Label, LeavesFour, Next, Object, Puid, Root, Shows, StandsIn, TheRoot, Walk, block_at, damage, found_next, graph_pairs, has_pair, holds, index_has_pair, is_among, is_there, leaf_in, object_at, object_there, object_with, one_root_block, one_root_index, pair_from_index, referred, root_is_rooted, rooted, rooted_is_closed, says, shown_tree, sight, slice_get_within, source}
+use Rattle.cfs_recover.proofs.Words.{AreGrounds, Fault, Graph, HasLabel, Holds, Image, IsClosedGraph, IsFaultOf, IsIn, IsNotedIn, IsReachedIn, IsRootBlock, IsRootIndex, IsSome, IsSoundAs, IsWalkedObject, IsWalk, Kind, Label, LeavesFour, Next, Object, Puid, Root, Shows, StandsIn, TheRoot, Walk, block_at, damage, found_next, graph_pairs, has_pair, holds, index_has_pair, is_among, is_there, leaf_in, object_at, object_there, object_with, one_root_block, one_root_index, pair_from_index, referred, root_is_rooted, rooted, rooted_is_closed, says, shown_tree, sight, slice_get_within, source}
 use Rattle.cfs_recover.proofs.Listings.{listed}
 use Rattle.cfs_recover.proofs.Named.{named_nothing}
 use Rattle.cfs_recover.proofs.Noting.{listed_there, there_listed}
 
 -- what is reached begins at a root index
-begins : (image : Image) (x : Puid) → IsReached image x → (label : Label) × HasLabel image label × IsRootIndex image label.root.block
+begins : (image : Image) (x : Puid) → IsReachedIn image x → (label : Label) × HasLabel image label × IsRootIndex image label.root.block
 begins image x (TheRoot label has sort) = (label, has, sort)
 begins image x (Next i y r o reached shows refers names) = begins image i reached
 
@@ -14,14 +14,14 @@ module _ (image : Image) (w : Walk) (walk : IsWalk image w (length w.found.items
   abbrev its : Graph
   its = walk.graph
 
-  pub all_taken : (x : Puid) (o : Object) → object_at its x ≡ Some o → IsTaken image w x o
+  pub all_taken : (x : Puid) (o : Object) → object_at its x ≡ Some o → IsWalkedObject image w x o
   all_taken x o there =
       let at = walk.listed x (ap (λ (n : List (Puid × Kind)). listed n x) walk.named ∙ listed_there its x o there) in
       walk.taken at.0 at.1 x o (slice_get_within w.found.items at.0 at.1 at.2) at.2 at.3 there
 
   -- ---- a clash is a fault
 
-  pub clash_fault : (by : ℕ) → w.clash ≡ Some by → IsFault image (damage by 6)
+  pub clash_fault : (by : ℕ) → w.clash ≡ Some by → IsFaultOf image (damage by 6)
   unfolding sight
   clash_fault by is =
       let clash = walk.clash by is in
@@ -32,14 +32,14 @@ module _ (image : Image) (w : Walk) (walk : IsWalk image w (length w.found.items
 
 -- ---- without one the volume reads as the graph
 
-module _ (image : Image) (label : Label) (grounds : AreGrounds image label) (w : Walk) (walk : IsWalk image w (length w.found.items)) (no_clash : w.clash ≡ None) (noted : IsNoted w label.root) where
+module _ (image : Image) (label : Label) (grounds : AreGrounds image label) (w : Walk) (walk : IsWalk image w (length w.found.items)) (no_clash : w.clash ≡ None) (noted : IsNotedIn w label.root) where
   abbrev g : Graph
   g = walk.graph
 
-  taken : (x : Puid) (o : Object) → object_at g x ≡ Some o → IsTaken image w x o
+  taken : (x : Puid) (o : Object) → object_at g x ≡ Some o → IsWalkedObject image w x o
   taken = all_taken image w walk
 
-  is_there_if : (x : Puid) → IsNoted w x → is_there g x ≡ true
+  is_there_if : (x : Puid) → IsNotedIn w x → is_there g x ≡ true
   is_there_if x (inl is) = there_listed g x (sym (ap (λ (n : List (Puid × Kind)). listed n x) walk.named) ∙ is)
   is_there_if x (inr some) = let none : IsSome {T = ℕ} None = subst IsSome no_clash some in cc
 
@@ -104,7 +104,7 @@ module _ (image : Image) (label : Label) (grounds : AreGrounds image label) (w :
       let same = one_root_block (block_at image (source image x.block)) r seen.source shown.spelled seen.tree.spelled in
       sym shown.object ∙ ap (λ (q : Root). object_with q (leaf_in (shown_tree image x.block))) same ∙ seen.tree.object
 
-  pub reached_rooted : (x : Puid) → IsReached image x → (is_there g x ≡ true) × (is_among x (rooted g) ≡ true)
+  pub reached_rooted : (x : Puid) → IsReachedIn image x → (is_there g x ≡ true) × (is_among x (rooted g) ≡ true)
   reached_rooted x (TheRoot l has is) =
       let same = same_root l has in
       (ap (is_there g) same ∙ root_there, ap (λ (y : Puid). is_among y (rooted g)) same ∙ root_is_rooted g)
@@ -122,7 +122,7 @@ module _ (image : Image) (label : Label) (grounds : AreGrounds image label) (w :
   pub walk_sound : LeavesFour (length image) g → IsSoundAs image g
   walk_sound room = record { holds = walk_holds; graph = walk_closed; reached = walk_rooted; room = room }
 
-  pub walk_full : ¬ LeavesFour (length image) g → IsFault image (damage 0 11)
+  pub walk_full : ¬ LeavesFour (length image) g → IsFaultOf image (damage 0 11)
   walk_full none = Fault.NoRoom g walk_holds walk_closed walk_rooted none
 
   -- ---- what is held

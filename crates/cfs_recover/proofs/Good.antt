@@ -1,11 +1,11 @@
 -- The tree of an object whose blocks were checked, and what is held and noted of it.
 use Rattle.std.proofs.Common.{◌≡◌, ◌≢◌, inl, inr, ℕ, zero, suc, ◌+◌, ◌-◌, ◌*◌, ◌/◌, ◌<◌, true, List, [], ◌∷◌, ◌++◌, length, get_or, Some, refl, sym, ◌∙◌, ap, subst, arith, append-nil, is_some, IsTrue}
-use Rattle.cfs_recover.proofs.Words.{AreGood, AreGoodBelow, BelongsTo, Branch, Grows, Held, Image, IsGood, IsGoodLeaf, IsGoodTree, IsNoted, IsRootBlock, IsTree, Level, Place, Puid, Root, Walk, block_at, end_of, held, held_is, held_some, holds, leaf_in, leaf_pointers, length-path_to, levels_below, levels_of, node_pointers, object_with, path_to, place_above, place_at, place_from, place_number, pointer, pointers_of, tree_in, leaf_limit, node_levels, width}
+use Rattle.cfs_recover.proofs.Words.{AreGood, AreGoodBelow, BelongsTo, Branch, Grows, Held, Image, IsGood, IsGoodLeaf, IsGoodTree, IsNotedIn, IsRootBlock, IsTree, Level, Place, Puid, Root, Walk, block_at, end_of, held, held_is, held_some, holds, leaf_in, leaf_pointers, length-path_to, levels_below, levels_of, node_pointers, object_with, path_to, place_above, place_at, place_from, place_number, pointer, pointers_of, tree_in, leaf_limit, node_levels, width}
 use Rattle.cfs_recover.proofs.Trees.{down, end_zero, inside, length-pointers, less_one, place_on}
 
 -- ---- what was checked stays so
 
-pub noted_on : (a b : Walk) → Grows a b → (x : Puid) → IsNoted a x → IsNoted b x
+pub noted_on : (a b : Walk) → Grows a b → (x : Puid) → IsNotedIn a x → IsNotedIn b x
 noted_on a b grows x (inl listed) = inl (grows.listed x listed)
 noted_on a b grows x (inr clash) = inr (grows.clash clash)
 

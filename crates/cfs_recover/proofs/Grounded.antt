@@ -1,6 +1,6 @@
 -- What the maps in memory say of the entries of the image.
 use Rattle.std.proofs.Common.{◌≡◌, inl, inr, ℕ, ◌+◌, ◌*◌, ◌/◌, ◌%◌, ◌<◌, ◌≤◌, true, List, [], ◌∷◌, ◌++◌, length, get_or, Option, Some, None, refl, sym, ◌∙◌, ap, subst, arith}
-use Rattle.cfs_recover.proofs.Words.{AllMapsStand, AreGrounds, AreMaps, AreMapsOf, Damage, EntryFault, Fault, Ghosts, HasEntryFault, HasLabel, Image, IsBadMap, IsFault, IsMap, IsMapOf, IsNoMap, IsSome, Label, MapEntry, MayStand, Stores, Tells, block_at, cases_lt, damage, entries_read, entry_in, get_or-append_seam, get_or_append_left, is_fixed, map_in_image, map_of, map_spelling, reserved, same_Some, slice_get, slice_get-get_or}
+use Rattle.cfs_recover.proofs.Words.{AllMapsStand, AreGrounds, AreMaps, AreMapsOf, Damage, EntryFault, Fault, Ghosts, HasEntryFault, HasLabel, Image, IsBadMap, IsFaultOf, IsMap, IsMapOf, IsNoMap, IsSome, Label, MapEntry, MayStand, Stores, Tells, block_at, cases_lt, damage, entries_read, entry_in, get_or-append_seam, get_or_append_left, is_fixed, map_in_image, map_of, map_spelling, reserved, same_Some, slice_get, slice_get-get_or}
 use Rattle.cfs_recover.proofs.InMemory.{entry_is}
 
 -- ---- one map
@@ -13,18 +13,18 @@ module _ (image : Image) (c : ℕ) (map : List MapEntry) (is : IsMap map) (spell
       let m : (64 * c + k) % 64 ≡ k = omega arith in
       entries_read (block_at image (64 * ((64 * c + k) / 64))) map is (ap (λ (j : ℕ). block_at image (64 * j)) n ∙ spelled) ((64 * c + k) % 64) (omega arith) ∙ ap (slice_get map) m
 
-  pub entry_fault : (d : Damage) → HasEntryFault c map d → IsFault image d
+  pub entry_fault : (d : Damage) → HasEntryFault c map d → IsFaultOf image d
   entry_fault d has = at d has.wrong
     where
       here : entry_in image (64 * c + has.k) ≡ Some has.e
       here = entry_here has.k has.small ∙ has.here
 
-      at : (d : Damage) → EntryFault (64 * c + has.k) has.e d → IsFault image d
+      at : (d : Damage) → EntryFault (64 * c + has.k) has.e d → IsFaultOf image d
       at d (EntryFault.RootOfAnother place owner) = Fault.RootOfAnother (64 * c + has.k) has.e here place owner
       at d (EntryFault.NotReserved fixed other) = let small = has.small in Fault.NotReserved (64 * c + has.k) (omega arith) fixed (λ yes. other (same_Some _ _ (sym here ∙ yes)))
 
 -- a map block that is no map
-pub no_map_fault : (image : Image) (c : ℕ) → 64 * c + 64 ≤ length image → IsBadMap image (64 * c) → IsFault image (damage (64 * c) 2)
+pub no_map_fault : (image : Image) (c : ℕ) → 64 * c + 64 ≤ length image → IsBadMap image (64 * c) → IsFaultOf image (damage (64 * c) 2)
 no_map_fault image c inside bad =
     let first : map_of (64 * c) + bad.0 ≡ 64 * c + bad.0 = omega arith in
     let its : map_of (map_of (64 * c) + bad.0) ≡ 64 * c = omega (arith, bad.1) in
@@ -64,13 +64,13 @@ map_is g d image c map stored read =
     let at : map_of (64 * c) ≡ 64 * c = omega arith in
     (is.is_map, (λ i. block_at (sym stored.content i) (sym at i)) ∙ is.spelled)
 
-pub no_map : {D : Type 0} (g : Ghosts D) (d : D) (image : Image) (c : ℕ) (f : Damage) → Stores g d image → 64 * c + 64 ≤ length image → IsNoMap g d (64 * c) f → IsFault image f
+pub no_map : {D : Type 0} (g : Ghosts D) (d : D) (image : Image) (c : ℕ) (f : Damage) → Stores g d image → 64 * c + 64 ≤ length image → IsNoMap g d (64 * c) f → IsFaultOf image f
 no_map g d image c f stored inside is =
     let at : map_of (64 * c) ≡ 64 * c = omega arith in
     let bad = subst (λ (i : Image). IsBadMap i (64 * c)) stored.content (is.bad stored.tells) in
     let block = is.block ∙ at in
     let code = is.code in
-    subst (IsFault image) (λ i. record { block = sym block i; code = sym code i }) (no_map_fault image c inside bad)
+    subst (IsFaultOf image) (λ i. record { block = sym block i; code = sym code i }) (no_map_fault image c inside bad)
 
 -- a list of maps gets one more
 pub one_more_map : (P : ℕ → List MapEntry → Type 0) (maps more : List (List MapEntry)) (c : ℕ) (map : List MapEntry) → more ≡ maps ++ map ∷ [] → length maps ≡ c

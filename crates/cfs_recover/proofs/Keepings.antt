@@ -1,11 +1,11 @@
 -- Runs of writes, every image of which has one property: one lemma for each call.
 use Rattle.std.proofs.Common.{◌≡◌, ◌⊎◌, inl, inr, ⊎_elim, ℕ, ◌+◌, ◌<◌, IsTrue, List, [], length, set, Some, refl, sym, ◌∙◌, ap, subst, arith, get_or-set_same, get_or-set_other}
-use Rattle.cfs_recover.proofs.Words.{AreAllCopies, AreCopied, AreCopiesOf, AreWritten, Copied, CopiesRoots, Ghosts, Graph, Holds, Image, IsCopyOf, IsSameDisk, IsSettled, IsUntouched, Keeps, Leads, Leaves, MakesAtMost, Written, block_at, cases_eq, cases_lt, left_now, on, root_spelling, same_Some, slice_get, slice_get_within, source, then, wider}
+use Rattle.cfs_recover.proofs.Words.{AreAllCopies, AreCopied, AreCopiesOf, AreWritten, Copied, CopiesRoots, Ghosts, Graph, Holds, Image, IsCopyOf, IsSameDisk, IsSettled, IsUntouched, RunKeeps, Leads, Leaves, MakesAtMost, Written, block_at, cases_eq, cases_lt, left_now, on, root_spelling, same_Some, slice_get, slice_get_within, source, then, wider}
 use Rattle.cfs_recover.proofs.Tidyings.{copied_content, copies_write}
 
 module _ {D : Type 0} (g : Ghosts D) (P : Image → Type 0) where
   -- nothing waits
-  pub keeps_begin : (d : D) → IsSettled g d → P (g.content d) → Keeps g P d d
+  pub keeps_begin : (d : D) → IsSettled g d → P (g.content d) → RunKeeps g P d d
   keeps_begin d s is = record {
     tells = s.tells;
     content = is;
@@ -13,7 +13,7 @@ module _ {D : Type 0} (g : Ghosts D) (P : Image → Type 0) where
     leaves = record { later = omega arith; since = λ t c le h. inl h; now = λ c h. inl h };
   }
 
-  module _ (start old new : D) (n : ℕ) (block : List ℕ) (run : Keeps g P start old) (step : (c : Image) → P c → P (set c n block)) where
+  module _ (start old new : D) (n : ℕ) (block : List ℕ) (run : RunKeeps g P start old) (step : (c : Image) → P c → P (set c n block)) where
     has : (c : Image) → Written (left_now g old) n block c → P c
     has c w = subst P (sym w.2) (step w.0 (run.here w.0 w.1))
 
@@ -29,7 +29,7 @@ module _ {D : Type 0} (g : Ghosts D) (P : Image → Type 0) where
 
     -- done
     pub keeps_wrote : Leaves g old new (Written (left_now g old) n block) → IsSameDisk g.blocks g.honest g.tells_images old new → g.content new ≡ set (g.content old) n block
-        → ((m : ℕ) → IsTrue (g.told old m) → IsTrue (g.told new m)) → Keeps g P start new
+        → ((m : ℕ) → IsTrue (g.told old m) → IsTrue (g.told new m)) → RunKeeps g P start new
     keeps_wrote images same content told = record {
       tells = record { honest = subst IsTrue (sym same.honesty) run.tells.honest; told = λ m. told m (run.tells.told m) };
       content = subst P (sym content) (step (g.content old) run.content);
@@ -85,7 +85,7 @@ module _ {D : Type 0} (g : Ghosts D) (P : Image → Type 0) (start mid new : D) 
   leads_then Q first second more = record { content = more (g.content new) second.content; leaves = then g start mid new P Q first.leaves second.leaves more }
 
 -- what has come so far leads to it
-pub keeps_lead : {D : Type 0} (g : Ghosts D) (P : Image → Type 0) (start now : D) → Keeps g P start now → Leads g P start now
+pub keeps_lead : {D : Type 0} (g : Ghosts D) (P : Image → Type 0) (start now : D) → RunKeeps g P start now → Leads g P start now
 keeps_lead g P start now run = record { content = run.content; leaves = run.leaves }
 
 -- more room for what is left

@@ -1,9 +1,9 @@
 -- The identifiers of a directory: which are listed, and what its order says of them.
 use Rattle.std.proofs.Common.{◌≡◌, ◌≢◌, inl, inr, ◌<◌, Bool, true, false, cond, ◌&&◌, ◌==◌, not, List, [], ◌∷◌, None, refl, sym, ◌∙◌, ap, subst, arith, is_some}
-use Rattle.cfs_recover.proofs.Words.{Kind, Listing, Puid, among_itself, and_parts, blocks_rise, each_among, has_root_in, insert_entry, is_among, is_at, is_listing, is_some-lookup, keys_of, kind_in, list_all, list_any, lookup-filter-keys, lookup-insert_entry, lookup-insert_same, nat_lt, nat_tests, ne_eqb, or_cases, or_right, puid_cmp, rises, same_puid, same_puid_is, same_puid_itself, without_id}
+use Rattle.cfs_recover.proofs.Words.{Kind, Listing, Puid, among_itself, and_parts, blocks_rise, each_among, has_root_in, insert_entry, is_among, is_at, is_listing, is_some-lookup, keys_of, directory_kind, list_all, list_any, lookup-filter-keys, lookup-insert_entry, lookup-insert_same, nat_lt, nat_tests, ne_eqb, or_cases, or_right, puid_cmp, rises, same_puid, same_puid_is, same_puid_itself, without_id}
 
 abbrev pub listed : List (Puid × Kind) → Puid → Bool
-listed named x = is_some (kind_in named x)
+listed named x = is_some (directory_kind named x)
 
 pub listed_is : (named : List (Puid × Kind)) (x : Puid) → listed named x ≡ is_among x (keys_of named)
 listed_is named x = is_some-lookup (is_at (puid_cmp x)) named
@@ -72,12 +72,12 @@ alone (z ∷ ids) x y rise one two same =
 pub left : (named : List (Puid × Kind)) (x y : Puid) → listed (without_id named x) y ≡ true → (listed named y ≡ true) × (same_puid y x ≡ false)
 left named x y there = at (same_puid y x) refl
   where
-    found : kind_in (without_id named x) y ≡ cond (not (same_puid y x)) (kind_in named y) None
+    found : directory_kind (without_id named x) y ≡ cond (not (same_puid y x)) (directory_kind named y) None
     found = lookup-filter-keys (is_at (puid_cmp y)) (λ k. not (same_puid k x)) (not (same_puid y x)) (λ k same. ap (λ (z : Puid). not (same_puid z x)) (sym (same_puid_is y k same))) named
 
     at : (b : Bool) → same_puid y x ≡ b → (listed named y ≡ true) × (same_puid y x ≡ false)
-    at true same = let no = sym (ap is_some (found ∙ ap (λ (b : Bool). cond (not b) (kind_in named y) None) same)) ∙ there in cc
-    at false other = (sym (ap is_some (found ∙ ap (λ (b : Bool). cond (not b) (kind_in named y) None) other)) ∙ there, other)
+    at true same = let no = sym (ap is_some (found ∙ ap (λ (b : Bool). cond (not b) (directory_kind named y) None) same)) ∙ there in cc
+    at false other = (sym (ap is_some (found ∙ ap (λ (b : Bool). cond (not b) (directory_kind named y) None) other)) ∙ there, other)
 
 -- put in again, all that was listed is
 pub put_again : (named : List (Puid × Kind)) (id x : Puid) (kind : Kind) → listed named x ≡ true → listed (insert_entry puid_cmp (without_id named id) id kind) x ≡ true
@@ -87,7 +87,7 @@ put_again named id x kind was = at (same_puid x id) refl
     at true same = subst (λ (y : Puid). listed (insert_entry puid_cmp (without_id named id) id kind) y ≡ true) (sym (same_puid_is x id same)) (listed_new (without_id named id) id kind)
     at false other = put_other (without_id named id) id x kind other
         ∙ ap is_some (lookup-filter-keys (is_at (puid_cmp x)) (λ k. not (same_puid k id)) (not (same_puid x id)) (λ k same. ap (λ (z : Puid). not (same_puid z id)) (sym (same_puid_is x k same))) named)
-        ∙ ap (λ (b : Bool). is_some (cond (not b) (kind_in named x) None)) other ∙ was
+        ∙ ap (λ (b : Bool). is_some (cond (not b) (directory_kind named x) None)) other ∙ was
 
 none_passes : (P : Puid → Bool) (ids : List Puid) → ((y : Puid) → is_among y ids ≡ true → P y ≡ false) → list_any P ids ≡ false
 none_passes P [] fails = refl

@@ -1,6 +1,6 @@
 -- What a walk has found, as one identifier is noted, and a block is held.
 use Rattle.std.proofs.Common.{◌≡◌, ◌≢◌, ◌⊎◌, inl, inr, ℕ, zero, suc, ◌<◌, ◌≤◌, Bool, true, false, cond, List, [], ◌∷◌, ◌++◌, length, get_or, set, Option, Some, None, refl, sym, ◌∙◌, ap, subst, arith, get_or-set_same, get_or-set_other, length-append, is_some, ◌==◌}
-use Rattle.cfs_recover.proofs.Words.{Found, Graph, Grows, Image, IsClash, IsFound, IsKept, IsNamed, IsSized, IsSome, IsTaken, IsWalk, Kind, Listing, Object, Puid, Walk, among_itself, cases_eq, eqb-true, false_from_ne_true, has_root_in, holds, insert_entry, is_among, is_there, keys_of, kind_in-kinds_in, kind_of, kinds_in-insert_entry, kinds_of, list_any, lists, new_index, object_at, object_at-with_object, option_map, or_cases, or_right, puid_cmp, rises-with_object, same_Some, same_puid, same_puid_is, slice_get, with_object}
+use Rattle.cfs_recover.proofs.Words.{Found, Graph, Grows, Image, IsClash, IsFoundItem, IsKeptBlock, IsNamed, IsSized, IsSome, IsWalkedObject, IsWalk, Kind, Listing, Object, Puid, Walk, among_itself, cases_eq, eqb-true, false_from_ne_true, has_root_in, holds, insert_entry, is_among, is_there, keys_of, directory_kind-kinds_in, object_kind, kinds_in-insert_entry, kinds_of, list_any, lists, new_index, object_at, object_at-with_object, option_map, or_cases, or_right, puid_cmp, rises-with_object, same_Some, same_puid, same_puid_is, slice_get, with_object}
 use Rattle.cfs_base.specs.declared.kind.Kind.TheVariants as kinds
 use Rattle.ufs_model.specs.declared.object.Object.TheVariants as objects
 use Rattle.cfs_recover.proofs.Good.{noted_on}
@@ -38,12 +38,12 @@ sized_push room found more held x sized below is = record {
 
 -- an object of a graph is listed among its kinds
 pub listed_there : (g : Graph) (x : Puid) (o : Object) → object_at g x ≡ Some o → listed (kinds_of g) x ≡ true
-listed_there g x o at = ap is_some (kind_in-kinds_in g.objects x) ∙ ap (λ (p : Option Object). is_some (option_map kind_of p)) at
+listed_there g x o at = ap is_some (directory_kind-kinds_in g.objects x) ∙ ap (λ (p : Option Object). is_some (option_map object_kind p)) at
 
 pub there_listed : (g : Graph) (x : Puid) → listed (kinds_of g) x ≡ true → is_there g x ≡ true
-there_listed g x is = at (object_at g x) (sym (ap is_some (kind_in-kinds_in g.objects x)) ∙ is)
+there_listed g x is = at (object_at g x) (sym (ap is_some (directory_kind-kinds_in g.objects x)) ∙ is)
   where
-    at : (p : Option Object) → is_some (option_map kind_of p) ≡ true → is_some p ≡ true
+    at : (p : Option Object) → is_some (option_map object_kind p) ≡ true → is_some p ≡ true
     at None none = cc
     at (Some o) some = refl
 
@@ -59,10 +59,10 @@ grows_then a b c one two = record {
 }
 
 module _ (image : Image) (w v : Walk) (grows : Grows w v) where
-  pub found_on : (x : Found) → IsFound image w x → IsFound image v x
+  pub found_on : (x : Found) → IsFoundItem image w x → IsFoundItem image v x
   found_on x is = record { id = is.id; listed = grows.listed is.id is.listed; block = is.block; some = is.some; named = is.named }
 
-  pub taken_on : (id : Puid) (o : Object) → IsTaken image w id o → IsTaken image v id o
+  pub taken_on : (id : Puid) (o : Object) → IsWalkedObject image w id o → IsWalkedObject image v id o
   taken_on id o is = record {
     reached = is.reached;
     reads = is.reads;
@@ -75,20 +75,20 @@ module _ (image : Image) (w v : Walk) (grows : Grows w v) where
   clash_on by is = record { id = is.id; other = is.other; named = is.named; listed = grows.listed is.other is.listed; block = is.block; word = is.word }
 
 -- the list stays, and there may be another clash, and more that is held
-module _ (image : Image) (w v : Walk) (done : ℕ) (walk : IsWalk image w done) (grows : Grows w v) (names : v.names ≡ w.names) (found : v.found.items ≡ w.found.items) where
+module _ (image : Image) (w v : Walk) (done : ℕ) (walk : IsWalk image w done) (grows : Grows w v) (directory : v.directory ≡ w.directory) (found : v.found.items ≡ w.found.items) where
   listed_back : (x : Puid) → lists v x ≡ true → lists w x ≡ true
-  listed_back x is = subst (λ (n : Listing). listed n.named x ≡ true) names is
+  listed_back x is = subst (λ (n : Listing). listed n.named x ≡ true) directory is
 
   at_back : (k : ℕ) (x : Found) → slice_get v.found.items k ≡ Some x → slice_get w.found.items k ≡ Some x
   at_back k x at = ap (λ (xs : List Found). slice_get xs k) (sym found) ∙ at
 
-  pub walk_as : ((n : ℕ) → holds v n ≡ true → IsKept image n) → ((by : ℕ) → v.clash ≡ Some by → IsClash image v by) → IsWalk image v done
+  pub walk_as : ((n : ℕ) → holds v n ≡ true → IsKeptBlock image n) → ((by : ℕ) → v.clash ≡ Some by → IsClash image v by) → IsWalk image v done
   walk_as held clash = record {
     graph = walk.graph;
-    named = ap (λ (n : Listing). n.named) names ∙ walk.named;
+    named = ap (λ (n : Listing). n.named) directory ∙ walk.named;
     ordered = walk.ordered;
     root = walk.root;
-    room = ap (λ (n : Listing). n.room) names ∙ walk.room;
+    room = ap (λ (n : Listing). n.room) directory ∙ walk.room;
     within = subst (λ (xs : List Found). done ≤ length xs) (sym found) walk.within;
     found = λ k x at. found_on image w v grows x (walk.found k x (at_back k x at));
     once = λ j k x y one two same. walk.once j k x y (at_back j x one) (at_back k y two) same;
@@ -100,7 +100,7 @@ module _ (image : Image) (w v : Walk) (done : ℕ) (walk : IsWalk image w done) 
 
 -- ---- a block is held
 
-module _ (image : Image) (w v : Walk) (block : ℕ) (names : v.names ≡ w.names) (found : v.found.items ≡ w.found.items) (clash : v.clash ≡ w.clash)
+module _ (image : Image) (w v : Walk) (block : ℕ) (directory : v.directory ≡ w.directory) (found : v.found.items ≡ w.found.items) (clash : v.clash ≡ w.clash)
     (held : v.held.items ≡ set w.held.items block true) (inside : block < length w.held.items) where
   holds_set : (n : ℕ) → (n ≡ block) ⊎ (holds v n ≡ holds w n)
   holds_set n = elim (cases_eq n block) [
@@ -113,25 +113,25 @@ module _ (image : Image) (w v : Walk) (block : ℕ) (names : v.names ≡ w.names
 
   pub hold_grows : Grows w v
   hold_grows = record {
-    room = ap (λ (n : Listing). n.room) names;
-    listed = λ x was. subst (λ (n : Listing). listed n.named x ≡ true) (sym names) was;
+    room = ap (λ (n : Listing). n.room) directory;
+    listed = λ x was. subst (λ (n : Listing). listed n.named x ≡ true) (sym directory) was;
     found = λ k x at. ap (λ (xs : List Found). slice_get xs k) found ∙ at;
     held = λ n was. elim (holds_set n) [ inl is ↦ ap (holds v) is ∙ holds_it | inr same ↦ same ∙ was ];
     clash = λ some. subst IsSome (sym clash) some;
   }
 
-  pub hold_walk : (done : ℕ) → IsWalk image w done → IsKept image block → IsWalk image v done
-  hold_walk done walk kept = walk_as image w v done walk hold_grows names found
-      (λ n is. elim (holds_set n) [ inl same ↦ subst (λ (m : ℕ). IsKept image m) (sym same) kept | inr same ↦ walk.held n (sym same ∙ is) ])
+  pub hold_walk : (done : ℕ) → IsWalk image w done → IsKeptBlock image block → IsWalk image v done
+  hold_walk done walk kept = walk_as image w v done walk hold_grows directory found
+      (λ n is. elim (holds_set n) [ inl same ↦ subst (λ (m : ℕ). IsKeptBlock image m) (sym same) kept | inr same ↦ walk.held n (sym same ∙ is) ])
       (λ by is. clash_on image w v hold_grows by (walk.clash by (sym clash ∙ is)))
 
 -- ---- an identifier clashes with one that is listed
 
-module _ (image : Image) (w v : Walk) (id : Puid) (by : ℕ) (names : v.names ≡ w.names) (found : v.found.items ≡ w.found.items) (held : v.held.items ≡ w.held.items) (clash : v.clash ≡ Some by) where
+module _ (image : Image) (w v : Walk) (id : Puid) (by : ℕ) (directory : v.directory ≡ w.directory) (found : v.found.items ≡ w.found.items) (held : v.held.items ≡ w.held.items) (clash : v.clash ≡ Some by) where
   pub clash_grows : Grows w v
   clash_grows = record {
-    room = ap (λ (n : Listing). n.room) names;
-    listed = λ x was. subst (λ (n : Listing). listed n.named x ≡ true) (sym names) was;
+    room = ap (λ (n : Listing). n.room) directory;
+    listed = λ x was. subst (λ (n : Listing). listed n.named x ≡ true) (sym directory) was;
     found = λ k x at. ap (λ (xs : List Found). slice_get xs k) found ∙ at;
     held = λ n was. ap (λ (hs : List Bool). get_or hs n false) held ∙ was;
     clash = λ some. subst IsSome (sym clash) refl;
@@ -148,12 +148,12 @@ module _ (image : Image) (w v : Walk) (id : Puid) (by : ℕ) (names : v.names �
         | inr rest ↦ at ids rest (λ x among. each x (or_right (same_puid x y) (is_among x ids) among))
       ]
 
-  pub clash_walk : (done : ℕ) → IsWalk image w done → IsNamed image id by → lists w id ≡ false → has_root_in w.names.named id.block ≡ true → IsWalk image v done
+  pub clash_walk : (done : ℕ) → IsWalk image w done → IsNamed image id by → lists w id ≡ false → has_root_in w.directory.named id.block ≡ true → IsWalk image v done
   clash_walk done walk is_named unlisted has =
-      let other = other_listed w.names.named has in
+      let other = other_listed w.directory.named has in
       let apart : id.word ≢ other.0.word = λ same. let is : id ≡ other.0 = (let block = sym other.2 in λ i. record { block = block i; word = same i }) in
       let no = sym (ap (lists w) is ∙ other.1) ∙ unlisted in cc in
-      walk_as image w v done walk clash_grows names found
+      walk_as image w v done walk clash_grows directory found
       (λ n is. walk.held n (ap (λ (hs : List Bool). get_or hs n false) (sym held) ∙ is))
       (λ b is. let same : by ≡ b = same_Some _ _ (sym clash ∙ is) in subst (IsClash image v) same (record {
         id = id;
@@ -166,7 +166,7 @@ module _ (image : Image) (w v : Walk) (id : Puid) (by : ℕ) (names : v.names �
 
 -- ---- an identifier is put on the list
 
-module _ (image : Image) (w v : Walk) (id : Puid) (by : ℕ) (names : v.names ≡ record { named = insert_entry puid_cmp w.names.named id kinds.Index; room = w.names.room })
+module _ (image : Image) (w v : Walk) (id : Puid) (by : ℕ) (directory : v.directory ≡ record { named = insert_entry puid_cmp w.directory.named id kinds.Index; room = w.directory.room })
     (found : v.found.items ≡ w.found.items ++ record { block = id.block; by = by } ∷ []) (held : v.held.items ≡ w.held.items) (clash : v.clash ≡ w.clash) where
   abbrev item : Found
   item = record { block = id.block; by = by }
@@ -178,24 +178,24 @@ module _ (image : Image) (w v : Walk) (id : Puid) (by : ℕ) (names : v.names �
   add_new = ap (λ (xs : List Found). slice_get xs (length w.found.items)) found ∙ push_new w.found.items item
 
   pub add_listed : lists v id ≡ true
-  add_listed = subst (λ (n : Listing). listed n.named id ≡ true) (sym names) (listed_new w.names.named id kinds.Index)
+  add_listed = subst (λ (n : Listing). listed n.named id ≡ true) (sym directory) (listed_new w.directory.named id kinds.Index)
 
   pub add_grows : Grows w v
   add_grows = record {
-    room = ap (λ (n : Listing). n.room) names;
-    listed = λ x was. subst (λ (n : Listing). listed n.named x ≡ true) (sym names) (listed_then w.names.named id x kinds.Index was);
+    room = ap (λ (n : Listing). n.room) directory;
+    listed = λ x was. subst (λ (n : Listing). listed n.named x ≡ true) (sym directory) (listed_then w.directory.named id x kinds.Index was);
     found = λ k x at. ap (λ (xs : List Found). slice_get xs k) found ∙ push_old w.found.items item x k at;
     held = λ n was. ap (λ (hs : List Bool). get_or hs n false) held ∙ was;
     clash = λ some. subst IsSome (sym clash) some;
   }
 
-  module _ (done : ℕ) (walk : IsWalk image w done) (is_named : IsNamed image id by) (some : id.block ≢ 0) (free : has_root_in w.names.named id.block ≡ false) where
+  module _ (done : ℕ) (walk : IsWalk image w done) (is_named : IsNamed image id by) (some : id.block ≢ 0) (free : has_root_in w.directory.named id.block ≡ false) where
     -- no item before has its root block
     apart : (k : ℕ) (x : Found) → slice_get w.found.items k ≡ Some x → x.block ≢ id.block
     apart k x at same =
         let was = walk.found k x at in
-        let has = has_root w.names.named was.id was.listed in
-        let no = sym (ap (has_root_in w.names.named) (sym was.block ∙ same) ∙ free) ∙ has in cc
+        let has = has_root w.directory.named was.id was.listed in
+        let no = sym (ap (has_root_in w.directory.named) (sym was.block ∙ same) ∙ free) ∙ has in cc
 
     abbrev after : Graph
     after = with_object walk.graph id (objects.Index (new_index 0))
@@ -211,15 +211,15 @@ module _ (image : Image) (w v : Walk) (id : Puid) (by : ℕ) (names : v.names �
     pub add_walk : IsWalk image v done
     add_walk = record {
       graph = after;
-      named = ap (λ (n : Listing). n.named) names ∙ ap (λ (n : List (Puid × Kind)). insert_entry puid_cmp n id kinds.Index) walk.named
+      named = ap (λ (n : Listing). n.named) directory ∙ ap (λ (n : List (Puid × Kind)). insert_entry puid_cmp n id kinds.Index) walk.named
           ∙ sym (kinds_in-insert_entry walk.graph.objects id (objects.Index (new_index 0)));
       ordered = rises-with_object walk.graph id (objects.Index (new_index 0)) walk.ordered;
       root = walk.root;
-      room = ap (λ (n : Listing). n.room) names ∙ walk.room;
+      room = ap (λ (n : Listing). n.room) directory ∙ walk.room;
       within = omega (arith, walk.within, ap (length {A = Found}) found, length-append w.found.items (item ∷ []));
       found = λ k x at. elim (add_at k x at) [
         | inl was ↦ found_on image w v add_grows x (walk.found k x was)
-        | inr now ↦ subst (IsFound image v) now.1 (record { id = id; listed = add_listed; block = refl; some = some; named = is_named })
+        | inr now ↦ subst (IsFoundItem image v) now.1 (record { id = id; listed = add_listed; block = refl; some = some; named = is_named })
       ];
       once = λ j k x y one two same. elim (add_at j x one) [
         | inl old ↦ elim (add_at k y two) [
@@ -231,10 +231,10 @@ module _ (image : Image) (w v : Walk) (id : Puid) (by : ℕ) (names : v.names �
           | inr now ↦ first.0 ∙ sym now.0
         ]
       ];
-      listed = λ x is. listed_from (λ y. (k : ℕ) × (z : Found) × (slice_get v.found.items k ≡ Some z) × (z.block ≡ y.block)) w.names.named id x kinds.Index
+      listed = λ x is. listed_from (λ y. (k : ℕ) × (z : Found) × (slice_get v.found.items k ≡ Some z) × (z.block ≡ y.block)) w.directory.named id x kinds.Index
           (length w.found.items, item, add_new, refl)
           (λ was. let at = walk.listed x was in (at.0, at.1, add_grows.found at.0 at.1 at.2, at.3))
-          (subst (λ (n : Listing). listed n.named x ≡ true) names is);
+          (subst (λ (n : Listing). listed n.named x ≡ true) directory is);
       taken = λ k x i o less at same there.
           let old = is_old k x less at in
           taken_on image w v add_grows i o (walk.taken k x i o less old same (object_back i o (λ is. apart k x old (same ∙ is)) there));

@@ -1,11 +1,11 @@
 -- A block of an object that is read: where it stands, and which faults of the volume are found in it.
 use Rattle.std.proofs.Common.{◌≡◌, ◌≢◌, inl, inr, ℕ, ◌+◌, ◌-◌, ◌*◌, ◌/◌, ◌%◌, ◌<◌, ◌≤◌, List, [], ◌∷◌, ◌++◌, length, get_or, Option, Some, None, refl, sym, ◌∙◌, ap, subst, arith, append_assoc, append-nil, length-append}
-use Rattle.cfs_recover.proofs.Words.{AreNamed, BelongsTo, BySlot, Damage, Fault, HasBlock, HasPointers, Image, IsFault, IsKept, IsNotFilled, IsShown, Level, Object, Place, Puid, Root, Shows, SpotFault, Twig, block_at, cases_lt, content_is, content_of, damage, digits_below, div-mul-add, end_of, get_or_past, held, held_at, held_there, holder, index_to_leaves, leaf_content, leaf_in, leaf_pointers, leaves_in, length-path_to, levels_below, levels_of, mod-mul-add, node_pointers, nodes_of, part_at, path_more, path_to, place_above, place_at, place_from, pointer, pointers_of, object_shown, shown_tree, slice_get, slot_in, slot_of, some_index, tree_of, unwrap_or, width, width_more}
+use Rattle.cfs_recover.proofs.Words.{AreNamed, BelongsTo, BySlot, Damage, Fault, HasBlock, HasPointers, Image, IsFaultOf, IsKeptBlock, IsNotFilled, IsShown, Level, Object, Place, Puid, Root, Shows, SpotFault, Twig, block_at, cases_lt, content_is, shown_content, damage, digits_below, div-mul-add, end_of, get_or_past, held, held_at, held_there, holder, index_to_leaves, leaf_content, leaf_in, leaf_pointers, leaves_in, length-path_to, levels_below, levels_of, mod-mul-add, node_pointers, nodes_of, part_at, path_more, path_to, place_above, place_at, place_from, pointer, pointers_of, object_shown, shown_tree, slice_get, slot_in, slot_of, some_index, tree_of, unwrap_or, width, width_more}
 use Rattle.cfs_base.specs.declared.kind.Kind.TheVariants as kinds
 use Rattle.cfs_recover.proofs.Trees.{down, holder_is, length-pointers, one_more, place_on}
 
 -- the pointers of a root are those that its block has
-pub root_pointers : (image : Image) (id : Puid) (from : ℕ) (root : Root) → IsShown image id from root → root.nodes ≡ pointers_of node_pointers (content_of image id)
+pub root_pointers : (image : Image) (id : Puid) (from : ℕ) (root : Root) → IsShown image id from root → root.nodes ≡ pointers_of node_pointers (shown_content image id)
 root_pointers image id from root is = nodes_of root is.shows.spelled.good.0 ∙ ap (pointers_of node_pointers) (sym is.shows.spelled.spelled)
 
 module _ (image : Image) (owner : ℕ) (root : Root) (twig : Twig) (has : HasBlock image owner root twig) where
@@ -13,7 +13,7 @@ module _ (image : Image) (owner : ℕ) (root : Root) (twig : Twig) (has : HasBlo
   id = has.from.read.id
 
   abbrev content : List ℕ
-  content = content_of image id
+  content = shown_content image id
 
   abbrev object : Object
   object = object_shown image id root
@@ -68,7 +68,7 @@ module _ (image : Image) (owner : ℕ) (root : Root) (twig : Twig) (has : HasBlo
   is_held : (shown_tree image id.block).below path ≡ Some (held image twig.block)
   is_held = ap (held_at image) here ∙ held_there image twig.block has.some
 
-  pub block_kept : IsKept image twig.block
+  pub block_kept : IsKeptBlock image twig.block
   block_kept = record { id = id; reached = has.from.read.reached; here = inr (record { path = path; held = held image twig.block; there = is_held; is = refl }) }
 
   place_is : place_at (levels_of content) path ≡ place_above under twig.number
@@ -77,7 +77,7 @@ module _ (image : Image) (owner : ℕ) (root : Root) (twig : Twig) (has : HasBlo
       (λ i. place_from 0 (whole i) (sym path_is i)) ∙ place_on above under twig.number 0 small
       ∙ ap (place_above under) (let e : 0 * width above + twig.number ≡ twig.number = omega arith in e)
 
-  pub spot_fault : (d : Damage) → SpotFault image (record { holder = twig.holder; block = twig.block; owner = owner; place = place_above under twig.number }) d → IsFault image d
+  pub spot_fault : (d : Damage) → SpotFault image (record { holder = twig.holder; block = twig.block; owner = owner; place = place_above under twig.number }) d → IsFaultOf image d
   spot_fault d (SpotFault.PastDisk past) =
       subst (λ (n : ℕ). Fault image 4 n) (sym (ap (λ (t : Twig). t.holder) has.is ∙ has.from.here))
       (Fault.PastDisk id root object (path_to has.from.above has.at.number) has.k has.from.read.reached has.from.read.shows (omega (arith, past, here)))
@@ -93,7 +93,7 @@ module _ (image : Image) (owner : ℕ) (root : Root) (twig : Twig) (has : HasBlo
     next : (j : ℕ) (rest : List ℕ) → tree_of image content (path ++ j ∷ rest) ≡ end_of image (levels_below (twig.height - 1)) (pointer leaf_pointers (block_at image twig.block) j) rest
     next j rest = stands (j ∷ rest) ∙ down image twig.height twig.block j rest more has.some
 
-    pub dead_end : twig.block < length image → ((j : ℕ) → pointer leaf_pointers (block_at image twig.block) j ≡ 0) → IsFault image (damage twig.block 10)
+    pub dead_end : twig.block < length image → ((j : ℕ) → pointer leaf_pointers (block_at image twig.block) j ≡ 0) → IsFaultOf image (damage twig.block 10)
     dead_end below none =
         Fault.DeadEnd id root object path (held image twig.block) has.from.read.reached has.from.read.shows is_held below
         (let deep = ap length (whole ∙ ap (λ (ls : List Level). above ++ ls) (one_more twig.height more)) in
@@ -121,10 +121,10 @@ module _ (image : Image) (owner : ℕ) (root : Root) (twig : Twig) (has : HasBlo
         let levels : levels_of content ≡ above = whole ∙ ap (λ (h : ℕ). above ++ levels_below h) last ∙ append-nil above in
         ap (shown_tree image id.block).below (ap (λ (ls : List Level). path_to ls twig.number) levels ∙ path_is) ∙ is_held
 
-    pub late_leaf : twig.block < length image → leaves_in root.size ≤ twig.number → IsFault image (damage twig.block 8)
+    pub late_leaf : twig.block < length image → leaves_in root.size ≤ twig.number → IsFaultOf image (damage twig.block 8)
     late_leaf below past = Fault.PastSize id root object twig.number (held image twig.block) has.from.read.reached has.from.read.shows leaf_found below past
 
-    pub late_byte : twig.block < length image → IsNotFilled root twig.number (block_at image twig.block) → IsFault image (damage twig.block 9)
+    pub late_byte : twig.block < length image → IsNotFilled root twig.number (block_at image twig.block) → IsFaultOf image (damage twig.block 9)
     late_byte below at = Fault.NotFilled id root object twig.number at.0 (held image twig.block) has.from.read.reached has.from.read.shows leaf_found below at.1 at.2 at.3
 
     -- what its slots hold is named by it

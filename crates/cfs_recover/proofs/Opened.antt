@@ -1,18 +1,18 @@
 -- An object whose root block was read, and then the root by which it is read: what is wrong, and what is shown.
 use Rattle.std.proofs.Common.{◌≡◌, ◌≢◌, ℕ, ◌<◌, false, length, refl, sym, ◌∙◌, ap, subst, arith, inr}
-use Rattle.cfs_recover.proofs.Words.{Damage, Fault, Found, HasLabel, HasNoRoot, HasRootSlots, Head, HeadFault, Image, IsFault, IsFound, IsHead, IsInPlace, IsOpened, IsOwn, IsReached, IsRootBlock, IsRootIndex, Label, Puid, Root, Shows, Spot, SpotFault, Walk, block_at, damage, id_of, index_to_leaves, leaf_in, lists, object_with, one_root_block, object_shown, shown_tree, some_index, source}
+use Rattle.cfs_recover.proofs.Words.{Damage, Fault, Found, HasLabel, HasNoRoot, HasRootSlots, Head, HeadFault, Image, IsFaultOf, IsFoundItem, IsHead, IsInPlace, IsOpened, IsOwn, IsReachedIn, IsRootBlock, IsRootIndex, Label, Puid, Root, Shows, Spot, SpotFault, Walk, block_at, damage, id_of, index_to_leaves, leaf_in, lists, object_with, one_root_block, object_shown, shown_tree, some_index, source}
 use Rattle.cfs_base.specs.declared.kind.Place.TheVariants as places
 use Rattle.cfs_recover.proofs.Named.{head_fault, named_nothing, named_reached, no_root}
 
 -- ---- its root block
 
-module _ (image : Image) (w : Walk) (x : Found) (found : IsFound image w x) where
-  pub item_no_root : x.block < length image → HasNoRoot (block_at image x.block) → IsFault image (damage x.block 3)
+module _ (image : Image) (w : Walk) (x : Found) (found : IsFoundItem image w x) where
+  pub item_no_root : x.block < length image → HasNoRoot (block_at image x.block) → IsFaultOf image (damage x.block 3)
   item_no_root below none =
-      subst (λ (n : ℕ). IsFault image (damage n 3)) (sym found.block)
+      subst (λ (n : ℕ). IsFaultOf image (damage n 3)) (sym found.block)
       (no_root image found.id x.by found.named found.some (omega (arith, below, found.block)) (subst (λ (n : ℕ). HasNoRoot (block_at image n)) found.block none))
 
-  pub item_other_word : (own : Root) → IsRootBlock (block_at image x.block) own → lists w (id_of x own) ≡ false → IsFault image (damage x.by 6)
+  pub item_other_word : (own : Root) → IsRootBlock (block_at image x.block) own → lists w (id_of x own) ≡ false → IsFaultOf image (damage x.by 6)
   item_other_word own spelled unlisted =
       let apart : own.word ≢ found.id.word = λ same. let is : id_of x own ≡ found.id = (let block = found.block in λ i. record { block = block i; word = same i }) in
       let none = sym (ap (lists w) is ∙ found.listed) ∙ unlisted in cc in
@@ -24,7 +24,7 @@ module _ (image : Image) (x : Found) (own : Root) (is : IsOwn image x own) (belo
   abbrev id : Puid
   id = id_of x own
 
-  pub no_head : (d : Damage) → HeadFault image x.block own d → IsFault image d
+  pub no_head : (d : Damage) → HeadFault image x.block own d → IsFaultOf image d
   no_head d fault = head_fault image id x.by is.named is.some below own is.spelled refl d fault
 
   module _ (head : Head) (at : IsHead image x.block own head) where
@@ -40,7 +40,7 @@ module _ (image : Image) (x : Found) (own : Root) (is : IsOwn image x own) (belo
     }
 
     -- the root index is of another sort
-    pub no_root_index : (label : Label) → HasLabel image label → x.block ≡ 2 → ¬ HasRootSlots head.root → IsFault image (damage 2 6)
+    pub no_root_index : (label : Label) → HasLabel image label → x.block ≡ 2 → ¬ HasRootSlots head.root → IsFaultOf image (damage 2 6)
     no_root_index label has two not =
         let here : x.block ≡ label.root.block = two ∙ sym has.is_label.root in
         Fault.NoRootIndex label head.root (object_shown image id head.root) has (subst (λ (n : ℕ). Shows image n head.root (object_shown image id head.root)) here shows) (λ index it count.
@@ -49,7 +49,7 @@ module _ (image : Image) (x : Found) (own : Root) (is : IsOwn image x own) (belo
         not (record { index = gives.kind; size = omega (arith, gives.size, count, eight) }))
 
     module _ (sort : x.block ≡ 2 → HasRootSlots head.root) where
-      reached : IsReached image id
+      reached : IsReachedIn image id
       reached = named_reached image id x.by is.named is.some below (λ root other. ap (λ (r : Root). r.word) (one_root_block (block_at image x.block) root own other is.spelled)) root_index
         where
           root_index : x.block ≡ 2 → IsRootIndex image x.block
@@ -63,7 +63,7 @@ module _ (image : Image) (x : Found) (own : Root) (is : IsOwn image x own) (belo
       abbrev its_spot : Spot
       its_spot = record { holder = x.by; block = x.block; owner = x.block; place = places.Root }
 
-      pub not_its_own : (d : Damage) → SpotFault image its_spot d → IsFault image d
+      pub not_its_own : (d : Damage) → SpotFault image its_spot d → IsFaultOf image d
       not_its_own d (SpotFault.PastDisk past) = absurd (omega (arith, past, below))
       not_its_own d (SpotFault.NotOwned inside not) = Fault.RootNotOwned id own reached is.spelled not
 

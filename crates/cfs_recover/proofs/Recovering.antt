@@ -1,6 +1,6 @@
 -- From what a survey knows of a volume to what recovery makes of it.
 use Rattle.std.proofs.Common.{◌≤◌, ◌≡◌, ◌⊎◌, inl, inr, ℕ, ◌+◌, ◌*◌, ◌/◌, ◌%◌, ◌<◌, Bool, true, false, List, [], length, get_or, Some, refl, sym, ◌∙◌, ap, subst, arith}
-use Rattle.cfs_recover.proofs.Words.{Accounts, AreAllCopies, AreCopied, AreCopies, AreCounts, AreKeptFor, AreMapsOf, AreTidied, Copied, CopiesRoots, Ghosts, Graph, HasCopy, Holds, Image, IsClean, IsHeldIn, IsIn, IsNamedCopy, IsRecovered, IsRootBlock, IsSettled, IsSoundAs, IsSurvey, IsSwept, IsTidied, Kept, IsTidying, Kind, Leads, MapEntry, Object, Puid, Root, StandsIn, Survey, Tidies, Tree, Walk, block_at, carries_settled, entries_read, entry_in, free_count, free_in_cylinder, in_image, is_fixed, kind_in, kind_in-kinds_in, kind_of, kinds_of, lists, map_of, nat_tests, object_at, object_there, one_root_block, one_root_index, option_map, shadows, shown_tree, sight, slice_get, slice_get_within, source, tidied, tree_in}
+use Rattle.cfs_recover.proofs.Words.{Accounts, AreAllCopies, AreCopied, AreCopies, AreCounts, AreKeptFor, AreMapsOf, AreTidied, Copied, CopiesRoots, Ghosts, Graph, HasCopy, Holds, Image, IsClean, IsHeldIn, IsIn, IsNamedCopy, IsRecovered, IsRootBlock, IsSettled, IsSoundAs, IsSurvey, IsSwept, IsTidied, Kept, IsTidying, Kind, Leads, MapEntry, Object, Puid, Root, StandsIn, Survey, Tidies, Tree, Walk, block_at, carries_settled, entries_read, entry_in, free_count, free_in_cylinder, in_image, is_fixed, directory_kind, directory_kind-kinds_in, object_kind, kinds_of, lists, map_of, nat_tests, object_at, object_there, one_root_block, one_root_index, option_map, shadows, shown_tree, sight, slice_get, slice_get_within, source, tidied, tree_in}
 use Rattle.cfs_recover.proofs.Accounted.{tidied_accounts, tidied_is_clean, tidied_is_swept}
 use Rattle.cfs_recover.proofs.InMemory.{entry_is}
 use Rattle.cfs_recover.proofs.Keepings.{leads_as, leads_then}
@@ -29,10 +29,10 @@ module _ (a : Image) (s : Survey) (is : IsSurvey a s) where
   -- ---- the roots
 
   there_lists : (id : Puid) (o : Object) → object_at graph id ≡ Some o → lists w id ≡ true
-  there_lists id o at = ap (λ (n : List (Puid × Kind)). listed n id) is.whole.names ∙ listed_there graph id o at
+  there_lists id o at = ap (λ (n : List (Puid × Kind)). listed n id) is.whole.directory ∙ listed_there graph id o at
 
   lists_there : (id : Puid) → lists w id ≡ true → (o : Object) × (object_at graph id ≡ Some o)
-  lists_there id listing = object_there graph id (there_listed graph id (sym (ap (λ (n : List (Puid × Kind)). listed n id) is.whole.names) ∙ listing))
+  lists_there id listing = object_there graph id (there_listed graph id (sym (ap (λ (n : List (Puid × Kind)). listed n id) is.whole.directory) ∙ listing))
 
   abbrev copies : List Copied
   copies = is.walked.kept.0
@@ -56,7 +56,7 @@ module _ (a : Image) (s : Survey) (is : IsSurvey a s) where
         ];
   }
 
-  -- the names have each with its kind and its word
+  -- the directory has each with its kind and its word
   named_copy : (k : ℕ) (c : Copied) → slice_get copies k ≡ Some c → IsNamedCopy s.walked c
   unfolding sight
   named_copy k c at =
@@ -64,12 +64,12 @@ module _ (a : Image) (s : Survey) (is : IsSurvey a s) where
       let reads = holds.objects copy.id copy.object copy.there in
       let root : c.root ≡ reads.source = one_root_block (block_at a (source a copy.id.block)) c.root reads.source copy.spelled reads.tree.spelled in
       let word : c.root.word ≡ copy.id.word = ap (λ (r : Root). r.word) root ∙ reads.same_word ∙ reads.word in
-      let kind : kind_of copy.object ≡ c.root.kind = ap kind_of (sym reads.tree.object) ∙ kind_is reads.source _ ∙ ap (λ (r : Root). r.kind) (sym root) in
+      let kind : object_kind copy.object ≡ c.root.kind = ap object_kind (sym reads.tree.object) ∙ kind_is reads.source _ ∙ ap (λ (r : Root). r.kind) (sym root) in
       record {
         good = copy.spelled.good;
-        named = ap (λ (n : List (Puid × Kind)). kind_in n (record { block = c.block; word = c.root.word })) is.whole.names
-            ∙ ap (kind_in (kinds_of graph)) (λ i. record { block = copy.block i; word = word i })
-            ∙ kind_in-kinds_in graph.objects copy.id ∙ ap (option_map kind_of) copy.there ∙ ap Some kind;
+        named = ap (λ (n : List (Puid × Kind)). directory_kind n (record { block = c.block; word = c.root.word })) is.whole.directory
+            ∙ ap (directory_kind (kinds_of graph)) (λ i. record { block = copy.block i; word = word i })
+            ∙ directory_kind-kinds_in graph.objects copy.id ∙ ap (option_map object_kind) copy.there ∙ ap Some kind;
       }
 
   one_shadow : (id : Puid) (o : Object) → object_at graph id ≡ Some o → length (shadows a id.block) ≤ 1
@@ -174,7 +174,7 @@ module _ (a : Image) (s : Survey) (is : IsSurvey a s) where
       label_is = tidies.content 1 (omega arith) ∙ apart a graph b holds roots 1 refl
 
       pub recovers : {D : Type 0} (g : Ghosts D) (d : D) → IsSettled g d → g.content d ≡ c → length c ≡ g.blocks d → length kept.free ≡ length s.grounds.maps.items
-          → IsRecovered g a d s.grounds.label w.names kept
+          → IsRecovered g a d s.grounds.label w.directory kept
       recovers g d settled same sized size =
           let sound = subst (λ (i : Image). IsSoundAs i graph) (sym same) sound_c in
           let clean = tidied_is_clean b c graph marks holds_b copied tidies is_tidied in
@@ -188,7 +188,7 @@ module _ (a : Image) (s : Survey) (is : IsSurvey a s) where
             root = one_root_index (length a) graph.root s.grounds.label.root (block_at a 1) holds.label
                 (record { label = s.grounds.label; is_label = is.grounds.has.is_label; spelled = is.grounds.has.spelled; size_is = is.grounds.size; root_is = refl });
             size = omega (arith, is.grounds.size, roots.size, tidies.size, sized);
-            named = is.whole.names;
+            named = is.whole.directory;
             room = omega (arith, is.walked.walk.room, roots.size, tidies.size, sized);
             carries = carries_settled g graph d settled sound.holds;
             account = subst (λ (i : Image). Accounts i graph []) (sym same) (tidied_accounts b c graph marks holds_b copied tidies is_tidied);

@@ -1,11 +1,11 @@
 -- Refusals, handed on by the calls above.
 use Rattle.std.proofs.Common.{◌≡◌, ◌≢◌, ◌⊎◌, inl, inr, ℕ, ◌*◌, ◌<◌, ◌≤◌, List, length, refl, sym, ◌∙◌, ap, subst, arith, Err}
-use Rattle.cfs_recover.proofs.Words.{Damage, Ghosts, Graph, HasLabel, HasNoLabel, HasVersion, IfErr, Image, IsCaused, IsDamage, IsErrAnd, IsFault, IsLabelled, IsOpenFault, IsSoundAs, IsWalk, Label, MapEntry, MatchResult, Ok, OnlyReads, RecoverFault, Result, Stores, TellsNothing, Walk, Walks, block_at, no_fault, says, tells_on}
+use Rattle.cfs_recover.proofs.Words.{Damage, Ghosts, Graph, HasLabel, HasNoLabel, HasVersion, IfErr, Image, IsCaused, NamesDamage, IsErrAnd, IsFaultOf, IsLabelled, IsOpenFault, IsSoundAs, IsWalk, Label, MapEntry, MatchResult, Ok, OnlyReads, RecoverFault, Result, Stores, TellsNothing, Walk, Walks, block_at, no_fault, says, tells_on}
 use Rattle.cfs_base.proofs.Calls.{failed_after}
 use Rattle.cfs_recover.specs.declared.fault.RecoverFault.TheVariants as faults
 
 -- more is said of the damage
-pub damage_as : (P Q : Damage → Type 0) (e : RecoverFault) → ((d : Damage) → P d → Q d) → IsDamage P e → IsDamage Q e
+pub damage_as : (P Q : Damage → Type 0) (e : RecoverFault) → ((d : Damage) → P d → Q d) → NamesDamage P e → NamesDamage Q e
 damage_as P Q faults.Disk more is = is
 damage_as P Q faults.NotVolume more is = is
 damage_as P Q (faults.Version found) more is = is
@@ -28,14 +28,14 @@ walks_on g old new n image maps w v done reads walks walk = record { stored = st
 -- ---- at the exit of a `?`
 
 -- of a check
-pub told_err : {T : Type 0} (P : T → Type 0) (Q : Damage → Type 0) (r : Result T RecoverFault) (d : Damage) → IsErrAnd r (λ e. e ≡ faults.Damaged d) → Q d → MatchResult r P (IsDamage Q)
+pub told_err : {T : Type 0} (P : T → Type 0) (Q : Damage → Type 0) (r : Result T RecoverFault) (d : Damage) → IsErrAnd r (λ e. e ≡ faults.Damaged d) → Q d → MatchResult r P (NamesDamage Q)
 told_err P Q (Ok v) d is q = absurd is
-told_err P Q (Err e) d is q = subst (IsDamage Q) (sym is) q
+told_err P Q (Err e) d is q = subst (NamesDamage Q) (sym is) q
 
 -- of a part
-pub told_on : {T : Type 0} (P : T → Type 0) (Q R : Damage → Type 0) (r : Result T RecoverFault) (e : RecoverFault) → IsErrAnd r (λ f. f ≡ e) → IsDamage Q e → ((d : Damage) → Q d → R d) → MatchResult r P (IsDamage R)
+pub told_on : {T : Type 0} (P : T → Type 0) (Q R : Damage → Type 0) (r : Result T RecoverFault) (e : RecoverFault) → IsErrAnd r (λ f. f ≡ e) → NamesDamage Q e → ((d : Damage) → Q d → R d) → MatchResult r P (NamesDamage R)
 told_on P Q R (Ok v) e is q more = absurd is
-told_on P Q R (Err f) e is q more = subst (IsDamage R) (sym is) (damage_as Q R e more q)
+told_on P Q R (Err f) e is q more = subst (NamesDamage R) (sym is) (damage_as Q R e more q)
 
 -- a refusal that no device call caused
 pub caused_otherwise : {D : Type 0} (g : Ghosts D) (old new : D) (e : RecoverFault) → e ≢ faults.Disk → IsCaused g old new e
@@ -62,7 +62,7 @@ pub labelled : (image : Image) (label : Label) → HasLabel image label → 64 *
 labelled image label has size = let some = has.is_label.some in record { long = omega (arith, size, some); label = label; has = has }
 
 -- what is wrong with a part is wrong with a volume that has a label
-pub open_fault : (image : Image) (e : RecoverFault) → IsLabelled image → IsDamage (IsFault image) e → IsOpenFault image e
+pub open_fault : (image : Image) (e : RecoverFault) → IsLabelled image → NamesDamage (IsFaultOf image) e → IsOpenFault image e
 open_fault image faults.Disk label is = tt
 open_fault image faults.NotVolume label is = absurd is
 open_fault image (faults.Version found) label is = absurd is
@@ -110,7 +110,7 @@ module _ (image : Image) where
   version_next found (faults.Damaged d) other is = absurd (one_version found other is.0)
   version_next found faults.Memory other is = inr tt
 
-  pub fault_last : (e : RecoverFault) → IsLabelled image → IsOpenFault image e → IsDamage (IsFault image) e
+  pub fault_last : (e : RecoverFault) → IsLabelled image → IsOpenFault image e → NamesDamage (IsFaultOf image) e
   fault_last faults.Disk label is = tt
   fault_last faults.NotVolume label is = absurd (no_label_too is label)
   fault_last (faults.Version found) label is = absurd (one_version found is label)

@@ -1,6 +1,6 @@
 -- To what an object refers whose leaves were checked: to what was noted.
 use Rattle.std.proofs.Common.{◌≡◌, ◌≢◌, inl, inr, ℕ, suc, ◌+◌, ◌-◌, ◌*◌, ◌/◌, ◌%◌, ◌<◌, true, List, [], ◌∷◌, length, take, replicate, Option, Some, None, refl, sym, ◌∙◌, ap, subst, arith}
-use Rattle.cfs_recover.proofs.Words.{Held, Image, IsGoodTree, IsNoted, IsRootBlock, Kind, Object, Puid, Root, Walk, block_at, content_is, drop-replicate, filter_map, from_be_bytes, index_to_leaves, is_among, leaf_content, leaf_in, none-some, number_at, object_with, or_cases, referred, same_puid, same_puid_is, slice_get, slot_in, some_file, some_index, take-replicate, tree_in, unwrap_or, w32, leaf_pointers}
+use Rattle.cfs_recover.proofs.Words.{Held, Image, IsGoodTree, IsNotedIn, IsRootBlock, Kind, Object, Puid, Root, Walk, block_at, content_is, drop-replicate, filter_map, from_be_bytes, index_to_leaves, is_among, leaf_content, leaf_in, none-some, number_at, object_with, or_cases, referred, same_puid, same_puid_is, slice_get, slot_in, some_file, some_index, take-replicate, tree_in, unwrap_or, w32, leaf_pointers}
 use Rattle.cfs_base.specs.declared.kind.Kind.TheVariants as kinds
 use Rattle.cfs_recover.proofs.Good.{leaf_checked, on_disk}
 
@@ -27,7 +27,7 @@ module _ (image : Image) (owner from : ℕ) (root : Root) (w : Walk) (spelled : 
   abbrev leaf : ℕ → Option Held
   leaf = leaf_in (tree_in image (block_at image from))
 
-  in_leaf : (x : Puid) (l s : ℕ) (o : Option Held) → leaf l ≡ o → root.kind ≡ kinds.Index → s < 64 → 512 * l + 8 * s < root.size → slot_in (leaf_content root.fill o) s ≡ Some x → IsNoted w x
+  in_leaf : (x : Puid) (l s : ℕ) (o : Option Held) → leaf l ≡ o → root.kind ≡ kinds.Index → s < 64 → 512 * l + 8 * s < root.size → slot_in (leaf_content root.fill o) s ≡ Some x → IsNotedIn w x
   in_leaf x l s None at index small within is = absurd (no_slot s x small (subst (λ (fill : ℕ). slot_in (replicate 512 fill) s ≡ Some x) (spelled.good.1.fill index) is))
   in_leaf x l s (Some h) at index small within is =
       let good = leaf_checked image owner from root w spelled nodes l h at in
@@ -35,20 +35,20 @@ module _ (image : Image) (owner from : ℕ) (root : Root) (w : Walk) (spelled : 
       good.0.read.noted index s x (small, within, sym (ap (λ (c : List ℕ). slot_in c s) bytes) ∙ is)
 
   -- to what the object refers was noted
-  pub refers_noted : (x : Puid) → is_among x (referred (object_with root leaf)) ≡ true → IsNoted w x
+  pub refers_noted : (x : Puid) → is_among x (referred (object_with root leaf)) ≡ true → IsNotedIn w x
   refers_noted x among = at root.kind refl
     where
-      at_index : root.kind ≡ kinds.Index → IsNoted w x
+      at_index : root.kind ≡ kinds.Index → IsNotedIn w x
       at_index index =
           let here = some_index root leaf index in
           let gives = index_to_leaves root leaf here.0 here.1 in
           let at = in_slots here.0.slots x (sym (ap (λ (o : Object). is_among x (referred o)) here.1) ∙ among) in
           in_leaf x (at.0 / 64) (at.0 % 64) (leaf (at.0 / 64)) refl index (omega arith) (omega (arith, at.1, gives.size)) (sym (gives.slots at.0 (omega (arith, at.1, gives.size))) ∙ at.2)
 
-      at_file : root.kind ≢ kinds.Index → IsNoted w x
+      at_file : root.kind ≢ kinds.Index → IsNotedIn w x
       at_file other = let here = some_file root leaf other in let no = sym (ap (λ (o : Object). is_among x (referred o)) here.1) ∙ among in cc
 
-      at : (kind : Kind) → root.kind ≡ kind → IsNoted w x
+      at : (kind : Kind) → root.kind ≡ kind → IsNotedIn w x
       at kinds.Normal is = at_file (λ (index : root.kind ≡ kinds.Index). let no = sym is ∙ index in cc)
       at kinds.Special is = at_file (λ (index : root.kind ≡ kinds.Index). let no = sym is ∙ index in cc)
       at kinds.Index is = at_index is

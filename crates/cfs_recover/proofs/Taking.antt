@@ -1,17 +1,17 @@
 -- An object whose nodes were all checked is taken, as it is shown.
 use Rattle.std.proofs.Common.{◌≡◌, inl, ℕ, ◌<◌, true, List, [], length, get_or, Option, refl, sym, ◌∙◌, ap, subst, arith}
-use Rattle.cfs_recover.proofs.Words.{AreGoodBelow, Branch, HasPointers, Head, Held, Image, IsCopy, IsGoodTree, IsKept, IsOpened, IsRootBlock, IsTaken, Kind, Puid, Root, Walk, block_at, content_of, end_of, holds, kind_of, levels_below, levels_of, node_pointers, object_with, path_to, pointers_of, object_shown, sight, source, node_levels}
+use Rattle.cfs_recover.proofs.Words.{AreGoodBelow, Branch, HasPointers, Head, Held, Image, IsCopy, IsGoodTree, IsKeptBlock, IsOpened, IsRootBlock, IsWalkedObject, Kind, Puid, Root, Walk, block_at, shown_content, end_of, holds, object_kind, levels_below, levels_of, node_pointers, object_with, path_to, pointers_of, object_shown, sight, source, node_levels}
 use Rattle.cfs_base.specs.declared.kind.Kind.TheVariants as kinds
 use Rattle.cfs_recover.proofs.Good.{all_held, below_all, tree_is}
 use Rattle.cfs_recover.proofs.Objects.{root_pointers}
 use Rattle.cfs_recover.proofs.Slots.{refers_noted}
 use Rattle.cfs_recover.proofs.Trees.{length-pointers}
 
-pub kind_is : (root : Root) (leaf : ℕ → Option Held) → kind_of (object_with root leaf) ≡ root.kind
+pub kind_is : (root : Root) (leaf : ℕ → Option Held) → object_kind (object_with root leaf) ≡ root.kind
 unfolding object_with
 kind_is root leaf = at root.kind refl
   where
-    at : (kind : Kind) → root.kind ≡ kind → kind_of (object_with root leaf) ≡ root.kind
+    at : (kind : Kind) → root.kind ≡ kind → object_kind (object_with root leaf) ≡ root.kind
     at kinds.Normal is = rw is refl
     at kinds.Special is = rw is refl
     at kinds.Index is = rw is refl
@@ -20,7 +20,7 @@ module _ (image : Image) (id : Puid) (head : Head) (opened : IsOpened image id h
   abbrev from : ℕ
   from = source image id.block
 
-  pub root_kept : IsKept image id.block
+  pub root_kept : IsKeptBlock image id.block
   root_kept = record { id = id; reached = opened.shown.reached; here = inl refl }
 
   pub is_copy : IsCopy image id.block head
@@ -29,7 +29,7 @@ module _ (image : Image) (id : Puid) (head : Head) (opened : IsOpened image id h
   abbrev top : Branch
   top = record { block = head.from; number = 0; height = node_levels }
 
-  nodes_are : head.root.nodes ≡ pointers_of node_pointers (content_of image id)
+  nodes_are : head.root.nodes ≡ pointers_of node_pointers (shown_content image id)
   nodes_are = root_pointers image id head.from head.root opened.shown
 
   -- its pointers lead to the first level of its tree
@@ -39,7 +39,7 @@ module _ (image : Image) (id : Puid) (head : Head) (opened : IsOpened image id h
     read = record { id = id; reached = opened.shown.reached; shows = opened.shown.shows; owner_is = refl };
     above = [];
     level = node_pointers;
-    count = ap length nodes_are ∙ length-pointers node_pointers (content_of image id);
+    count = ap length nodes_are ∙ length-pointers node_pointers (shown_content image id);
     whole = refl;
     inside = omega arith;
     leads = λ k path. ap (λ (ns : List ℕ). end_of image (levels_below node_levels) (get_or ns k 0) path) (sym nodes_are);
@@ -47,10 +47,10 @@ module _ (image : Image) (id : Puid) (head : Head) (opened : IsOpened image id h
   }
 
   module _ (w : Walk) (all : AreGoodBelow image id.block head.root w top head.root.nodes (length head.root.nodes)) (whole : (n : ℕ) → n < length image → length (block_at image n) ≡ 512) (held : holds w id.block ≡ true) where
-    nodes : IsGoodTree image id.block head.root w (content_of image id)
-    nodes = below_all image id.block head.root w top node_pointers (content_of image id) head.root.nodes nodes_are all
+    nodes : IsGoodTree image id.block head.root w (shown_content image id)
+    nodes = below_all image id.block head.root w top node_pointers (shown_content image id) head.root.nodes nodes_are all
 
-    pub object_taken : IsTaken image w id (object_shown image id head.root)
+    pub object_taken : IsWalkedObject image w id (object_shown image id head.root)
     unfolding sight
     object_taken = record {
       reached = opened.shown.reached;

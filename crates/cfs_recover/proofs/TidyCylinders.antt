@@ -1,6 +1,6 @@
 -- One cylinder after another is tidied, and counted.
 use Rattle.std.proofs.Common.{◌≡◌, ◌≢◌, ◌⊎◌, inl, inr, ℕ, zero, suc, ◌+◌, ◌*◌, ◌/◌, ◌%◌, ◌<◌, ◌≤◌, min, Bool, List, [], length, get_or, set, replicate, Some, refl, sym, ◌∙◌, ap, subst, arith, get_or-set_same, get_or-set_other, length-set}
-use Rattle.cfs_recover.proofs.Words.{AreMapsOf, AreTidied, HasTidied, Image, IsMapIn, IsTidiedMap, Kept, MapEntry, after_giving, block_at, cases_lt, changed, changed_maps, count_by-le-length, free_entries, get_or-replicate, get_or_from_slice_get, get_or_past, is_free, length-replicate, map_spelling, slice_get, slice_get-get_or}
+use Rattle.cfs_recover.proofs.Words.{AreMapsOf, AreTidied, HasTidied, Image, IsMapIn, IsTidiedMap, Kept, MapEntry, after_giving, block_at, cases_lt, one_if_changed, changed_maps, count_by-le-length, free_entries, get_or-replicate, get_or_from_slice_get, get_or_past, is_free, length-replicate, map_spelling, slice_get, slice_get-get_or}
 use Rattle.cfs_recover.proofs.InMemory.{entry_is}
 
 -- ---- maps in memory
@@ -38,17 +38,17 @@ module _ (old new : Image) (cylinder : ℕ) (map tidy : List MapEntry)
 pub changed_same : (a b c : Image) (n : ℕ) → ((k : ℕ) → k < n → block_at c (64 * k) ≡ block_at b (64 * k)) → changed_maps a c n ≡ changed_maps a b n
 unfolding changed_maps
 changed_same a b c zero same = refl
-changed_same a b c (suc n) same = (λ i. changed_same a b c n (λ k less. same k (omega (arith, less))) i + changed (block_at a (64 * n)) (same n (omega arith) i))
+changed_same a b c (suc n) same = (λ i. changed_same a b c n (λ k less. same k (omega (arith, less))) i + one_if_changed (block_at a (64 * n)) (same n (omega arith) i))
 
 -- one cylinder more, of which the map was as it had been
 pub changed_more : (a old new : Image) (n tries most : ℕ) → block_at old (64 * n) ≡ block_at a (64 * n) → ((k : ℕ) → k ≢ 64 * n → block_at new k ≡ block_at old k)
-    → tries ≤ most + changed_maps a old n + changed (block_at old (64 * n)) (block_at new (64 * n)) → tries ≤ most + changed_maps a new (n + 1)
+    → tries ≤ most + changed_maps a old n + one_if_changed (block_at old (64 * n)) (block_at new (64 * n)) → tries ≤ most + changed_maps a new (n + 1)
 unfolding changed_maps
 changed_more a old new n tries most was others le =
     let before = changed_same a old new n (λ k less. others (64 * k) (λ same. absurd (omega (arith, same, less)))) in
-    let here = ap (λ (b : List ℕ). changed b (block_at new (64 * n))) was in
+    let here = ap (λ (b : List ℕ). one_if_changed b (block_at new (64 * n))) was in
     let next : n + 1 ≡ suc n = omega arith in
-    let more : changed_maps a new (n + 1) ≡ changed_maps a new n + changed (block_at a (64 * n)) (block_at new (64 * n)) = ap (changed_maps a new) next in
+    let more : changed_maps a new (n + 1) ≡ changed_maps a new n + one_if_changed (block_at a (64 * n)) (block_at new (64 * n)) = ap (changed_maps a new) next in
     omega (arith, le, before, here, more)
 
 -- ---- what is counted

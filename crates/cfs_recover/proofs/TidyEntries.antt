@@ -1,6 +1,6 @@
 -- The entries that recovery writes may come in.
 use Rattle.std.proofs.Common.{◌≡◌, ◌≢◌, ℕ, Bool, true, false, Some, List, length, refl, sym, ◌∙◌, ap, subst}
-use Rattle.cfs_recover.proofs.Words.{Allocated, AreCopied, AreMarked, BlockState, Free, Graph, Holds, Image, IntendAllocate, IntendDeallocate, IsEntry, IsTidy, IsTree, Leaf, MapEntry, Node, Object, Place, Puid, ShadowRoot, block_at, entry_in, entry_in_table, free_entry, is_entry, is_fixed, is_inner, levels_of, object_at, part_of, place_inner, root_placed, same_Some, sight, stands_for, taken_apart, taken_part, tidied, tree_in, tree_placed}
+use Rattle.cfs_recover.proofs.Words.{Allocated, AreCopied, AreMarked, BlockState, Free, Graph, Holds, Image, IntendAllocate, IntendDeallocate, IsEntry, IsTidy, IsTree, Leaf, MapEntry, Node, Object, Place, Puid, ShadowRoot, block_at, entry_in, entry_in_table, unheld_entry, is_entry, is_fixed, is_inner, levels_of, object_at, part_of, place_inner, root_placed, same_Some, sight, stands_for, taken_apart, taken_part, tidied, tree_in, tree_placed}
 use Rattle.cfs_base.specs.declared.kind.Place.TheVariants.{Root}
 
 -- an entry of a node or leaf has no commit bit
@@ -39,7 +39,7 @@ module _ (a : Image) (g : Graph) (held : ℕ → Bool) (holds : Holds a g) (copi
     standing = λ id o at stands. ap (stands_for id.block) is ∙ stands;
   }
 
-  free : is_fixed n ≡ false → held n ≡ false → IsTidy a g n free_entry
+  free : is_fixed n ≡ false → held n ≡ false → IsTidy a g n unheld_entry
   free apart unheld = record {
     own = λ none. cc;
     fixed = λ fixed. let clash : true ≡ false = sym fixed ∙ apart in cc;

@@ -19,21 +19,21 @@ pub use Rattle.cfs_base.specs.declared.kind.Place.{Place}
 pub use Rattle.cfs_base.specs.declared.kind.Place.TheVariants.{Leaf, Node, ShadowRoot}
 pub use Rattle.cfs_base.specs.declared.refusal.Damage.{Damage}
 pub use Rattle.cfs_recover.specs.Checks.{HasNoRoot, HasNoneLike, HasRootSlots, HeadFault, IsFilled, IsHead, IsInPlace, IsLike, IsNotFilled, SpotFault}
-pub use Rattle.cfs_recover.specs.Copies.{AreCopies, AreKept, BeginsAnew, BeginsWithout, HasCopy, HasKept, Piece, all_pieces, head_piece, copies_for, node_piece, piece_at, pieces_of}
+pub use Rattle.cfs_recover.specs.Copies.{AreCopies, AreKeptPieces, BeginsAnew, BeginsWithout, HasCopy, HasKept, Piece, all_pieces, head_piece, copies_for, node_piece, piece_at, pieces_of}
 unfoldable pub use Rattle.cfs_recover.specs.Copies.{copies_before, node_pieces}
 pub use Rattle.cfs_recover.specs.Entries.{AreStanding, EntryFault, IsShadow, MayStand, damage, standing_below}
-pub use Rattle.cfs_recover.specs.Found.{AreNamed, AreNoted, ByLabel, BySlot, Grows, IsClash, IsFault, IsFound, IsKept, IsNamed, IsNext, IsNoted, IsTaken, IsWalk, holds, lists}
+pub use Rattle.cfs_recover.specs.Found.{AreNamed, AreNoted, ByLabel, BySlot, Grows, IsClash, IsFaultOf, IsFoundItem, IsKeptBlock, IsNamed, IsNextItem, IsNotedIn, IsWalkedObject, IsWalk, holds, lists}
 pub use Rattle.cfs_recover.specs.Grounds.{AllMapsStand, AllMayStand, AreGrounds, HasEntryFault, HasNoLabel, HasVersion, IsLabelled, IsOpenFault}
-pub use Rattle.cfs_recover.specs.Keeps.{AreAllCopies, AreCopiesOf, AreKeptFor, AreWritten, IsCopyOf, IsNamedCopy, Keeps, Leads}
-pub use Rattle.cfs_recover.specs.Recovered.{IsClean, IsRecovered, IsUntouched, WritesWhatDiffers, changed}
+pub use Rattle.cfs_recover.specs.Keeps.{AreAllCopies, AreCopiesOf, AreKeptFor, AreWritten, IsCopyOf, IsNamedCopy, RunKeeps, Leads}
+pub use Rattle.cfs_recover.specs.Recovered.{IsClean, IsRecovered, IsUntouched, WritesWhatDiffers, one_if_changed}
 unfoldable pub use Rattle.cfs_recover.specs.Recovered.{changed_maps}
-pub use Rattle.cfs_recover.specs.Refusals.{IsCaused, IsDamage, TellsNothing}
+pub use Rattle.cfs_recover.specs.Refusals.{IsCaused, NamesDamage, TellsNothing}
 pub use Rattle.cfs_recover.specs.Sized.{IsSized}
 pub use Rattle.cfs_recover.specs.Standing.{Shadow, one_more, shadow_of}
 pub use Rattle.cfs_recover.specs.Stored.{AreMapsOf, Stores}
 pub use Rattle.cfs_recover.specs.Survey.{IsIn, IsSurvey}
 pub use Rattle.cfs_recover.specs.Tidy.{AreCopied, AreMarked, AreTidied, CopiesRoots, HasTidied, IsHeldIn, IsMapIn, IsTidied, IsTidiedMap, IsTidy, IsTidyMap, IsTidying, Tidies, tidied}
-pub use Rattle.cfs_recover.specs.Walk.{AreGood, AreGoodBelow, HasBlock, HasPointers, IsCopy, IsGood, IsGoodAt, IsGoodLeaf, IsGoodTree, IsOpened, IsOwn, IsShown, Walks, content_of, id_of, reads_by_height, reads_of_object, object_shown}
+pub use Rattle.cfs_recover.specs.Walk.{AreGood, AreGoodBelow, HasBlock, HasPointers, IsCopy, IsGood, IsGoodAt, IsGoodLeaf, IsGoodTree, IsOpened, IsOwn, IsShown, Walks, shown_content, id_of, reads_by_height, reads_of_object, object_shown}
 pub use Rattle.cfs_recover.specs.declared.copies.Copied.{Copied}
 pub use Rattle.cfs_recover.specs.declared.fault.RecoverFault.{RecoverFault}
 pub use Rattle.cfs_recover.specs.declared.found.Found.{Found}
@@ -48,7 +48,7 @@ pub use Rattle.cfs_recover.specs.declared.walk_below.Twig.{Twig}
 pub use Rattle.cyl_alloc.proofs.Entries.{free_count}
 pub use Rattle.cyl_alloc.specs.Maps.{IsMapOf}
 pub use Rattle.cyl_alloc.specs.Refusals.{IsNoMap}
-pub use Rattle.cyl_alloc.specs.Space.{AreCounts, IsBadMap, Kept, after_giving, free_entry}
+pub use Rattle.cyl_alloc.specs.Space.{AreCounts, IsBadMap, Kept, after_giving, unheld_entry}
 unfoldable pub use Rattle.cyl_alloc.specs.Space.{free_in_cylinder}
 pub use Rattle.cyl_map.proofs.Maps.{entries_read}
 pub use Rattle.cyl_map.proofs.Volumes.{entry_in_table, map_in_image, same_or_not}
@@ -61,9 +61,9 @@ pub use Rattle.cyl_map.specs.declared.state.BlockState.{BlockState}
 pub use Rattle.cyl_map.specs.declared.state.BlockState.TheVariants.{Allocated, Free, IntendAllocate, IntendDeallocate}
 pub use Rattle.leaf_changes.proofs.Contents.{content_is}
 pub use Rattle.leaf_changes.proofs.Given.{index_to_leaves, some_file, some_index}
-pub use Rattle.puid_space.proofs.Graphs.{kind_in-kinds_in, kinds_in-filter, kinds_in-insert_entry}
-pub use Rattle.puid_space.specs.Directory.{Listing, blocks_rise, has_root_in, is_listing, kind_in, without_id}
-pub use Rattle.puid_space.specs.Kinds.{kind_of, kinds_of}
+pub use Rattle.puid_space.proofs.Graphs.{directory_kind-kinds_in, kinds_in-filter, kinds_in-insert_entry}
+pub use Rattle.puid_space.specs.Directory.{Listing, blocks_rise, has_root_in, is_listing, directory_kind, without_id}
+pub use Rattle.puid_space.specs.Kinds.{object_kind, kinds_of}
 pub use Rattle.std.proofs.Math.ListN.{drop_of_length-le}
 pub use Rattle.std.proofs.Math.Nat.{add-mul, div-add-mod', mod-lt, mul-le-mul_left, mul-le-mul_right, mul_assoc}
 pub use Rattle.std.proofs.Math.Path.{fun_ext}
@@ -110,9 +110,9 @@ pub use Rattle.vol_image.proofs.Rooted.{root_is_rooted, rooted_is_closed}
 pub use Rattle.vol_image.proofs.Steps.{not_map}
 pub use Rattle.vol_image.proofs.Unique.{found_next, one_root_block, one_root_index, reading_is_one}
 pub use Rattle.vol_image.proofs.Views.{held, held_is, same_tree}
-pub use Rattle.vol_image.specs.Fault.{Fault, HasLabel, IsReached, IsRootIndex, Names, NamesNothing, Next, Shows, TheRoot, holder, shown_tree}
+pub use Rattle.vol_image.specs.Fault.{Fault, HasLabel, IsReachedIn, IsRootIndex, NamesRoot, NamesNothing, Next, Shows, TheRoot, holder, shown_tree}
 pub use Rattle.vol_image.specs.Frame.{IsBlockOf}
-pub use Rattle.vol_image.specs.Part.{BelongsTo, Part, SameAt, is_committed, is_fixed, part_at, part_of, reserved, stands_for}
+pub use Rattle.vol_image.specs.Part.{BelongsTo, EntryPart, SameAt, is_committed, is_fixed, part_at, part_of, reserved, stands_for}
 pub use Rattle.vol_image.specs.Reading.{IsTree, leaf_content, leaf_in, slot_in}
 unfoldable pub use Rattle.vol_image.specs.Reading.{object_with}
 pub use Rattle.vol_image.specs.Seen.{Held, Tree, held_at, place_above, place_from, tree_in}
@@ -128,5 +128,5 @@ pub use Rattle.vol_owners.proofs.Owned.{count_with_tree}
 pub use Rattle.vol_owners.proofs.Standing.{levels_all}
 pub use Rattle.vol_owners.proofs.Sums.{count_in, run-suc, sum_each, sum_run}
 pub use Rattle.vol_owners.specs.Account.{Accounts, HasItsBlocks, HasRoot, IsSwept, StandsIn}
-pub use Rattle.vol_owners.specs.Owner.{is_had, is_leaving, is_made, is_meant, is_of, is_placed, is_root, is_root_place, is_stray, is_taken, owner_of}
+pub use Rattle.vol_owners.specs.Owner.{is_had, is_leaving, is_made, is_meant, is_owned_by, is_placed, is_root, is_root_place, is_stray, is_taken, owner_of}
 pub use Rattle.vol_owners.specs.Room.{one_of}

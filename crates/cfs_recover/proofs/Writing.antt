@@ -1,12 +1,12 @@
 -- What recovery writes: roots that stand elsewhere, and maps that differ.
 use Rattle.std.proofs.Common.{◌≡◌, ◌≢◌, ℕ, zero, suc, ◌+◌, ◌*◌, ◌/◌, ◌≤◌, List, [], ◌∷◌, length, map, Some, refl, sym, ◌∙◌, ap, subst, arith}
-use Rattle.cfs_recover.proofs.Words.{AreCopies, Copied, Found, Ghosts, Image, WritesWhatDiffers, block_at, changed, changed_maps, length-map, same_Some, slice_get, slice_get_within, source}
+use Rattle.cfs_recover.proofs.Words.{AreCopies, Copied, Found, Ghosts, Image, WritesWhatDiffers, block_at, one_if_changed, changed_maps, length-map, same_Some, slice_get, slice_get_within, source}
 
 -- what is changed of another image with the same maps
 pub changed_from : (a b c : Image) (n : ℕ) → ((k : ℕ) → block_at b (64 * k) ≡ block_at a (64 * k)) → changed_maps b c n ≡ changed_maps a c n
 unfolding changed_maps
 changed_from a b c zero same = refl
-changed_from a b c (suc n) same = λ i. changed_from a b c n same i + changed (same n i) (block_at c (64 * n))
+changed_from a b c (suc n) same = λ i. changed_from a b c n same i + one_if_changed (same n i) (block_at c (64 * n))
 
 abbrev blocks_of : List Copied → List ℕ
 blocks_of copies = map (λ c. c.block) copies

@@ -70,7 +70,7 @@ copies_before image found zero = 0
 copies_before image found (suc k) = copies_before image found k + copies_for image (slice_get found k)
 
 -- These pieces are those of the copies, which stand in the order of the list.
-pub record AreKept (image : Image) (found : List Found) (done : ℕ) (pieces : List Piece)
+pub record AreKeptPieces (image : Image) (found : List Found) (done : ℕ) (pieces : List Piece)
     (copies : List Copied) : Type 0 where
   pub are : AreCopies image found done copies
   pub spelled : pieces ≡ all_pieces copies
@@ -79,4 +79,4 @@ pub record AreKept (image : Image) (found : List Found) (done : ℕ) (pieces : L
       → (c : Copied) × (slice_get copies (copies_before image found k) ≡ Some c) × (c.block ≡ x.block)
 
 abbrev pub HasKept : Image → List Found → ℕ → List Piece → Type 0
-HasKept image found done pieces = (copies : List Copied) × AreKept image found done pieces copies
+HasKept image found done pieces = (copies : List Copied) × AreKeptPieces image found done pieces copies

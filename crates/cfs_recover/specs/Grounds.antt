@@ -9,7 +9,7 @@ use Rattle.vol_image.specs.Part.{RootsOwnThemselves, is_fixed, reserved}
 use Rattle.vol_label.specs.Label.{IsNoVolume, IsOtherVersion}
 use Rattle.vol_label.specs.declared.label.Label.{Label}
 use Rattle.cfs_recover.specs.Entries.{EntryFault, MayStand}
-use Rattle.cfs_recover.specs.Found.{IsFault}
+use Rattle.cfs_recover.specs.Found.{IsFaultOf}
 use Rattle.cfs_recover.specs.declared.fault.RecoverFault.{RecoverFault}
 use Rattle.cfs_recover.specs.declared.fault.RecoverFault.TheVariants as faults
 
@@ -60,5 +60,5 @@ abbrev pub IsOpenFault : Image → RecoverFault → Type 0
 IsOpenFault image faults.Disk = Unit {0}
 IsOpenFault image faults.NotVolume = HasNoLabel image
 IsOpenFault image (faults.Version found) = HasVersion image found
-IsOpenFault image (faults.Damaged d) = IsLabelled image × IsFault image d
+IsOpenFault image (faults.Damaged d) = IsLabelled image × IsFaultOf image d
 IsOpenFault image faults.Memory = Unit {0}

@@ -8,9 +8,9 @@ use Rattle.block_tree.specs.Root.{IsGoodRoot, IsRootBlock}
 use Rattle.ufs_model.specs.declared.object.Object.{Object}
 use Rattle.ufs_model.specs.Graph.{Graph, object_at}
 use Rattle.cyl_map.specs.declared.entry.MapEntry.{MapEntry}
-use Rattle.puid_space.specs.Directory.{kind_in}
+use Rattle.puid_space.specs.Directory.{directory_kind}
 use Rattle.vol_image.specs.Sight.{shadows, source}
-use Rattle.cfs_recover.specs.Copies.{AreKept, HasCopy}
+use Rattle.cfs_recover.specs.Copies.{AreKeptPieces, HasCopy}
 use Rattle.cfs_recover.specs.Entries.{AreStanding}
 use Rattle.cfs_recover.specs.Stored.{AreMapsOf}
 use Rattle.cfs_recover.specs.declared.found.Found.{Found}
@@ -25,7 +25,7 @@ pub record Leads {D : Type 0} (g : Ghosts D) (P : Image → Type 0) (start now :
 
 -- A run from `start` has come to `now` with no failure: the content has P, and so has whatever a crash leaves now or
 -- left on the way.
-pub record Keeps {D : Type 0} (g : Ghosts D) (P : Image → Type 0) (start now : D) : Type 0 where
+pub record RunKeeps {D : Type 0} (g : Ghosts D) (P : Image → Type 0) (start now : D) : Type 0 where
   pub tells : Tells g now
   pub content : P (g.content now)
   pub here : (c : Image) → left_now g now c → P c
@@ -62,15 +62,15 @@ pub record AreShown (a : Image) (maps : List (List MapEntry)) (w : Walked) (r : 
   pub standing : AreStanding a (length a) w.standing
   pub one_shadow : length (shadows a r) ≤ 1
 
--- the names have the identifier of a copy, with its kind
+-- the directory has the identifier of a copy, with its kind
 pub record IsNamedCopy (w : Walked) (c : Copied) : Type 0 where
   pub good : IsGoodRoot c.root
-  pub named : kind_in w.walk.names.named (record { block = c.block; word = c.root.word }) ≡ Some c.root.kind
+  pub named : directory_kind w.walk.directory.named (record { block = c.block; word = c.root.word }) ≡ Some c.root.kind
 
 -- the walk has kept these copies, which are all that the graph needs
 pub record AreKeptFor (a : Image) (g : Graph) (maps : List (List MapEntry)) (w : Walked)
     (copies : List Copied) : Type 0 where
   pub all : AreAllCopies a g copies
-  pub kept : AreKept a w.walk.found.items (length w.walk.found.items) w.kept.items copies
+  pub kept : AreKeptPieces a w.walk.found.items (length w.walk.found.items) w.kept.items copies
   pub named : (k : ℕ) (c : Copied) → slice_get copies k ≡ Some c → IsNamedCopy w c
   pub shown : (k : ℕ) (x : Found) → slice_get w.walk.found.items k ≡ Some x → AreShown a maps w x.block

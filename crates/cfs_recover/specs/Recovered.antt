@@ -10,7 +10,7 @@ use Rattle.cfs_base.specs.declared.disk.Disk.{Ghosts}
 use Rattle.cyl_map.specs.declared.entry.MapEntry.{MapEntry}
 use Rattle.cyl_map.specs.declared.state.BlockState.TheVariants.{Allocated}
 use Rattle.cyl_map.specs.Volume.{entry_in}
-use Rattle.cyl_alloc.specs.Space.{AreCounts, Kept, free_entry}
+use Rattle.cyl_alloc.specs.Space.{AreCounts, Kept, unheld_entry}
 use Rattle.puid_space.specs.Directory.{Listing}
 use Rattle.puid_space.specs.Kinds.{kinds_of}
 use Rattle.ufs_model.specs.Graph.{Graph, ids_of}
@@ -28,14 +28,14 @@ use Rattle.cfs_recover.specs.Survey.{IsIn}
 -- stands.
 pub record IsClean (image : Image) (graph : Graph) : Type 0 where
   pub free : (n : ℕ) (e : MapEntry) → entry_in image n ≡ Some e → is_fixed n ≡ false → ¬ IsIn image graph n
-      → e ≡ free_entry
+      → e ≡ unheld_entry
   pub held : (n : ℕ) (e : MapEntry) → entry_in image n ≡ Some e → IsIn image graph n
       → (e.state ≡ Allocated) × (e.committed ≡ false)
 
 -- The disk holds a volume that reads as image `before` did, with nothing but its objects. The label is the volume's,
--- the names are its identifiers with their kinds, and the space has its counts. The last five are what a store needs
--- that is opened on the disk with no draft.
-pub record IsRecovered {D : Type 0} (g : Ghosts D) (before : Image) (d : D) (label : Label) (names : Listing)
+-- the directory has its identifiers with their kinds, and the space has its counts. The last five are what a store
+-- needs that is opened on the disk with no draft.
+pub record IsRecovered {D : Type 0} (g : Ghosts D) (before : Image) (d : D) (label : Label) (directory : Listing)
     (space : Kept) : Type 0 where
   pub graph : Graph
   pub was : IsSoundAs before graph
@@ -45,8 +45,8 @@ pub record IsRecovered {D : Type 0} (g : Ghosts D) (before : Image) (d : D) (lab
   pub labelled : HasLabel (g.content d) label
   pub root : graph.root ≡ label.root
   pub size : 64 * label.cylinders ≡ g.blocks d
-  pub named : names.named ≡ kinds_of graph
-  pub room : names.room ≡ g.blocks d
+  pub named : directory.named ≡ kinds_of graph
+  pub room : directory.room ≡ g.blocks d
   pub carries : Carries g graph d
   pub account : Accounts (g.content d) graph []
   pub swept : IsSwept (g.content d) graph
@@ -59,13 +59,13 @@ pub record IsUntouched {D : Type 0} (g : Ghosts D) (old new : D) : Type 0 where
   pub images : Leaves g old new Nothing
 
 -- 1 where a block isn't what it was, and else 0
-abbrev pub changed : List ℕ → List ℕ → ℕ
-changed old new = cond (pointwise nat_eq new old) 0 1
+abbrev pub one_if_changed : List ℕ → List ℕ → ℕ
+one_if_changed old new = cond (pointwise nat_eq new old) 0 1
 
 -- how many maps, of so many cylinders, aren't what they were
 unfoldable pub changed_maps : Image → Image → ℕ → ℕ
 changed_maps old new zero = 0
-changed_maps old new (suc n) = changed_maps old new n + changed (block_at old (64 * n)) (block_at new (64 * n))
+changed_maps old new (suc n) = changed_maps old new n + one_if_changed (block_at old (64 * n)) (block_at new (64 * n))
 
 -- Beside so many barriers nothing was written but root blocks whose objects were read from elsewhere, each once, and
 -- each map that isn't what it was, once.

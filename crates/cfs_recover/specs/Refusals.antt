@@ -14,13 +14,13 @@ IsCaused g old new (faults.Damaged d) = Unit {0}
 IsCaused g old new faults.Memory = Unit {0}
 
 -- it names a damage of which this is so, or says nothing of the volume: a device call failed, or want of memory
-abbrev pub IsDamage : (Damage → Type 0) → RecoverFault → Type 0
-IsDamage P faults.Disk = Unit {0}
-IsDamage P faults.NotVolume = ⊥
-IsDamage P (faults.Version found) = ⊥
-IsDamage P (faults.Damaged d) = P d
-IsDamage P faults.Memory = Unit {0}
+abbrev pub NamesDamage : (Damage → Type 0) → RecoverFault → Type 0
+NamesDamage P faults.Disk = Unit {0}
+NamesDamage P faults.NotVolume = ⊥
+NamesDamage P (faults.Version found) = ⊥
+NamesDamage P (faults.Damaged d) = P d
+NamesDamage P faults.Memory = Unit {0}
 
 -- it says nothing of the volume
 abbrev pub TellsNothing : RecoverFault → Type 0
-TellsNothing e = IsDamage (λ d. ⊥) e
+TellsNothing e = NamesDamage (λ d. ⊥) e

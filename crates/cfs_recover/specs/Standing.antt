@@ -14,10 +14,10 @@ one_more (One t) s = Several
 one_more Several s = Several
 
 -- the shadow root, if there is one, is below this number
-abbrev pub IsWithin : ℕ → Shadow → Type 0
-IsWithin blocks None = Unit {0}
-IsWithin blocks (One s) = s < blocks
-IsWithin blocks Several = Unit {0}
+abbrev pub IsShadowBelow : ℕ → Shadow → Type 0
+IsShadowBelow blocks None = Unit {0}
+IsShadowBelow blocks (One s) = s < blocks
+IsShadowBelow blocks Several = Unit {0}
 
 abbrev pub AreWithin : List ℕ → Type 0
 AreWithin of = (length of ≤ 4294967295) × ((k n : ℕ) → slice_get of k ≡ Some n → (n < length of) ⊎ (n ≡ 4294967295))

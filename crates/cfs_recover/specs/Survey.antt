@@ -11,7 +11,7 @@ use Rattle.vol_owners.specs.Account.{StandsIn}
 use Rattle.puid_space.specs.Kinds.{kinds_of}
 use Rattle.cfs_recover.specs.Copies.{HasKept}
 use Rattle.cfs_recover.specs.Entries.{AreStanding}
-use Rattle.cfs_recover.specs.Found.{IsNoted, IsWalk, holds}
+use Rattle.cfs_recover.specs.Found.{IsNotedIn, IsWalk, holds}
 use Rattle.cfs_recover.specs.Grounds.{AreGrounds}
 use Rattle.cfs_recover.specs.Stored.{AreMapsOf}
 use Rattle.cfs_recover.specs.declared.found.Walk.{Walk}
@@ -27,18 +27,18 @@ pub record IsIn (image : Image) (graph : Graph) (n : ℕ) : Type 0 where
   pub here : (n ≡ id.block) ⊎ StandsIn (shown_tree image id.block) n
 
 -- all objects that are reached were walked, and no two identifiers have one root block
-pub record IsWhole (image : Image) (w : Walk) : Type 0 where
+pub record IsWholeWalk (image : Image) (w : Walk) : Type 0 where
   pub graph : Graph
   pub sound : IsSoundAs image graph
   pub ordered : rises (ids_of graph) ≡ true
-  pub names : w.names.named ≡ kinds_of graph
+  pub directory : w.directory.named ≡ kinds_of graph
   pub held : (n : ℕ) → holds w n ≡ true → IsIn image graph n
   pub all : (n : ℕ) → IsIn image graph n → holds w n ≡ true
 
 -- all on the list were walked, which begins at the label
 pub record IsWalked (image : Image) (label : Label) (w : Walked) : Type 0 where
   pub walk : IsWalk image w.walk (length w.walk.found.items)
-  pub noted : IsNoted w.walk label.root
+  pub noted : IsNotedIn w.walk label.root
   pub standing : AreStanding image (length image) w.standing
   pub kept : HasKept image w.walk.found.items (length w.walk.found.items) w.kept.items
 
@@ -47,7 +47,7 @@ pub record IsSurvey (image : Image) (s : Survey) : Type 0 where
   pub grounds : AreGrounds image s.grounds.label
   pub maps : AreMapsOf image s.grounds.maps.items
   pub walked : IsWalked image s.grounds.label s.walked
-  pub whole : IsWhole image s.walked.walk
+  pub whole : IsWholeWalk image s.walked.walk
 
 -- ---- the sizes of what is known of a disk of so many blocks, whatever it holds
 
@@ -56,7 +56,7 @@ pub record IsOfSize (blocks : ℕ) (w : Walked) : Type 0 where
   pub standing : length w.standing ≡ blocks
   pub few : length w.walk.found.items ≤ blocks
 
-pub record Fits (blocks : ℕ) (s : Survey) : Type 0 where
+pub record FitsSurvey (blocks : ℕ) (s : Survey) : Type 0 where
   pub maps : blocks ≡ 64 * length s.grounds.maps.items
   pub some : 1 ≤ length s.grounds.maps.items
   pub most : length s.grounds.maps.items ≤ 65536

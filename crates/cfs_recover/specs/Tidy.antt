@@ -9,7 +9,7 @@ use Rattle.cyl_map.specs.declared.entry.MapEntry.{MapEntry}
 use Rattle.cyl_map.specs.declared.state.BlockState.TheVariants.{Allocated}
 use Rattle.cyl_map.specs.Map.{IsMap, entry_at, free_entries, map_spelling}
 use Rattle.cyl_map.specs.Volume.{entry_in, AreMaps}
-use Rattle.cyl_alloc.specs.Space.{free_entry}
+use Rattle.cyl_alloc.specs.Space.{unheld_entry}
 use Rattle.ufs_model.specs.declared.object.Object.{Object}
 use Rattle.ufs_model.specs.Graph.{Graph, object_at}
 use Rattle.vol_image.specs.Part.{BelongsTo, RootsOwnThemselves, OwnsItself, part_of, part_at, is_committed, is_fixed}
@@ -81,7 +81,7 @@ pub record AreMarked (a : Image) (g : Graph) (held : ℕ → Bool) : Type 0 wher
 abbrev pub tidied : Bool → Bool → MapEntry → MapEntry
 tidied true held e = e
 tidied false true e = record e { state = Allocated; committed = false }
-tidied false false e = free_entry
+tidied false false e = unheld_entry
 
 -- an object of the graph has this block: as its root, or in the tree of its root's content
 pub record IsHeldIn (a : Image) (g : Graph) (n : ℕ) : Type 0 where

@@ -14,7 +14,7 @@ use Rattle.block_tree.specs.Tree.{end_of, levels_of, path_to, pointer, tree_of}
 use Rattle.cyl_map.specs.declared.entry.MapEntry.{MapEntry}
 use Rattle.ufs_model.specs.declared.object.Object.{Object}
 use Rattle.ufs_model.specs.Object.{leaves_in}
-use Rattle.vol_image.specs.Fault.{IsReached, Shows, holder, shown_tree}
+use Rattle.vol_image.specs.Fault.{IsReachedIn, Shows, holder, shown_tree}
 use Rattle.vol_image.specs.Part.{BelongsTo, part_at}
 use Rattle.vol_image.specs.Reading.{leaf_in, object_with}
 use Rattle.vol_image.specs.Seen.{place_above}
@@ -35,12 +35,12 @@ abbrev pub object_shown : Image → Puid → Root → Object
 object_shown image id root = object_with root (leaf_in (shown_tree image id.block))
 
 -- the content of the block by which it is read
-abbrev pub content_of : Image → Puid → List ℕ
-content_of image id = block_at image (source image id.block)
+abbrev pub shown_content : Image → Puid → List ℕ
+shown_content image id = block_at image (source image id.block)
 
 -- the object is reached, and read by this root, which stands in this block
 pub record IsShown (image : Image) (id : Puid) (from : ℕ) (root : Root) : Type 0 where
-  pub reached : IsReached image id
+  pub reached : IsReachedIn image id
   pub shows : Shows image id.block root (object_shown image id root)
   pub word : shows.own.word ≡ id.word
   pub from_is : from ≡ source image id.block
@@ -79,22 +79,23 @@ abbrev pub reads_of_object : ℕ
 reads_of_object = 2 + node_pointers.count * reads_by_height node_levels
 
 -- the object with this root block is read by this root
-pub record IsRead (image : Image) (owner : ℕ) (root : Root) : Type 0 where
+pub record IsReadByRoot (image : Image) (owner : ℕ) (root : Root) : Type 0 where
   pub id : Puid
-  pub reached : IsReached image id
+  pub reached : IsReachedIn image id
   pub shows : Shows image id.block root (object_shown image id root)
   pub owner_is : owner ≡ id.block
 
 -- A block of its tree has these pointers, as many as there are at a level: it is number `at.number` of those at the end
 -- of the levels above, and its tree goes on as the pointers say.
 pub record HasPointers (image : Image) (owner : ℕ) (root : Root) (at : Branch) (pointers : List ℕ) : Type 0 where
-  pub read : IsRead image owner root
+  pub read : IsReadByRoot image owner root
   pub above : List Level
   pub level : Level
   pub count : length pointers ≡ level.count
-  pub whole : levels_of (content_of image read.id) ≡ above ++ level ∷ levels_below at.height
+  pub whole : levels_of (shown_content image read.id) ≡ above ++ level ∷ levels_below at.height
   pub inside : at.number < width above
-  pub leads : (k : ℕ) (path : List ℕ) → tree_of image (content_of image read.id) (path_to above at.number ++ k ∷ path)
+  pub leads : (k : ℕ) (path : List ℕ)
+      → tree_of image (shown_content image read.id) (path_to above at.number ++ k ∷ path)
       ≡ end_of image (levels_below at.height) (get_or pointers k 0) path
   pub here : at.block ≡ holder image read.id.block (path_to above at.number)
 

@@ -20,14 +20,14 @@ pub(crate) struct Found {
 pub(crate) struct Walk {
     /// The identifiers that were found, at most one for each root block. Until an object is read it is listed as an
     /// index.
-    pub names: Directory,
+    pub directory: Directory,
     /// Their root blocks, in the order in which they were found.
     pub found: Vec<Found>,
     /// Of each block whether an object that was read holds it.
     pub held: Vec<bool>,
     /// The block that names an identifier with the root block, but not the word, of one that was found.
     pub clash: Option<u32>,
-    ghost sized: { IsSized names.room found.items held.items },
+    ghost sized: { IsSized directory.room found.items held.items },
 }
 
 impl Walk {
@@ -36,24 +36,24 @@ impl Walk {
     ghost use Rattle.cfs_base.specs.Disk.{Image};
     ghost use Rattle.cfs_base.specs.declared.identifier.Puid.{Puid};
     ghost use Rattle.ufs_model.specs.declared.object.Object.{Object};
-    ghost use Rattle.puid_space.specs.Kinds.{kind_of};
+    ghost use Rattle.puid_space.specs.Kinds.{object_kind};
     ghost use Rattle.cfs_recover.specs.Found as spec;
-    ghost use Rattle.cfs_recover.specs.Refusals.{IsDamage};
+    ghost use Rattle.cfs_recover.specs.Refusals.{NamesDamage};
 
     /// Nothing was found. Takes the memory for a volume of so many blocks.
     pub fn new(alloc: Global, blocks: u32) -> Result<Walk, NoMemory>
-        ensures room { IfOk result (λ walk. walk.names.room ≡ blocks) }
-        ensures names { IfOk result (λ walk. walk.names.named ≡ []) }
+        ensures room { IfOk result (λ walk. walk.directory.room ≡ blocks) }
+        ensures directory { IfOk result (λ walk. walk.directory.named ≡ []) }
         ensures found { IfOk result (λ walk. walk.found.items ≡ []) }
         ensures held { IfOk result (λ walk. walk.held.items ≡ replicate blocks false) }
         ensures clash { IfOk result (λ walk. walk.clash ≡ None) }
     {
-        let mut names = Directory::new(alloc);
-        names.reserve(blocks)?;
+        let mut directory = Directory::new(alloc);
+        directory.reserve(blocks)?;
         let found = Vec::with_capacity(alloc, blocks as usize)?;
         let held = vec![in alloc; false; blocks as usize]?;
         Ok(Walk {
-            names,
+            directory,
             found,
             held,
             clash: None,
@@ -66,23 +66,23 @@ impl Walk {
         ensures alone { result ≡ true → (other : Puid) → spec.lists self.now other ≡ true → other.block ≡ id.block
             → other ≡ id }
     {
-        id.block < self.names.room() && self.names.kind(id).is_some()
+        id.block < self.directory.room() && self.directory.kind(id).is_some()
     }
 
     /// Notes an identifier that the block `by` names. Refused with code 6 of that block, where the identifier's is
     /// none.
     pub fn note(&mut self, id: Puid, by: u32) -> Result<(), RecoverFault>
         ensures told { (image : Image) (done : ℕ) → spec.IsWalk image self.old done → spec.IsNamed image id by
-            → MatchResult result (λ _. spec.IsWalk image self.new done) (IsDamage (spec.IsFault image)) }
-        ensures noted { OnOk result (spec.IsNoted self.new id) }
+            → MatchResult result (λ _. spec.IsWalk image self.new done) (NamesDamage (spec.IsFaultOf image)) }
+        ensures noted { OnOk result (spec.IsNotedIn self.new id) }
         ensures grows { OnOk result (spec.Grows self.old self.new) }
         ensures no_call { IfErr result (λ e. e ≢ RecoverFault.Disk) }
     {
-        check_slot(self.names.room(), id, by)?;
-        if self.names.kind(id).is_some() {
+        check_slot(self.directory.room(), id, by)?;
+        if self.directory.kind(id).is_some() {
             return Ok(());
         }
-        if self.names.has_root(id.block) {
+        if self.directory.has_root(id.block) {
             self.clash = Some(by);
             return Ok(());
         }
@@ -90,7 +90,7 @@ impl Walk {
             block: id.block,
             by,
         })?;
-        self.names.add(id, Kind::Index);
+        self.directory.add(id, Kind::Index);
         Ok(())
     }
 
@@ -104,7 +104,7 @@ impl Walk {
     ) -> Result<(), RecoverFault>
         ensures told { (image : Image) (done : ℕ) → spec.IsWalk image self.old done
             → spec.AreNamed image content.now size leaf by
-            → MatchResult result (λ _. spec.IsWalk image self.new done) (IsDamage (spec.IsFault image)) }
+            → MatchResult result (λ _. spec.IsWalk image self.new done) (NamesDamage (spec.IsFaultOf image)) }
         ensures noted { OnOk result (spec.AreNoted self.new content.now size leaf) }
         ensures grows { OnOk result (spec.Grows self.old self.new) }
         ensures no_call { IfErr result (λ e. e ≢ RecoverFault.Disk) }
@@ -122,8 +122,8 @@ impl Walk {
 
     /// Notes that an object holds a block.
     pub fn hold(&mut self, block: u32)
-        requires { block < self.old.names.room }
-        ensures told { (image : Image) (done : ℕ) → spec.IsWalk image self.old done → spec.IsKept image block
+        requires { block < self.old.directory.room }
+        ensures told { (image : Image) (done : ℕ) → spec.IsWalk image self.old done → spec.IsKeptBlock image block
             → spec.IsWalk image self.new done }
         ensures held { spec.holds self.new block ≡ true }
         ensures grows { spec.Grows self.old self.new }
@@ -135,13 +135,14 @@ impl Walk {
     pub fn learn(&mut self, id: Puid, kind: Kind)
         requires { spec.lists self.old id ≡ true }
         ensures told { (image : Image) (done : ℕ) (o : Object) → spec.IsWalk image self.old done
-            → spec.IsNext self.old.found.items done id.block → kind_of o ≡ kind → spec.IsTaken image self.old id o
+            → spec.IsNextItem self.old.found.items done id.block → object_kind o ≡ kind
+            → spec.IsWalkedObject image self.old id o
             → spec.IsWalk image self.new (done + 1) }
         ensures grows { spec.Grows self.old self.new }
     {
-        let room = self.names.room();
+        let room = self.directory.room();
         prove!(id.block < room);
-        self.names.remove(id);
-        self.names.add(id, kind);
+        self.directory.remove(id);
+        self.directory.add(id, kind);
     }
 }

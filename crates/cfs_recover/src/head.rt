@@ -8,7 +8,7 @@ ghost use Rattle.block_tree.specs.Root.{IsRootBlock};
 ghost use Rattle.vol_image.specs.Sight.{shadows, source};
 ghost use Rattle.cfs_recover.specs.Checks.{HasNoRoot, HasNoneLike, HasRootSlots, HeadFault, IsHead, IsLike};
 ghost use Rattle.cfs_recover.specs.Entries.{AreStanding, damage};
-ghost use Rattle.cfs_recover.specs.Refusals.{IsCaused, IsDamage};
+ghost use Rattle.cfs_recover.specs.Refusals.{IsCaused, NamesDamage};
 ghost use Rattle.cfs_recover.specs.Stored.{AreMapsOf, Stores};
 
 use crate::entry::{entry_at, is_committed};
@@ -73,7 +73,7 @@ pub(crate) fn read_block<D: Disk>(disk: &mut D, at: u32) -> Result<Block, Recove
     requires { at < D.blocks disk.old }
     ensures told { (image : Image) → Stores D.Disk disk.old image → IfOk result (λ block. block ≡ block_at image at) }
     ensures cause { IfErr result (IsCaused D.Disk disk.old disk.new) }
-    ensures damage { IfErr result (IsDamage (λ d. ⊥)) }
+    ensures damage { IfErr result (NamesDamage (λ d. ⊥)) }
     ensures reads { OnlyReads D.Disk 1 disk.old disk.new }
 {
     let mut block = Block::zero();
@@ -114,7 +114,7 @@ pub fn read_head<D: Disk>(
     requires standing { D.blocks disk.old ≡ length standing.now }
     ensures told { (image : Image) → Stores D.Disk disk.old image → AreMapsOf image maps.now
         → AreStanding image (length image) standing.now → IsRootBlock (block_at image block) own.now
-        → MatchResult result (IsHead image block own.now) (IsDamage (HeadFault image block own.now)) }
+        → MatchResult result (IsHead image block own.now) (NamesDamage (HeadFault image block own.now)) }
     ensures cause { IfErr result (IsCaused D.Disk disk.old disk.new) }
     ensures reads { OnlyReads D.Disk 1 disk.old disk.new }
 {

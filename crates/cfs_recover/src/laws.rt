@@ -10,9 +10,9 @@ ghost use Rattle.vol_image.specs.Part.{is_fixed};
 ghost use Rattle.vol_image.specs.Sight.{source};
 ghost use Rattle.vol_image.specs.Sound.{Holds, IsSoundAs};
 ghost use Rattle.vol_owners.specs.Account.{Accounts, IsSwept};
-ghost use Rattle.cfs_recover.specs.Found.{IsFault};
+ghost use Rattle.cfs_recover.specs.Found.{IsFaultOf};
 ghost use Rattle.cfs_recover.specs.Grounds.{HasNoLabel, HasVersion, IsLabelled, IsOpenFault};
-ghost use Rattle.cfs_recover.specs.Refusals.{IsDamage, TellsNothing};
+ghost use Rattle.cfs_recover.specs.Refusals.{NamesDamage, TellsNothing};
 ghost use Rattle.cfs_recover.specs.declared.fault.RecoverFault.{RecoverFault};
 ghost use Rattle.cfs_recover.specs.declared.fault.RecoverFault.TheVariants as faults;
 ghost use Rattle.cfs_recover.specs.Tidy.{AreCopied, AreMarked, CopiesRoots, IsTidied, IsTidy, IsTidyMap, Tidies};
@@ -53,5 +53,5 @@ pub fn faults_come_in_order()
     ensures version { (image : Image) (found : ℕ) (e : RecoverFault) → HasVersion image found → IsOpenFault image e
         → (e ≡ faults.Version found) ⊎ TellsNothing e }
     ensures label { (image : Image) (e : RecoverFault) → IsLabelled image → IsOpenFault image e
-        → IsDamage (IsFault image) e }
+        → NamesDamage (IsFaultOf image) e }
 {}

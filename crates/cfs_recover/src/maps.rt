@@ -8,9 +8,9 @@ ghost use Rattle.vol_image.specs.Fault.{HasLabel};
 ghost use Rattle.vol_image.specs.Part.{reserved};
 ghost use Rattle.vol_label.specs.Label.{IsLabel};
 ghost use Rattle.cfs_recover.specs.Entries.{AreStanding};
-ghost use Rattle.cfs_recover.specs.Found.{IsFault};
+ghost use Rattle.cfs_recover.specs.Found.{IsFaultOf};
 ghost use Rattle.cfs_recover.specs.Grounds.{AllMapsStand, AllMayStand, HasEntryFault, IsOpenFault};
-ghost use Rattle.cfs_recover.specs.Refusals.{IsCaused, IsDamage};
+ghost use Rattle.cfs_recover.specs.Refusals.{IsCaused, NamesDamage};
 ghost use Rattle.cfs_recover.specs.Stored.{AreMapsOf, Stores};
 
 use crate::entry::{check_entry, entry_at, stands};
@@ -68,7 +68,8 @@ fn read_good_map<D: Disk>(disk: &mut D, cylinder: u32) -> Result<Map, RecoverFau
     requires few { cylinder < 65536 }
     requires on_disk { 64 * cylinder + 64 ≤ D.blocks disk.old }
     ensures told { (image : Image) → Stores D.Disk disk.old image → MatchResult result (λ map. IsMap map
-        × (block_at image (64 * cylinder) ≡ map_spelling map) × AllMayStand cylinder map) (IsDamage (IsFault image)) }
+        × (block_at image (64 * cylinder) ≡ map_spelling map) × AllMayStand cylinder map)
+        (NamesDamage (IsFaultOf image)) }
     ensures cause { IfErr result (IsCaused D.Disk disk.old disk.new) }
     ensures reads { OnlyReads D.Disk 1 disk.old disk.new }
 {
@@ -92,7 +93,7 @@ pub(crate) fn read_maps<D: Disk>(
     requires size { D.blocks disk.old ≡ 64 * cylinders }
     ensures told { (image : Image) → Stores D.Disk disk.old image
         → MatchResult result (λ maps. AreMapsOf image maps.items
-        × AllMapsStand maps.items) (IsDamage (IsFault image)) }
+        × AllMapsStand maps.items) (NamesDamage (IsFaultOf image)) }
     ensures count { IfOk result (λ maps. length maps.items ≡ cylinders) }
     ensures cause { IfErr result (IsCaused D.Disk disk.old disk.new) }
     ensures reads { OnlyReads D.Disk cylinders disk.old disk.new }

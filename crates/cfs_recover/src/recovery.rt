@@ -9,7 +9,7 @@ ghost use Rattle.cfs_recover.specs.Grounds.{IsOpenFault};
 ghost use Rattle.cfs_recover.specs.Keeps.{Leads};
 ghost use Rattle.cfs_recover.specs.Recovered.{IsRecovered, IsUntouched, LeavesSinceBarrier, WritesWhatDiffers};
 ghost use Rattle.cfs_recover.specs.Refusals.{IsCaused};
-ghost use Rattle.cfs_recover.specs.Survey.{Fits, IsSurvey};
+ghost use Rattle.cfs_recover.specs.Survey.{FitsSurvey, IsSurvey};
 
 use crate::fault::RecoverFault;
 use crate::survey::{Survey, survey_volume};
@@ -26,16 +26,16 @@ use vol_label::Label;
 #[derive(Debug, Drop)]
 pub struct Recovered {
     pub label: Label,
-    pub names: Directory,
+    pub directory: Directory,
     pub space: Space,
 }
 
 /// Copies the roots and tidies the maps of a volume that was surveyed, and counts what is Free.
 fn tidy_volume<D: Disk>(disk: &mut D, survey: &Survey, space: &mut Space) -> Result<(), Failed>
-    requires fits { Fits (D.blocks disk.old) survey.now }
+    requires fits { FitsSurvey (D.blocks disk.old) survey.now }
     requires none { space.old.free ≡ replicate (length survey.now.grounds.maps.items) 0 }
     ensures recovered { (a : Image) → IsSettled D.Disk disk.old → D.content disk.old ≡ a → IsSurvey a survey.now
-        → OnOk result (IsRecovered D.Disk a disk.new survey.now.grounds.label survey.now.walked.walk.names space.new
+        → OnOk result (IsRecovered D.Disk a disk.new survey.now.grounds.label survey.now.walked.walk.directory space.new
         × WritesWhatDiffers D.Disk 2 disk.old disk.new) }
     ensures leads { (a : Image) (g : Graph) → IsSettled D.Disk disk.old → D.content disk.old ≡ a → IsSurvey a survey.now
         → IsSoundAs a g → Leads D.Disk (λ c. IsSoundAs c g) disk.old disk.new }
@@ -52,16 +52,16 @@ fn tidy_volume<D: Disk>(disk: &mut D, survey: &Survey, space: &mut Space) -> Res
 /// What was surveyed, without what only recovery needs.
 fn hand_over(survey: Survey, space: Space) -> Recovered
     ensures label { result.label ≡ survey.grounds.label }
-    ensures names { result.names ≡ survey.walked.walk.names }
+    ensures directory { result.directory ≡ survey.walked.walk.directory }
     ensures space { result.space ≡ space }
 {
     let label = survey.grounds.label;
     let walked = survey.walked;
     let walk = walked.walk;
-    let names = walk.names;
+    let directory = walk.directory;
     Recovered {
         label,
-        names,
+        directory,
         space,
     }
 }
@@ -69,7 +69,7 @@ fn hand_over(survey: Survey, space: Space) -> Recovered
 /// Opens the volume on a disk of which no write waits.
 fn open_settled<D: Disk>(alloc: Global, disk: &mut D) -> Result<Recovered, RecoverFault>
     ensures opened { IsSettled D.Disk disk.old → IfOk result (λ r.
-        IsRecovered D.Disk (D.content disk.old) disk.new r.label r.names r.space
+        IsRecovered D.Disk (D.content disk.old) disk.new r.label r.directory r.space
         × WritesWhatDiffers D.Disk 2 disk.old disk.new) }
     ensures refused { Tells D.Disk disk.old → IfErr result (IsOpenFault (D.content disk.old)) }
     ensures untouched { IfErr result (λ e. e ≢ RecoverFault.Disk → IsUntouched D.Disk disk.old disk.new) }
@@ -93,7 +93,7 @@ fn open_settled<D: Disk>(alloc: Global, disk: &mut D) -> Result<Recovered, Recov
 /// first fault that is found, for a device call that failed, or for want of memory.
 pub fn recover<D: Disk>(alloc: Global, disk: &mut D) -> Result<Recovered, RecoverFault>
     ensures opened { IsTrue (D.honest disk.old) → IfOk result (λ r.
-        IsRecovered D.Disk (D.content disk.old) disk.new r.label r.names r.space) }
+        IsRecovered D.Disk (D.content disk.old) disk.new r.label r.directory r.space) }
     ensures refused { IsTrue (D.honest disk.old) → IfErr result (IsOpenFault (D.content disk.old)) }
     // A sound volume is refused for nothing else.
     ensures free { IsTrue (D.honest disk.old) → IsSound (D.content disk.old)

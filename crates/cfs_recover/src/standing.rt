@@ -59,7 +59,7 @@ impl Standing {
     pub fn of(&self, block: u32) -> Shadow
         requires { block < length self.now }
         ensures of { result ≡ get_or self.now block shadows.None }
-        ensures within { spec.IsWithin (length self.now) result }
+        ensures within { spec.IsShadowBelow (length self.now) result }
     {
         match self.of[block as usize] {
             0 => Shadow::None,

@@ -8,11 +8,11 @@ ghost use Rattle.vol_image.specs.Fault.{HasLabel};
 ghost use Rattle.vol_label.specs.Label.{IsLabel};
 ghost use Rattle.vol_label.specs.declared.label.Label.{Label};
 ghost use Rattle.cfs_recover.specs.Entries.{damage};
-ghost use Rattle.cfs_recover.specs.Found.{IsFault, IsNoted, IsWalk};
+ghost use Rattle.cfs_recover.specs.Found.{IsFaultOf, IsNotedIn, IsWalk};
 ghost use Rattle.cfs_recover.specs.Grounds.{AreGrounds, IsOpenFault};
-ghost use Rattle.cfs_recover.specs.Refusals.{IsCaused, IsDamage};
+ghost use Rattle.cfs_recover.specs.Refusals.{IsCaused, NamesDamage};
 ghost use Rattle.cfs_recover.specs.Stored.{AreMapsOf, Stores};
-ghost use Rattle.cfs_recover.specs.Survey.{Fits, IsOfSize, IsSurvey, IsWalked, IsWhole};
+ghost use Rattle.cfs_recover.specs.Survey.{FitsSurvey, IsOfSize, IsSurvey, IsWalked, IsWholeWalk};
 ghost use Rattle.cfs_recover.specs.Walk.{reads_of_object};
 
 use crate::copies::Piece;
@@ -66,9 +66,9 @@ fn read_grounds<D: Disk>(alloc: Global, disk: &mut D) -> Result<Grounds, Recover
 /// A walk that begins at the root index, which block 1 names.
 fn begin_walk(alloc: Global, blocks: u32, root: Puid) -> Result<Walk, RecoverFault>
     ensures told { (image : Image) (label : Label) → length image ≡ blocks → HasLabel image label → label.root ≡ root
-        → MatchResult result (λ walk. IsWalk image walk 0) (IsDamage (IsFault image)) }
-    ensures noted { IfOk result (λ walk. IsNoted walk root) }
-    ensures room { IfOk result (λ walk. walk.names.room ≡ blocks) }
+        → MatchResult result (λ walk. IsWalk image walk 0) (NamesDamage (IsFaultOf image)) }
+    ensures noted { IfOk result (λ walk. IsNotedIn walk root) }
+    ensures room { IfOk result (λ walk. walk.directory.room ≡ blocks) }
     ensures no_call { IfErr result (λ e. e ≢ RecoverFault.Disk) }
 {
     let mut walk = Walk::new(alloc, blocks)?;
@@ -87,7 +87,7 @@ fn walk_volume<D: Disk>(
     requires count { length grounds.now.maps.items ≡ grounds.now.label.cylinders }
     ensures told { (image : Image) → Stores D.Disk disk.old image → AreGrounds image grounds.now.label
         → AreMapsOf image grounds.now.maps.items
-        → MatchResult result (IsWalked image grounds.now.label) (IsDamage (IsFault image)) }
+        → MatchResult result (IsWalked image grounds.now.label) (NamesDamage (IsFaultOf image)) }
     ensures size { IfOk result (IsOfSize (D.blocks disk.old)) }
     ensures cause { IfErr result (IsCaused D.Disk disk.old disk.new) }
     ensures reads { OnlyReads D.Disk (reads_of_object * D.blocks disk.old) disk.old disk.new }
@@ -106,7 +106,7 @@ fn walk_volume<D: Disk>(
 /// Whether no two identifiers were found with one root block. Refused with code 6 of the block that names the second.
 fn check_clash(walk: &Walk) -> Result<(), Damage>
     ensures { (image : Image) → IsWalk image walk.now (length walk.now.found.items)
-        → MatchResult result (λ _. walk.now.clash ≡ None) (IsFault image) }
+        → MatchResult result (λ _. walk.now.clash ≡ None) (IsFaultOf image) }
 {
     match walk.clash {
         None => Ok(()),
@@ -135,7 +135,7 @@ fn check_room(walk: &Walk, cylinders: u32) -> Result<(), Damage>
 /// Whether a volume whose objects were all walked is sound.
 fn check_walked(walk: &Walk, label: Label) -> Result<(), Damage>
     ensures { (image : Image) → AreGrounds image label → IsWalk image walk.now (length walk.now.found.items)
-        → IsNoted walk.now label.root → MatchResult result (λ _. IsWhole image walk.now) (IsFault image) }
+        → IsNotedIn walk.now label.root → MatchResult result (λ _. IsWholeWalk image walk.now) (IsFaultOf image) }
 {
     check_clash(walk)?;
     check_room(walk, label.cylinders)
@@ -145,7 +145,7 @@ fn check_walked(walk: &Walk, label: Label) -> Result<(), Damage>
 pub(crate) fn survey_volume<D: Disk>(alloc: Global, disk: &mut D) -> Result<Survey, RecoverFault>
     ensures told { (image : Image) → Stores D.Disk disk.old image
         → MatchResult result (IsSurvey image) (IsOpenFault image) }
-    ensures fits { IfOk result (Fits (D.blocks disk.old)) }
+    ensures fits { IfOk result (FitsSurvey (D.blocks disk.old)) }
     ensures cause { IfErr result (IsCaused D.Disk disk.old disk.new) }
     ensures reads { OnlyReads D.Disk (1 + 15483 * D.blocks disk.old) disk.old disk.new }
 {

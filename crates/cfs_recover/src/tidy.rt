@@ -6,8 +6,8 @@ ghost use Rattle.cfs_base.specs.Disk.{Image, block_at};
 ghost use Rattle.cfs_base.specs.Run.{IsSettled};
 ghost use Rattle.cyl_map.specs.Map.{map_spelling};
 ghost use Rattle.ufs_model.specs.Graph.{Graph};
-ghost use Rattle.cfs_recover.specs.Keeps.{Keeps, Leads};
-ghost use Rattle.cfs_recover.specs.Recovered.{changed, changed_maps};
+ghost use Rattle.cfs_recover.specs.Keeps.{RunKeeps, Leads};
+ghost use Rattle.cfs_recover.specs.Recovered.{one_if_changed, changed_maps};
 ghost use Rattle.cfs_recover.specs.Stored.{AreMapsOf};
 ghost use Rattle.vol_image.specs.Part as part;
 ghost use Rattle.cfs_recover.specs.Tidy as spec;
@@ -63,10 +63,10 @@ fn write_tidy<D: Disk>(disk: &mut D, cylinder: u32, map: &Map, held: &[bool]) ->
     requires on_disk { 64 * cylinder < D.blocks disk.old }
     requires held { 64 * cylinder + 64 ≤ length held.now }
     requires few { cylinder < 65536 }
-    ensures keeps { (a : Image) (g : Graph) (start : D) → Keeps D.Disk (spec.Tidies a g) start disk.old
+    ensures keeps { (a : Image) (g : Graph) (start : D) → RunKeeps D.Disk (spec.Tidies a g) start disk.old
         → spec.IsTidying a g held.now → spec.IsMapIn a cylinder map.now
-        → OnOk result (Keeps D.Disk (spec.Tidies a g) start disk.new) }
-    ensures leads { (a : Image) (g : Graph) (start : D) → Keeps D.Disk (spec.Tidies a g) start disk.old
+        → OnOk result (RunKeeps D.Disk (spec.Tidies a g) start disk.new) }
+    ensures leads { (a : Image) (g : Graph) (start : D) → RunKeeps D.Disk (spec.Tidies a g) start disk.old
         → spec.IsTidying a g held.now → spec.IsMapIn a cylinder map.now
         → Leads D.Disk (spec.Tidies a g) start disk.new }
     ensures written { IfOk result
@@ -74,7 +74,7 @@ fn write_tidy<D: Disk>(disk: &mut D, cylinder: u32, map: &Map, held: &[bool]) ->
         ⊎ ((D.content disk.new ≡ D.content disk.old) × (map_spelling tidy ≡ map_spelling map.now))) }
     ensures tidied { IfOk result (spec.IsTidiedMap cylinder map.now held.now) }
     ensures differs { IfOk result (λ tidy. D.tries disk.new
-        ≤ D.tries disk.old + changed (map_spelling map.now) (map_spelling tidy)) }
+        ≤ D.tries disk.old + one_if_changed (map_spelling map.now) (map_spelling tidy)) }
     ensures cause { OnErr result (HasFailed D.Disk disk.old disk.new) }
     ensures calls { MakesAtMost D.Disk 1 1 disk.old disk.new }
 {
@@ -98,10 +98,10 @@ fn tidy_cylinder<D: Disk>(
     requires held { 64 * cylinder + 64 ≤ length held.now }
     requires few { cylinder < 65536 }
     requires counted { cylinder < length space.old.free }
-    ensures keeps { (a : Image) (g : Graph) (start : D) → Keeps D.Disk (spec.Tidies a g) start disk.old
+    ensures keeps { (a : Image) (g : Graph) (start : D) → RunKeeps D.Disk (spec.Tidies a g) start disk.old
         → spec.IsTidying a g held.now → spec.IsMapIn a cylinder map.now
-        → OnOk result (Keeps D.Disk (spec.Tidies a g) start disk.new) }
-    ensures leads { (a : Image) (g : Graph) (start : D) → Keeps D.Disk (spec.Tidies a g) start disk.old
+        → OnOk result (RunKeeps D.Disk (spec.Tidies a g) start disk.new) }
+    ensures leads { (a : Image) (g : Graph) (start : D) → RunKeeps D.Disk (spec.Tidies a g) start disk.old
         → spec.IsTidying a g held.now → spec.IsMapIn a cylinder map.now
         → Leads D.Disk (spec.Tidies a g) start disk.new }
     ensures tidied { 64 * cylinder < length (D.content disk.old) → get_or space.old.free cylinder 0 ≡ 0
@@ -113,7 +113,8 @@ fn tidy_cylinder<D: Disk>(
     ensures differs { 64 * cylinder < length (D.content disk.old)
         → block_at (D.content disk.old) (64 * cylinder) ≡ map_spelling map.now
         → OnOk result (D.tries disk.new ≤ D.tries disk.old
-        + changed (block_at (D.content disk.old) (64 * cylinder)) (block_at (D.content disk.new) (64 * cylinder))) }
+        + one_if_changed (block_at (D.content disk.old) (64 * cylinder))
+        (block_at (D.content disk.new) (64 * cylinder))) }
     ensures counts { (k : ℕ) → k ≢ cylinder → OnOk result (get_or space.new.free k 0 ≡ get_or space.old.free k 0) }
     ensures size { length space.new.free ≡ length space.old.free }
     ensures left { space.new.left ≡ space.old.left }
@@ -138,7 +139,7 @@ fn write_maps<D: Disk>(
     requires none { space.old.free ≡ replicate (length maps.now) 0 }
     ensures keeps { (a : Image) (g : Graph) → IsSettled D.Disk disk.old → D.content disk.old ≡ a
         → spec.IsTidying a g held.now → AreMapsOf a maps.now
-        → OnOk result (Keeps D.Disk (spec.Tidies a g) disk.old disk.new
+        → OnOk result (RunKeeps D.Disk (spec.Tidies a g) disk.old disk.new
         × spec.AreTidied (D.content disk.new) maps.now held.now space.new.free (length maps.now)
         × (D.tries disk.new ≤ D.tries disk.old + changed_maps a (D.content disk.new) (length maps.now))) }
     ensures leads { (a : Image) (g : Graph) → IsSettled D.Disk disk.old → D.content disk.old ≡ a

@@ -6,8 +6,8 @@ ghost use Rattle.vol_image.specs.Fault.{HasLabel};
 ghost use Rattle.vol_label.specs.declared.label.Label.{Label};
 ghost use Rattle.cfs_recover.specs.Copies.{HasKept};
 ghost use Rattle.cfs_recover.specs.Entries.{AreStanding};
-ghost use Rattle.cfs_recover.specs.Found.{Grows, IsFault};
-ghost use Rattle.cfs_recover.specs.Refusals.{IsCaused, IsDamage};
+ghost use Rattle.cfs_recover.specs.Found.{Grows, IsFaultOf};
+ghost use Rattle.cfs_recover.specs.Refusals.{IsCaused, NamesDamage};
 ghost use Rattle.cfs_recover.specs.Walk.{Walks, reads_of_object};
 
 use crate::copies::{Piece, note_copy};
@@ -27,14 +27,15 @@ pub(crate) fn walk_all<D: Disk>(
     walk: &mut Walk,
     kept: &mut Vec<Piece>,
 ) -> Result<(), RecoverFault>
-    requires room { D.blocks disk.old ≡ walk.old.names.room }
+    requires room { D.blocks disk.old ≡ walk.old.directory.room }
     requires maps { D.blocks disk.old ≡ 64 * length maps.now }
     requires standing { D.blocks disk.old ≡ length standing.now }
     requires none { kept.old.items ≡ [] }
     ensures told { (image : Image) (label : Label) → Walks D.Disk disk.old image maps.now walk.old 0
         → AreStanding image (length image) standing.now → HasLabel image label
         → MatchResult result (λ _. Walks D.Disk disk.new image maps.now walk.new (length walk.new.found.items)
-        × HasKept image walk.new.found.items (length walk.new.found.items) kept.new.items) (IsDamage (IsFault image)) }
+        × HasKept image walk.new.found.items (length walk.new.found.items) kept.new.items)
+        (NamesDamage (IsFaultOf image)) }
     ensures grows { OnOk result (Grows walk.old walk.new) }
     ensures few { OnOk result (length walk.new.found.items ≤ D.blocks disk.old) }
     ensures cause { IfErr result (IsCaused D.Disk disk.old disk.new) }

@@ -4,8 +4,8 @@ ghost use Rattle.cfs_base.specs.Calls.{OnlyReads};
 ghost use Rattle.cfs_base.specs.Disk.{Image};
 ghost use Rattle.block_tree.specs.Pointers.{leaf_limit, levels_below, width};
 ghost use Rattle.vol_image.specs.Seen.{place_above};
-ghost use Rattle.cfs_recover.specs.Found.{Grows, IsFault};
-ghost use Rattle.cfs_recover.specs.Refusals.{IsCaused, IsDamage};
+ghost use Rattle.cfs_recover.specs.Found.{Grows, IsFaultOf};
+ghost use Rattle.cfs_recover.specs.Refusals.{IsCaused, NamesDamage};
 ghost use Rattle.cfs_recover.specs.Walk.{AreGood, AreGoodBelow, HasBlock, HasPointers, Walks, reads_by_height};
 
 use crate::fault::RecoverFault;
@@ -69,13 +69,13 @@ fn walk_twig<D: Disk>(
     root: &Root,
     twig: Twig,
 ) -> Result<(), RecoverFault>
-    requires room { D.blocks disk.old ≡ walk.old.names.room }
+    requires room { D.blocks disk.old ≡ walk.old.directory.room }
     requires maps { D.blocks disk.old ≡ 64 * length maps.now }
     requires fits { (twig.number + 1) * width (levels_below twig.height) ≤ leaf_limit }
     ensures told { (image : Image) (done : ℕ) → Walks D.Disk disk.old image maps.now walk.old done
         → HasBlock image owner root.now twig
         → MatchResult result (λ _. Walks D.Disk disk.new image maps.now walk.new done
-        × AreGood image owner root.now walk.new twig.height twig.number twig.block) (IsDamage (IsFault image)) }
+        × AreGood image owner root.now walk.new twig.height twig.number twig.block) (NamesDamage (IsFaultOf image)) }
     ensures grows { OnOk result (Grows walk.old walk.new) }
     ensures cause { IfErr result (IsCaused D.Disk disk.old disk.new) }
     ensures reads { OnlyReads D.Disk (reads_by_height twig.height) disk.old disk.new }
@@ -106,14 +106,15 @@ pub(crate) fn walk_below<D: Disk>(
     at: Branch,
     pointers: &[u32],
 ) -> Result<(), RecoverFault>
-    requires room { D.blocks disk.old ≡ walk.old.names.room }
+    requires room { D.blocks disk.old ≡ walk.old.directory.room }
     requires maps { D.blocks disk.old ≡ 64 * length maps.now }
     requires few { (at.number + 1) * length pointers.now ≤ leaf_limit }
     requires fits { (at.number + 1) * (length pointers.now * width (levels_below at.height)) ≤ leaf_limit }
     ensures told { (image : Image) (done : ℕ) → Walks D.Disk disk.old image maps.now walk.old done
         → HasPointers image owner root.now at pointers.now
         → MatchResult result (λ _. Walks D.Disk disk.new image maps.now walk.new done
-        × AreGoodBelow image owner root.now walk.new at pointers.now (length pointers.now)) (IsDamage (IsFault image)) }
+        × AreGoodBelow image owner root.now walk.new at pointers.now (length pointers.now))
+        (NamesDamage (IsFaultOf image)) }
     ensures grows { OnOk result (Grows walk.old walk.new) }
     ensures cause { IfErr result (IsCaused D.Disk disk.old disk.new) }
     ensures reads { OnlyReads D.Disk (length pointers.now * reads_by_height at.height) disk.old disk.new }

@@ -4,8 +4,8 @@ ghost use Rattle.cfs_base.specs.Calls.{OnlyReads};
 ghost use Rattle.cfs_base.specs.Disk.{Image};
 ghost use Rattle.cfs_base.specs.declared.kind.Kind.TheVariants as kinds;
 ghost use Rattle.block_tree.specs.declared.root.Root as roots;
-ghost use Rattle.cfs_recover.specs.Found.{AreNamed, AreNoted, Grows, IsFault, IsWalk, holds};
-ghost use Rattle.cfs_recover.specs.Refusals.{IsCaused, IsDamage};
+ghost use Rattle.cfs_recover.specs.Found.{AreNamed, AreNoted, Grows, IsFaultOf, IsWalk, holds};
+ghost use Rattle.cfs_recover.specs.Refusals.{IsCaused, NamesDamage};
 ghost use Rattle.cfs_recover.specs.Stored.{Stores};
 ghost use Rattle.cfs_recover.specs.Walk.{HasBlock, IsGoodLeaf, IsNodeAt, IsReadLeaf};
 
@@ -28,7 +28,7 @@ fn note_leaf(
 ) -> Result<(), RecoverFault>
     ensures told { (image : Image) (done : ℕ) → IsWalk image walk.old done
         → (root.now.kind ≡ kinds.Index → AreNamed image content.now root.now.size leaf block)
-        → MatchResult result (λ _. IsWalk image walk.new done) (IsDamage (IsFault image)) }
+        → MatchResult result (λ _. IsWalk image walk.new done) (NamesDamage (IsFaultOf image)) }
     ensures noted { OnOk result (root.now.kind ≡ kinds.Index → AreNoted walk.new content.now root.now.size leaf) }
     ensures grows { OnOk result (Grows walk.old walk.new) }
     ensures no_call { IfErr result (λ e. e ≢ RecoverFault.Disk) }
@@ -50,7 +50,7 @@ fn read_leaf<D: Disk>(
     ensures told { (image : Image) (owner done : ℕ) → Stores D.Disk disk.old image → IsWalk image walk.old done
         → HasBlock image owner root.now twig → twig.height ≡ 0
         → MatchResult result (λ _. IsWalk image walk.new done
-        × IsReadLeaf image root.now walk.new twig.number twig.block) (IsDamage (IsFault image)) }
+        × IsReadLeaf image root.now walk.new twig.number twig.block) (NamesDamage (IsFaultOf image)) }
     ensures grows { OnOk result (Grows walk.old walk.new) }
     ensures cause { IfErr result (IsCaused D.Disk disk.old disk.new) }
     ensures reads { OnlyReads D.Disk 1 disk.old disk.new }
@@ -71,12 +71,12 @@ pub(crate) fn walk_leaf<D: Disk>(
     root: &Root,
     twig: Twig,
 ) -> Result<(), RecoverFault>
-    requires room { D.blocks disk.old ≡ walk.old.names.room }
+    requires room { D.blocks disk.old ≡ walk.old.directory.room }
     requires there { twig.block < D.blocks disk.old }
     ensures told { (image : Image) (owner done : ℕ) → Stores D.Disk disk.old image → IsWalk image walk.old done
         → HasBlock image owner root.now twig → twig.height ≡ 0
         → MatchResult result (λ _. IsWalk image walk.new done
-        × IsGoodLeaf image root.now walk.new twig.number twig.block) (IsDamage (IsFault image)) }
+        × IsGoodLeaf image root.now walk.new twig.number twig.block) (NamesDamage (IsFaultOf image)) }
     ensures held { OnOk result (holds walk.new twig.block ≡ true) }
     ensures grows { OnOk result (Grows walk.old walk.new) }
     ensures cause { IfErr result (IsCaused D.Disk disk.old disk.new) }
@@ -94,12 +94,12 @@ pub(crate) fn walk_node<D: Disk>(
     walk: &mut Walk,
     twig: Twig,
 ) -> Result<Node, RecoverFault>
-    requires room { D.blocks disk.old ≡ walk.old.names.room }
+    requires room { D.blocks disk.old ≡ walk.old.directory.room }
     requires there { twig.block < D.blocks disk.old }
     ensures told { (image : Image) (owner done : ℕ) (root : roots.Root) → Stores D.Disk disk.old image
         → IsWalk image walk.old done → HasBlock image owner root twig → twig.height ≢ 0
         → MatchResult result (λ node. IsWalk image walk.new done × IsNodeAt image twig.block node)
-        (IsDamage (IsFault image)) }
+        (NamesDamage (IsFaultOf image)) }
     ensures held { OnOk result (holds walk.new twig.block ≡ true) }
     ensures grows { OnOk result (Grows walk.old walk.new) }
     ensures cause { IfErr result (IsCaused D.Disk disk.old disk.new) }

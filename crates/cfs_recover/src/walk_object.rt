@@ -8,8 +8,8 @@ ghost use Rattle.vol_image.specs.Fault.{HasLabel};
 ghost use Rattle.vol_label.specs.declared.label.Label.{Label};
 ghost use Rattle.cfs_recover.specs.Checks.{HasRootSlots};
 ghost use Rattle.cfs_recover.specs.Entries.{AreStanding, damage};
-ghost use Rattle.cfs_recover.specs.Found.{Grows, IsFault, IsFound, lists};
-ghost use Rattle.cfs_recover.specs.Refusals.{IsCaused, IsDamage};
+ghost use Rattle.cfs_recover.specs.Found.{Grows, IsFaultOf, IsFoundItem, lists};
+ghost use Rattle.cfs_recover.specs.Refusals.{IsCaused, NamesDamage};
 ghost use Rattle.cfs_recover.specs.Stored.{AreMapsOf, Stores};
 ghost use Rattle.cfs_recover.specs.Walk.{IsCopy, IsOpened, IsOwn, Walks, id_of, reads_of_object};
 ghost use Rattle.cfs_recover.specs.declared.found.Walk as walks;
@@ -31,8 +31,8 @@ const ROOT_BLOCK: u32 = 2;
 /// listed.
 fn own_root<D: Disk>(disk: &mut D, walk: &Walk, item: Found) -> Result<Root, RecoverFault>
     requires { item.block < D.blocks disk.old }
-    ensures told { (image : Image) → Stores D.Disk disk.old image → IsFound image walk.now item
-        → MatchResult result (IsOwn image item) (IsDamage (IsFault image)) }
+    ensures told { (image : Image) → Stores D.Disk disk.old image → IsFoundItem image walk.now item
+        → MatchResult result (IsOwn image item) (NamesDamage (IsFaultOf image)) }
     ensures listed { IfOk result (λ own. lists walk.now (id_of item own) ≡ true) }
     ensures cause { IfErr result (IsCaused D.Disk disk.old disk.new) }
     ensures reads { OnlyReads D.Disk 1 disk.old disk.new }
@@ -76,7 +76,7 @@ fn open_object<D: Disk>(
     requires standing { D.blocks disk.old ≡ length standing.now }
     ensures told { (image : Image) (label : Label) → Stores D.Disk disk.old image → AreMapsOf image maps.now
         → AreStanding image (length image) standing.now → HasLabel image label → IsOwn image item own.now
-        → MatchResult result (IsOpened image (id_of item own.now)) (IsDamage (IsFault image)) }
+        → MatchResult result (IsOpened image (id_of item own.now)) (NamesDamage (IsFaultOf image)) }
     ensures cause { IfErr result (IsCaused D.Disk disk.old disk.new) }
     ensures reads { OnlyReads D.Disk 1 disk.old disk.new }
 {
@@ -102,14 +102,14 @@ pub(crate) fn walk_object<D: Disk>(
     item: Found,
 ) -> Result<Head, RecoverFault>
     requires on_disk { item.block < D.blocks disk.old }
-    requires room { D.blocks disk.old ≡ walk.old.names.room }
+    requires room { D.blocks disk.old ≡ walk.old.directory.room }
     requires maps { D.blocks disk.old ≡ 64 * length maps.now }
     requires standing { D.blocks disk.old ≡ length standing.now }
     ensures told { (image : Image) (label : Label) (done : ℕ) → Walks D.Disk disk.old image maps.now walk.old done
         → AreStanding image (length image) standing.now → HasLabel image label
         → slice_get walk.old.found.items done ≡ Some item
         → MatchResult result (λ head. Walks D.Disk disk.new image maps.now walk.new (done + 1)
-        × IsCopy image item.block head) (IsDamage (IsFault image)) }
+        × IsCopy image item.block head) (NamesDamage (IsFaultOf image)) }
     ensures grows { OnOk result (Grows walk.old walk.new) }
     ensures cause { IfErr result (IsCaused D.Disk disk.old disk.new) }
     ensures reads { OnlyReads D.Disk reads_of_object disk.old disk.new }

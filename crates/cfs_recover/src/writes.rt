@@ -10,7 +10,7 @@ ghost use Rattle.cyl_map.specs.Map.{map_spelling};
 ghost use Rattle.ufs_model.specs.Graph.{Graph};
 ghost use Rattle.vol_image.specs.Sound.{Holds};
 ghost use Rattle.cfs_recover.specs.Copies.{BeginsAnew, pieces_of};
-ghost use Rattle.cfs_recover.specs.Keeps.{AreKeptFor, AreShown, AreWritten, IsCopyOf, IsNamedCopy, Keeps, Leads};
+ghost use Rattle.cfs_recover.specs.Keeps.{AreKeptFor, AreShown, AreWritten, IsCopyOf, IsNamedCopy, RunKeeps, Leads};
 ghost use Rattle.cfs_recover.specs.Recovered.{IsUntouched};
 ghost use Rattle.cfs_recover.specs.Survey.{IsOfSize};
 ghost use Rattle.vol_image.specs.Sight.{source};
@@ -26,9 +26,9 @@ use cyl_map::Map;
 /// Writes the root by which an object is read to its root block.
 pub(crate) fn write_root<D: Disk>(disk: &mut D, copied: &Copied) -> Result<(), Failed>
     requires { copied.now.block < D.blocks disk.old }
-    ensures keeps { (a : Image) (g : Graph) (start : D) → Keeps D.Disk (CopiesRoots a g) start disk.old
-        → IsCopyOf a g copied.now → OnOk result (Keeps D.Disk (CopiesRoots a g) start disk.new) }
-    ensures leads { (a : Image) (g : Graph) (start : D) → Keeps D.Disk (CopiesRoots a g) start disk.old
+    ensures keeps { (a : Image) (g : Graph) (start : D) → RunKeeps D.Disk (CopiesRoots a g) start disk.old
+        → IsCopyOf a g copied.now → OnOk result (RunKeeps D.Disk (CopiesRoots a g) start disk.new) }
+    ensures leads { (a : Image) (g : Graph) (start : D) → RunKeeps D.Disk (CopiesRoots a g) start disk.old
         → IsCopyOf a g copied.now → Leads D.Disk (CopiesRoots a g) start disk.new }
     ensures written { OnOk result
         (D.content disk.new ≡ set (D.content disk.old) copied.now.block (root_spelling copied.now.root)) }
@@ -61,7 +61,7 @@ fn next_copy<'a>(
     if source_of(maps, &walked.standing, block) == block {
         return None;
     }
-    let (id, kind) = walked.walk.names.at(block)?;
+    let (id, kind) = walked.walk.directory.at(block)?;
     let (root, rest) = first_root(kept, kind, id.word)?;
     Some((Copied { block, root }, rest))
 }
@@ -75,12 +75,12 @@ pub(crate) fn write_roots<D: Disk>(
     requires maps { D.blocks disk.old ≡ 64 * length maps.now }
     requires size { IsOfSize (D.blocks disk.old) walked.now }
     ensures keeps { (a : Image) (g : Graph) (start : D) (copies : List Copied)
-        → Keeps D.Disk (CopiesRoots a g) start disk.old
-        → AreKeptFor a g maps.now walked.now copies → OnOk result (Keeps D.Disk (CopiesRoots a g) start disk.new
+        → RunKeeps D.Disk (CopiesRoots a g) start disk.old
+        → AreKeptFor a g maps.now walked.now copies → OnOk result (RunKeeps D.Disk (CopiesRoots a g) start disk.new
         × AreWritten a copies (D.content disk.new) (length copies)
         × (D.tries disk.new ≤ D.tries disk.old + length copies)) }
     ensures leads { (a : Image) (g : Graph) (start : D) (copies : List Copied)
-        → Keeps D.Disk (CopiesRoots a g) start disk.old
+        → RunKeeps D.Disk (CopiesRoots a g) start disk.old
         → AreKeptFor a g maps.now walked.now copies → Leads D.Disk (CopiesRoots a g) start disk.new }
     ensures cause { OnErr result (HasFailed D.Disk disk.old disk.new) }
     ensures calls { MakesAtMost D.Disk (D.blocks disk.old) (D.blocks disk.old) disk.old disk.new }
@@ -131,9 +131,9 @@ pub(crate) fn copy_roots<D: Disk>(disk: &mut D, maps: &[Map], walked: &Walked) -
 pub(crate) fn write_map<D: Disk>(disk: &mut D, cylinder: u32, map: &Map) -> Result<(), Failed>
     requires on_disk { 64 * cylinder < D.blocks disk.old }
     requires few { cylinder < 65536 }
-    ensures keeps { (a : Image) (g : Graph) (start : D) → Keeps D.Disk (Tidies a g) start disk.old
-        → IsTidyMap a g cylinder (map_spelling map.now) → OnOk result (Keeps D.Disk (Tidies a g) start disk.new) }
-    ensures leads { (a : Image) (g : Graph) (start : D) → Keeps D.Disk (Tidies a g) start disk.old
+    ensures keeps { (a : Image) (g : Graph) (start : D) → RunKeeps D.Disk (Tidies a g) start disk.old
+        → IsTidyMap a g cylinder (map_spelling map.now) → OnOk result (RunKeeps D.Disk (Tidies a g) start disk.new) }
+    ensures leads { (a : Image) (g : Graph) (start : D) → RunKeeps D.Disk (Tidies a g) start disk.old
         → IsTidyMap a g cylinder (map_spelling map.now) → Leads D.Disk (Tidies a g) start disk.new }
     ensures written { OnOk result
         (D.content disk.new ≡ set (D.content disk.old) (64 * cylinder) (map_spelling map.now)) }

@@ -3,7 +3,7 @@ use Rattle.std.proofs.Common.{◌≡◌, Ok, Err, Result, refl}
 use Rattle.ufs_model.specs.Spoken.{Reading, Is, Unbound, Bad, ◌⊛◌}
 use Rattle.cfs_script.specs.declared.fault.ScriptFault.{ScriptFault}
 use Rattle.cfs_script.specs.declared.fault.ScriptFault.TheVariants as faults
-use Rattle.cfs_script.specs.Read.{Answers}
+use Rattle.cfs_script.specs.Read.{AnswersReading}
 
 -- a pair of readings
 abbrev pub paired : {A B : Type 0} → Reading A → Reading B → Reading (A × B)
@@ -23,22 +23,22 @@ abbrev mapped : {A B : Type 0} → (A → B) → Result A ScriptFault → Result
 mapped g (Ok x) = Ok (g x)
 mapped g (Err fault) = Err fault
 
-Answers-mapped : {A B : Type 0} (g : A → B) (res : Result A ScriptFault) (r : Reading A) → Answers res r → Answers (mapped g res) (Is g ⊛ r)
-Answers-mapped g (Ok x) r h = rw h refl
-Answers-mapped g (Err faults.Syntax) r h = rw h refl
-Answers-mapped g (Err faults.NoName) r h = rw h refl
-Answers-mapped g (Err faults.Memory) r h = tt
+AnswersReading-mapped : {A B : Type 0} (g : A → B) (res : Result A ScriptFault) (r : Reading A) → AnswersReading res r → AnswersReading (mapped g res) (Is g ⊛ r)
+AnswersReading-mapped g (Ok x) r h = rw h refl
+AnswersReading-mapped g (Err faults.Syntax) r h = rw h refl
+AnswersReading-mapped g (Err faults.NoName) r h = rw h refl
+AnswersReading-mapped g (Err faults.Memory) r h = tt
 
 -- what tells a pair tells what is made of it
-pub Answers-two : {A B C : Type 0} (f : A → B → C) (res : Result (A × B) ScriptFault) (r : Reading A) (s : Reading B)
-    → Answers res (paired r s) → Answers (mapped (λ p. f p.0 p.1) res) (Is f ⊛ r ⊛ s)
-Answers-two f res r s h = rw ⊛-paired (Answers-mapped (λ p. f p.0 p.1) res (paired r s) h)
+pub AnswersReading-two : {A B C : Type 0} (f : A → B → C) (res : Result (A × B) ScriptFault) (r : Reading A) (s : Reading B)
+    → AnswersReading res (paired r s) → AnswersReading (mapped (λ p. f p.0 p.1) res) (Is f ⊛ r ⊛ s)
+AnswersReading-two f res r s h = rw ⊛-paired (AnswersReading-mapped (λ p. f p.0 p.1) res (paired r s) h)
 
-pub Answers-three : {A B C D : Type 0} (f : A → B → C → D) (res : Result ((A × B) × C) ScriptFault) (r : Reading A) (s : Reading B) (t : Reading C)
-    → Answers res (paired (paired r s) t) → Answers (mapped (λ p. f p.0.0 p.0.1 p.1) res) (Is f ⊛ r ⊛ s ⊛ t)
-Answers-three f res r s t h = rw ⊛-paired (Answers-two (λ p x. f p.0 p.1 x) res (paired r s) t h)
+pub AnswersReading-three : {A B C D : Type 0} (f : A → B → C → D) (res : Result ((A × B) × C) ScriptFault) (r : Reading A) (s : Reading B) (t : Reading C)
+    → AnswersReading res (paired (paired r s) t) → AnswersReading (mapped (λ p. f p.0.0 p.0.1 p.1) res) (Is f ⊛ r ⊛ s ⊛ t)
+AnswersReading-three f res r s t h = rw ⊛-paired (AnswersReading-two (λ p x. f p.0 p.1 x) res (paired r s) t h)
 
-pub Answers-four : {A B C D E : Type 0} (f : A → B → C → D → E) (res : Result (((A × B) × C) × D) ScriptFault)
+pub AnswersReading-four : {A B C D E : Type 0} (f : A → B → C → D → E) (res : Result (((A × B) × C) × D) ScriptFault)
     (r : Reading A) (s : Reading B) (t : Reading C) (u : Reading D)
-    → Answers res (paired (paired (paired r s) t) u) → Answers (mapped (λ p. f p.0.0.0 p.0.0.1 p.0.1 p.1) res) (Is f ⊛ r ⊛ s ⊛ t ⊛ u)
-Answers-four f res r s t u h = rw ⊛-paired (Answers-three (λ p x y. f p.0 p.1 x y) res (paired r s) t u h)
+    → AnswersReading res (paired (paired (paired r s) t) u) → AnswersReading (mapped (λ p. f p.0.0.0 p.0.0.1 p.0.1 p.1) res) (Is f ⊛ r ⊛ s ⊛ t ⊛ u)
+AnswersReading-four f res r s t u h = rw ⊛-paired (AnswersReading-three (λ p x y. f p.0 p.1 x y) res (paired r s) t u h)

@@ -8,11 +8,11 @@ use Rattle.cfs_script.specs.declared.fault.ScriptFault.TheVariants as faults
 use Rattle.cfs_script.specs.declared.spoken.Spoken.{Spoken}
 
 -- the result tells the reading. Want of memory may stand in place of any
-abbrev pub Answers : {A : Type 0} → Result A ScriptFault → Reading A → Type 0
-Answers (Ok x) reading = reading ≡ Is x
-Answers (Err faults.Syntax) reading = reading ≡ Bad
-Answers (Err faults.NoName) reading = reading ≡ Unbound
-Answers (Err faults.Memory) reading = Unit {0}
+abbrev pub AnswersReading : {A : Type 0} → Result A ScriptFault → Reading A → Type 0
+AnswersReading (Ok x) reading = reading ≡ Is x
+AnswersReading (Err faults.Syntax) reading = reading ≡ Bad
+AnswersReading (Err faults.NoName) reading = reading ≡ Unbound
+AnswersReading (Err faults.Memory) reading = Unit {0}
 
 -- the request of what was read
 abbrev pub asked : Result Spoken ScriptFault → Result Request ScriptFault

@@ -5,7 +5,7 @@ ghost use Rattle.ufs_model.specs.Spoken.{delete_form, slots_form};
 ghost use Rattle.ufs_model.specs.Spoken.{open_form, close_form, read_form, write_form, size_form, resize_form};
 ghost use Rattle.cfs_script.specs.Language.{form_of_verb, forms_of};
 ghost use Rattle.cfs_script.specs.NameTable.{names_of};
-ghost use Rattle.cfs_script.specs.Read.{Answers};
+ghost use Rattle.cfs_script.specs.Read.{AnswersReading};
 
 use crate::fault::ScriptFault;
 use crate::name::is_name;
@@ -25,7 +25,7 @@ pub fn request_in(
     mut words: Words<'_>,
     names: &Names,
 ) -> Result<Request, ScriptFault>
-    ensures { Answers result (spoken (forms_of language.now) (names_of names.now) words.entry) }
+    ensures { AnswersReading result (spoken (forms_of language.now) (names_of names.now) words.entry) }
 {
     let Some(first) = words.next() else {
         return Err(ScriptFault::Syntax);
@@ -51,7 +51,7 @@ fn request_of(
     words: Words<'_>,
     names: &Names,
 ) -> Result<Request, ScriptFault>
-    ensures { Answers result ((form_of_verb verb).reads (names_of names.now) words.entry) }
+    ensures { AnswersReading result ((form_of_verb verb).reads (names_of names.now) words.entry) }
 {
     match verb {
         Verb::CreateFile => create_file(words, names),
@@ -70,7 +70,7 @@ fn request_of(
 }
 
 fn create_file(words: Words<'_>, names: &Names) -> Result<Request, ScriptFault>
-    ensures { Answers result (create_file_form.reads (names_of names.now) words.entry) }
+    ensures { AnswersReading result (create_file_form.reads (names_of names.now) words.entry) }
 {
     let Some((kind, fill, index, slot)) = words.four() else {
         return Err(ScriptFault::Syntax);
@@ -87,7 +87,7 @@ fn create_file(words: Words<'_>, names: &Names) -> Result<Request, ScriptFault>
 }
 
 fn create_index(words: Words<'_>, names: &Names) -> Result<Request, ScriptFault>
-    ensures { Answers result (create_index_form.reads (names_of names.now) words.entry) }
+    ensures { AnswersReading result (create_index_form.reads (names_of names.now) words.entry) }
 {
     let Some((slots, index, slot)) = words.three() else {
         return Err(ScriptFault::Syntax);
@@ -98,7 +98,7 @@ fn create_index(words: Words<'_>, names: &Names) -> Result<Request, ScriptFault>
 }
 
 fn retain(words: Words<'_>, names: &Names) -> Result<Request, ScriptFault>
-    ensures { Answers result (retain_form.reads (names_of names.now) words.entry) }
+    ensures { AnswersReading result (retain_form.reads (names_of names.now) words.entry) }
 {
     let Some((index, slot, id)) = words.three() else {
         return Err(ScriptFault::Syntax);
@@ -109,7 +109,7 @@ fn retain(words: Words<'_>, names: &Names) -> Result<Request, ScriptFault>
 }
 
 fn retrieve(words: Words<'_>, names: &Names) -> Result<Request, ScriptFault>
-    ensures { Answers result (retrieve_form.reads (names_of names.now) words.entry) }
+    ensures { AnswersReading result (retrieve_form.reads (names_of names.now) words.entry) }
 {
     let Some((index, slot)) = words.two() else {
         return Err(ScriptFault::Syntax);
@@ -119,7 +119,7 @@ fn retrieve(words: Words<'_>, names: &Names) -> Result<Request, ScriptFault>
 }
 
 fn delete(words: Words<'_>, names: &Names) -> Result<Request, ScriptFault>
-    ensures { Answers result (delete_form.reads (names_of names.now) words.entry) }
+    ensures { AnswersReading result (delete_form.reads (names_of names.now) words.entry) }
 {
     let Some((index, slot)) = words.two() else {
         return Err(ScriptFault::Syntax);
@@ -129,7 +129,7 @@ fn delete(words: Words<'_>, names: &Names) -> Result<Request, ScriptFault>
 }
 
 fn slots(words: Words<'_>, names: &Names) -> Result<Request, ScriptFault>
-    ensures { Answers result (slots_form.reads (names_of names.now) words.entry) }
+    ensures { AnswersReading result (slots_form.reads (names_of names.now) words.entry) }
 {
     let Some(index) = words.one() else {
         return Err(ScriptFault::Syntax);
@@ -139,7 +139,7 @@ fn slots(words: Words<'_>, names: &Names) -> Result<Request, ScriptFault>
 }
 
 fn open(words: Words<'_>, names: &Names) -> Result<Request, ScriptFault>
-    ensures { Answers result (open_form.reads (names_of names.now) words.entry) }
+    ensures { AnswersReading result (open_form.reads (names_of names.now) words.entry) }
 {
     let Some((id, mode)) = words.two() else {
         return Err(ScriptFault::Syntax);
@@ -149,7 +149,7 @@ fn open(words: Words<'_>, names: &Names) -> Result<Request, ScriptFault>
 }
 
 fn close(words: Words<'_>, names: &Names) -> Result<Request, ScriptFault>
-    ensures { Answers result (close_form.reads (names_of names.now) words.entry) }
+    ensures { AnswersReading result (close_form.reads (names_of names.now) words.entry) }
 {
     let Some((grant, commit)) = words.two() else {
         return Err(ScriptFault::Syntax);
@@ -159,7 +159,7 @@ fn close(words: Words<'_>, names: &Names) -> Result<Request, ScriptFault>
 }
 
 fn read(words: Words<'_>, names: &Names) -> Result<Request, ScriptFault>
-    ensures { Answers result (read_form.reads (names_of names.now) words.entry) }
+    ensures { AnswersReading result (read_form.reads (names_of names.now) words.entry) }
 {
     let Some((file, offset, count)) = words.three() else {
         return Err(ScriptFault::Syntax);
@@ -174,7 +174,7 @@ fn read(words: Words<'_>, names: &Names) -> Result<Request, ScriptFault>
 }
 
 fn write(alloc: Global, words: Words<'_>, names: &Names) -> Result<Request, ScriptFault>
-    ensures { Answers result (write_form.reads (names_of names.now) words.entry) }
+    ensures { AnswersReading result (write_form.reads (names_of names.now) words.entry) }
 {
     let Some((file, offset, bytes)) = words.three() else {
         return Err(ScriptFault::Syntax);
@@ -189,7 +189,7 @@ fn write(alloc: Global, words: Words<'_>, names: &Names) -> Result<Request, Scri
 }
 
 fn size(words: Words<'_>, names: &Names) -> Result<Request, ScriptFault>
-    ensures { Answers result (size_form.reads (names_of names.now) words.entry) }
+    ensures { AnswersReading result (size_form.reads (names_of names.now) words.entry) }
 {
     let Some(file) = words.one() else {
         return Err(ScriptFault::Syntax);
@@ -199,7 +199,7 @@ fn size(words: Words<'_>, names: &Names) -> Result<Request, ScriptFault>
 }
 
 fn resize(words: Words<'_>, names: &Names) -> Result<Request, ScriptFault>
-    ensures { Answers result (resize_form.reads (names_of names.now) words.entry) }
+    ensures { AnswersReading result (resize_form.reads (names_of names.now) words.entry) }
 {
     let Some((file, size)) = words.two() else {
         return Err(ScriptFault::Syntax);

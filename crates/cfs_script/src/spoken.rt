@@ -5,7 +5,7 @@ ghost use Rattle.ufs_model.specs.Script.{words_of};
 ghost use Rattle.ufs_model.specs.Spoken.{name_spoken, reading_of};
 ghost use Rattle.cfs_script.specs.Language.{forms_of};
 ghost use Rattle.cfs_script.specs.NameTable.{names_of};
-ghost use Rattle.cfs_script.specs.Read.{Answers, asked};
+ghost use Rattle.cfs_script.specs.Read.{AnswersReading, asked};
 
 use crate::fault::ScriptFault;
 use crate::name::Name;
@@ -42,7 +42,7 @@ pub fn read_line(
     line: &[u8],
     names: &Names,
 ) -> Result<Spoken, ScriptFault>
-    ensures request { Answers (asked result) (reading_of (forms_of language.now) (names_of names.now) line.now) }
+    ensures request { AnswersReading (asked result) (reading_of (forms_of language.now) (names_of names.now) line.now) }
     ensures name { IfOk result (λ spoken. spoken.name ≡ name_spoken (forms_of language.now) (words_of line.now)) }
 {
     if !is_readable(line) {

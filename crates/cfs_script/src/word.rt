@@ -5,10 +5,10 @@ ghost use Rattle.hex.specs.Hex.{decode_of, hex_digit_value};
 ghost use Rattle.std.specs.List.{list_all};
 ghost use Rattle.std.specs.Char.{is_ascii_digit};
 ghost use Rattle.ufs_model.specs.Spoken.{Bad, Is, Reading, ◌⊛◌};
-ghost use Rattle.ufs_model.specs.Spoken.{byte_in, bytes_in, commit_in, digits_in, grant_in, id_in, kind_in, mode_in};
+ghost use Rattle.ufs_model.specs.Spoken.{byte_in, hex_in, commit_in, digits_in, grant_in, id_in, kind_in, mode_in};
 ghost use Rattle.ufs_model.specs.Spoken.{number_in, ref_in};
 ghost use Rattle.cfs_script.specs.NameTable.{names_of};
-ghost use Rattle.cfs_script.specs.Read.{Answers};
+ghost use Rattle.cfs_script.specs.Read.{AnswersReading};
 
 use crate::fault::ScriptFault;
 use crate::name::{is_id_digits, is_name};
@@ -43,7 +43,7 @@ pub fn number_of(word: &[u8]) -> Option<u64>
 
 /// The same, as a word of a line.
 pub fn number_in(word: &[u8]) -> Result<u64, ScriptFault>
-    ensures { Answers result (number_in word.now) }
+    ensures { AnswersReading result (number_in word.now) }
 {
     match number_of(word) {
         Some(number) => Ok(number),
@@ -80,7 +80,7 @@ fn read_digits(digits: &[u8], into: &mut [u8]) -> bool
 
 /// The bytes that the word writes: two hexadecimal digits or more, of an even number.
 pub fn bytes_in(alloc: Global, word: &[u8]) -> Result<Bytes, ScriptFault>
-    ensures { Answers result (bytes_in word.now) }
+    ensures { AnswersReading result (hex_in word.now) }
 {
     if word.is_empty() || word.len() % 2 != 0 {
         return Err(ScriptFault::Syntax);
@@ -96,7 +96,7 @@ pub fn bytes_in(alloc: Global, word: &[u8]) -> Result<Bytes, ScriptFault>
 
 /// The byte that the word writes: two hexadecimal digits.
 pub fn byte_in(word: &[u8]) -> Result<u8, ScriptFault>
-    ensures { Answers result (byte_in word.now) }
+    ensures { AnswersReading result (byte_in word.now) }
 {
     let Ok(bytes) = <[u8; 1]>::from_hex(word) else {
         return Err(ScriptFault::Syntax);
@@ -107,7 +107,7 @@ pub fn byte_in(word: &[u8]) -> Result<u8, ScriptFault>
 
 /// The kind of file that the word names.
 pub fn kind_in(word: &[u8]) -> Result<FileKind, ScriptFault>
-    ensures { Answers result (kind_in word.now) }
+    ensures { AnswersReading result (kind_in word.now) }
 {
     if word == b"normal".as_slice() {
         Ok(FileKind::Normal)
@@ -120,7 +120,7 @@ pub fn kind_in(word: &[u8]) -> Result<FileKind, ScriptFault>
 
 /// For what an object is to be opened.
 pub fn mode_in(word: &[u8]) -> Result<Mode, ScriptFault>
-    ensures { Answers result (mode_in word.now) }
+    ensures { AnswersReading result (mode_in word.now) }
 {
     if word == b"read".as_slice() {
         Ok(Mode::Reading)
@@ -133,7 +133,7 @@ pub fn mode_in(word: &[u8]) -> Result<Mode, ScriptFault>
 
 /// Whether a draft is to become the file.
 pub fn commit_in(word: &[u8]) -> Result<bool, ScriptFault>
-    ensures { Answers result (commit_in word.now) }
+    ensures { AnswersReading result (commit_in word.now) }
 {
     if word == b"commit".as_slice() {
         Ok(true)
@@ -146,7 +146,7 @@ pub fn commit_in(word: &[u8]) -> Result<bool, ScriptFault>
 
 /// The identifier that the word writes: 16 hexadecimal digits.
 fn digits_in(word: &[u8]) -> Result<Puid, ScriptFault>
-    ensures { Answers result (digits_in word.now) }
+    ensures { AnswersReading result (digits_in word.now) }
 {
     let Ok(bytes) = <[u8; 8]>::from_hex(word) else {
         return Err(ScriptFault::Syntax);
@@ -160,7 +160,7 @@ fn digits_in(word: &[u8]) -> Result<Puid, ScriptFault>
 
 /// The identifier that the word stands for: `root`, 16 hexadecimal digits, or a name.
 pub fn id_in(names: &Names, word: &[u8]) -> Result<Puid, ScriptFault>
-    ensures { Answers result (id_in (names_of names.now) word.now) }
+    ensures { AnswersReading result (id_in (names_of names.now) word.now) }
 {
     if word == b"root".as_slice() {
         return Ok(names.root());
@@ -179,7 +179,7 @@ pub fn id_in(names: &Names, word: &[u8]) -> Result<Puid, ScriptFault>
 
 /// What a request goes to: as `id_in`, or a name that stands for a grant.
 pub fn ref_in(names: &Names, word: &[u8]) -> Result<Ref, ScriptFault>
-    ensures { Answers result (ref_in (names_of names.now) word.now) }
+    ensures { AnswersReading result (ref_in (names_of names.now) word.now) }
 {
     if word == b"root".as_slice() {
         return Ok(Ref::Direct(names.root()));
@@ -199,7 +199,7 @@ pub fn ref_in(names: &Names, word: &[u8]) -> Result<Ref, ScriptFault>
 
 /// The grant that the name stands for.
 pub fn grant_in(names: &Names, word: &[u8]) -> Result<Tuid, ScriptFault>
-    ensures { Answers result (grant_in (names_of names.now) word.now) }
+    ensures { AnswersReading result (grant_in (names_of names.now) word.now) }
 {
     if !is_name(word) {
         return Err(ScriptFault::Syntax);
@@ -215,8 +215,8 @@ pub fn both<A: Drop, B: Drop>(
     a: Result<A, ScriptFault>,
     b: Result<B, ScriptFault>,
 ) -> Result<(A, B), ScriptFault>
-    ensures { (r : Reading A) (s : Reading B) → Answers a r → Answers b s
-        → Answers result (Is (λ x y. (x, y)) ⊛ r ⊛ s) }
+    ensures { (r : Reading A) (s : Reading B) → AnswersReading a r → AnswersReading b s
+        → AnswersReading result (Is (λ x y. (x, y)) ⊛ r ⊛ s) }
 {
     match (a, b) {
         (Ok(a), Ok(b)) => Ok((a, b)),

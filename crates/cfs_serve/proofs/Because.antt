@@ -1,15 +1,15 @@
 -- What each cause that is told shows, and what each status says by it.
 use Rattle.std.proofs.Common.{◌≡◌, ◌⊎◌, inl, inr, ℕ, Bool, true, false, List, ◌++◌, length, Option, Some, None, IsSome, IsNone, refl, sym, ap, ◌∙◌, subst, arith}
-use Rattle.cfs_serve.proofs.Cited.{AreWithin, Asked, Audited, Audits, Cause, Counts, DiskFailed, EachSink, EachSource, EndedWell, Event, ended_line, Format, Formats, Graph, Ground, HadLeft, HasNone, IsLegal, IsStatus, IsText, IsTextBy, LimitPassed, Made, MemoryWanting, NoCountRose, Nothing, Opening, Outside, Page, Replied, Report, RoseIn, Showed, Shows, SinkFailed, SomeRose, SourceFailed, TellsMade, VolumeRefused, WritesReport, Wrote, collections_of, status_at_end, finishes_in, is_audit, is_calm, is_refutation, is_service, last_cause, list_all, list_any, printed_line, printed_replies, report_text, request_lines, sink_faults, source_faults, status_line, status_of, text_by, turns_in, wants_memory}
+use Rattle.cfs_serve.proofs.Cited.{AreWithinLimits, Asked, Audited, Audits, Cause, Counts, DiskFailed, EachSink, EachSource, EndedWell, Event, ended_line, Format, Formats, Graph, Ground, HadLeft, HasNone, IsLegal, IsStatus, IsText, IsTextBy, LimitPassed, Made, MemoryWanting, NoCountRose, Nothing, Opening, Outside, Page, Replied, Report, RoseIn, Showed, Shows, SinkFailed, SomeRose, SourceFailed, TellsMade, VolumeRefused, WritesReport, Wrote, collections_of, status_at_end, finishes_in, is_audit, is_calm, is_refutation, is_service, last_cause, list_all, list_any, printed_line, printed_replies, report_text, request_lines, sink_faults, source_faults, status_line, status_of, text_by, turns_in, wants_memory}
 use Rattle.cfs_serve.specs.declared.report.Cause.TheVariants as causes
-use Rattle.cfs_serve.specs.Top.{IsOver}
+use Rattle.cfs_serve.specs.Top.{IsOverLimit}
 use Rattle.cfs_serve.specs.Words.{Serves, Spins}
 
 -- a service whose sinks took all
 pub record Served (asked : Asked) (ground : Ground) (trail : List Event) (old new : Outside) (counts : Option Counts) : Type 0 where
   pub served : IsSome counts
   pub sound : ¬ ground.unsound
-  pub within : (scripts : List (List ℕ)) → HadLeft old scripts → AreWithin scripts
+  pub within : (scripts : List (List ℕ)) → HadLeft old scripts → AreWithinLimits scripts
   pub answered : EachSource (λ session source _. (left : List ℕ) → source.left ≡ Some left → length (turns_in session trail) ≡ length (request_lines left)) old new
   pub replied : EachSink (λ session sink after. Wrote sink after (printed_replies session trail)) old new
   pub memory : list_any wants_memory trail ≡ false
@@ -37,7 +37,7 @@ module _ (asked : Asked) (ground : Ground) (old new : Outside) (counts : Option 
 
   -- a limit was passed
   abbrev Over : Cause → Type 0
-  Over cause = IsNone counts × IsOver asked cause old new × (is_service asked ≡ true → (scripts : List (List ℕ)) → HadLeft old scripts → ¬ (AreWithin scripts))
+  Over cause = IsNone counts × IsOverLimit asked cause old new × (is_service asked ≡ true → (scripts : List (List ℕ)) → HadLeft old scripts → ¬ (AreWithinLimits scripts))
 
   -- a trail was audited, and so it is told
   abbrev Verdict : Type 0
@@ -45,17 +45,17 @@ module _ (asked : Asked) (ground : Ground) (old new : Outside) (counts : Option 
 
   -- a volume was asked for, so no source
   abbrev Volumed : Type 0
-  Volumed = IsNone counts × ((format : Format) × (asked ≡ Formats format)) × ((scripts : List (List ℕ)) → HadLeft old scripts → AreWithin scripts)
+  Volumed = IsNone counts × ((format : Format) × (asked ≡ Formats format)) × ((scripts : List (List ℕ)) → HadLeft old scripts → AreWithinLimits scripts)
 
   -- what a cause shows
   abbrev pub Because : Cause → Type 0
   Because causes.Nothing = Served asked ground trail old new counts ⊎ Volumed
-  Because (causes.Page page) = IsNone counts × (asked ≡ Shows page) × ((scripts : List (List ℕ)) → HadLeft old scripts → AreWithin scripts)
-  Because causes.Words = IsNone counts × (asked ≡ Nothing) × ((scripts : List (List ℕ)) → HadLeft old scripts → AreWithin scripts)
+  Because (causes.Page page) = IsNone counts × (asked ≡ Shows page) × ((scripts : List (List ℕ)) → HadLeft old scripts → AreWithinLimits scripts)
+  Because causes.Words = IsNone counts × (asked ≡ Nothing) × ((scripts : List (List ℕ)) → HadLeft old scripts → AreWithinLimits scripts)
   Because (causes.Volume fault) =
-      HasNone ground × ((scripts : List (List ℕ)) → HadLeft old scripts → AreWithin scripts) × (IsNone counts → ground.faulty fault)
-  Because (causes.Disk moment) = RoseIn old.disk new.disk × ((scripts : List (List ℕ)) → HadLeft old scripts → AreWithin scripts)
-  Because causes.Sink = IsSome counts × ((scripts : List (List ℕ)) → HadLeft old scripts → AreWithin scripts) × SomeRose (sink_faults old) (sink_faults new)
+      HasNone ground × ((scripts : List (List ℕ)) → HadLeft old scripts → AreWithinLimits scripts) × (IsNone counts → ground.faulty fault)
+  Because (causes.Disk moment) = RoseIn old.disk new.disk × ((scripts : List (List ℕ)) → HadLeft old scripts → AreWithinLimits scripts)
+  Because causes.Sink = IsSome counts × ((scripts : List (List ℕ)) → HadLeft old scripts → AreWithinLimits scripts) × SomeRose (sink_faults old) (sink_faults new)
   Because (causes.Source n) = SourceFailed (told (causes.Source n)) old new × SomeRose (source_faults old) (source_faults new)
   Because causes.Memory = Unit {0}
   Because (causes.Long n) = Over (causes.Long n)
@@ -243,7 +243,7 @@ module _ (asked : Asked) (ground : Ground) (old new : Outside) (counts : Option 
   status_9 cause true because is = absurd (omega (arith, is))
   status_9 cause false because is = absurd (omega (arith, is))
 
-  over : (cause : Cause) (written : Bool) → Because cause → is_service asked ≡ true → (scripts : List (List ℕ)) → HadLeft old scripts → ¬ (AreWithin scripts)
+  over : (cause : Cause) (written : Bool) → Because cause → is_service asked ≡ true → (scripts : List (List ℕ)) → HadLeft old scripts → ¬ (AreWithinLimits scripts)
       → (status_at_end written cause ≡ 9) ⊎ (cause ≡ causes.Memory) ⊎ (status_at_end written cause ≡ 6)
   over causes.Nothing written (inl because) is scripts had past = absurd (past (because.within scripts had))
   over causes.Nothing written (inr because) is scripts had past = absurd (past (because.2 scripts had))
@@ -263,7 +263,7 @@ module _ (asked : Asked) (ground : Ground) (old new : Outside) (counts : Option 
   over (causes.BadLine line) written because is scripts had past = absurd (not_both asked because.1 is)
   over (causes.Illegal event) written because is scripts had past = absurd (not_both asked because.1 is)
 
-  pub over_last : (short : Bool) (cause : Cause) (written : Bool) → Because cause → is_service asked ≡ true → (scripts : List (List ℕ)) → HadLeft old scripts → ¬ (AreWithin scripts)
+  pub over_last : (short : Bool) (cause : Cause) (written : Bool) → Because cause → is_service asked ≡ true → (scripts : List (List ℕ)) → HadLeft old scripts → ¬ (AreWithinLimits scripts)
       → (status_at_end written (last_cause short cause) ≡ 9) ⊎ (cause ≡ causes.Memory) ⊎ (status_at_end written (last_cause short cause) ≡ 6)
   over_last short cause written because is scripts had past = from (over cause written because is scripts had past)
     where
@@ -272,7 +272,7 @@ module _ (asked : Asked) (ground : Ground) (old new : Outside) (counts : Option 
       from (inr (inl is)) = inr (inl is)
       from (inr (inr is)) = inr (inr (stays short cause written 6 (λ e. cc e) (λ e. cc e) is))
 
-  pub complete : (cause : Cause) (text : List ℕ) (written : Bool) → Because cause → Told text written → is_service asked ≡ true → (scripts : List (List ℕ)) → HadLeft old scripts → AreWithin scripts
+  pub complete : (cause : Cause) (text : List ℕ) (written : Bool) → Because cause → Told text written → is_service asked ≡ true → (scripts : List (List ℕ)) → HadLeft old scripts → AreWithinLimits scripts
       → NoCountRose old new → (graph : Graph) → ground.reads graph → (status_at_end written cause ≡ 0) ⊎ (status_at_end written cause ≡ 7)
   complete causes.Nothing text true because wrote is scripts had within quiet graph reads = inl refl
   complete causes.Memory text true because wrote is scripts had within quiet graph reads = inr refl
@@ -291,7 +291,7 @@ module _ (asked : Asked) (ground : Ground) (old new : Outside) (counts : Option 
   complete (causes.Illegal event) text written because wrote is scripts had within quiet graph reads = absurd (not_both asked because.1 is)
 
   -- of a volume that is known to be no sound one
-  pub refused : (cause : Cause) (text : List ℕ) (written : Bool) → Because cause → Told text written → is_service asked ≡ true → (scripts : List (List ℕ)) → HadLeft old scripts → AreWithin scripts
+  pub refused : (cause : Cause) (text : List ℕ) (written : Bool) → Because cause → Told text written → is_service asked ≡ true → (scripts : List (List ℕ)) → HadLeft old scripts → AreWithinLimits scripts
       → NoCountRose old new → ground.unsound → (status_at_end written cause ≡ 3) ⊎ (status_at_end written cause ≡ 7)
   refused causes.Nothing text written (inl because) wrote is scripts had within quiet unsound = absurd (because.sound unsound)
   refused causes.Nothing text written (inr because) wrote is scripts had within quiet unsound = absurd (no_service (rw because.1.1 at is))

@@ -13,22 +13,22 @@ pub use Rattle.cfs_base.specs.declared.refusal.Need.{Need}
 pub use Rattle.cfs_core.proofs.Serving.{fits, pending}
 pub use Rattle.cfs_core.specs.Asked.{Happens, IsShortContent, stopped_by}
 pub use Rattle.cfs_core.specs.Calls.{ByOutcome, ByRefusal, ByWant, IsOwed, Owes}
-pub use Rattle.cfs_core.specs.Collect.{Collects, HappensOrRests, IsNextOf, IsStep, IsUnchanged, event_of}
-pub use Rattle.cfs_core.specs.Damage.{is_delete}
-pub use Rattle.cfs_core.specs.Kernel.{Kernel, marks_in, runs, sweeps_in}
-pub use Rattle.cfs_core.specs.Opened.{IsOpened}
+pub use Rattle.cfs_core.specs.Collect.{CollectsStep, HappensOrRests, IsNextOf, IsCollectStep, IsUnchanged, event_of}
+pub use Rattle.cfs_core.specs.Damage.{asks_delete}
+pub use Rattle.cfs_core.specs.Kernel.{Kernel, marks_in, collection_runs, sweeps_in}
+pub use Rattle.cfs_core.specs.Opened.{IsOpenedCore}
 pub use Rattle.cfs_core.specs.Rescues.{AreRescued}
 pub use Rattle.cfs_core.specs.Room.{IsRoom, MayLose, blocks_of_grant, lost_blocks}
-pub use Rattle.cfs_core.specs.StandsFor.{HasCollection, IsFront, Serves, Stands, StandsFor, front_of, is_collecting, is_sweeping}
+pub use Rattle.cfs_core.specs.StandsFor.{HasCollection, IsFront, CoreServes, Stands, StandsFor, front_of, is_collecting, sweeps_now}
 pub use Rattle.cfs_core.specs.declared.collecting.CollectFault.{CollectFault}
 pub use Rattle.cfs_core.specs.declared.collecting.Collections.{Collections}
 pub use Rattle.cfs_core.specs.declared.collecting.Step.{Step}
 pub use Rattle.cfs_core.specs.declared.kernel.Status.{Status}
 pub use Rattle.cfs_core.specs.declared.kernel.Stop.{Stop}
-pub use Rattle.cfs_fakes.specs.Memory.{IsDue, IsMade, IsSamePlan, is_recording}
+pub use Rattle.cfs_fakes.specs.Memory.{IsDue, IsUncalled, IsSamePlan, is_recording}
 pub use Rattle.cfs_fakes.specs.declared.memory_disk.MemoryDisk.{MemoryDisk}
 pub use Rattle.cfs_ports.specs.Heard.{Hears}
-pub use Rattle.cfs_ports.specs.Port.{IsNew, Reading, Replied, TakesLine}
+pub use Rattle.cfs_ports.specs.Port.{IsNewPort, PortReading, Replied, TakesLine}
 pub use Rattle.cfs_recover.specs.Grounds.{IsOpenFault}
 pub use Rattle.cfs_recover.specs.Recovered.{IsUntouched, LeavesSinceBarrier}
 pub use Rattle.cfs_recover.specs.Refusals.{IsCaused}
@@ -36,27 +36,27 @@ pub use Rattle.cfs_recover.specs.declared.fault.RecoverFault.{RecoverFault}
 pub use Rattle.cfs_script.specs.NameTable.{names_of}
 pub use Rattle.cfs_script.specs.Room.{FitsLine}
 pub use Rattle.cfs_serve.specs.Audit.{Finds, IsTrailOf, Judges}
-pub use Rattle.cfs_serve.specs.Calls.{AreExact, AsBefore, EndsCollecting, Fits, GoesOn, IsExact, IsExactEvent, IsTallied, Makes, MayCount, MayGoOn, MayMake, MayTally, Passes, PassesStep, Rests, Spends, SpendsOne, Tallies, Tally, Tells, TellsSo, TellsStep, begun_so_far, event_by, fails, is_calm_step, lost_by, lost_in, refusal_by, tally_of, tells_outcome, tells_stop_at}
+pub use Rattle.cfs_serve.specs.Calls.{AreExact, AsBefore, EndsCollecting, FitsRoom, CrashesGoOn, IsExact, IsExactEvent, IsTallied, MakesServed, MayCount, MayGoOn, MayMake, MayTally, SessionPasses, PassesStep, ServerRests, SpendsStep, SpendsOne, Tallies, Tally, TellsEvent, TellsSo, TellsStep, begun_so_far, event_by, fails, is_calm_step, lost_by, lost_in, refusal_by, tally_of, tells_outcome, tells_stop_at}
 pub use Rattle.cfs_serve.specs.Charter.{Client, Terms}
 pub use Rattle.cfs_serve.specs.Disks.{IsLater, LeavesSinceTry, MakesVolume, OnDisk, ServesVolume}
-pub use Rattle.cfs_serve.specs.Ending.{EndsSo, IsWanting, Stops, TellsStop, cause_of, damage_in, has_failed, has_fallen, is_failure, is_fault, is_short, is_want_of_memory, moment_in, not_begun, spoiled_by, stops_in, told_stop}
+pub use Rattle.cfs_serve.specs.Ending.{EndsService, IsWanting, StopsAmong, TellsStop, cause_of, damage_in, has_failed, has_fallen, is_failure, is_fault, is_short, is_want_of_memory, moment_in, not_begun, spoiled_by, stops_in, told_stop}
 pub use Rattle.cfs_serve.specs.Events.{BreaksOff, begins_in, events_of_session, finishes_in, is_begin, is_calm, is_finish, is_of_session, is_reply, is_sessions, tells_damage, tells_disk, tells_fault, tells_stop, wants_memory}
 pub use Rattle.cfs_serve.specs.Ground.{Ground, ground_of, ground_on, new_ground, opened}
-pub use Rattle.cfs_serve.specs.Hall.{AllLeft, AreFresh, AreHeard, AreNew, AreOver, Departs, HasNoCollector, HasTurns, Hearing, IsFresh, IsLeave, IsOver, IsSession, IsSessionTurn, IsTurn, Turned, charter_of, has_left_at, is_done_in, turns_left_in, client_of, turns_left, turns_left_at, turns_now}
-pub use Rattle.cfs_serve.specs.Journal.{AreCounted, IsKept, IsRun, IsRunOn, IsTold, Journaled, Lasts, Raises, Rise, Steps, Told, faults_after, first_fault, is_progress_made, is_quiet_fault, is_recorded, recorded, stamps}
+pub use Rattle.cfs_serve.specs.Hall.{AllLeft, AreFresh, AreHeard, AreNew, AreOver, Departs, HasNoCollector, HasTurns, Hearing, IsFresh, IsLeave, IsSessionOver, IsSession, IsSessionTurn, IsTurn, Turned, charter_of, has_left_at, is_done_in, turns_left_in, client_of, turns_left, turns_left_at, turns_now}
+pub use Rattle.cfs_serve.specs.Journal.{CountsFaults, IsJournalKept, IsRun, IsRunOn, IsTold, Journaled, Lasts, Raises, MomentsRise, JournalSteps, Told, faults_after, first_fault, is_progress_made, is_quiet_fault, is_recorded, recorded, stamps}
 pub use Rattle.cfs_serve.specs.Limits.{most_lines, most_script, most_trail}
-pub use Rattle.cfs_serve.specs.Opening.{IsRefusal, opening_cause}
-pub use Rattle.cfs_serve.specs.Played.{AreClients, HasNone, IsCause, TellsLast, IsPlayed, IsRunFrom, IsRunOf, IsStop, counts_of, free_of, has_broken}
+pub use Rattle.cfs_serve.specs.Opening.{IsOpeningRefusal, opening_cause}
+pub use Rattle.cfs_serve.specs.Played.{AreClients, HasNone, IsUnservedCause, TellsLast, IsPlayed, IsRunFrom, IsRunOf, IsStopTold, counts_of, free_of, has_broken}
 pub use Rattle.cfs_serve.specs.Report.{cause_text, counts_text, ending_text, numbered, report_text, served_text, status_of}
 pub use Rattle.cfs_serve.specs.Says.{Says, SpinSaid, within_spin}
-pub use Rattle.cfs_serve.specs.Scripts.{AreShort, AreWithin, Had, HasScript, HaveFirst, HaveScripts, IsFirst, IsOneCause, IsSourceCause, faults_of_sources, lines_in}
+pub use Rattle.cfs_serve.specs.Scripts.{AreShort, AreWithinLimits, Had, HasScript, HaveFirst, HaveScripts, IsFirstRead, IsOneCause, IsSourceCause, faults_of_sources, lines_in}
 pub use Rattle.cfs_serve.specs.Spun.{drain, drains, drawn_scripts, drawn_sources, service_of, source_of}
 pub use Rattle.cfs_serve.specs.SureDisk.{IsSure}
 pub use Rattle.cfs_serve.specs.Text.{IsStart, IsText, IsTextBy, IsTrail, first_line, first_lines, last_cause, printed_line, text_by, text_of}
-pub use Rattle.cfs_serve.specs.Top.{Audited, Did, DiskFailed, EachFrom, EachSink, EachSource, EndedWell, HadLeft, HasBroken, IsJudged, IsServedFrom, IsStatus, LimitPassed, Made, MemoryWanting, NoCountRose, Outside, Said, Showed, SinkFailed, SomeRose, SourceFailed, VolumeRefused, WritesReport, outside_after, before, is_refutation, is_verdict, sink_faults, source_faults}
+pub use Rattle.cfs_serve.specs.Top.{Audited, Did, DiskFailed, EachFrom, EachSink, EachSource, EndedWell, HadLeft, HasBroken, IsAudited, IsServedFrom, IsStatus, LimitPassed, Made, MemoryWanting, NoCountRose, Outside, Said, Showed, SinkFailed, SomeRose, SourceFailed, VolumeRefused, WritesReport, outside_after, before, is_refutation, is_verdict, sink_faults, source_faults}
 pub use Rattle.cfs_serve.specs.Traced.{IsTraced, IsWritten}
 pub use Rattle.cfs_serve.specs.Volume.{IsNewCore, IsUnserved, ServesScripts, ServesSessions, ground_at}
-pub use Rattle.cfs_serve.specs.Whole.{Asks, AsksAudit, AsksSessions, AsksSpin, FitsVolume, HasDisk, HasPlaces, IsWhole, NamesVolume, Places, RoseIn, TellsMade, status_at_end, spun}
+pub use Rattle.cfs_serve.specs.Whole.{AsksServer, AsksAudit, AsksSessions, AsksSpin, FitsVolume, HasDisk, HasPlaces, IsWholeRun, NamesVolume, Places, RoseIn, TellsMade, status_at_end, spun}
 pub use Rattle.cfs_serve.specs.Words.{Asked, Audits, Files, Format, Formats, InFile, InMemory, Nothing, Place, Service, Shows, Spin, Spins, asked_by, collections_of, files_in, inputs_in, is_audit, is_file_word, is_service, most_in_source, outputs_in, play_in, serve_in, streams_in}
 pub use Rattle.cfs_serve.specs.declared.ending.Ending.{Ending}
 pub use Rattle.cfs_serve.specs.declared.journal.Progress.{Progress}

@@ -1,6 +1,6 @@
 -- A step of the collector of a core, as the hall sees it.
 use Rattle.std.proofs.Common.{◌≡◌, ◌⊎◌, inl, inr, ℕ, ◌+◌, ◌-◌, ◌<◌, ◌≤◌, Bool, true, false, List, [], ◌∷◌, ◌++◌, Option, Some, None, Result, Ok, Err, is_some, length, option_to_list, refl, sym, ap, ◌∙◌, subst, arith, ◌||◌}
-use Rattle.cfs_serve.proofs.Cited.{AsBefore, CallKeeps, CollectFault, Collecting, Collection, Collections, Collects, EndsCollecting, Event, Ghosts, Graph, Happens, HappensOrRests, HasCollection, IsNextOf, IsStep, IsUnchanged, Kernel, MayCount, MayGoOn, MayLose, MayMake, MayTally, PassesStep, Puid, Rests, Rose, RunSurvives, Serves, Spends, Stands, StandsFor, State, Step, Stop, Stops, Survived, Tallies, TellsStep, TellsStop, append-nil, damage_in, event_by, event_of, fails, is_calm_step, is_collecting, is_marking, is_sweeping, option_to_list, lost_blocks, marks_in, next, option_and_then, recorded, refusal_by, replay, runs, stops_in, sweeps_in, tally_of, tells_stop_at}
+use Rattle.cfs_serve.proofs.Cited.{AsBefore, CallKeeps, CollectFault, Collecting, Collection, Collections, CollectsStep, EndsCollecting, Event, Ghosts, Graph, Happens, HappensOrRests, HasCollection, IsNextOf, IsCollectStep, IsUnchanged, Kernel, MayCount, MayGoOn, MayLose, MayMake, MayTally, PassesStep, Puid, ServerRests, Rose, RunSurvives, CoreServes, SpendsStep, Stands, StandsFor, State, Step, Stop, StopsAmong, Survived, Tallies, TellsStep, TellsStop, append-nil, damage_in, event_by, event_of, fails, is_calm_step, is_collecting, is_marking, sweeps_now, option_to_list, lost_blocks, marks_in, next, option_and_then, recorded, refusal_by, replay, collection_runs, stops_in, sweeps_in, tally_of, tells_stop_at}
 use Rattle.cfs_core.specs.Left.{steps_ahead}
 use Rattle.cfs_core.specs.declared.collecting.CollectFault.TheVariants as faults
 use Rattle.cfs_core.specs.declared.collecting.Step.TheVariants as steps
@@ -15,20 +15,20 @@ gone_less : (after t before s : ℕ) → after + t ≡ before + s → before ≡
 gone_less after t before s all none = omega (arith, all, none)
 
 -- a core has a collection as the state has one
-running_as : (a b : Bool) (c : Collection) → is_marking c ≡ a → is_sweeping c ≡ b → is_collecting c ≡ (a || b)
-running_as a b c marking sweeping = ap (λ x. x || is_sweeping c) marking ∙ ap (λ y. a || y) sweeping
+running_as : (a b : Bool) (c : Collection) → is_marking c ≡ a → sweeps_now c ≡ b → is_collecting c ≡ (a || b)
+running_as a b c marking sweeping = ap (λ x. x || sweeps_now c) marking ∙ ap (λ y. a || y) sweeping
 
-pub runs_so : {D : Type 0} (g : Ghosts D) (k : Kernel D) (s : State) → Serves g k s → runs k.collections.collector ≡ is_collecting s.collection
+pub runs_so : {D : Type 0} (g : Ghosts D) (k : Kernel D) (s : State) → CoreServes g k s → collection_runs k.collections.collector ≡ is_collecting s.collection
 runs_so g k s serves = at k.collections.collector serves.collecting
   where
-    at : (o : Option Collecting) → HasCollection (g.content k.disk) s o → runs o ≡ is_collecting s.collection
+    at : (o : Option Collecting) → HasCollection (g.content k.disk) s o → collection_runs o ≡ is_collecting s.collection
     at None is = sym (ap is_collecting is)
     at (Some collector) is = sym (running_as (marks_in collector.phase) (sweeps_in collector.phase) s.collection is.marking is.sweeping)
 
 abbrev damaged : Option Stop → Bool
 damaged o = is_some (option_and_then (λ (x : Stop). x.damage) o)
 
-module _ {D : Type 0} (g : Ghosts D) (old new : Kernel D) (result : Result Step CollectFault) (did : Collects g old new result) where
+module _ {D : Type 0} (g : Ghosts D) (old new : Kernel D) (result : Result Step CollectFault) (did : CollectsStep g old new result) where
   -- one that stopped stays as it is
   stood : (stop : Stop) → old.stop ≡ Some stop → new ≡ old
   stood stop is = (did.stopped stop is).0
@@ -42,7 +42,7 @@ module _ {D : Type 0} (g : Ghosts D) (old new : Kernel D) (result : Result Step 
   pub made : (s : State) → StandsFor g old s → MayMake (λ t. StandsFor g new t) old.words.seed s (event_by result)
   made s stands = by result (did.event s stands)
     where
-      by : (r : Result Step CollectFault) → IsStep g old new s r → MayMake (λ t. StandsFor g new t) old.words.seed s (event_by r)
+      by : (r : Result Step CollectFault) → IsCollectStep g old new s r → MayMake (λ t. StandsFor g new t) old.words.seed s (event_by r)
       by (Ok step) is = made_by s (event_of step) is
       by (Err faults.Memory) is = is.stands
       by (Err (faults.Disk None)) is = is.stands
@@ -66,7 +66,7 @@ module _ {D : Type 0} (g : Ghosts D) (old new : Kernel D) (result : Result Step 
     pub goes_on : GoesOnBy (event_by result)
     goes_on = by result did.event
       where
-        by : (r : Result Step CollectFault) → ((s : State) → StandsFor g old s → IsStep g old new s r) → GoesOnBy (event_by r)
+        by : (r : Result Step CollectFault) → ((s : State) → StandsFor g old s → IsCollectStep g old new s r) → GoesOnBy (event_by r)
         by (Ok step) is = goes_by (event_of step) is
         by (Err faults.Memory) is = goes_by None is
         by (Err (faults.Disk None)) is = goes_by None is
@@ -170,11 +170,11 @@ module _ {D : Type 0} (g : Ghosts D) (old new : Kernel D) (result : Result Step 
 
   -- ---- why it stopped
 
-  pub stops : Stops old.stop new.stop (recorded (event_by result)) × TellsStop (refusal_by result) new.stop
+  pub stops : StopsAmong old.stop new.stop (recorded (event_by result)) × TellsStop (refusal_by result) new.stop
   stops = by result refl
     where
       Told : Result Step CollectFault → Type 0
-      Told r = Stops old.stop new.stop (recorded (event_by r)) × TellsStop (refusal_by r) new.stop
+      Told r = StopsAmong old.stop new.stop (recorded (event_by r)) × TellsStop (refusal_by r) new.stop
 
       calm : (step : Step) → stops_in (damage_in new.stop) (recorded (event_of step)) ≡ []
       calm steps.Idle = refl
@@ -185,7 +185,7 @@ module _ {D : Type 0} (g : Ghosts D) (old new : Kernel D) (result : Result Step 
       calm steps.Swept = refl
       calm steps.Finished = refl
 
-      still : (made : List Event) → stops_in (damage_in new.stop) made ≡ [] → new.stop ≡ old.stop → Stops old.stop new.stop made
+      still : (made : List Event) → stops_in (damage_in new.stop) made ≡ [] → new.stop ≡ old.stop → StopsAmong old.stop new.stop made
       still made none same = ap option_to_list same ∙ sym (rw none (append-nil (option_to_list old.stop)))
 
       -- one that stopped in it ran before
@@ -227,16 +227,16 @@ module _ {D : Type 0} (g : Ghosts D) (old new : Kernel D) (result : Result Step 
   goes : (step : Step) → result ≡ Ok step → new.stop ≡ None
   goes step same = (rw same at did.goes_on) ∙ ran step same
 
-  serves_old : (step : Step) → result ≡ Ok step → (s : State) → StandsFor g old s → Serves g old s
+  serves_old : (step : Step) → result ≡ Ok step → (s : State) → StandsFor g old s → CoreServes g old s
   serves_old step same s stands = subst (Stands g old s) (ran step same) stands
 
-  serves_new : (step : Step) → result ≡ Ok step → (t : State) → StandsFor g new t → Serves g new t
+  serves_new : (step : Step) → result ≡ Ok step → (t : State) → StandsFor g new t → CoreServes g new t
   serves_new step same t stands = subst (Stands g new t) (goes step same) stands
 
   -- it made no event
-  rests_so : (step : Step) → result ≡ Ok step → (s : State) → StandsFor g old s → event_of step ≡ None → Rests stopped (tally_of g) old new s
+  rests_so : (step : Step) → result ≡ Ok step → (s : State) → StandsFor g old s → event_of step ≡ None → ServerRests stopped (tally_of g) old new s
   rests_so step same s stands none =
-      let rest = subst (λ o. HappensOrRests g old new s o) none (subst (λ r. IsStep g old new s r) same (did.event s stands)) in
+      let rest = subst (λ o. HappensOrRests g old new s o) none (subst (λ r. IsCollectStep g old new s r) same (did.event s stands)) in
       record { lost = λ runs. rest.lost }
 
   -- the blocks of what is gone, by an event
@@ -251,15 +251,15 @@ module _ {D : Type 0} (g : Ghosts D) (old new : Kernel D) (result : Result Step 
   }
 
   -- objects vanish as a collection marks
-  marks_due : (s : State) (ids : List Puid) (o : Option Collecting) → HasCollection (g.content old.disk) s o → IsNextOf o (steps.Condemned ids) → is_sweeping s.collection ≡ false
+  marks_due : (s : State) (ids : List Puid) (o : Option Collecting) → HasCollection (g.content old.disk) s o → IsNextOf o (steps.Condemned ids) → sweeps_now s.collection ≡ false
   marks_due s ids None has due = absurd due
   marks_due s ids (Some k) has due = has.sweeping ∙ ap sweeps_in due.0
 
-  pub tallies : ((s : State) → Serves g old s → is_sweeping s.collection ≡ false → lost_blocks (g.content old.disk) s.graph ≡ 0) → (s : State) → StandsFor g old s → TalliesBy s (event_by result)
+  pub tallies : ((s : State) → CoreServes g old s → sweeps_now s.collection ≡ false → lost_blocks (g.content old.disk) s.graph ≡ 0) → (s : State) → StandsFor g old s → TalliesBy s (event_by result)
   tallies swept s stands = by result refl
     where
-      event : (r : Result Step CollectFault) → result ≡ r → IsStep g old new s r
-      event r same = subst (λ x. IsStep g old new s x) same (did.event s stands)
+      event : (r : Result Step CollectFault) → result ≡ r → IsCollectStep g old new s r
+      event r same = subst (λ x. IsCollectStep g old new s x) same (did.event s stands)
 
       by : (r : Result Step CollectFault) → result ≡ r → TalliesBy s (event_by r)
       by (Ok steps.Idle) same = rests_so steps.Idle same s stands refl
@@ -276,7 +276,7 @@ module _ {D : Type 0} (g : Ghosts D) (old new : Kernel D) (result : Result Step 
       by (Err (faults.Disk None)) same = record { lost = λ runs. (event (Err (faults.Disk None)) same).lost }
       by (Err (faults.Disk (Some moment))) same = halted s moment (record { moment = moment; damage = None }) (rw same at did.stops)
       by (Err (faults.Damaged damage moment)) same = halted s moment (record { moment = moment; damage = Some damage }) (rw same at did.stops)
-      by (Err (faults.Stopped moment)) same = subst (λ (k : Kernel D). Rests stopped (tally_of g) old k s) (sym (event (Err (faults.Stopped moment)) same)) (record { lost = λ runs. omega arith })
+      by (Err (faults.Stopped moment)) same = subst (λ (k : Kernel D). ServerRests stopped (tally_of g) old k s) (sym (event (Err (faults.Stopped moment)) same)) (record { lost = λ runs. omega arith })
 
   -- ---- whatever disk it is
 
@@ -289,7 +289,7 @@ module _ {D : Type 0} (g : Ghosts D) (old new : Kernel D) (result : Result Step 
     spends = spends result refl;
   }
     where
-      as_before : (step : Step) → result ≡ Ok step → new.collections.finished ≡ old.collections.finished → (runs old.collections.collector ≡ true) × (runs new.collections.collector ≡ true) → AsBefore (tally_of g old) (tally_of g new)
+      as_before : (step : Step) → result ≡ Ok step → new.collections.finished ≡ old.collections.finished → (collection_runs old.collections.collector ≡ true) × (collection_runs new.collections.collector ≡ true) → AsBefore (tally_of g old) (tally_of g new)
       as_before step same finished both = (finished, both.1 ∙ sym both.0)
 
       unchanged : IsUnchanged g old new → AsBefore (tally_of g old) (tally_of g new)
@@ -344,7 +344,7 @@ module _ {D : Type 0} (g : Ghosts D) (old new : Kernel D) (result : Result Step 
             omega (arith, left.events),
           )
 
-      spends : (r : Result Step CollectFault) → result ≡ r → Spends (tally_of g old) (tally_of g new) r
+      spends : (r : Result Step CollectFault) → result ≡ r → SpendsStep (tally_of g old) (tally_of g new) r
       spends (Ok steps.Idle) same = tt
       spends (Ok steps.Took) same = spent steps.Took same (λ e. cc)
       spends (Ok steps.Scanned) same = spent steps.Scanned same (λ e. cc)

@@ -1,6 +1,6 @@
 -- How a service ended, and what spoiled it.
 use Rattle.std.proofs.Common.{◌≡◌, inl, inr, ℕ, ◌≤◌, Bool, true, false, List, Option, Some, None, is_some, refl, sym, ap, ◌∙◌, subst, arith, ◌||◌}
-use Rattle.cfs_serve.proofs.Cited.{Cause, CollectFault, Damage, Ending, EndsSo, Event, IsStop, Rose, Stop, Stops, TellsStop, Told, cause_of, count_after, damage_in, faults_after, first_fault, has_failed, has_fallen, is_calm, is_failure, is_fault, is_none, is_quiet_fault, is_short, is_want_of_memory, list_all, list_any, moment_in, spoiled_by, tells_disk, wants_memory}
+use Rattle.cfs_serve.proofs.Cited.{Cause, CollectFault, Damage, Ending, EndsService, Event, IsStopTold, Rose, Stop, StopsAmong, TellsStop, Told, cause_of, count_after, damage_in, faults_after, first_fault, has_failed, has_fallen, is_calm, is_failure, is_fault, is_none, is_quiet_fault, is_short, is_want_of_memory, list_all, list_any, moment_in, spoiled_by, tells_disk, wants_memory}
 use Rattle.cfs_core.specs.declared.collecting.CollectFault.TheVariants as faults
 use Rattle.cfs_serve.specs.declared.report.Cause.TheVariants as causes
 use Rattle.cfs_serve.proofs.Journals.{or_false, or_true}
@@ -73,18 +73,18 @@ went_well ending trail broken tells well =
     }
 
 -- of a core that met no damage the moment that is told is that of the stop
-pub stop_told : (ending : Ending) (trail : List Event) (broken : Bool) → damage_in ending.stop ≡ None → IsStop (cause_of ending trail broken) (moment_in ending.stop)
+pub stop_told : (ending : Ending) (trail : List Event) (broken : Bool) → damage_in ending.stop ≡ None → IsStopTold (cause_of ending trail broken) (moment_in ending.stop)
 stop_told ending trail broken none = at (has_failed ending trail) refl
   where
     wanting : Bool
     wanting = list_any wants_memory trail || is_short ending
 
-    running : (b w : Bool) → IsStop (spoiled_by false None None b w) None
+    running : (b w : Bool) → IsStopTold (spoiled_by false None None b w) None
     running true w = refl
     running false true = refl
     running false false = refl
 
-    at : (failed : Bool) → has_failed ending trail ≡ failed → IsStop (spoiled_by failed (moment_in ending.stop) (damage_in ending.stop) broken wanting) (moment_in ending.stop)
+    at : (failed : Bool) → has_failed ending trail ≡ failed → IsStopTold (spoiled_by failed (moment_in ending.stop) (damage_in ending.stop) broken wanting) (moment_in ending.stop)
     at true is = refl
     at false is = rw (runs_well ending trail none is) (running broken wanting)
 
@@ -125,11 +125,11 @@ module _ (n m : ℕ) (trail : List Event) where
 -- How a service ended, by what is known of its server.
 pub ends : {A : Type 0} (count : A → ℕ) (has_stopped is_damaged : A → Bool) (stop : A → Option Stop) (begun server : A) (ending : Ending) (collections : ℕ) (trail : List Event)
     → has_stopped server ≡ is_some (stop server) → is_damaged server ≡ is_some (damage_in (stop server)) → ending.stop ≡ stop server
-    → Stops None (stop server) trail → TellsStop ending.refused (stop server) → (collections ≡ 0 → ending.refused ≡ None)
+    → StopsAmong None (stop server) trail → TellsStop ending.refused (stop server) → (collections ≡ 0 → ending.refused ≡ None)
     → Told count has_stopped is_damaged begun server trail → faults_after tells_disk trail (first_fault ending.refused (count begun)) ≤ count server
-    → EndsSo (Rose (count begun) (count server)) collections ending trail
+    → EndsService (Rose (count begun) (count server)) collections ending trail
 ends count has_stopped is_damaged stop begun server ending collections trail stopped damaged is stops tells quiet told counted = record {
-  stops = subst (λ o. Stops None o trail) (sym is) stops;
+  stops = subst (λ o. StopsAmong None o trail) (sym is) stops;
   refusal = subst (TellsStop ending.refused) (sym is) tells;
   quiet = quiet;
   failed = λ some. elim (or_true (list_any tells_disk trail) (has_fallen ending) some) [

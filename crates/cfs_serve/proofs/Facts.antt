@@ -1,10 +1,10 @@
 -- What `top` says of a run, from what the run came to.
 use Rattle.std.proofs.Common.{◌≡◌, inl, inr, ℕ, ◌<◌, ◌≤◌, Bool, true, false, not, List, [], ◌∷◌, ◌++◌, length, map, slice_get, Option, Some, None, refl, sym, ap, ◌∙◌, subst, arith, ◌||◌}
-use Rattle.cfs_serve.proofs.Cited.{AreOver, AreClients, AreWithin, Asked, Asks, Audits, BreaksOff, Cause, Counts, Ending, Event, Formats, Ground, HadLeft, HasBroken, HasPlaces, HasScript, HaveScripts, Intake, IsOver, IsPlayed, IsRunOf, IsServedFrom, Nothing, Outside, Page, Puid, Reading, Replied, Report, RoseIn, Client, Service, Shows, SomeRose, Supply, Wrote, all_forms, counts_of, events_of_session, has_broken, has_failed, is_short, is_verdict, length-map, list_any, most_lines, no_names, not_begun, option_map, printed_replies, request_lines, slice_get-map, slice_get_within, turns_from, turns_in, wants_memory}
+use Rattle.cfs_serve.proofs.Cited.{AreOver, AreClients, AreWithinLimits, Asked, AsksServer, Audits, BreaksOff, Cause, Counts, Ending, Event, Formats, Ground, HadLeft, HasBroken, HasPlaces, HasScript, HaveScripts, Intake, IsSessionOver, IsPlayed, IsRunOf, IsServedFrom, Nothing, Outside, Page, Puid, PortReading, Replied, Report, RoseIn, Client, Service, Shows, SomeRose, Supply, Wrote, all_forms, counts_of, events_of_session, has_broken, has_failed, is_short, is_verdict, length-map, list_any, most_lines, no_names, not_begun, option_map, printed_replies, request_lines, slice_get-map, slice_get_within, turns_from, turns_in, wants_memory}
 use Rattle.cfs_serve.specs.declared.report.Cause.TheVariants as causes
 use Rattle.cfs_serve.specs.Words.{Serves, Spins}
 use Rattle.ufs_model.specs.declared.asked.Event.TheVariants as events
-use Rattle.cfs_serve.specs.Played.{AreCounted}
+use Rattle.cfs_serve.specs.Played.{CountsSessions}
 use Rattle.cfs_serve.proofs.Lists.{each_of, failed_at, item, map_at, mapped, no_items, none_failed, one_failed, one_item, one_rose, same_length}
 use Rattle.cfs_serve.proofs.Scripted.{one_few, within}
 use Rattle.cfs_serve.proofs.Because.{Because}
@@ -24,7 +24,7 @@ on false is = absurd (clash is)
 
 module _ (service : Service) (ground : Ground) (disk disk_after : Option ℕ) (sources sources_after : List Supply) (sinks sinks_after : List Intake) (report report_after : Intake) (ending : Ending) (trail : List Event)
     (given : HasPlaces (Serves service) (length sources) (length sinks)) (sources_count : length sources_after ≡ length sources) (sinks_count : length sinks_after ≡ length sinks)
-    (scripts : List (List ℕ)) (have : HaveScripts sources scripts) (sound : ¬ ground.unsound) (counts : Counts) (clients : List Client) (ports : List Reading)
+    (scripts : List (List ℕ)) (have : HaveScripts sources scripts) (sound : ¬ ground.unsound) (counts : Counts) (clients : List Client) (ports : List PortReading)
     (matched : AreClients scripts sinks sinks_after clients ports) where
   abbrev begun : Outside
   begun = places disk sources sinks report
@@ -38,7 +38,7 @@ module _ (service : Service) (ground : Ground) (disk disk_after : Option ℕ) (s
   abbrev Sessions : Cause → Type 0
   Sessions cause = Facts (Serves service) ground begun ended (record { counts = Some counts; cause = cause }) ending trail
 
-  few : (left : List (List ℕ)) → HadLeft begun left → AreWithin left
+  few : (left : List (List ℕ)) → HadLeft begun left → AreWithinLimits left
   few = within sources scripts have
 
   -- as many clients as scripts
@@ -49,7 +49,7 @@ module _ (service : Service) (ground : Ground) (disk disk_after : Option ℕ) (s
     -- the session at a source
     abbrev AtSource : (k : ℕ) (source : Supply) → Type 0
     AtSource k source = (script : List ℕ) × HasScript source script × (length (request_lines script) ≤ most_lines)
-        × ((client : Client) × (client.lines ≡ request_lines script) × ((port : Reading) × (slice_get ports k ≡ Some port) × IsOver root trail k client port.sink port.failed))
+        × ((client : Client) × (client.lines ≡ request_lines script) × ((port : PortReading) × (slice_get ports k ≡ Some port) × IsSessionOver root trail k client port.sink port.failed))
 
     at_source : (k : ℕ) (source : Supply) → slice_get sources k ≡ Some source → AtSource k source
     at_source k source there =
@@ -69,12 +69,12 @@ module _ (service : Service) (ground : Ground) (disk disk_after : Option ℕ) (s
 
     -- and at a sink
     abbrev AtSink : (k : ℕ) (sink after : Intake) → Type 0
-    AtSink k sink after = (client : Client) × (client.sink ≡ sink) × ((port : Reading) × (port.sink ≡ after) × (slice_get ports k ≡ Some port) × IsOver root trail k client port.sink port.failed)
+    AtSink k sink after = (client : Client) × (client.sink ≡ sink) × ((port : PortReading) × (port.sink ≡ after) × (slice_get ports k ≡ Some port) × IsSessionOver root trail k client port.sink port.failed)
 
     at_sink : (k : ℕ) (sink after : Intake) → slice_get sinks k ≡ Some sink → slice_get sinks_after k ≡ Some after → AtSink k sink after
     at_sink k sink after at there =
         let client = mapped (λ (s : Client). s.sink) clients k sink (ap (λ l. slice_get l k) matched.begun ∙ at) in
-        let port = mapped (λ (p : Reading). p.sink) ports k after (ap (λ l. slice_get l k) matched.left ∙ there) in
+        let port = mapped (λ (p : PortReading). p.sink) ports k after (ap (λ l. slice_get l k) matched.left ∙ there) in
         (client.0, client.2, (port.0, port.2, port.1, over.each k client.0 port.0 client.1 port.1))
 
     abbrev took : ℕ → Bool
@@ -125,11 +125,11 @@ module _ (service : Service) (ground : Ground) (disk disk_after : Option ℕ) (s
 
     -- where one failed
     module _ (some : has_broken ports ≡ true) where
-      abbrev broke : (k : ℕ) × (p : Reading) × (slice_get ports k ≡ Some p) × (p.failed ≡ true)
+      abbrev broke : (k : ℕ) × (p : PortReading) × (slice_get ports k ≡ Some p) × (p.failed ≡ true)
       broke = one_failed ports some
 
       sink_there : broke.0 < length sinks
-      sink_there = omega (arith, slice_get_within ports broke.0 broke.1 broke.2, sym (ap length matched.left), length-map ports (λ (p : Reading). p.sink), sinks_count)
+      sink_there = omega (arith, slice_get_within ports broke.0 broke.1 broke.2, sym (ap length matched.left), length-map ports (λ (p : PortReading). p.sink), sinks_count)
 
       lost : took broke.0 ≡ false
       lost = ap (λ p. not (failed_at p)) broke.2 ∙ ap not broke.3
@@ -194,7 +194,7 @@ module _ (service : Service) (ground : Ground) (disk disk_after : Option ℕ) (s
       verdict = λ is. absurd (plain is);
       ends = λ served. played.ends;
       spoiled = λ served. played.spoiled;
-      counts = subst (λ n. AreCounted n trail counts) clients_count played.counted;
+      counts = subst (λ n. CountsSessions n trail counts) clients_count played.counted;
       last = played.last;
       few = played.few;
       collected = λ served. played.collected;
@@ -261,7 +261,7 @@ of_run service ground disk disk_after sources sources_after sinks sinks_after re
 module _ (disk disk_after : Option ℕ) (sources sources_after : List Supply) (sinks sinks_after : List Intake) (report report_after : Intake) (told : Report) (ending : Ending) (trail : List Event) where
   abbrev From : Asked → Ground → Type 0
   From asked ground = NoSpin asked → HasPlaces asked (length sources) (length sinks)
-      → Asks asked ground (record { disk = disk; sources = sources; sinks = sinks }) (record { disk = disk_after; sources = sources_after; sinks = sinks_after }) told ending trail
+      → AsksServer asked ground (record { disk = disk; sources = sources; sinks = sinks }) (record { disk = disk_after; sources = sources_after; sinks = sinks_after }) told ending trail
       → Facts asked ground (places disk sources sinks report) (places disk_after sources_after sinks_after report_after) told ending trail
 
   pub facts : (asked : Asked) (ground : Ground) → From asked ground

@@ -1,6 +1,6 @@
 -- A call keeps the run.
 use Rattle.std.proofs.Common.{◌≡◌, ◌⊎◌, inl, inr, ℕ, ◌+◌, ◌<◌, ◌≤◌, Bool, true, false, cond, List, [], ◌∷◌, ◌++◌, length, filter, Option, Some, None, refl, sym, ap, ◌∙◌, subst, arith, ◌||◌}
-use Rattle.cfs_serve.proofs.Cited.{AreExact, Event, GoesOn, Graph, IsExactEvent, IsRun, IsTold, Lasts, Makes, MayGoOn, Rests, Rose, State, Tallies, Tally, Tells, TellsSo, Terms, Told, Unread, append-nil, is_calm, is_calm_step, list_all, list_all-append, list_any, lost_by, lost_in, next, opening, option_and_then, option_map_or, recorded, replay_from, replay_from-push, tells_disk}
+use Rattle.cfs_serve.proofs.Cited.{AreExact, Event, CrashesGoOn, Graph, IsExactEvent, IsRun, IsTold, Lasts, MakesServed, MayGoOn, ServerRests, Rose, State, Tallies, Tally, TellsEvent, TellsSo, Terms, Told, Unread, append-nil, is_calm, is_calm_step, list_all, list_all-append, list_any, lost_by, lost_in, next, opening, option_and_then, option_map_or, recorded, replay_from, replay_from-push, tells_disk}
 use Rattle.ufs_model.specs.declared.asked.Event.TheVariants as events
 
 -- ---- lists with one event more
@@ -81,7 +81,7 @@ was_running false b stays is = refl
 module _ {A : Type 0} (stands : A → State → Type 0) (has_stopped is_damaged : A → Bool) (tally : A → Tally) (t : Terms A) (trail : List Event) (old new : A)
     (was : IsRun stands has_stopped is_damaged tally t old trail) (stays : has_stopped old ≡ true → has_stopped new ≡ true) (sound : (s : State) → stands old s → is_damaged old ≡ false → is_damaged new ≡ false) where
   -- by one event, from each state that the server stood for
-  pub run_on : (e : Event) → ((s : State) → stands old s → Makes (stands new) t.seed s e)
+  pub run_on : (e : Event) → ((s : State) → stands old s → MakesServed (stands new) t.seed s e)
       → ((s : State) → stands old s → 0 < t.cylinders → (lost : ℕ) → (has_stopped old ≡ false → (tally old).lost s.graph ≤ lost) → IsExactEvent t.cylinders lost s e)
       → ((s : State) → stands old s → Tallies has_stopped tally t.seed old new s e) → IsRun stands has_stopped is_damaged tally t new (trail ++ e ∷ [])
   run_on e makes exact tallies = λ begun graph is began.
@@ -103,7 +103,7 @@ module _ {A : Type 0} (stands : A → State → Type 0) (has_stopped is_damaged 
       running runs = was_running (has_stopped old) (has_stopped new) stays runs
 
   -- and by a call that makes none
-  pub run_rests : ((s : State) → stands old s → stands new s) → ((s : State) → stands old s → Rests has_stopped tally old new s) → IsRun stands has_stopped is_damaged tally t new trail
+  pub run_rests : ((s : State) → stands old s → stands new s) → ((s : State) → stands old s → ServerRests has_stopped tally old new s) → IsRun stands has_stopped is_damaged tally t new trail
   run_rests on rests = λ begun graph is began.
       let run = was begun graph is began in
       let rest = rests run.last run.standing in
@@ -150,7 +150,7 @@ module _ {A : Type 0} (faults : A → ℕ) (has_stopped is_damaged : A → Bool)
         };
   }
 
-  pub told_on : (e : Event) → Tells faults has_stopped is_damaged old new e → IsTold faults has_stopped is_damaged t new (trail ++ e ∷ [])
+  pub told_on : (e : Event) → TellsEvent faults has_stopped is_damaged old new e → IsTold faults has_stopped is_damaged t new (trail ++ e ∷ [])
   told_on e one = told_by e (tells_disk e) (λ silent. silent) one
 
   -- by a step of the collector
@@ -167,7 +167,7 @@ module _ {A : Type 0} (faults : A → ℕ) (has_stopped is_damaged : A → Bool)
         };
   })
 
-pub unread_tells : {A : Type 0} (faults : A → ℕ) (has_stopped is_damaged : A → Bool) (server : A) (who : ℕ) (why : Unread) → Tells faults has_stopped is_damaged server server (events.Unread who why)
+pub unread_tells : {A : Type 0} (faults : A → ℕ) (has_stopped is_damaged : A → Bool) (server : A) (who : ℕ) (why : Unread) → TellsEvent faults has_stopped is_damaged server server (events.Unread who why)
 unread_tells faults has_stopped is_damaged server who why = record {
   later = omega arith;
   told = λ is. absurd (cc is);
@@ -179,7 +179,7 @@ unread_tells faults has_stopped is_damaged server who why = record {
 -- what is known of crashes goes on by one event
 pub lasts_on : {A : Type 0} (stands : A → State → Type 0) (has_stopped is_damaged : A → Bool) (tally : A → Tally) (clock : A → ℕ) (lasts : A → ℕ → Graph → List Event → List ℕ → Type 0)
     (t : Terms A) (trail : List Event) (moments : List ℕ) (old new : A) (e : Event) → IsRun stands has_stopped is_damaged tally t old trail
-    → Lasts stands clock lasts t old trail moments → GoesOn stands clock lasts t.seed old new e → Lasts stands clock lasts t new (trail ++ e ∷ []) (moments ++ clock new ∷ [])
+    → Lasts stands clock lasts t old trail moments → CrashesGoOn stands clock lasts t.seed old new e → Lasts stands clock lasts t new (trail ++ e ∷ []) (moments ++ clock new ∷ [])
 lasts_on stands has_stopped is_damaged tally clock lasts t trail moments old new e run was goes = λ begun graph is began first.
     let r = run begun graph is began in
     goes graph trail (clock begun ∷ moments) r.last r.legal r.standing (was begun graph is began first)
@@ -194,7 +194,7 @@ lasts_rests stands has_stopped is_damaged tally clock lasts t trail moments old 
 
 -- a line that is no request changes nothing
 pub unread_makes : {A : Type 0} (stands : A → State → Type 0) (seed : ℕ) (server : A) (who : ℕ) (why : Unread) (s : State) → stands server s
-    → Makes (stands server) seed s (events.Unread who why)
+    → MakesServed (stands server) seed s (events.Unread who why)
 unread_makes stands seed server who why s standing = record { after = s; step = refl; standing = standing }
 
 pub unread_tallies : {A : Type 0} (has_stopped : A → Bool) (tally : A → Tally) (seed : ℕ) (server : A) (s : State) (who : ℕ) (why : Unread) → Tallies has_stopped tally seed server server s (events.Unread who why)

@@ -1,6 +1,6 @@
 -- What an audit comes to, by what was found of its source.
 use Rattle.std.proofs.Common.{◌≡◌, ◌⊎◌, inl, inr, ℕ, ◌<◌, ◌≤◌, Bool, true, false, List, [], ◌∷◌, length, Some, refl, sym, subst, arith}
-use Rattle.cfs_serve.proofs.Cited.{Asked, Audits, Cause, EachFrom, Finds, Formats, Had, IsJudged, IsTrailOf, Judges, Nothing, Rose, Shows, SomeRose, Supply, status_at_end, faults_of_sources, is_audit, is_service, most_trail, status_of}
+use Rattle.cfs_serve.proofs.Cited.{Asked, Audits, Cause, EachFrom, Finds, Formats, Had, IsAudited, IsTrailOf, Judges, Nothing, Rose, Shows, SomeRose, Supply, status_at_end, faults_of_sources, is_audit, is_service, most_trail, status_of}
 use Rattle.cfs_serve.specs.Words.{Serves, Spins}
 use Rattle.cfs_serve.specs.declared.report.Cause.TheVariants as causes
 use Rattle.cfs_serve.proofs.Lists.{heads, tails}
@@ -41,7 +41,7 @@ module _ (source left : Supply) (text : List ℕ) (had : source.left ≡ Some te
   judges cause read of is = subst (Judges cause) (of.whole text had) is
 
   -- where no count rose
-  pub judged : (cause : Cause) → Finds cause source left → ¬ (Rose source.faults left.faults) → IsJudged (status_of cause) cause text
+  pub judged : (cause : Cause) → Finds cause source left → ¬ (Rose source.faults left.faults) → IsAudited (status_of cause) cause text
   judged (causes.Source i) is quiet = absurd (quiet is.1)
   judged (causes.Long i) is quiet = inr (inl (is.1 text had, refl))
   judged causes.Memory is quiet = inr (inr refl)

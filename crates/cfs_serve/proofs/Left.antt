@@ -1,6 +1,6 @@
 -- A session that has left has no grant; once all have left there is none.
 use Rattle.std.proofs.Common.{◌≡◌, ℕ, zero, suc, ◌+◌, ◌≤◌, ◌==◌, ◌&&◌, Bool, true, false, not, cond, List, [], ◌∷◌, ◌++◌, length, filter, Option, Some, None, slice_get, refl, sym, ap, ◌∙◌, subst, arith}
-use Rattle.cfs_serve.proofs.Cited.{AreOver, Change, Direct, Draft, Event, Fill, Grant, Graph, Object, Overwrite, Puid, Reading, Ref, Reply, Request, Client, SetSize, State, Through, Tuid, after_leave, all_filter, all_passing, allowed_if, and_parts, block_named, by_outcome, changed_draft, created, draft_of, events_of_session, grant_of, is_grant, is_of_session, is_outcome, list_all, named, new_file, new_index, next, opening, option_and_then, outcome_of, put, put_draft-at, put_object-at, replay, replay_from, seen, stopped_at, turns_in, with_draft, with_object, word}
+use Rattle.cfs_serve.proofs.Cited.{AreOver, Change, Direct, Draft, Event, Fill, Grant, Graph, Object, Overwrite, Puid, PortReading, Ref, Reply, Request, Client, SetSize, State, Through, Tuid, after_leave, all_filter, all_passing, allowed_if, and_parts, block_named, by_outcome, changed_draft, created, draft_of, events_of_session, grant_of, is_grant, is_of_session, is_outcome, list_all, named, new_file, new_index, next, opening, option_and_then, outcome_of, put, put_draft-at, put_object-at, replay, replay_from, seen, stopped_at, turns_in, with_draft, with_object, word}
 use Rattle.ufs_model.specs.declared.asked.Event.TheVariants as events
 use Rattle.ufs_model.specs.declared.asked.Reply.TheVariants as replies
 use Rattle.ufs_model.specs.declared.asked.Request.TheVariants as asks
@@ -159,8 +159,8 @@ module _ (k seed : ℕ) where
 
 -- ---- all sessions
 
-client_or_past : {P : Type 0} (clients : List Client) (ports : List Reading) (k : ℕ) → length ports ≡ length clients
-    → ((client : Client) (p : Reading) → slice_get clients k ≡ Some client → slice_get ports k ≡ Some p → P) → (length clients ≤ k → P) → P
+client_or_past : {P : Type 0} (clients : List Client) (ports : List PortReading) (k : ℕ) → length ports ≡ length clients
+    → ((client : Client) (p : PortReading) → slice_get clients k ≡ Some client → slice_get ports k ≡ Some p → P) → (length clients ≤ k → P) → P
 client_or_past [] ports k same there past = past (omega arith)
 client_or_past (client ∷ clients) [] k same there past = absurd (omega (arith, same))
 client_or_past (client ∷ clients) (p ∷ ports) zero same there past = there client p refl refl
@@ -173,7 +173,7 @@ of_nobody (g ∷ gs) all =
     absurd (cc (subst (λ b. not b ≡ true) (test_refl g.session) not_own))
 
 -- Where each session has left, and no event is of anybody else, no grant stands.
-pub none_stands : (root : Puid) (collections : ℕ) (clients : List Client) (trail : List Event) (ports : List Reading) (seed : ℕ) (graph : Graph) (last : State) → AreOver root collections clients trail ports
+pub none_stands : (root : Puid) (collections : ℕ) (clients : List Client) (trail : List Event) (ports : List PortReading) (seed : ℕ) (graph : Graph) (last : State) → AreOver root collections clients trail ports
     → replay seed graph trail ≡ Some last → last.grants ≡ []
 none_stands root collections clients trail ports seed graph last over legal = of_nobody last.grants (λ k.
     client_or_past clients ports k over.count

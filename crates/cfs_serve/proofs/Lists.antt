@@ -1,6 +1,6 @@
 -- Lists, item by item.
 use Rattle.std.proofs.Common.{◌≡◌, ◌≢◌, ℕ, zero, suc, ◌+◌, ◌<◌, Bool, true, false, ◌||◌, inl, inr, List, [], ◌∷◌, ◌++◌, length, map, set, Option, Some, None, slice_get, refl, sym, ap, ◌∙◌, subst, arith}
-use Rattle.cfs_serve.proofs.Cited.{AreNew, EachFrom, IsNew, Puid, Reading, Rose, SomeRose, has_broken, length-map, lines_in, map-append, request_lines, reverse, reverse-append, client_of, sum_by, sum_by-cons, turns_left}
+use Rattle.cfs_serve.proofs.Cited.{AreNew, EachFrom, IsNewPort, Puid, PortReading, Rose, SomeRose, has_broken, length-map, lines_in, map-append, request_lines, reverse, reverse-append, client_of, sum_by, sum_by-cons, turns_left}
 use Rattle.std.proofs.lemmas.List.{append_assoc}
 use Rattle.cfs_serve.proofs.Journals.{some_same}
 
@@ -109,11 +109,11 @@ one_rose (x ∷ olds) (y ∷ news) (suc k) a b at there rose = inr (one_rose old
 -- ---- ports
 
 -- whether the sink of that session failed
-abbrev pub failed_at : Option Reading → Bool
+abbrev pub failed_at : Option PortReading → Bool
 failed_at None = false
 failed_at (Some p) = p.failed
 
-pub none_failed : (ports : List Reading) → has_broken ports ≡ false → (k : ℕ) → failed_at (slice_get ports k) ≡ false
+pub none_failed : (ports : List PortReading) → has_broken ports ≡ false → (k : ℕ) → failed_at (slice_get ports k) ≡ false
 none_failed [] none k = refl
 none_failed (p ∷ ports) none k = elim p.failed as (λ b. (b || has_broken ports) ≡ false → b ≡ p.failed → failed_at (slice_get (p ∷ ports) k) ≡ false) [
   | true ↦ λ clash is. absurd (cc clash)
@@ -124,9 +124,9 @@ none_failed (p ∷ ports) none k = elim p.failed as (λ b. (b || has_broken port
     at zero is rest = sym is
     at (suc k) is rest = rest k
 
-pub one_failed : (ports : List Reading) → has_broken ports ≡ true → (k : ℕ) × (p : Reading) × (slice_get ports k ≡ Some p) × (p.failed ≡ true)
+pub one_failed : (ports : List PortReading) → has_broken ports ≡ true → (k : ℕ) × (p : PortReading) × (slice_get ports k ≡ Some p) × (p.failed ≡ true)
 one_failed [] none = absurd (cc none)
-one_failed (p ∷ ports) some = elim p.failed as (λ b. (b || has_broken ports) ≡ true → b ≡ p.failed → (k : ℕ) × (q : Reading) × (slice_get (p ∷ ports) k ≡ Some q) × (q.failed ≡ true)) [
+one_failed (p ∷ ports) some = elim p.failed as (λ b. (b || has_broken ports) ≡ true → b ≡ p.failed → (k : ℕ) × (q : PortReading) × (slice_get (p ∷ ports) k ≡ Some q) × (q.failed ≡ true)) [
   | true ↦ λ it is. (0, p, refl, sym is)
   | false ↦ λ rest is. let one = one_failed ports rest in (suc one.0, one.1, one.2, one.3)
 ] some refl
@@ -135,25 +135,25 @@ pub no_new : (root : Puid) → AreNew root []
 no_new root k p at = absurd (never_none at)
 
 -- one more is new, where they are kept the last one first
-pub one_new : (root : Puid) (ports : List Reading) (port : Reading) → AreNew root (reverse ports) → IsNew root port → AreNew root (reverse (ports ++ port ∷ []))
+pub one_new : (root : Puid) (ports : List PortReading) (port : PortReading) → AreNew root (reverse ports) → IsNewPort root port → AreNew root (reverse (ports ++ port ∷ []))
 one_new root ports port new is = subst (AreNew root) (sym (reverse-append ports (port ∷ []))) placed
   where
     placed : AreNew root (port ∷ reverse ports)
-    placed zero p there = subst (IsNew root) (some_same _ _ there) is
+    placed zero p there = subst (IsNewPort root) (some_same _ _ there) is
     placed (suc k) p there = new k p there
 
 -- ---- clients
 
-pub client_lines : (ports : List Reading) → map (λ s. s.lines) (map client_of ports) ≡ map (λ p. p.lines) ports
+pub client_lines : (ports : List PortReading) → map (λ s. s.lines) (map client_of ports) ≡ map (λ p. p.lines) ports
 client_lines [] = refl
 client_lines (p ∷ ports) = ap (λ rest. p.lines ∷ rest) (client_lines ports)
 
-pub client_sinks : (ports : List Reading) → map (λ s. s.sink) (map client_of ports) ≡ map (λ p. p.sink) ports
+pub client_sinks : (ports : List PortReading) → map (λ s. s.sink) (map client_of ports) ≡ map (λ p. p.sink) ports
 client_sinks [] = refl
 client_sinks (p ∷ ports) = ap (λ rest. p.sink ∷ rest) (client_sinks ports)
 
 -- each line of the scripts is a turn, and so is each leave
-pub new_work : (root : Puid) (ports : List Reading) (scripts : List (List ℕ)) → AreNew root ports → map (λ p. p.lines) ports ≡ map request_lines scripts
+pub new_work : (root : Puid) (ports : List PortReading) (scripts : List (List ℕ)) → AreNew root ports → map (λ p. p.lines) ports ≡ map request_lines scripts
     → sum_by turns_left ports ≡ lines_in scripts + length scripts
 new_work root [] [] new same = omega arith
 new_work root [] (script ∷ scripts) new same = absurd (cc same)

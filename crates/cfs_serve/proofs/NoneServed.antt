@@ -1,6 +1,6 @@
 -- What `top` says of a run that served nothing.
 use Rattle.std.proofs.Common.{◌≡◌, ◌↔◌, inl, inr, ℕ, zero, suc, ◌<◌, ◌≤◌, true, false, List, [], ◌∷◌, length, slice_get, Option, Some, None, refl, sym, ◌∙◌, subst, arith, get_or}
-use Rattle.cfs_serve.proofs.Cited.{AreWithin, Asked, Audits, Cause, Did, EachFrom, Ending, Event, Finds, Format, Formats, Ground, Had, HasPlaces, Intake, IsCause, IsFirst, IsLegal, Nothing, Outside, Page, Replied, Report, Rose, RoseIn, Service, Shows, SomeRose, Supply, TellsMade, begins_in, collections_of, faults_of_sources, is_audit, is_service, is_verdict, length-map, most_script, most_trail, not_begun, nothing, opening, printed_replies, slice_get-get_or, slice_index_or}
+use Rattle.cfs_serve.proofs.Cited.{AreWithinLimits, Asked, Audits, Cause, Did, EachFrom, Ending, Event, Finds, Format, Formats, Ground, Had, HasPlaces, Intake, IsUnservedCause, IsFirstRead, IsLegal, Nothing, Outside, Page, Replied, Report, Rose, RoseIn, Service, Shows, SomeRose, Supply, TellsMade, begins_in, collections_of, faults_of_sources, is_audit, is_service, is_verdict, length-map, most_script, most_trail, not_begun, nothing, opening, printed_replies, slice_get-get_or, slice_index_or}
 use Rattle.cfs_serve.specs.declared.report.Cause.TheVariants as causes
 use Rattle.cfs_serve.specs.Words.{IfServes, Serves, Spins, is_format}
 use Rattle.cfs_serve.proofs.Lists.{each_of, heads, never_none, one_rose}
@@ -29,7 +29,7 @@ none_begins n = let none : begins_in [] ≡ 0 = refl in omega (arith, none)
 never_nil : {A : Type 0} {x : A} {xs : List A} → x ∷ xs ≡ [] → ⊥
 never_nil e = cc
 
-no_scripts : (scripts : List (List ℕ)) → Had [] scripts → AreWithin scripts
+no_scripts : (scripts : List (List ℕ)) → Had [] scripts → AreWithinLimits scripts
 no_scripts [] had = ((λ k d below. absurd (omega (arith, below))), omega arith)
 no_scripts (left ∷ rest) had = absurd (never_nil (sym had))
 
@@ -131,7 +131,7 @@ module _ (ground : Ground) (trail : List ℕ) (disk disk_after : Option ℕ) (so
   )
 
   -- there is no source before it, and none behind
-  only : IsFirst (source ∷ []) (after ∷ []) 0
+  only : IsFirstRead (source ∷ []) (after ∷ []) 0
   only = record {
     scripts = [];
     before = record { count = omega arith; each = λ k s script there here. absurd (never_none here) };
@@ -223,7 +223,7 @@ module _ (service : Service) (ground : Ground) (disk disk_after : Option ℕ) (s
       (slice_get-get_or (faults_of_sources sources) n 0 (omega (arith, below, length-map sources (λ (s : Supply). s.faults))))
       (slice_get-get_or (faults_of_sources sources_after) n 0 (omega (arith, below, count, length-map sources_after (λ (s : Supply). s.faults)))) rose
 
-  pub of_none : (cause : Cause) → IsCause ground (RoseIn disk disk_after) sources sources_after cause → Unserved cause
+  pub of_none : (cause : Cause) → IsUnservedCause ground (RoseIn disk disk_after) sources sources_after cause → Unserved cause
   of_none (causes.Source n) is = unserved (causes.Source n) (λ e. cc) (λ page e. cc) (λ e. cc) clash-sym ((n, refl, is.0, is.1, is.2), source_rose n is.0 is.1)
   of_none (causes.Long n) is = unserved (causes.Long n) (λ e. cc) (λ page e. cc) (λ e. cc) clash-sym (
     refl,

@@ -1,6 +1,6 @@
 -- A reply that is owed is exact.
 use Rattle.std.proofs.Common.{◌≡◌, ◌⊎◌, inl, inr, ℕ, ◌+◌, ◌<◌, ◌≤◌, Bool, true, false, ◌&&◌, Option, List, [], ◌∷◌, Some, None, refl, sym, ap, ◌∙◌, subst, arith, length, ◌||◌, is_some}
-use Rattle.cfs_serve.proofs.Cited.{AreRescued, ByOutcome, ByRefusal, ByWant, Collecting, Collections, Fits, FitsLine, Ghosts, Happens, Image, IsAsked, IsExact, IsOwed, IsPlainReply, IsRoom, IsShortContent, Kernel, Need, Owes, Reply, Request, Rescue, Rose, Serves, Stands, StandsFor, State, Stop, Stops, Tallies, Tells, allowed_if, answered, append-nil, by_outcome, cases_lt, goes_through, is_calm, is_delete, is_full, is_none, is_outcome, is_running, is_sweeping, option_to_list, lost_blocks, marks_in, need_of, Passes, option_and_then, outcome_of, outcome_plain, refusal_of, reserve, runs, stopped_by, sum, sweeps_in, tally_of, tells_disk, tells_outcome}
+use Rattle.cfs_serve.proofs.Cited.{AreRescued, ByOutcome, ByRefusal, ByWant, Collecting, Collections, FitsRoom, FitsLine, Ghosts, Happens, Image, IsAsked, IsExact, IsOwed, IsPlainReply, IsRoom, IsShortContent, Kernel, Need, Owes, Reply, Request, Rescue, Rose, CoreServes, Stands, StandsFor, State, Stop, StopsAmong, Tallies, TellsEvent, allowed_if, answered, append-nil, by_outcome, cases_lt, goes_through, is_calm, asks_delete, is_full, is_none, is_outcome, is_running, sweeps_now, option_to_list, lost_blocks, marks_in, need_of, SessionPasses, option_and_then, outcome_of, outcome_plain, refusal_of, reserve, collection_runs, stopped_by, sum, sweeps_in, tally_of, tells_disk, tells_outcome}
 use Rattle.cfs_core.specs.Asked.{Asks}
 use Rattle.cfs_core.specs.Left.{events_ahead, steps_ahead}
 use Rattle.ufs_model.specs.declared.asked.Event.TheVariants as events
@@ -49,11 +49,11 @@ plain_not_full : (need : Need) (reply : Reply) → reply ≡ replies.Full need �
 plain_not_full need reply is plain = rw is at plain
 
 module _ (seed : ℕ) (s : State) (who : ℕ) (request : Request) (image : Image) (cylinders free gone lost : ℕ) (room : IsRoom cylinders s (free + gone)) (least : gone ≤ lost)
-    (calm : is_sweeping s.collection ≡ false → IsRoom cylinders s free) (plain : refusal_of s who request ≡ None → (b : ℕ) → IsPlainReply (outcome_of seed s who request b).0) where
-  fits : Fits cylinders lost s free
+    (calm : sweeps_now s.collection ≡ false → IsRoom cylinders s free) (plain : refusal_of s who request ≡ None → (b : ℕ) → IsPlainReply (outcome_of seed s who request b).0) where
+  fits : FitsRoom cylinders lost s free
   fits = record { room = free + gone; is_room = room; most = omega arith; least = omega (arith, least); all = λ none. omega (arith, calm none, room) }
 
-  owed_full : (need : Need) → refusal_of s who request ≡ None → IsOwed seed s who request image free (replies.Full need) → Fits cylinders lost s need.free
+  owed_full : (need : Need) → refusal_of s who request ≡ None → IsOwed seed s who request image free (replies.Full need) → FitsRoom cylinders lost s need.free
   owed_full need none (ByRefusal is) = absurd (cc (none, is))
   owed_full need none (ByWant allowed short is) = let same : need.free ≡ free = ap free_of is in rw same fits
     where
@@ -62,7 +62,7 @@ module _ (seed : ℕ) (s : State) (who : ℕ) (request : Request) (image : Image
       free_of reply = 0
   owed_full need none (ByOutcome allowed done) = absurd (plain_not_full need (outcome_of seed s who request done.block).0 (sym done.reply_is) (plain allowed done.block))
 
-  owed_done : (reply : Reply) → tells_outcome reply ≡ true → refusal_of s who request ≡ None → is_delete request ≡ false → IsOwed seed s who request image free reply
+  owed_done : (reply : Reply) → tells_outcome reply ≡ true → refusal_of s who request ≡ None → asks_delete request ≡ false → IsOwed seed s who request image free reply
       → need_of s who request + reserve ≤ free
   owed_done reply told none kept (ByRefusal is) = absurd (cc (none, is))
   owed_done reply told none kept (ByWant allowed short is) = absurd (not_full (rw is at told))
@@ -91,7 +91,7 @@ module _ (seed : ℕ) (s : State) (who : ℕ) (request : Request) (image : Image
 
   pub exact : (reply : Reply) (t : State) → answered seed s who request reply ≡ Some t → Owes seed s who request image free reply → IsExact cylinders lost s who request reply
   exact (replies.Full need) t step owed = record {
-    full = λ n is. let same : need ≡ n = cc is in subst (λ (m : Need). Fits cylinders lost s m.free) same (owed_full need (full_goes seed s who request t need step) owed);
+    full = λ n is. let same : need ≡ n = cc is in subst (λ (m : Need). FitsRoom cylinders lost s m.free) same (owed_full need (full_goes seed s who request t need step) owed);
     done = λ told. absurd (cc told);
   }
   exact replies.Done t step owed = outcome_exact replies.Done t refl (λ n is. absurd (cc is)) step owed
@@ -108,7 +108,7 @@ no_some None is = refl
 no_some (Some x) is = absurd (cc is)
 
 -- rescues leave a collection running, or not
-pub rescued_runs : (a b : Option Collecting) (more : List Rescue) → AreRescued a b more → runs b ≡ runs a
+pub rescued_runs : (a b : Option Collecting) (more : List Rescue) → AreRescued a b more → collection_runs b ≡ collection_runs a
 rescued_runs None None more is = refl
 rescued_runs (Some k) (Some l) more is = ap (λ p. marks_in p || sweeps_in p) is.phase
 rescued_runs None (Some l) more is = absurd is
@@ -120,8 +120,8 @@ module _ {D : Type 0} (g : Ghosts D) (old new : Kernel D) (who : ℕ) (request :
       let e = asks.event s stands in
       record { after = e.after; step = e.step; standing = e.stands }
 
-  pub exact_of : (s : State) (lost : ℕ) → (Serves g old s → IsRoom (length old.space.free) s (sum old.space.free + lost_blocks (g.content old.disk) s.graph))
-      → (Serves g old s → is_sweeping s.collection ≡ false → IsRoom (length old.space.free) s (sum old.space.free))
+  pub exact_of : (s : State) (lost : ℕ) → (CoreServes g old s → IsRoom (length old.space.free) s (sum old.space.free + lost_blocks (g.content old.disk) s.graph))
+      → (CoreServes g old s → sweeps_now s.collection ≡ false → IsRoom (length old.space.free) s (sum old.space.free))
       → (is_some old.stop ≡ false → lost_blocks (g.content old.disk) s.graph ≤ lost) → StandsFor g old s → IsExact (length old.space.free) lost s who request reply
   exact_of s lost room calm least stands = by_stop old.stop refl
     where
@@ -138,7 +138,7 @@ module _ {D : Type 0} (g : Ghosts D) (old new : Kernel D) (who : ℕ) (request :
   stood : (stop : Stop) → old.stop ≡ Some stop → new ≡ old
   stood stop is = (asks.stopped stop is).0
 
-  pub tells : Tells (λ (k : Kernel D). g.faults k.disk) (λ (k : Kernel D). is_some k.stop) (λ (k : Kernel D). is_some (option_and_then (λ (x : Stop). x.damage) k.stop)) old new (events.Ask who request reply)
+  pub tells : TellsEvent (λ (k : Kernel D). g.faults k.disk) (λ (k : Kernel D). is_some k.stop) (λ (k : Kernel D). is_some (option_and_then (λ (x : Stop). x.damage) k.stop)) old new (events.Ask who request reply)
   tells = record {
     later = asks.faults;
     told = λ is. told_at reply refl is;
@@ -184,10 +184,10 @@ module _ {D : Type 0} (g : Ghosts D) (old new : Kernel D) (who : ℕ) (request :
       halts_at None is stopped sound = inr (halts_in reply refl is (asks.stops is) stopped sound)
 
   -- why it stopped
-  pub stops : Stops old.stop new.stop (events.Ask who request reply ∷ [])
+  pub stops : StopsAmong old.stop new.stop (events.Ask who request reply ∷ [])
   stops = at old.stop refl
     where
-      at : (o : Option Stop) → old.stop ≡ o → Stops old.stop new.stop (events.Ask who request reply ∷ [])
+      at : (o : Option Stop) → old.stop ≡ o → StopsAmong old.stop new.stop (events.Ask who request reply ∷ [])
       at None is = rw is (ap option_to_list (asks.stops is) ∙ sym (append-nil (option_to_list (stopped_by reply None))))
       at (Some stop) is =
           let stood = asks.stopped stop is in
@@ -202,7 +202,7 @@ module _ {D : Type 0} (g : Ghosts D) (old new : Kernel D) (who : ℕ) (request :
   }
 
   -- and of the clock
-  pub passes : Passes (λ (k : Kernel D). g.moment k.disk) (tally_of g) old new
+  pub passes : SessionPasses (λ (k : Kernel D). g.moment k.disk) (tally_of g) old new
   passes = record {
     later = asks.later;
     counts = (asks.finished, asks.waits.running);
@@ -238,10 +238,10 @@ left_tallies g old new who stopped s here = record {
 }
 
 pub left_passes : {D : Type 0} (g : Ghosts D) (old new : Kernel D) → new.collections ≡ old.collections → g.blocks new.disk ≡ g.blocks old.disk → g.moment old.disk ≤ g.moment new.disk
-    → Passes (λ (k : Kernel D). g.moment k.disk) (tally_of g) old new
+    → SessionPasses (λ (k : Kernel D). g.moment k.disk) (tally_of g) old new
 left_passes g old new same size later = record {
   later = later;
-  counts = (ap (λ (c : Collections). c.finished) same, ap (λ (c : Collections). runs c.collector) same);
+  counts = (ap (λ (c : Collections). c.finished) same, ap (λ (c : Collections). collection_runs c.collector) same);
   steps = subst (λ n. steps_ahead n new.collections ≤ steps_ahead (g.blocks old.disk) old.collections + 1) (sym size)
       (subst (λ (c : Collections). steps_ahead (g.blocks old.disk) c ≤ steps_ahead (g.blocks old.disk) old.collections + 1) (sym same) (omega arith));
   events = subst (λ (c : Collections). events_ahead c ≤ events_ahead old.collections) (sym same) (omega arith);

@@ -1,8 +1,8 @@
 -- A service on a core.
 use Rattle.std.proofs.Common.{◌≡◌, ℕ, ◌/◌, ◌≤◌, Bool, true, false, cond, List, [], ◌∷◌, length, map, filter, Some, None, IsTrue, is_some, refl, sym, ap, ◌∙◌, subst, arith, ◌+◌}
-use Rattle.cfs_serve.proofs.Cited.{AreOver, Cause, Collection, Counts, Ending, EndsSo, Event, Ghosts, Graph, Holds, Image, IsFront, TellsLast, IsRoom, IsRunFrom, IsRunOn, IsSoundAs, IsStop, IsTallied, IsWanting, Kernel, Object, Puid, Reading, Report, Rise, Rose, RunSurvives, Serves, ServesSessions, Stands, StandsFor, State, Status, begins_in, blocks_of, cause_of, counts_of, damage_in, faults_after, finishes_in, first_fault, fits, free_of, front_of, graph_blocks, has_broken, is_among, is_calm, is_collecting, is_reply, is_sweeping, left_now, length-map, list_all, moment_in, opening, pending, rooted, rooted_part, rooted_reads, runs, client_of, sum, sum_by, sum_by-cons, tally_of, tells_disk, tells_fault}
+use Rattle.cfs_serve.proofs.Cited.{AreOver, Cause, Collection, Counts, Ending, EndsService, Event, Ghosts, Graph, Holds, Image, IsFront, TellsLast, IsRoom, IsRunFrom, IsRunOn, IsSoundAs, IsStopTold, IsTallied, IsWanting, Kernel, Object, Puid, PortReading, Report, MomentsRise, Rose, RunSurvives, CoreServes, ServesSessions, Stands, StandsFor, State, Status, begins_in, blocks_of, cause_of, counts_of, damage_in, faults_after, finishes_in, first_fault, fits, free_of, front_of, graph_blocks, has_broken, is_among, is_calm, is_collecting, is_reply, sweeps_now, left_now, length-map, list_all, moment_in, opening, pending, rooted, rooted_part, rooted_reads, collection_runs, client_of, sum, sum_by, sum_by-cons, tally_of, tells_disk, tells_fault}
 use Rattle.cfs_core.specs.declared.collecting.CollectFault.TheVariants as faulted
-use Rattle.survival.specs.Held.{Fits}
+use Rattle.survival.specs.Held.{FitsDisk}
 use Rattle.ufs_model.specs.declared.collection.Collection.TheVariants as collections
 use Rattle.cfs_serve.specs.Calls as calls
 use Rattle.cfs_serve.proofs.Endings.{calm_by, no_damage, stop_told, went_well}
@@ -20,7 +20,7 @@ sum_filter f test (x ∷ xs) = elim (test x) as (λ b. sum_by f (cond b (x ∷ f
   | false ↦ omega (arith, sum_by-cons f x xs, sum_filter f test xs)
 ]
 
-held_reads : (size : ℕ) (c : Image) (graph : Graph) → Holds c graph → Fits size graph → length c ≡ size → IsSoundAs c (rooted_part graph)
+held_reads : (size : ℕ) (c : Image) (graph : Graph) → Holds c graph → FitsDisk size graph → length c ≡ size → IsSoundAs c (rooted_part graph)
 held_reads size c graph holds fits is =
     let part : graph_blocks (rooted_part graph) ≤ graph_blocks graph = sum_filter (λ (e : Puid × Object). blocks_of e.1) (λ e. is_among e.0 (rooted graph)) graph.objects in
     let wide : length c / 64 ≡ size / 64 = ap (λ (n : ℕ). n / 64) is in
@@ -28,7 +28,7 @@ held_reads size c graph holds fits is =
 
 -- the disk of a core that runs is sound as it is, and so is what a crash leaves of it now
 module _ {D : Type 0} (g : Ghosts D) (sized : (d : D) → IsTrue (g.honest d) → length (g.content d) ≡ g.blocks d) (left_sized : (d : D) (t : ℕ) (c : Image) → g.left_since d t c → length c ≡ g.blocks d)
-    (k : Kernel D) (s : State) (serves : Serves g k s) where
+    (k : Kernel D) (s : State) (serves : CoreServes g k s) where
   wide : length (g.content k.disk) ≡ g.blocks k.disk
   wide = sized k.disk serves.store.carries.tells.honest
 
@@ -56,9 +56,9 @@ pub none_lost : (cylinders free lost : ℕ) (s : State) → IsRoom cylinders s f
 none_lost cylinders free lost s room more = omega (arith, room, more)
 
 -- it stands for what it stood for
-pub called_serves : {D : Type 0} (g : Ghosts D) (core : Kernel D) (n : ℕ) (s : State) → Serves g core s → Serves g (called core n) s
+pub called_serves : {D : Type 0} (g : Ghosts D) (core : Kernel D) (n : ℕ) (s : State) → CoreServes g core s → CoreServes g (called core n) s
 called_serves g core n s serves = record {
-  front = record { drawn = serves.front.drawn; names = serves.front.names; grants = serves.front.grants; stopped = serves.front.stopped };
+  front = record { drawn = serves.front.drawn; directory = serves.front.directory; grants = serves.front.grants; stopped = serves.front.stopped };
   state = serves.state;
   root = serves.root;
   store = serves.store;
@@ -69,17 +69,17 @@ called_serves g core n s serves = record {
   collecting = serves.collecting;
 }
 
-not_sweeping : (c : Collection) → is_collecting c ≡ false → is_sweeping c ≡ false
+not_sweeping : (c : Collection) → is_collecting c ≡ false → sweeps_now c ≡ false
 not_sweeping collections.None none = refl
 not_sweeping (collections.Marking pairs starts) none = refl
 not_sweeping collections.Sweeping none = absurd (cc none)
 
 -- once as many collections are finished as were called for, nothing sweeps
-rests_at : {D : Type 0} (g : Ghosts D) (k : Kernel D) (s : State) (n : ℕ) (trail : List Event) → Serves g k s → begins_in trail ≤ n → IsTallied (tally_of g k) trail → finishes_in trail ≡ n
-    → is_sweeping s.collection ≡ false
-rests_at g k s n trail serves few tallied all = at (runs k.collections.collector) refl
+rests_at : {D : Type 0} (g : Ghosts D) (k : Kernel D) (s : State) (n : ℕ) (trail : List Event) → CoreServes g k s → begins_in trail ≤ n → IsTallied (tally_of g k) trail → finishes_in trail ≡ n
+    → sweeps_now s.collection ≡ false
+rests_at g k s n trail serves few tallied all = at (collection_runs k.collections.collector) refl
   where
-    at : (b : Bool) → runs k.collections.collector ≡ b → is_sweeping s.collection ≡ false
+    at : (b : Bool) → collection_runs k.collections.collector ≡ b → sweeps_now s.collection ≡ false
     at true is =
         let more : calls.begun_so_far (tally_of g k) ≡ k.collections.finished + 1 = ap (λ b. k.collections.finished + cond b 1 0) is in
         absurd (omega (arith, few, tallied.0, tallied.1, all, more))
@@ -89,11 +89,11 @@ rests_at g k s n trail serves few tallied all = at (runs k.collections.collector
 
 -- what a core tells of itself
 pub record IsStatusOf {D : Type 0} (k : Kernel D) (status : Status) : Type 0 where
-  pub objects : status.objects ≡ length k.names.named
+  pub objects : status.objects ≡ length k.directory.named
   pub free : status.free ≡ sum k.space.free
   pub stopped : status.stopped ≡ moment_in k.stop
   pub damage : status.damage ≡ damage_in k.stop
-  pub running : status.running ≡ runs k.collections.collector
+  pub running : status.running ≡ collection_runs k.collections.collector
   pub called : status.called ≡ k.collections.called
   pub finished : status.finished ≡ k.collections.finished
 
@@ -103,13 +103,13 @@ pub record IsServed {D : Type 0} (g : Ghosts D) (n : ℕ) (ending : Ending) (ser
   pub run : (graph : Graph) → StandsFor g k (opening graph)
       → IsRunOn (λ x s. StandsFor g x s) (λ (x : Kernel D). is_some x.stop) (λ (x : Kernel D). is_some (damage_in x.stop)) (tally_of g) k.words.seed (length k.space.free) graph k server trail
   pub later : g.faults k.disk ≤ g.faults server.disk
-  pub ends : EndsSo (Rose (g.faults k.disk) (g.faults server.disk)) n ending trail
+  pub ends : EndsService (Rose (g.faults k.disk) (g.faults server.disk)) n ending trail
   pub stop : ending.stop ≡ server.stop
   pub few : begins_in trail ≤ n
   pub collected : ending.refused ≡ None → finishes_in trail ≡ n
   pub wanting : ending.refused ≡ Some faulted.Memory → IsWanting n trail
   pub tallied : is_some server.stop ≡ false → IsTallied (tally_of g server) trail
-  pub rise : Rise (g.moment k.disk) moments (g.moment server.disk)
+  pub rise : MomentsRise (g.moment k.disk) moments (g.moment server.disk)
   pub size : length server.space.free ≡ length k.space.free
   pub called : server.collections.called ≡ n
   pub lasts : (graph : Graph) → StandsFor g k (opening graph) → RunSurvives g k.words.seed graph [] (g.moment k.disk ∷ []) k.disk
@@ -118,7 +118,7 @@ pub record IsServed {D : Type 0} (g : Ghosts D) (n : ℕ) (ending : Ending) (ser
   pub stops : (graph : Graph) → StandsFor g k (opening graph) → faults_after tells_fault trail (first_fault ending.refused (g.faults k.disk)) ≤ g.faults server.disk
 
 module _ {D : Type 0} (g : Ghosts D) (sized : (d : D) → IsTrue (g.honest d) → length (g.content d) ≡ g.blocks d) (left_sized : (d : D) (t : ℕ) (c : Image) → g.left_since d t c → length c ≡ g.blocks d)
-    (core server : Kernel D) (before ports : List Reading) (trail : List Event) (moments : List ℕ) (sessions : ℕ) (ending : Ending) (report : Report) (status : Status) (tells : IsStatusOf server status) where
+    (core server : Kernel D) (before ports : List PortReading) (trail : List Event) (moments : List ℕ) (sessions : ℕ) (ending : Ending) (report : Report) (status : Status) (tells : IsStatusOf server status) where
   abbrev faults : Kernel D → ℕ
   faults k = g.faults k.disk
 
@@ -139,12 +139,12 @@ module _ {D : Type 0} (g : Ghosts D) (sized : (d : D) → IsTrue (g.honest d) �
 
   module _ (n : ℕ) (runs : core.stop ≡ None) (is : IsServed g n ending server trail moments (called core n))
       (over : AreOver core.root n (map client_of before) trail ports) (count : sessions ≡ length ports)
-      (report_is : report ≡ record { counts = Some counts; cause = cause }) (free_is : (s : State) → Serves g server s → is_sweeping s.collection ≡ false → s.grants ≡ [] → sum server.space.free ≡ free_of (length server.space.free) s.graph) where
+      (report_is : report ≡ record { counts = Some counts; cause = cause }) (free_is : (s : State) → CoreServes g server s → sweeps_now s.collection ≡ false → s.grants ≡ [] → sum server.space.free ≡ free_of (length server.space.free) s.graph) where
     undamaged : damaged (called core n) ≡ false
     undamaged = rw runs refl
 
     module _ (graph : Graph) (stands : StandsFor g core (opening graph)) where
-      begun : Serves g core (opening graph)
+      begun : CoreServes g core (opening graph)
       begun = subst (Stands g core (opening graph)) runs stands
 
       stands_on : StandsFor g (called core n) (opening graph)
@@ -162,7 +162,7 @@ module _ {D : Type 0} (g : Ghosts D) (sized : (d : D) → IsTrue (g.honest d) �
       calm : ¬ rose → list_all is_calm trail ≡ true
       calm never = calm_by ending trail whole (λ some. never (is.ends.failed some)) is.ends.calm
 
-      serving : server.stop ≡ None → Serves g server on.last
+      serving : server.stop ≡ None → CoreServes g server on.last
       serving none = subst (Stands g server on.last) none on.standing
 
       is_run : IsRunFrom (length core.space.free) core.words.seed n graph rose (length (map client_of before)) counts cause trail
@@ -171,8 +171,8 @@ module _ {D : Type 0} (g : Ghosts D) (sized : (d : D) → IsTrue (g.honest d) �
         legal = on.legal;
         exact = on.exact;
         calm = calm;
-        stop = subst (IsStop cause) (ap moment_in is.stop ∙ sym front.stopped) (stop_told ending trail (has_broken ports) whole);
-        counted = counts_same sessions (length (map client_of before)) trail status.free status.objects on.last.graph (count ∙ over.count) (tells.objects ∙ ap length front.names ∙ length-map on.last.graph.objects _);
+        stop = subst (IsStopTold cause) (ap moment_in is.stop ∙ sym front.stopped) (stop_told ending trail (has_broken ports) whole);
+        counted = counts_same sessions (length (map client_of before)) trail status.free status.objects on.last.graph (count ∙ over.count) (tells.objects ∙ ap length front.directory ∙ length-map on.last.graph.objects _);
         free = λ none swept. tells.free ∙ free_is on.last (serving (stop_none server.stop (sym front.stopped ∙ none))) swept
             (none_stands core.root n (map client_of before) trail ports core.words.seed graph on.last over on.legal) ∙ ap (λ m. free_of m on.last.graph) is.size;
         rests = λ none all.

@@ -1,6 +1,6 @@
 -- A turn raises the count of failed calls as its event tells.
 use Rattle.std.proofs.Common.{◌≡◌, inl, inr, ℕ, ◌≤◌, Bool, true, false, cond, List, [], ◌∷◌, ◌++◌, Option, Some, None, Result, refl, sym, ap, ◌∙◌, subst, arith, ◌||◌, IsSome}
-use Rattle.cfs_serve.proofs.Cited.{AreCounted, CollectFault, Event, IsRun, Journaled, Raises, Reply, Request, Rose, State, Step, Tally, Terms, append-nil, count_after, event_by, fails, faults_after, first_fault, is_quiet_fault, list_any, recorded, tells_disk, tells_fault, tells_stop, tells_stop_at}
+use Rattle.cfs_serve.proofs.Cited.{CountsFaults, CollectFault, Event, IsRun, Journaled, Raises, Reply, Request, Rose, State, Step, Tally, Terms, append-nil, count_after, event_by, fails, faults_after, first_fault, is_quiet_fault, list_any, recorded, tells_disk, tells_fault, tells_stop, tells_stop_at}
 use Rattle.ufs_model.specs.declared.asked.Event.TheVariants as events
 use Rattle.cfs_serve.proofs.Journals.{or_true}
 use Rattle.cfs_serve.proofs.Stepping.{nobodys, silent}
@@ -101,7 +101,7 @@ module _ (counts : Event → Bool) where
       by false is = omega (arith, was, later)
 
 module _ {A : Type 0} (faults : A → ℕ) (stands : A → State → Type 0) (t : Terms A) (old new : Journaled A) (raises : Raises faults stands t old new) where
-  pub counted_turn : (first : ℕ → ℕ) → AreCounted faults stands t first old.server old.events → AreCounted faults stands t first new.server new.events
+  pub counted_turn : (first : ℕ → ℕ) → CountsFaults faults stands t first old.server old.events → CountsFaults faults stands t first new.server new.events
   counted_turn first was = rw raises.recorded (record {
     told = λ begun at. counted_on tells_disk old.events raises.made (first (faults begun)) (faults old.server) (faults new.server) (was.told begun at) raises.later raises.disk;
     stops = λ begun graph at standing.
@@ -113,11 +113,11 @@ module _ {A : Type 0} (faults : A → ℕ) (stands : A → State → Type 0) (t 
   })
 
   -- a step of the collector, which may be refused
-  pub counted_step : (refused : Option CollectFault) → AreCounted faults stands t (first_fault None) old.server old.events
-      → (is_quiet_fault refused ≡ true → Rose (faults old.server) (faults new.server) × (new.events ≡ old.events)) → AreCounted faults stands t (first_fault refused) new.server new.events
+  pub counted_step : (refused : Option CollectFault) → CountsFaults faults stands t (first_fault None) old.server old.events
+      → (is_quiet_fault refused ≡ true → Rose (faults old.server) (faults new.server) × (new.events ≡ old.events)) → CountsFaults faults stands t (first_fault refused) new.server new.events
   counted_step refused was quiet = by (is_quiet_fault refused) refl
     where
-      by : (b : Bool) → is_quiet_fault refused ≡ b → AreCounted faults stands t (λ n. cond b (count_after n) n) new.server new.events
+      by : (b : Bool) → is_quiet_fault refused ≡ b → CountsFaults faults stands t (λ n. cond b (count_after n) n) new.server new.events
       by true is =
           let two = quiet is in
           rw two.1 (record {

@@ -1,6 +1,6 @@
 -- What `top` says follows from the steps of the run.
 use Rattle.std.proofs.Common.{◌≡◌, ℕ, true, false, List, length, refl, sym, ap, ◌∙◌}
-use Rattle.cfs_serve.proofs.Cited.{Asked, Audits, Ending, Event, Formats, Ground, HasPlaces, IsWhole, Nothing, Outside, Report, Said, Shows, status_at_end, is_service, last_cause}
+use Rattle.cfs_serve.proofs.Cited.{Asked, Audits, Ending, Event, Formats, Ground, HasPlaces, IsWholeRun, Nothing, Outside, Report, Said, Shows, status_at_end, is_service, last_cause}
 use Rattle.cfs_serve.specs.Words.{Serves, Spins, is_format}
 use Rattle.cfs_serve.proofs.Because as why
 use Rattle.cfs_serve.proofs.Facts.{NoSpin, facts}
@@ -16,7 +16,7 @@ no_service Nothing makes = refl
 
 pub said : (asked : Asked) (ground : Ground) (old new : Outside) (told : Report) (status : ℕ) (ending : Ending) (trail : List Event)
     → NoSpin asked → HasPlaces asked (length old.sources) (length old.sinks)
-    → IsWhole asked ground (record { disk = old.disk; sources = old.sources; sinks = old.sinks }) (record { disk = new.disk; sources = new.sources; sinks = new.sinks }) old.report new.report told status ending trail
+    → IsWholeRun asked ground (record { disk = old.disk; sources = old.sources; sinks = old.sinks }) (record { disk = new.disk; sources = new.sources; sinks = new.sinks }) old.report new.report told status ending trail
     → Said asked ground old new told status ending trail
 said asked ground old new told status ending trail plain given whole =
     let f = facts old.disk new.disk old.sources new.sources old.sinks new.sinks old.report new.report told ending trail asked ground plain given whole.run in

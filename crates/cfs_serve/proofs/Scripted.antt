@@ -1,6 +1,6 @@
 -- The scripts that were read of the sources, and why they are not served.
 use Rattle.std.proofs.Common.{◌≡◌, ◌⊎◌, inl, inr, ℕ, zero, suc, ◌+◌, ◌<◌, ◌≤◌, List, [], ◌∷◌, ◌++◌, length, map, set, Some, slice_get, refl, sym, ap, ◌∙◌, subst, arith, length-append, get_or}
-use Rattle.cfs_serve.proofs.Cited.{AreShort, AreWithin, Cause, Had, HasScript, HaveFirst, HaveScripts, IsFirst, IsOneCause, IsSourceCause, Supply, faults_of_sources, get_or-le-sum_by, get_or_from_slice_get, lines_in, most_lines, most_script, option_map, request_lines, slice_get-get_or, slice_get-map, slice_get_within, slice_index_or, sum_by_push}
+use Rattle.cfs_serve.proofs.Cited.{AreShort, AreWithinLimits, Cause, Had, HasScript, HaveFirst, HaveScripts, IsFirstRead, IsOneCause, IsSourceCause, Supply, faults_of_sources, get_or-le-sum_by, get_or_from_slice_get, lines_in, most_lines, most_script, option_map, request_lines, slice_get-get_or, slice_get-map, slice_get_within, slice_index_or, sum_by_push}
 use Rattle.cfs_serve.specs.declared.report.Cause.TheVariants as causes
 use Rattle.cfs_serve.proofs.Lists.{get-set_other, get-set_same, item, map_at, never_none, same_items, same_length}
 use Rattle.cfs_serve.proofs.Journals.{some_same}
@@ -25,9 +25,9 @@ each_short sources scripts first all = λ k d below.
     subst (λ s. length s ≤ most_script) (sym (get_or_from_slice_get scripts k script.0 d script.1)) (first.each k source.0 script.0 source.1 script.1).short
 
 -- no limit was passed
-pub within : (sources : List Supply) (scripts : List (List ℕ)) → HaveScripts sources scripts → (left : List (List ℕ)) → Had sources left → AreWithin left
+pub within : (sources : List Supply) (scripts : List (List ℕ)) → HaveScripts sources scripts → (left : List (List ℕ)) → Had sources left → AreWithinLimits left
 within sources scripts have left had =
-    subst AreWithin (the_had sources scripts left have.first have.all had) (each_short sources scripts have.first have.all, have.few)
+    subst AreWithinLimits (the_had sources scripts left have.first have.all had) (each_short sources scripts have.first have.all, have.few)
 
 -- one of them has no more lines than all
 pub one_few : (scripts : List (List ℕ)) (k : ℕ) (script : List ℕ) → slice_get scripts k ≡ Some script → length (request_lines script) ≤ lines_in scripts
@@ -91,7 +91,7 @@ long_at sources n source at long scripts had =
 
 -- why the source of that number has no script is why none is served
 pub one_cause : (sources after : List Supply) (n : ℕ) (source source_after : Supply) → slice_get sources n ≡ Some source → slice_get after n ≡ Some source_after
-    → IsFirst sources after n → (cause : Cause) → IsOneCause n source source_after cause → IsSourceCause sources after cause
+    → IsFirstRead sources after n → (cause : Cause) → IsOneCause n source source_after cause → IsSourceCause sources after cause
 one_cause sources after n source source_after at there first (causes.Source i) is =
     subst (λ j. IsSourceCause sources after (causes.Source j)) (sym is.0)
     (slice_get_within sources n source at, rw (faults_at sources n source at, faults_at after n source_after there) is.1, first)

@@ -6,7 +6,7 @@ use Rattle.ufs_model.specs.declared.asked.Reply.TheVariants as replies
 use Rattle.ufs_model.specs.declared.asked.Unread.TheVariants as unread
 use Rattle.ufs_model.specs.Spoken.{Reading}
 use Rattle.cfs_ports.specs.declared.hearing.Heard.TheVariants as heard
-use Rattle.cfs_ports.specs.Port.{Tells}
+use Rattle.cfs_ports.specs.Port.{TellsWhy}
 use Rattle.cfs_ports.specs.Port as ports
 use Rattle.cfs_serve.proofs.Journals.{all-push, push_out, some_same}
 use Rattle.cfs_serve.proofs.Lists.{get-set_other, get-set_same}
@@ -75,7 +75,7 @@ printed_turns i (e ∷ es) = elim (is_turn_of i e) as (λ b. is_turn_of i e ≡ 
 
 -- ---- one session
 
-module _ (root : Puid) (i : ℕ) (client : Client) (p : ports.Reading) (trail : List Event) (was : IsSession root i client p trail) where
+module _ (root : Puid) (i : ℕ) (client : Client) (p : ports.PortReading) (trail : List Event) (was : IsSession root i client p trail) where
   -- after another's event
   pub session_other : (e : Event) → is_of_session i e ≡ false → IsSession root i client p (trail ++ e ∷ [])
   session_other e is =
@@ -95,7 +95,7 @@ module _ (root : Puid) (i : ℕ) (client : Client) (p : ports.Reading) (trail : 
   no_leaves stays = subst (λ b. IsLeave i b was.leaves) stays was.left
 
   -- after its own line
-  pub session_turned : (q : ports.Reading) (e : Event) → Turned i p q e → IsSession root i client q (trail ++ e ∷ [])
+  pub session_turned : (q : ports.PortReading) (e : Event) → Turned i p q e → IsSession root i client q (trail ++ e ∷ [])
   session_turned q e turn =
       let more_turns : turns_in i (trail ++ e ∷ []) ≡ turns_in i trail ++ e ∷ [] = filter_in (is_turn_of i) trail e turn.mine in
       let none = no_leaves turn.stays in
@@ -135,7 +135,7 @@ module _ (root : Puid) (i : ℕ) (client : Client) (p : ports.Reading) (trail : 
       wrote false one = then_some client.sink p.sink q.sink (printed_replies i trail) (printed i e) so_far one
 
   -- after its leave
-  pub session_left : (q : ports.Reading) (e : Event) → Departs i p q e → IsSession root i client q (trail ++ e ∷ [])
+  pub session_left : (q : ports.PortReading) (e : Event) → Departs i p q e → IsSession root i client q (trail ++ e ∷ [])
   session_left q e leave = subst (λ x. IsSession root i client q (trail ++ x ∷ [])) (sym leave.is) (subst (λ x. IsSession root i client x (trail ++ gone ∷ [])) (sym leave.port) here)
     where
       gone : Event
@@ -164,9 +164,9 @@ of_session i (events.Ask who request reply) is = refl
 of_session i (events.Leave who stopped) is = refl
 of_session i e is = cc
 
-module _ {A : Type 0} (t : Terms A) (trail : List Event) (ps : List ports.Reading) (was : AreHeard t trail ps) where
+module _ {A : Type 0} (t : Terms A) (trail : List Event) (ps : List ports.PortReading) (was : AreHeard t trail ps) where
   -- after an event of session i
-  pub heard_by : (i : ℕ) (p q : ports.Reading) (e : Event) → slice_get ps i ≡ Some p → ((k : ℕ) → (i == k) ≡ false → is_of_session k e ≡ false)
+  pub heard_by : (i : ℕ) (p q : ports.PortReading) (e : Event) → slice_get ps i ≡ Some p → ((k : ℕ) → (i == k) ≡ false → is_of_session k e ≡ false)
       → Turned i p q e ⊎ Departs i p q e → AreHeard t (trail ++ e ∷ []) (set ps i q)
   heard_by i p q e at others kind = record {
     count = length-set ps i q ∙ was.count;
@@ -188,12 +188,12 @@ module _ {A : Type 0} (t : Terms A) (trail : List Event) (ps : List ports.Readin
         | inr leave ↦ session_left t.root i client p trail before q e leave
       ]
 
-      by_test : (k : ℕ) (client : Client) (x : ports.Reading) → slice_get t.clients k ≡ Some client → slice_get (set ps i q) k ≡ Some x → (b : Bool) → (k == i) ≡ b → IsSession t.root k client x (trail ++ e ∷ [])
+      by_test : (k : ℕ) (client : Client) (x : ports.PortReading) → slice_get t.clients k ≡ Some client → slice_get (set ps i q) k ≡ Some x → (b : Bool) → (k == i) ≡ b → IsSession t.root k client x (trail ++ e ∷ [])
       by_test k client x client_is here true is =
           let same : k ≡ i = grind (arith, nat_tests) in
           let found : q ≡ x = some_same q x (sym (get-set_same ps i q p at) ∙ ap (λ n. slice_get (set ps i q) n) (sym same) ∙ here) in
           let before = was.each i client p (ap (λ n. slice_get t.clients n) (sym same) ∙ client_is) at in
-          subst (λ (n : ℕ). IsSession t.root n client x (trail ++ e ∷ [])) (sym same) (subst (λ (y : ports.Reading). IsSession t.root i client y (trail ++ e ∷ [])) found (mine client before))
+          subst (λ (n : ℕ). IsSession t.root n client x (trail ++ e ∷ [])) (sym same) (subst (λ (y : ports.PortReading). IsSession t.root i client y (trail ++ e ∷ [])) found (mine client before))
       by_test k client x client_is here false is =
           let apart : k ≢ i = grind (arith, nat_tests) in
           session_other t.root k client x trail (was.each k client x client_is (sym (get-set_other ps i k q apart) ∙ here)) e (others k (test_apart i k apart))
@@ -213,7 +213,7 @@ memory_binds_nothing : (names : Names) (name : Option (List ℕ)) → names_afte
 memory_binds_nothing names None = refl
 memory_binds_nothing names (Some name) = refl
 
-pub turned_unread : (i : ℕ) (p r q : ports.Reading) (why : Unread) → p.has_left ≡ false → p.failed ≡ false → TakesLine p r (heard.Not why) → Tells r q why → Turned i p q (events.Unread i why)
+pub turned_unread : (i : ℕ) (p r q : ports.PortReading) (why : Unread) → p.has_left ≡ false → p.failed ≡ false → TakesLine p r (heard.Not why) → TellsWhy r q why → Turned i p q (events.Unread i why)
 turned_unread i p r q why stays goes took told = record {
   line = took.line;
   taken = took.taken ∙ ap (λ w. took.line ∷ w) (sym told.lines);
@@ -234,31 +234,31 @@ turned_unread i p r q why stays goes took told = record {
 
 -- ---- the work that is left
 
-one_less : (i : ℕ) (p q : ports.Reading) (e : Event) → Turned i p q e ⊎ Departs i p q e → turns_left q + 1 ≤ turns_left p
+one_less : (i : ℕ) (p q : ports.PortReading) (e : Event) → Turned i p q e ⊎ Departs i p q e → turns_left q + 1 ≤ turns_left p
 one_less i p q e kind = elim kind [
   | inl turn ↦ rw (turn.stays, turn.stays_on) (omega (arith, ap length turn.taken))
   | inr leave ↦ rw (leave.port, leave.stays) (omega arith)
 ]
 
 -- a turn takes one from it at least
-pub work_on : (ps : List ports.Reading) (i : ℕ) (p q : ports.Reading) (e : Event) → slice_get ps i ≡ Some p → Turned i p q e ⊎ Departs i p q e → sum_by turns_left (set ps i q) + 1 ≤ sum_by turns_left ps
+pub work_on : (ps : List ports.PortReading) (i : ℕ) (p q : ports.PortReading) (e : Event) → slice_get ps i ≡ Some p → Turned i p q e ⊎ Departs i p q e → sum_by turns_left (set ps i q) + 1 ≤ sum_by turns_left ps
 work_on ps i p q e at kind =
     let less : turns_left q + 1 ≤ turns_left p = one_less i p q e kind in
     omega (arith, sum_by-set turns_left ps i q p (slice_get_within ps i p at), ap turns_left (get_or_from_slice_get ps i p p at), less)
 
 -- what one session has left is part of it
-pub part_of_work : (ps : List ports.Reading) (i : ℕ) (p : ports.Reading) → slice_get ps i ≡ Some p → turns_left p ≤ sum_by turns_left ps
+pub part_of_work : (ps : List ports.PortReading) (i : ℕ) (p : ports.PortReading) → slice_get ps i ≡ Some p → turns_left p ≤ sum_by turns_left ps
 part_of_work ps i p at =
     omega (arith, sum_by-set turns_left ps i (record p { has_left = true }) p (slice_get_within ps i p at), ap turns_left (get_or_from_slice_get ps i p p at))
 
 -- a session that stays has a turn left
-pub some_work : (ps : List ports.Reading) (i : ℕ) (p : ports.Reading) → slice_get ps i ≡ Some p → p.has_left ≡ false → 0 < sum_by turns_left ps
+pub some_work : (ps : List ports.PortReading) (i : ℕ) (p : ports.PortReading) → slice_get ps i ≡ Some p → p.has_left ≡ false → 0 < sum_by turns_left ps
 some_work ps i p at stays =
     let one : 0 < turns_left p = rw stays (omega arith) in
     omega (arith, part_of_work ps i p at, one)
 
 -- the port that the code took
-pub found : (ps now : List ports.Reading) (i : ℕ) (p : ports.Reading) → ps ≡ now → i < length now → has_left_at (slice_get now i) ≡ false → p ≡ get_or ps i p → (slice_get ps i ≡ Some p) × (p.has_left ≡ false)
+pub found : (ps now : List ports.PortReading) (i : ℕ) (p : ports.PortReading) → ps ≡ now → i < length now → has_left_at (slice_get now i) ≡ false → p ≡ get_or ps i p → (slice_get ps i ≡ Some p) × (p.has_left ≡ false)
 found ps now i p same within stays is =
     let at : slice_get ps i ≡ Some p = slice_get-get_or ps i p (rw same within) ∙ ap (λ x. Some x) (sym is) in
     (at, sym (ap has_left_at at) ∙ ap (λ w. has_left_at (slice_get w i)) same ∙ stays)
@@ -278,7 +278,7 @@ pub as_many : {A : Type 0} (clock : A → ℕ) (i : ℕ) (old new : Hearing A) �
 as_many clock i old new turn = rw turn.ports (length-set old.ports i turn.after)
 
 -- a session that stays has its lines left, and its leave
-pub left_of_stay : (ps now : List ports.Reading) (i : ℕ) (p : ports.Reading) → ps ≡ now → i < length now → has_left_at (slice_get now i) ≡ false
+pub left_of_stay : (ps now : List ports.PortReading) (i : ℕ) (p : ports.PortReading) → ps ≡ now → i < length now → has_left_at (slice_get now i) ≡ false
     → p ≡ get_or ps i p → (turns_left_at (slice_get now i) ≡ length p.lines + 1) × (length p.lines + 1 ≤ sum_by turns_left ps)
 left_of_stay ps now i p same within stays is =
     let at = found ps now i p same within stays is in
@@ -294,15 +294,15 @@ no_bound i (events.Ask who request reply) mine = (refl, refl)
 no_bound i (events.Leave who stopped) mine = (refl, refl)
 no_bound i e mine = absurd (cc mine)
 
-no_end : (i : ℕ) (p q : ports.Reading) (e : Event) → Turned i p q e ⊎ Departs i p q e → (is_begin e ≡ false) × (is_finish e ≡ false)
+no_end : (i : ℕ) (p q : ports.PortReading) (e : Event) → Turned i p q e ⊎ Departs i p q e → (is_begin e ≡ false) × (is_finish e ≡ false)
 no_end i p q e (inl turned) = no_bound i e turned.whole
 no_end i p q e (inr departs) = rw departs.is (refl, refl)
 
 -- no collection ends by it, and none begins
-pub collected_by : (n : ℕ) (trail : List Event) (i : ℕ) (p q : ports.Reading) (e : Event) → Turned i p q e ⊎ Departs i p q e → finishes_in trail ≡ n → finishes_in (trail ++ e ∷ []) ≡ n
+pub collected_by : (n : ℕ) (trail : List Event) (i : ℕ) (p q : ports.PortReading) (e : Event) → Turned i p q e ⊎ Departs i p q e → finishes_in trail ≡ n → finishes_in (trail ++ e ∷ []) ≡ n
 collected_by n trail i p q e kind all = push_out is_finish trail e (no_end i p q e kind).1 ∙ all
 
-pub wanting_by : (n : ℕ) (trail : List Event) (i : ℕ) (p q : ports.Reading) (e : Event) → Turned i p q e ⊎ Departs i p q e → IsWanting n trail → IsWanting n (trail ++ e ∷ [])
+pub wanting_by : (n : ℕ) (trail : List Event) (i : ℕ) (p q : ports.PortReading) (e : Event) → Turned i p q e ⊎ Departs i p q e → IsWanting n trail → IsWanting n (trail ++ e ∷ [])
 wanting_by n trail i p q e kind two =
     let begins = push_out is_begin trail e (no_end i p q e kind).0 in
     let ends = push_out is_finish trail e (no_end i p q e kind).1 in

@@ -1,6 +1,6 @@
 -- What `top` says of a spin is what it says of its service; of all else it is said as it stands.
 use Rattle.std.proofs.Common.{◌≡◌, ◌⊎◌, inl, inr, ℕ, zero, suc, ◌+◌, ◌*◌, ◌<◌, ◌≤◌, List, [], length, slice_get, Option, Some, refl, ap, subst, ◌∙◌, arith}
-use Rattle.cfs_serve.proofs.Cited.{AreShort, AreWithin, Asked, Asks, Audits, Ending, Event, Formats, Ghosts, HasPlaces, IsWhole, NoCountRose, Nothing, Opening, Outside, Report, Rose, Said, Says, Shows, Spin, Spins, drawn_scripts, status_at_end, first_line, get_or_from_slice_get, ground_of, last_cause, lines_in, most_script, opened, request_lines, script, service_of, slice_get_within, turns_in, within_spin}
+use Rattle.cfs_serve.proofs.Cited.{AreShort, AreWithinLimits, Asked, AsksServer, Audits, Ending, Event, Formats, Ghosts, HasPlaces, IsWholeRun, NoCountRose, Nothing, Opening, Outside, Report, Rose, Said, Says, Shows, Spin, Spins, drawn_scripts, status_at_end, first_line, get_or_from_slice_get, ground_of, last_cause, lines_in, most_script, opened, request_lines, script, service_of, slice_get_within, turns_in, within_spin}
 use Rattle.cfs_serve.specs.Traced.{IsWritten}
 use Rattle.cfs_serve.specs.Words.{Serves}
 use Rattle.cfs_serve.specs.declared.traced.Written.{Written}
@@ -29,7 +29,7 @@ module _ (lines : Lines) (short : Short) where
       let fourth = lines seed 3 count (omega arith) in
       omega (arith, first, second, third, fourth)
 
-  drawn_within : (seed count : ℕ) → count ≤ 5370 → AreWithin (drawn_scripts seed count)
+  drawn_within : (seed count : ℕ) → count ≤ 5370 → AreWithinLimits (drawn_scripts seed count)
   drawn_within seed count few = (each_short seed count few, (let all = drawn_lines seed count in omega (arith, all, few)))
 
   pub few_bytes : (seed count : ℕ) → count ≤ 5370 → (k : ℕ) (text : List ℕ) → slice_get (drawn_scripts seed count) k ≡ Some text → length text ≤ most_script
@@ -51,8 +51,8 @@ module _ (lines : Lines) (short : Short) where
 
   module _ {D : Type 0} (g : Ghosts D) (disk : Option D) (old new : Outside) (told : Report) (status : ℕ) (ending : Ending) (trail : List Event) (trace : Option Opening) (written : Written)
       (writes : (b : Asked) → trace ≡ first_line b → IsWritten b told trail old.report new.report written) (is : status ≡ status_at_end written.whole (last_cause written.short told.cause)) where
-    whole : (asked : Asked) → trace ≡ first_line asked → Asks asked (ground_of g asked disk) (record { disk = old.disk; sources = old.sources; sinks = old.sinks }) (record { disk = new.disk; sources = new.sources; sinks = new.sinks }) told ending trail
-        → IsWhole asked (ground_of g asked disk) (record { disk = old.disk; sources = old.sources; sinks = old.sinks }) (record { disk = new.disk; sources = new.sources; sinks = new.sinks }) old.report new.report told status ending trail
+    whole : (asked : Asked) → trace ≡ first_line asked → AsksServer asked (ground_of g asked disk) (record { disk = old.disk; sources = old.sources; sinks = old.sinks }) (record { disk = new.disk; sources = new.sources; sinks = new.sinks }) told ending trail
+        → IsWholeRun asked (ground_of g asked disk) (record { disk = old.disk; sources = old.sources; sinks = old.sinks }) (record { disk = new.disk; sources = new.sources; sinks = new.sinks }) old.report new.report told status ending trail
     whole asked traced run = let wrote = writes asked traced in record {
       run = run;
       short = written.short;
@@ -75,7 +75,7 @@ module _ (lines : Lines) (short : Short) where
     each spin (suc (suc (suc (suc k)))) below a b c d = absurd (omega (arith, below))
 
     pub says : (asked : Asked) → trace ≡ first_line asked → HasPlaces asked (length old.sources) (length old.sinks)
-        → Asks asked (ground_of g asked disk) (record { disk = old.disk; sources = old.sources; sinks = old.sinks }) (record { disk = new.disk; sources = new.sources; sinks = new.sinks }) told ending trail
+        → AsksServer asked (ground_of g asked disk) (record { disk = old.disk; sources = old.sources; sinks = old.sinks }) (record { disk = new.disk; sources = new.sources; sinks = new.sinks }) told ending trail
         → Says asked (ground_of g asked disk) old new told status ending trail
     says (Shows page) traced given run = said (Shows page) (ground_of g (Shows page) disk) old new told status ending trail tt given (whole (Shows page) traced run)
     says (Formats format) traced given run = said (Formats format) (ground_of g (Formats format) disk) old new told status ending trail tt given (whole (Formats format) traced run)

@@ -1,6 +1,6 @@
 -- Why a server stopped, as its trail tells it.
 use Rattle.std.proofs.Common.{◌≡◌, ℕ, Bool, false, List, [], ◌∷◌, ◌++◌, Option, Some, None, is_some, refl, sym, ap, ◌∙◌, subst, append_assoc}
-use Rattle.cfs_serve.proofs.Cited.{CollectFault, Damage, Event, Stop, Stops, TellsStop, append-nil, damage_in, list_any, option_to_list, moment_in, stops_in, tells_damage, told_stop}
+use Rattle.cfs_serve.proofs.Cited.{CollectFault, Damage, Event, Stop, StopsAmong, TellsStop, append-nil, damage_in, list_any, option_to_list, moment_in, stops_in, tells_damage, told_stop}
 use Rattle.cfs_core.specs.declared.collecting.CollectFault.TheVariants as faults
 use Rattle.ufs_model.specs.declared.asked.Event.TheVariants as events
 use Rattle.ufs_model.specs.declared.asked.Reply.TheVariants as replies
@@ -33,7 +33,7 @@ none_in a b (e ∷ trail) none =
 -- ---- calls
 
 -- a server that stopped stays so
-pub stays : (before after : Option Stop) (made : List Event) → Stops before after made → (s : Stop) → before ≡ Some s → after ≡ Some s
+pub stays : (before after : Option Stop) (made : List Event) → StopsAmong before after made → (s : Stop) → before ≡ Some s → after ≡ Some s
 stays before None made stops s is = absurd (cc (rw is at stops))
 stays before (Some t) made stops s is = ap (λ (x : Stop). Some x) (first t s (stops_in t.damage made) (rw is at stops))
   where
@@ -41,19 +41,19 @@ stays before (Some t) made stops s is = ap (λ (x : Stop). Some x) (first t s (s
     first x y rest e = cc e
 
 -- so it is with the whole trail
-pub stops_on : (old new : Option Stop) (trail made : List Event) → Stops None old trail → Stops old new made → Stops None new (trail ++ made)
+pub stops_on : (old new : Option Stop) (trail made : List Event) → StopsAmong None old trail → StopsAmong old new made → StopsAmong None new (trail ++ made)
 stops_on None new trail made was one =
     one ∙ rw (stops_append (damage_in new) trail made, none_in None (damage_in new) trail (sym was)) refl
 stops_on (Some s) new trail made was one =
     let same : new ≡ Some s = stays (Some s) new made one s refl in
-    subst (λ o. Stops None o (trail ++ made)) (sym same)
-    (subst (λ o. Stops (Some s) o made) same one ∙ ap (λ l. l ++ stops_in s.damage made) was ∙ sym (stops_append s.damage trail made))
+    subst (λ o. StopsAmong None o (trail ++ made)) (sym same)
+    (subst (λ o. StopsAmong (Some s) o made) same one ∙ ap (λ l. l ++ stops_in s.damage made) was ∙ sym (stops_append s.damage trail made))
 
 -- a call that makes no event, or one that tells no stop
-pub stops_still : (stop : Option Stop) → Stops stop stop []
+pub stops_still : (stop : Option Stop) → StopsAmong stop stop []
 stops_still stop = sym (append-nil (option_to_list stop))
 
-pub stops_calm : (stop : Option Stop) (e : Event) → option_to_list (told_stop (damage_in stop) e) ≡ [] → Stops stop stop (e ∷ [])
+pub stops_calm : (stop : Option Stop) (e : Event) → option_to_list (told_stop (damage_in stop) e) ≡ [] → StopsAmong stop stop (e ∷ [])
 stops_calm stop e none = sym (rw none (append-nil (option_to_list stop)))
 
 -- what the collector was refused tells the stop still
@@ -99,7 +99,7 @@ all_undamaged (e ∷ trail) isnt =
     rw (told_undamaged e two.0, all_undamaged trail two.1) refl
 
 -- where the server stopped at no damage none is told
-pub undamaged : (stop : Option Stop) (trail : List Event) → damage_in stop ≡ None → Stops None stop trail → list_any tells_damage trail ≡ false
+pub undamaged : (stop : Option Stop) (trail : List Event) → damage_in stop ≡ None → StopsAmong None stop trail → list_any tells_damage trail ≡ false
 undamaged None trail none stops = all_undamaged trail (rw (← stops) refl)
 undamaged (Some s) trail none stops =
     let same : stops_in None trail ≡ s ∷ [] = ap (λ d. stops_in d trail) (sym none) ∙ sym stops in

@@ -1,8 +1,8 @@
 -- A disk of which no call is listed to fail, and that keeps none, never fails.
 use Rattle.std.proofs.Common.{inl, inr, ℕ, [], false, ◌∙◌, arith, IsTrue}
-use Rattle.cfs_serve.proofs.Cited.{Contains, Image, IsDue, IsMade, IsSamePlan, IsSure, MemoryDisk, is_recording}
+use Rattle.cfs_serve.proofs.Cited.{Contains, Image, IsDue, IsUncalled, IsSamePlan, IsSure, MemoryDisk, is_recording}
 
-pub made_sure : (d : MemoryDisk) (blocks : Image) → IsMade d blocks [] false → IsSure d
+pub made_sure : (d : MemoryDisk) (blocks : Image) → IsUncalled d blocks [] false → IsSure d
 made_sure d blocks made = record { none = λ m listed. in_none m ((made.listed m).0 listed); forgets = made.recording }
   where
     in_none : (m : ℕ) → Contains [] m → ⊥

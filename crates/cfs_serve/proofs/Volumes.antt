@@ -1,6 +1,6 @@
 -- A volume that was opened, and what a service comes to on it.
 use Rattle.std.proofs.Common.{◌≡◌, ◌⊎◌, inl, inr, ℕ, ◌*◌, ◌≤◌, List, [], Option, Some, None, Result, Ok, Err, IfOk, IsTrue, refl, sym, ap, ◌∙◌, subst, arith, length}
-use Rattle.cfs_serve.proofs.Cited.{AsksSessions, Cause, Counts, Ending, EndsSo, Event, Ghosts, Graph, Ground, HaveScripts, IfSome, Image, Intake, IsCause, IsCaused, IsLater, IsNewCore, IsOpenFault, IsOpened, IsPlayed, IsRefusal, IsRunFrom, IsRunOf, IsSound, IsSoundAs, IsSourceCause, Kernel, LeavesSinceBarrier, LeavesSinceTry, Places, Reading, RecoverFault, Report, Rose, RoseIn, Client, ServesScripts, ServesVolume, StandsFor, Supply, front_of, ground_at, ground_on, not_begun, opened, opening, option_map, result_ok, opening_cause}
+use Rattle.cfs_serve.proofs.Cited.{AsksSessions, Cause, Counts, Ending, EndsService, Event, Ghosts, Graph, Ground, HaveScripts, IfSome, Image, Intake, IsUnservedCause, IsCaused, IsLater, IsNewCore, IsOpenFault, IsOpenedCore, IsPlayed, IsOpeningRefusal, IsRunFrom, IsRunOf, IsSound, IsSoundAs, IsSourceCause, Kernel, LeavesSinceBarrier, LeavesSinceTry, Places, PortReading, RecoverFault, Report, Rose, RoseIn, Client, ServesScripts, ServesVolume, StandsFor, Supply, front_of, ground_at, ground_on, not_begun, opened, opening, option_map, result_ok, opening_cause}
 use Rattle.cfs_recover.specs.declared.fault.RecoverFault.TheVariants as whys
 use Rattle.cfs_serve.specs.declared.report.Cause.TheVariants as causes
 
@@ -16,7 +16,7 @@ none_mapped : {A B : Type 0} (f : A → B) (o : Option A) → None ≡ option_ma
 none_mapped f None is = refl
 none_mapped f (Some x) is = absurd (cc is)
 
-pub new_core : {D : Type 0} (g : Ghosts D) (cylinders seed : ℕ) (k : Kernel D) → 1 ≤ cylinders → IsOpened g (opened seed) seed k → k.collections ≡ record { collector = None; called = 0; finished = 0 } → 64 * cylinders ≡ 64 * length k.space.free → IsNewCore g cylinders seed k
+pub new_core : {D : Type 0} (g : Ghosts D) (cylinders seed : ℕ) (k : Kernel D) → 1 ≤ cylinders → IsOpenedCore g (opened seed) seed k → k.collections ≡ record { collector = None; called = 0; finished = 0 } → 64 * cylinders ≡ 64 * length k.space.free → IsNewCore g cylinders seed k
 new_core g cylinders seed k some is idle size = record {
   stands = is.stands;
   words = is.words;
@@ -31,8 +31,8 @@ never_rose rose = absurd (omega (arith, rose))
 
 -- ---- a session, by what its volume may read as
 
-ends_on : (rose wide : Type 0) (collections : ℕ) (ending : Ending) (trail : List Event) → (rose → wide) → EndsSo rose collections ending trail
-    → EndsSo wide collections ending trail
+ends_on : (rose wide : Type 0) (collections : ℕ) (ending : Ending) (trail : List Event) → (rose → wide) → EndsService rose collections ending trail
+    → EndsService wide collections ending trail
 ends_on rose wide collections ending trail to is = record {
   stops = is.stops;
   refusal = is.refusal;
@@ -55,7 +55,7 @@ module _ (a b : Ground) (seed collections : ℕ) (rose wide : Type 0) (cylinders
     rests = run.rests;
   })
 
-  pub played_on : (clients : List Client) (ports : List Reading) (counts : Counts) (cause : Cause) (ending : Ending) (trail : List Event)
+  pub played_on : (clients : List Client) (ports : List PortReading) (counts : Counts) (cause : Cause) (ending : Ending) (trail : List Event)
       → IsPlayed a seed collections rose clients ports counts cause ending trail → IsPlayed b seed collections wide clients ports counts cause ending trail
   played_on clients ports counts cause ending trail played = record {
     root = played.root;
@@ -95,13 +95,13 @@ module _ {D : Type 0} (g : Ghosts D) (core : Kernel D) (scripts : List (List ℕ
 
 -- nothing was served
 none_run : (ground : Ground) (seed collections : ℕ) (wide : Type 0) (sources sources_after : List Supply) (sinks after : List Intake) (report : Report) (ending : Ending)
-    (trail : List Event) (cause : Cause) → IsCause ground wide sources sources_after cause → after ≡ sinks → report ≡ record { counts = None; cause = cause } → trail ≡ []
+    (trail : List Event) (cause : Cause) → IsUnservedCause ground wide sources sources_after cause → after ≡ sinks → report ≡ record { counts = None; cause = cause } → trail ≡ []
     → ending ≡ not_begun → IsRunOf ground seed collections wide sources sources_after sinks after report ending trail
 none_run ground seed collections wide sources sources_after sinks after report ending trail cause is same told none no_end =
     inr (record { cause = cause; is = is; nothing = record { no_event = none; no_end = no_end; untouched = same; told = told } })
 
 pub none_asks : (ground : Ground) (seed collections : ℕ) (old new : Places) (report : Report) (ending : Ending) (trail : List Event) (cause : Cause) → length new.sources ≡ length old.sources
-    → IsCause ground (RoseIn old.disk new.disk) old.sources new.sources cause → new.sinks ≡ old.sinks → report ≡ record { counts = None; cause = cause } → trail ≡ []
+    → IsUnservedCause ground (RoseIn old.disk new.disk) old.sources new.sources cause → new.sinks ≡ old.sinks → report ≡ record { counts = None; cause = cause } → trail ≡ []
     → ending ≡ not_begun → AsksSessions ground seed collections old new report ending trail
 none_asks ground seed collections old new report ending trail cause count is same told none no_end = record {
   sources = count;
@@ -109,7 +109,7 @@ none_asks ground seed collections old new report ending trail cause count is sam
   run = none_run ground seed collections (RoseIn old.disk new.disk) old.sources new.sources old.sinks new.sinks report ending trail cause is same told none no_end;
 }
 
-pub source_cause : (ground : Ground) (wide : Type 0) (source after : List Supply) (cause : Cause) → IsSourceCause source after cause → IsCause ground wide source after cause
+pub source_cause : (ground : Ground) (wide : Type 0) (source after : List Supply) (cause : Cause) → IsSourceCause source after cause → IsUnservedCause ground wide source after cause
 source_cause ground wide source after (causes.Volume fault) is = absurd is
 source_cause ground wide source after (causes.Disk moment) is = absurd is
 source_cause ground wide source after causes.Nothing is = is
@@ -136,8 +136,8 @@ since_try g old new P (inr since) = inr (since.0, since.1.settled, since.1.untou
 
 module _ {D : Type 0} (g : Ghosts D) (old : D) (seed : ℕ) where
   -- it was refused
-  pub refusal_cause : (new : D) (source after : List Supply) (script : List (List ℕ)) → HaveScripts source script → (cause : Cause) → IsRefusal g old new cause
-      → IsCause (ground_on g old) (Rose (g.faults old) (g.faults new)) source after cause
+  pub refusal_cause : (new : D) (source after : List Supply) (script : List (List ℕ)) → HaveScripts source script → (cause : Cause) → IsOpeningRefusal g old new cause
+      → IsUnservedCause (ground_on g old) (Rose (g.faults old) (g.faults new)) source after cause
   refusal_cause new source after script has (causes.Volume fault) is =
       ((λ graph reads. (is reads.0).0 (graph, reads.1)), (script, has), (λ honest. (is honest).1))
   refusal_cause new source after script has (causes.Disk moment) is = (is.0, is.1, (script, has))
@@ -192,7 +192,7 @@ module _ {D : Type 0} (g : Ghosts D) (old : D) (seed : ℕ) where
       some_none e = cc
   served core collections scripts sinks after report ending trail moments new later words stands images (inr n) = rw n.1 (unserved core.disk report ending trail moments causes.Memory later n.0.told (λ e. cc) (λ honest graph sound. inr (since_try g old core.disk _ (images honest graph sound))))
 
-pub refusal_ill : {D : Type 0} (g : Ghosts D) (old new : D) (cause : Cause) → IsRefusal g old new cause → ¬ (cause ≡ causes.Nothing)
+pub refusal_ill : {D : Type 0} (g : Ghosts D) (old new : D) (cause : Cause) → IsOpeningRefusal g old new cause → ¬ (cause ≡ causes.Nothing)
 refusal_ill g old new cause is well = absurd (rw well at is)
 
 -- what is told of a refusal
@@ -205,7 +205,7 @@ module _ {D : Type 0} (g : Ghosts D) (old new : D) where
   ]
 
   pub refusal_of : (why : RecoverFault) → (IsTrue (g.honest old) → IsSound (g.content old) → (why ≡ whys.Disk) ⊎ (why ≡ whys.Memory))
-      → (IsTrue (g.honest old) → IsOpenFault (g.content old) why) → IsCaused g old new why → IsRefusal g old new (opening_cause why)
+      → (IsTrue (g.honest old) → IsOpenFault (g.content old) why) → IsCaused g old new why → IsOpeningRefusal g old new (opening_cause why)
   refusal_of whys.Disk free fault caused = (refl, caused.cause)
   refusal_of whys.NotVolume free fault caused = λ honest. (never_free whys.NotVolume (λ e. cc e) (λ e. cc e) free honest, fault honest)
   refusal_of (whys.Version found) free fault caused = λ honest. (never_free (whys.Version found) (λ e. cc e) (λ e. cc e) free honest, fault honest)

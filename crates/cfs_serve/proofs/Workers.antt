@@ -1,27 +1,27 @@
 -- A turn of a worker, of a session or of the collector.
 use Rattle.std.proofs.Common.{◌≡◌, ◌≢◌, inl, inr, ℕ, zero, suc, ◌+◌, ◌<◌, ◌≤◌, ◌==◌, Bool, true, false, cond, List, [], ◌∷◌, ◌++◌, Option, Some, None, length, slice_get, refl, sym, ap, ◌∙◌, subst, arith, length-append}
-use Rattle.cfs_serve.proofs.Cited.{AreHeard, CollectFault, Event, HasNoCollector, Hearing, IsSessionTurn, IsTurn, Journaled, Progress, Reading, Steps, Terms, append-nil, has_left_at, is_done_in, is_of_session, turns_left_in, nat_tests, recorded, slice_get_within, sum_by, turns_left, turns_left_at, turns_now}
+use Rattle.cfs_serve.proofs.Cited.{AreHeard, CollectFault, Event, HasNoCollector, Hearing, IsSessionTurn, IsTurn, Journaled, Progress, PortReading, JournalSteps, Terms, append-nil, has_left_at, is_done_in, is_of_session, turns_left_in, nat_tests, recorded, slice_get_within, sum_by, turns_left, turns_left_at, turns_now}
 use Rattle.cfs_serve.proofs.Sessions as sessions
 use Rattle.cfs_serve.proofs.Sessions.{heard_beside}
 
 -- what is known of a worker, by which one it is
-pub session_done : (ports : List Reading) (turns w : ℕ) → w ≢ length ports → is_done_in ports turns w ≡ has_left_at (slice_get ports w)
+pub session_done : (ports : List PortReading) (turns w : ℕ) → w ≢ length ports → is_done_in ports turns w ≡ has_left_at (slice_get ports w)
 session_done [] turns zero apart = absurd (apart refl)
 session_done [] turns (suc w) apart = refl
 session_done (p ∷ ports) turns zero apart = refl
 session_done (p ∷ ports) turns (suc w) apart = session_done ports turns w (λ same. apart (ap (λ n. suc n) same))
 
-pub session_left : (ports : List Reading) (turns w : ℕ) → w ≢ length ports → turns_left_in ports turns w ≡ turns_left_at (slice_get ports w)
+pub session_left : (ports : List PortReading) (turns w : ℕ) → w ≢ length ports → turns_left_in ports turns w ≡ turns_left_at (slice_get ports w)
 session_left [] turns zero apart = absurd (apart refl)
 session_left [] turns (suc w) apart = refl
 session_left (p ∷ ports) turns zero apart = refl
 session_left (p ∷ ports) turns (suc w) apart = session_left ports turns w (λ same. apart (ap (λ n. suc n) same))
 
-pub collector_done : (ports : List Reading) (turns : ℕ) → is_done_in ports turns (length ports) ≡ (turns == 0)
+pub collector_done : (ports : List PortReading) (turns : ℕ) → is_done_in ports turns (length ports) ≡ (turns == 0)
 collector_done [] turns = refl
 collector_done (p ∷ ports) turns = collector_done ports turns
 
-pub collector_left : (ports : List Reading) (turns : ℕ) → turns_left_in ports turns (length ports) ≡ turns
+pub collector_left : (ports : List PortReading) (turns : ℕ) → turns_left_in ports turns (length ports) ≡ turns
 collector_left [] turns = refl
 collector_left (p ∷ ports) turns = collector_left ports turns
 
@@ -58,22 +58,22 @@ others_stay clock i old new (inl turn) w apart = by (w == length old.ports) refl
         session_done new.ports new.turns w (λ same. other (same ∙ sessions.as_many clock i old new turn)) ∙ sessions.others_stay clock i old new turn w apart ∙ sym (session_done old.ports old.turns w other)
 others_stay clock i old new (inr (is, step)) w apart =
     let other : w ≢ length old.ports = (λ same. apart (same ∙ sym is)) in
-    ap (λ (ps : List Reading). is_done_in ps new.turns w) step.ports ∙ session_done old.ports new.turns w other ∙ sym (session_done old.ports old.turns w other)
+    ap (λ (ps : List PortReading). is_done_in ps new.turns w) step.ports ∙ session_done old.ports new.turns w other ∙ sym (session_done old.ports old.turns w other)
 
 -- one that isn't done has a turn to make
-pub collector_stays : (ports : List Reading) (turns w : ℕ) → w ≡ length ports → is_done_in ports turns w ≡ false → 0 < turns
+pub collector_stays : (ports : List PortReading) (turns w : ℕ) → w ≡ length ports → is_done_in ports turns w ≡ false → 0 < turns
 collector_stays ports turns w is stays =
     let none : (turns == 0) ≡ false = sym (ap (λ v. is_done_in ports turns v) is ∙ collector_done ports turns) ∙ stays in
     grind (arith, nat_tests)
 
-pub session_stays : (ports : List Reading) (turns w : ℕ) → w ≢ length ports → is_done_in ports turns w ≡ false → (w < length ports) × (has_left_at (slice_get ports w) ≡ false)
+pub session_stays : (ports : List PortReading) (turns w : ℕ) → w ≢ length ports → is_done_in ports turns w ≡ false → (w < length ports) × (has_left_at (slice_get ports w) ≡ false)
 session_stays [] turns zero apart stays = absurd (apart refl)
 session_stays [] turns (suc w) apart stays = absurd (cc stays)
 session_stays (p ∷ ports) turns zero apart stays = (omega arith, stays)
 session_stays (p ∷ ports) turns (suc w) apart stays = let rest = session_stays ports turns w (λ same. apart (ap (λ n. suc n) same)) stays in (omega (arith, rest.0), rest.1)
 
 -- a session of a hall whose workers are done has left
-pub all_done : (ports : List Reading) (turns : ℕ) → ((w : ℕ) → is_done_in ports turns w ≡ true) → (k : ℕ) → has_left_at (slice_get ports k) ≡ true
+pub all_done : (ports : List PortReading) (turns : ℕ) → ((w : ℕ) → is_done_in ports turns w ≡ true) → (k : ℕ) → has_left_at (slice_get ports k) ≡ true
 all_done [] turns done k = refl
 all_done (p ∷ ports) turns done zero = done 0
 all_done (p ∷ ports) turns done (suc k) = all_done ports turns (λ w. done (suc w)) k
@@ -100,9 +100,9 @@ as_told true o none = one_at_most o
 as_told false o none = rw (none refl) (omega arith)
 
 -- what the hall keeps, where the collector has a turn left
-module _ {A : Type 0} (t : Terms A) (clock : A → ℕ) (old new : Journaled A) (ports : List Reading) (progress : Progress) (turns events : ℕ) (refused : Option CollectFault)
+module _ {A : Type 0} (t : Terms A) (clock : A → ℕ) (old new : Journaled A) (ports : List PortReading) (progress : Progress) (turns events : ℕ) (refused : Option CollectFault)
     (heard : AreHeard t old.events ports) (room : sum_by turns_left ports + events ≤ old.room) (few : length old.events + sum_by turns_left ports + events < 4294967295)
-    (paired : 0 < turns → 0 < events) (quiet : HasNoCollector t turns refused) (some : 0 < turns) (steps : Steps clock old new progress) where
+    (paired : 0 < turns → 0 < events) (quiet : HasNoCollector t turns refused) (some : 0 < turns) (steps : JournalSteps clock old new progress) where
   called : t.collections ≡ 0 → ⊥
   called none = absurd (omega (arith, (quiet none).0, some))
 

@@ -5,12 +5,12 @@ use Rattle.std.specs.Option.{option_map_or}
 use Rattle.cfs_base.specs.Outside.{Rose}
 use Rattle.cfs_base.specs.declared.disk.Disk.{Ghosts}
 use Rattle.cfs_base.specs.declared.refusal.Need.{Need}
-use Rattle.cfs_core.specs.Damage.{is_delete}
+use Rattle.cfs_core.specs.Damage.{asks_delete}
 use Rattle.cfs_core.specs.Collect.{event_of}
-use Rattle.cfs_core.specs.Kernel.{Kernel, runs}
+use Rattle.cfs_core.specs.Kernel.{Kernel, collection_runs}
 use Rattle.cfs_core.specs.Left.{events_ahead, steps_ahead}
 use Rattle.cfs_core.specs.Room.{IsRoom, lost_blocks}
-use Rattle.cfs_core.specs.StandsFor.{is_sweeping}
+use Rattle.cfs_core.specs.StandsFor.{sweeps_now}
 use Rattle.cfs_core.specs.declared.collecting.CollectFault.{CollectFault}
 use Rattle.cfs_core.specs.declared.collecting.CollectFault.TheVariants as faults
 use Rattle.cfs_core.specs.declared.collecting.Step.{Step}
@@ -41,18 +41,18 @@ tells_outcome reply = false
 
 -- So many blocks are Free in this state: its room; but while a collection sweeps less than that by as many at most as
 -- the objects had that are gone.
-pub record Fits (cylinders lost : ℕ) (s : State) (free : ℕ) : Type 0 where
+pub record FitsRoom (cylinders lost : ℕ) (s : State) (free : ℕ) : Type 0 where
   pub room : ℕ
   pub is_room : IsRoom cylinders s room
   pub most : free ≤ room
   pub least : room ≤ free + lost
-  pub all : is_sweeping s.collection ≡ false → free ≡ room
+  pub all : sweeps_now s.collection ≡ false → free ≡ room
 
 -- A Full names what is Free. A request that was done, other than a delete, left four blocks of the room beside its
 -- need.
 pub record IsExact (cylinders lost : ℕ) (s : State) (who : ℕ) (request : Request) (reply : Reply) : Type 0 where
-  pub full : (need : Need) → reply ≡ replies.Full need → Fits cylinders lost s need.free
-  pub done : tells_outcome reply ≡ true → is_delete request ≡ false → (free : ℕ) → IsRoom cylinders s free
+  pub full : (need : Need) → reply ≡ replies.Full need → FitsRoom cylinders lost s need.free
+  pub done : tells_outcome reply ≡ true → asks_delete request ≡ false → (free : ℕ) → IsRoom cylinders s free
       → need_of s who request + reserve ≤ free
 
 abbrev pub IsExactEvent : (cylinders lost : ℕ) → State → Event → Type 0
@@ -79,15 +79,15 @@ AreExact cylinders seed lost s (e ∷ trail) =
 -- ---- one event
 
 -- the event may come in the state, and the server stands for the state after it
-pub record Makes (stands : State → Type 0) (seed : ℕ) (s : State) (e : Event) : Type 0 where
+pub record MakesServed (stands : State → Type 0) (seed : ℕ) (s : State) (e : Event) : Type 0 where
   pub after : State
   pub step : next seed s e ≡ Some after
   pub standing : stands after
 
 -- What is known of crashes, event by event, goes on by this one, which is recorded as the call ends.
-abbrev pub GoesOn : {A : Type 0} → (A → State → Type 0) → (A → ℕ) → (A → ℕ → Graph → List Event → List ℕ → Type 0)
+abbrev pub CrashesGoOn : {A : Type 0} → (A → State → Type 0) → (A → ℕ) → (A → ℕ → Graph → List Event → List ℕ → Type 0)
     → (seed : ℕ) → A → A → Event → Type 0
-GoesOn stands clock lasts seed old new e = (graph : Graph) (trail : List Event) (marks : List ℕ) (s : State)
+CrashesGoOn stands clock lasts seed old new e = (graph : Graph) (trail : List Event) (marks : List ℕ) (s : State)
     → replay seed graph trail ≡ Some s → stands old s
     → lasts old seed graph trail marks → lasts new seed graph (trail ++ e ∷ []) (marks ++ clock new ∷ [])
 
@@ -103,8 +103,9 @@ pub record TellsSo {A : Type 0} (faults : A → ℕ) (has_stopped is_damaged : A
       → ((has_stopped old ≡ true) × (is_damaged old ≡ false)) ⊎ Rose (faults old) (faults new)
 
 -- and so an event does
-abbrev pub Tells : {A : Type 0} → (A → ℕ) → (has_stopped is_damaged : A → Bool) → A → A → Event → Type 0
-Tells faults has_stopped is_damaged old new e = TellsSo faults has_stopped is_damaged old new (tells_disk e) (is_calm e)
+abbrev pub TellsEvent : {A : Type 0} → (A → ℕ) → (has_stopped is_damaged : A → Bool) → A → A → Event → Type 0
+TellsEvent faults has_stopped is_damaged old new e =
+    TellsSo faults has_stopped is_damaged old new (tells_disk e) (is_calm e)
 
 -- ---- one step of the collector
 
@@ -149,7 +150,7 @@ refusal_by (Err fault) = Some fault
 -- the event may come, or the server stands for the state on
 abbrev pub MayMake : (State → Type 0) → (seed : ℕ) → State → Option Event → Type 0
 MayMake stands seed s None = stands s
-MayMake stands seed s (Some e) = Makes stands seed s e
+MayMake stands seed s (Some e) = MakesServed stands seed s e
 
 -- and what is known of crashes goes on
 abbrev pub MayGoOn : {A : Type 0} → (A → State → Type 0) → (A → ℕ) → (A → ℕ → Graph → List Event → List ℕ → Type 0)
@@ -157,7 +158,7 @@ abbrev pub MayGoOn : {A : Type 0} → (A → State → Type 0) → (A → ℕ) �
 MayGoOn stands clock lasts seed old new None = (graph : Graph) (trail : List Event) (marks : List ℕ) (s : State)
     → replay seed graph trail ≡ Some s → stands old s
     → lasts old seed graph trail marks → lasts new seed graph trail marks
-MayGoOn stands clock lasts seed old new (Some e) = GoesOn stands clock lasts seed old new e
+MayGoOn stands clock lasts seed old new (Some e) = CrashesGoOn stands clock lasts seed old new e
 
 -- ---- collections
 
@@ -187,7 +188,7 @@ abbrev pub tally_of : {D : Type 0} → Ghosts D → Kernel D → Tally
 tally_of g k = record {
   called = k.collections.called;
   finished = k.collections.finished;
-  running = runs k.collections.collector;
+  running = collection_runs k.collections.collector;
   steps = steps_ahead (g.blocks k.disk) k.collections;
   events = events_ahead k.collections;
   lost = λ graph. lost_blocks (g.content k.disk) graph;
@@ -214,17 +215,17 @@ MayCount (Some e) c d = Counts e c d
 
 -- What a call of a session does, on any disk: it moves no collection on, adds one step at most, for a rescue, and the
 -- clock doesn't fall.
-pub record Passes {A : Type 0} (clock : A → ℕ) (tally : A → Tally) (old new : A) : Type 0 where
+pub record SessionPasses {A : Type 0} (clock : A → ℕ) (tally : A → Tally) (old new : A) : Type 0 where
   pub later : clock old ≤ clock new
   pub counts : AsBefore (tally old) (tally new)
   pub steps : (tally new).steps ≤ (tally old).steps + 1
   pub events : (tally new).events ≤ (tally old).events
 
 -- a step that was made leaves fewer
-abbrev pub Spends : Tally → Tally → Result Step CollectFault → Type 0
-Spends c d (Ok steps.Idle) = Unit {0}
-Spends c d (Ok step) = (d.steps < c.steps) × (d.events + length (option_to_list (event_of step)) ≤ c.events)
-Spends c d (Err fault) = Unit {0}
+abbrev pub SpendsStep : Tally → Tally → Result Step CollectFault → Type 0
+SpendsStep c d (Ok steps.Idle) = Unit {0}
+SpendsStep c d (Ok step) = (d.steps < c.steps) × (d.events + length (option_to_list (event_of step)) ≤ c.events)
+SpendsStep c d (Err fault) = Unit {0}
 
 -- fewer steps are left, and one event less where it is told
 abbrev pub SpendsOne : Tally → Tally → (told : Bool) → Type 0
@@ -237,7 +238,7 @@ pub record PassesStep {A : Type 0} (clock : A → ℕ) (has_stopped : A → Bool
   pub counts : MayCount (event_by result) (tally old) (tally new)
   pub stops : tells_stop_at (event_by result) ≡ true → has_stopped new ≡ true
   pub begins : event_by result ≡ Some events.Began → has_stopped new ≡ false
-  pub spends : Spends (tally old) (tally new) result
+  pub spends : SpendsStep (tally old) (tally new) result
 
 -- what an event does to the blocks of what is gone
 pub record Tallies {A : Type 0} (has_stopped : A → Bool) (tally : A → Tally) (seed : ℕ) (old new : A) (s : State)
@@ -246,12 +247,13 @@ pub record Tallies {A : Type 0} (has_stopped : A → Bool) (tally : A → Tally)
       → (tally new).lost t.graph ≤ lost_by e s t ((tally old).lost s.graph)
 
 -- and no event leaves no more of them than before
-pub record Rests {A : Type 0} (has_stopped : A → Bool) (tally : A → Tally) (old new : A) (s : State) : Type 0 where
+pub record ServerRests {A : Type 0} (has_stopped : A → Bool) (tally : A → Tally) (old new : A)
+    (s : State) : Type 0 where
   pub lost : has_stopped new ≡ false → (tally new).lost s.graph ≤ (tally old).lost s.graph
 
 abbrev pub MayTally : {A : Type 0} → (has_stopped : A → Bool) → (tally : A → Tally) → (seed : ℕ) → A → A → State
     → Option Event → Type 0
-MayTally has_stopped tally seed old new s None = Rests has_stopped tally old new s
+MayTally has_stopped tally seed old new s None = ServerRests has_stopped tally old new s
 MayTally has_stopped tally seed old new s (Some e) = Tallies has_stopped tally seed old new s e
 
 -- the trail has as many beginnings and ends of collections as are counted

@@ -19,7 +19,7 @@ use Rattle.cfs_serve.specs.declared.report.Cause.TheVariants as causes
 use Rattle.cfs_serve.specs.declared.ending.Ending.{Ending}
 use Rattle.cfs_serve.specs.declared.report.Report.{Report}
 use Rattle.cfs_serve.specs.Events.{tells_disk, tells_fault}
-use Rattle.cfs_serve.specs.Journal.{Rise, faults_after, first_fault}
+use Rattle.cfs_serve.specs.Journal.{MomentsRise, faults_after, first_fault}
 use Rattle.cfs_serve.specs.Words.{Asked, Audits, Format, Formats, InFile, InMemory, Nothing, Place, Serves, Shows}
 use Rattle.cfs_serve.specs.Words.{Spins}
 
@@ -53,7 +53,7 @@ pub record ServesVolume {D : Type 0} (g : Ghosts D) (seed : ℕ) (told : Report)
   pub later : IsLater g old opened
   pub rises : g.faults opened ≤ g.faults new
   -- no moment along the trail is below the one before it, from the opening on, and none above the last
-  pub rise : IsSome told.counts → Rise (g.moment opened) moments (g.moment new)
+  pub rise : IsSome told.counts → MomentsRise (g.moment opened) moments (g.moment new)
   -- what a crash leaves since the first barrier of the opening reads as before
   pub opening : IsTrue (g.honest old) → (graph : Graph) → IsSoundAs (g.content old) graph
       → (opened ≡ old) ⊎ LeavesSinceTry g old opened (λ c. IsSoundAs c graph)

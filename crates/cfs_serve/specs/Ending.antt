@@ -41,8 +41,8 @@ stops_in damage [] = []
 stops_in damage (e ∷ trail) = option_to_list (told_stop damage e) ++ stops_in damage trail
 
 -- These events were made: a core that stopped stays so, and of one that ran one of them tells why it stopped.
-abbrev pub Stops : Option Stop → Option Stop → List Event → Type 0
-Stops before after made = option_to_list after ≡ option_to_list before ++ stops_in (damage_in after) made
+abbrev pub StopsAmong : Option Stop → Option Stop → List Event → Type 0
+StopsAmong before after made = option_to_list after ≡ option_to_list before ++ stops_in (damage_in after) made
 
 -- ---- why the collector was done
 
@@ -106,9 +106,9 @@ cause_of ending trail broken = cause_by ending (list_any tells_disk trail) broke
 -- ---- all of it
 
 -- How a service ended of which the disk's count rose, or didn't, whatever disk it is.
-pub record EndsSo (rose : Type 0) (collections : ℕ) (ending : Ending) (trail : List Event) : Type 0 where
+pub record EndsService (rose : Type 0) (collections : ℕ) (ending : Ending) (trail : List Event) : Type 0 where
   -- the trail tells this stop once, and no other; and none where the core runs
-  pub stops : Stops None ending.stop trail
+  pub stops : StopsAmong None ending.stop trail
   pub refusal : TellsStop ending.refused ending.stop
   -- where no collection is called for the collector makes no step
   pub quiet : collections ≡ 0 → ending.refused ≡ None

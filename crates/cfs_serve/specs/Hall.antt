@@ -15,17 +15,17 @@ use Rattle.ufs_model.specs.Spoken.{all_forms, reading_of}
 use Rattle.ufs_model.specs.Turns.{is_turn_of, turns_in, turn_of, turns_from, names_after}
 use Rattle.ufs_model.specs.Printed.{printed, printed_replies}
 use Rattle.cfs_script.specs.NameTable.{names_of}
-use Rattle.cfs_ports.specs.Port.{Reading, IsNew, Replied}
+use Rattle.cfs_ports.specs.Port.{PortReading, IsNewPort, Replied}
 use Rattle.cfs_serve.specs.Calls.{Tally}
 use Rattle.cfs_serve.specs.Charter.{Client, Terms}
 use Rattle.cfs_serve.specs.Events.{BreaksOff, events_of_session, is_of_session, is_sessions}
 use Rattle.cfs_core.specs.declared.collecting.CollectFault.{CollectFault}
-use Rattle.cfs_serve.specs.Journal.{IsStamped, Journaled, Steps, recorded}
+use Rattle.cfs_serve.specs.Journal.{IsStamped, Journaled, JournalSteps, recorded}
 use Rattle.cfs_serve.specs.declared.journal.Progress.{Progress}
 
 pub record Hearing (A : Type 0) : Type 0 where
   pub journal : Journaled A
-  pub ports : List Reading
+  pub ports : List PortReading
   -- the turns that the collector may make now, none where it rests; all that it has left, and how many events of it
   -- there is room for
   pub turns : ℕ
@@ -49,7 +49,7 @@ IsLeave i true leaves = (stopped : Option ℕ) × (leaves ≡ events.Leave i sto
 -- Session i: its events are the turns of its script as far as it was read, and then one leave where it has left, which
 -- it does at the script's end or once its sink failed. Its sink has taken its replies; where it failed, all but the
 -- last, and some beginning of that one.
-pub record IsSession (root : Puid) (i : ℕ) (client : Client) (p : Reading) (trail : List Event) : Type 0 where
+pub record IsSession (root : Puid) (i : ℕ) (client : Client) (p : PortReading) (trail : List Event) : Type 0 where
   pub leaves : List Event
   pub split : events_of_session i trail ≡ turns_in i trail ++ leaves
   pub left : IsLeave i p.has_left leaves
@@ -62,9 +62,10 @@ pub record IsSession (root : Puid) (i : ℕ) (client : Client) (p : Reading) (tr
 
 -- So it is with each session, and no event is of a session without a script; where no collection is called for, each is
 -- of one.
-pub record AreHeard {A : Type 0} (t : Terms A) (trail : List Event) (ports : List Reading) : Type 0 where
+pub record AreHeard {A : Type 0} (t : Terms A) (trail : List Event) (ports : List PortReading) : Type 0 where
   pub count : length ports ≡ length t.clients
-  pub each : (k : ℕ) (client : Client) (p : Reading) → slice_get t.clients k ≡ Some client → slice_get ports k ≡ Some p
+  pub each : (k : ℕ) (client : Client) (p : PortReading) → slice_get t.clients k ≡ Some client
+      → slice_get ports k ≡ Some p
       → IsSession t.root k client p trail
   pub none : (k : ℕ) → length ports ≤ k → events_of_session k trail ≡ []
   pub sessions : t.collections ≡ 0 → list_all is_sessions trail ≡ true
@@ -80,24 +81,24 @@ HasTurns turns events lines c = 0 < turns → (c.steps + lines < turns) × (c.ev
 
 -- ---- the turns that are left
 
-abbrev pub turns_left : Reading → ℕ
+abbrev pub turns_left : PortReading → ℕ
 turns_left p = if p.has_left then 0 else length p.lines + 1
 
-abbrev pub has_left_at : Option Reading → Bool
+abbrev pub has_left_at : Option PortReading → Bool
 has_left_at None = true
 has_left_at (Some p) = p.has_left
 
-abbrev pub turns_left_at : Option Reading → ℕ
+abbrev pub turns_left_at : Option PortReading → ℕ
 turns_left_at None = 0
 turns_left_at (Some p) = turns_left p
 
-abbrev pub AllLeft : List Reading → Type 0
+abbrev pub AllLeft : List PortReading → Type 0
 AllLeft ports = (k : ℕ) → has_left_at (slice_get ports k) ≡ true
 
 -- ---- what a turn does to a port
 
 -- session i took a line, which came to this event
-pub record Turned (i : ℕ) (p q : Reading) (e : Event) : Type 0 where
+pub record Turned (i : ℕ) (p q : PortReading) (e : Event) : Type 0 where
   pub line : List ℕ
   pub taken : p.lines ≡ line ∷ q.lines
   pub mine : is_turn_of i e ≡ true
@@ -110,7 +111,7 @@ pub record Turned (i : ℕ) (p q : Reading) (e : Event) : Type 0 where
   pub replied : Replied p.sink q.sink (printed i e) (not q.failed)
 
 -- session i left
-pub record Departs (i : ℕ) (p q : Reading) (e : Event) : Type 0 where
+pub record Departs (i : ℕ) (p q : PortReading) (e : Event) : Type 0 where
   pub stopped : Option ℕ
   pub is : e ≡ events.Leave i stopped
   pub stays : p.has_left ≡ false
@@ -118,7 +119,7 @@ pub record Departs (i : ℕ) (p q : Reading) (e : Event) : Type 0 where
   pub port : q ≡ record p { has_left = true }
 
 -- session i made one event, by its port
-pub record Moves {A : Type 0} (i : ℕ) (old new : Journaled A) (p q : Reading) : Type 0 where
+pub record Moves {A : Type 0} (i : ℕ) (old new : Journaled A) (p q : PortReading) : Type 0 where
   pub event : Event
   pub recorded : new.events ≡ old.events ++ event ∷ []
   pub room : new.room + 1 ≡ old.room
@@ -128,8 +129,8 @@ pub record Moves {A : Type 0} (i : ℕ) (old new : Journaled A) (p q : Reading) 
 -- A turn of session i, which stayed: its port made one event, recorded with the disk's moment as the turn returned, and
 -- the other ports are as they were.
 pub record IsSessionTurn {A : Type 0} (clock : A → ℕ) (i : ℕ) (old new : Hearing A) : Type 0 where
-  pub before : Reading
-  pub after : Reading
+  pub before : PortReading
+  pub after : PortReading
   pub at : slice_get old.ports i ≡ Some before
   pub ports : new.ports ≡ set old.ports i after
   pub moves : Moves i old.journal new.journal before after
@@ -137,16 +138,17 @@ pub record IsSessionTurn {A : Type 0} (clock : A → ℕ) (i : ℕ) (old new : H
   pub collector : (new.turns ≡ old.turns) × (new.events ≡ old.events) × (new.refused ≡ old.refused)
 
 -- A turn of the collector, which wasn't done: a step, and one turn less at least; the ports are as they were.
-pub record IsStep {A : Type 0} (clock : A → ℕ) (old new : Hearing A) : Type 0 where
+pub record IsCollectorTurn {A : Type 0} (clock : A → ℕ) (old new : Hearing A) : Type 0 where
   pub progress : Progress
-  pub steps : Steps clock old.journal new.journal progress
+  pub steps : JournalSteps clock old.journal new.journal progress
   pub ports : new.ports ≡ old.ports
   pub turns : new.turns < old.turns
   pub left : new.left < old.left
 
 -- A turn of a worker: past the sessions it is the collector.
 abbrev pub IsTurn : {A : Type 0} → (A → ℕ) → (worker : ℕ) → Hearing A → Hearing A → Type 0
-IsTurn clock worker old new = IsSessionTurn clock worker old new ⊎ ((worker ≡ length old.ports) × IsStep clock old new)
+IsTurn clock worker old new =
+    IsSessionTurn clock worker old new ⊎ ((worker ≡ length old.ports) × IsCollectorTurn clock old new)
 
 -- a turn adds an event to the trail, or none
 pub adds_one : (old new : List Event) (made : Option Event) → new ≡ old ++ recorded made → AddsAtMostOne old new
@@ -156,27 +158,27 @@ adds_one old new (Some e) is = inr (e, is)
 -- ---- the workers
 
 -- Worker w is the session of that number, or past them the collector, which has so many turns left; is it done?
-abbrev pub is_done_in : List Reading → (turns w : ℕ) → Bool
+abbrev pub is_done_in : List PortReading → (turns w : ℕ) → Bool
 is_done_in [] turns zero = turns == 0
 is_done_in [] turns (suc w) = true
 is_done_in (p ∷ ports) turns zero = p.has_left
 is_done_in (p ∷ ports) turns (suc w) = is_done_in ports turns w
 
 -- and how many turns has it left?
-abbrev pub turns_left_in : List Reading → (turns w : ℕ) → ℕ
+abbrev pub turns_left_in : List PortReading → (turns w : ℕ) → ℕ
 turns_left_in [] turns zero = turns
 turns_left_in [] turns (suc w) = 0
 turns_left_in (p ∷ ports) turns zero = turns_left p
 turns_left_in (p ∷ ports) turns (suc w) = turns_left_in ports turns w
 
 -- there is no worker beyond the collector
-pub done_beyond : (ports : List Reading) (turns w : ℕ) → suc (length ports) ≤ w → is_done_in ports turns w ≡ true
+pub done_beyond : (ports : List PortReading) (turns w : ℕ) → suc (length ports) ≤ w → is_done_in ports turns w ≡ true
 done_beyond [] turns zero beyond = absurd (not-suc-le-zero beyond)
 done_beyond [] turns (suc w) beyond = refl
 done_beyond (p ∷ ports) turns zero beyond = absurd (not-suc-le-zero beyond)
 done_beyond (p ∷ ports) turns (suc w) beyond = done_beyond ports turns w (le_of_suc-le-suc beyond)
 
-pub none_beyond : (ports : List Reading) (turns w : ℕ) → suc (length ports) ≤ w → turns_left_in ports turns w ≡ 0
+pub none_beyond : (ports : List PortReading) (turns w : ℕ) → suc (length ports) ≤ w → turns_left_in ports turns w ≡ 0
 none_beyond [] turns zero beyond = absurd (not-suc-le-zero beyond)
 none_beyond [] turns (suc w) beyond = refl
 none_beyond (p ∷ ports) turns zero beyond = absurd (not-suc-le-zero beyond)
@@ -185,24 +187,25 @@ none_beyond (p ∷ ports) turns (suc w) beyond = none_beyond ports turns w (le_o
 -- ---- as a service is made
 
 -- nothing was read of the session
-pub record IsFresh (root : Puid) (client : Client) (p : Reading) : Type 0 where
+pub record IsFresh (root : Puid) (client : Client) (p : PortReading) : Type 0 where
   pub lines : p.lines ≡ client.lines
   pub sink : p.sink ≡ client.sink
-  pub new : IsNew root p
+  pub new : IsNewPort root p
 
-pub record AreFresh {A : Type 0} (t : Terms A) (ports : List Reading) : Type 0 where
+pub record AreFresh {A : Type 0} (t : Terms A) (ports : List PortReading) : Type 0 where
   pub count : length ports ≡ length t.clients
-  pub each : (k : ℕ) (client : Client) (p : Reading) → slice_get t.clients k ≡ Some client → slice_get ports k ≡ Some p
+  pub each : (k : ℕ) (client : Client) (p : PortReading) → slice_get t.clients k ≡ Some client
+      → slice_get ports k ≡ Some p
       → IsFresh t.root client p
 
-abbrev pub AreNew : Puid → List Reading → Type 0
-AreNew root ports = (k : ℕ) (p : Reading) → slice_get ports k ≡ Some p → IsNew root p
+abbrev pub AreNew : Puid → List PortReading → Type 0
+AreNew root ports = (k : ℕ) (p : PortReading) → slice_get ports k ≡ Some p → IsNewPort root p
 
-abbrev pub client_of : Reading → Client
+abbrev pub client_of : PortReading → Client
 client_of p = record { lines = p.lines; sink = p.sink }
 
 -- the charter of a service by this server and these ports
-abbrev pub charter_of : {A : Type 0} → A → (seed cylinders : ℕ) → Puid → (collections : ℕ) → List Reading → Terms A
+abbrev pub charter_of : {A : Type 0} → A → (seed cylinders : ℕ) → Puid → (collections : ℕ) → List PortReading → Terms A
 charter_of server seed cylinders root collections ports =
     record {
       began = Some server;
@@ -217,7 +220,7 @@ charter_of server seed cylinders root collections ports =
 
 -- A session that has left: its events are turns of its script, all of them or else its sink failed, and then its leave;
 -- its sink has taken the replies.
-pub record IsOver (root : Puid) (trail : List Event) (i : ℕ) (client : Client) (after : Intake)
+pub record IsSessionOver (root : Puid) (trail : List Event) (i : ℕ) (client : Client) (after : Intake)
     (failed : Bool) : Type 0 where
   pub turns : turns_in i trail ≡ turns_from all_forms i (no_names root) client.lines (turns_in i trail)
   pub answered : failed ≡ false → length (turns_in i trail) ≡ length client.lines
@@ -228,9 +231,10 @@ pub record IsOver (root : Puid) (trail : List Event) (i : ℕ) (client : Client)
 
 -- So it is with each of them, and no event is of another session; where no collection is called for, of nobody else.
 pub record AreOver (root : Puid) (collections : ℕ) (clients : List Client) (trail : List Event)
-    (ports : List Reading) : Type 0 where
+    (ports : List PortReading) : Type 0 where
   pub count : length ports ≡ length clients
-  pub each : (k : ℕ) (client : Client) (p : Reading) → slice_get clients k ≡ Some client → slice_get ports k ≡ Some p
-      → IsOver root trail k client p.sink p.failed
+  pub each : (k : ℕ) (client : Client) (p : PortReading) → slice_get clients k ≡ Some client
+      → slice_get ports k ≡ Some p
+      → IsSessionOver root trail k client p.sink p.failed
   pub none : (k : ℕ) → length clients ≤ k → events_of_session k trail ≡ []
   pub sessions : collections ≡ 0 → list_all is_sessions trail ≡ true

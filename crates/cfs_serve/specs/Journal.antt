@@ -9,11 +9,11 @@ use Rattle.ufs_model.specs.declared.asked.Reply.{Reply}
 use Rattle.ufs_model.specs.Graph.{Graph}
 use Rattle.ufs_model.specs.State.{State, opening}
 use Rattle.ufs_model.specs.Run.{replay}
-use Rattle.cfs_ports.specs.Port.{Reading, Answers}
+use Rattle.cfs_ports.specs.Port.{PortReading, WritesReply}
 use Rattle.cfs_base.specs.Outside.{Rose, count_after}
 use Rattle.cfs_serve.specs.Calls.{AreExact, IsTallied, Tally, lost_in}
 use Rattle.cfs_serve.specs.Charter.{Terms}
-use Rattle.cfs_serve.specs.Ending.{EndsSo}
+use Rattle.cfs_serve.specs.Ending.{EndsService}
 use Rattle.cfs_serve.specs.declared.ending.Ending.{Ending}
 use Rattle.cfs_serve.specs.Events.{begins_in, is_calm, is_of_session, tells_disk, tells_fault, tells_stop}
 use Rattle.cfs_core.specs.declared.collecting.CollectFault.{CollectFault}
@@ -57,17 +57,18 @@ IsRun {A} stands has_stopped is_damaged tally t server trail = (begun : A) (grap
     → IsRunOn stands has_stopped is_damaged tally t.seed t.cylinders graph begun server trail
 
 -- each is at least the one before it, from this one on, and the last one at least them all
-abbrev pub Rise : (first : ℕ) → List ℕ → (last : ℕ) → Type 0
-Rise first [] last = first ≤ last
-Rise first (m ∷ moments) last = (first ≤ m) × Rise m moments last
+abbrev pub MomentsRise : (first : ℕ) → List ℕ → (last : ℕ) → Type 0
+MomentsRise first [] last = first ≤ last
+MomentsRise first (m ∷ moments) last = (first ≤ m) × MomentsRise m moments last
 
 -- What is so whatever disk it is: no more collections began than were called for; as long as the server runs, it counts
 -- those of the trail; and since it began no moment is below the one before it.
-pub record IsKept {A : Type 0} (clock : A → ℕ) (has_stopped : A → Bool) (tally : A → Tally) (t : Terms A) (server : A)
+pub record IsJournalKept {A : Type 0} (clock : A → ℕ) (has_stopped : A → Bool) (tally : A → Tally) (t : Terms A)
+    (server : A)
     (trail : List Event) (moments : List ℕ) : Type 0 where
   pub few : begins_in trail ≤ t.collections
   pub tallied : has_stopped server ≡ false → IsTallied (tally server) trail
-  pub rise : (begun : A) → t.began ≡ Some begun → Rise (clock begun) moments (clock server)
+  pub rise : (begun : A) → t.began ≡ Some begun → MomentsRise (clock begun) moments (clock server)
 
 -- What the trail tells of the disk, whatever disk it is. Of a server that runs, and no failed call of which is told, no
 -- trouble is; one that stopped did so by a failed call, unless a block was damaged.
@@ -87,7 +88,7 @@ pub record IsTold {A : Type 0} (faults : A → ℕ) (has_stopped is_damaged : A 
 pub record HasEnded {A : Type 0} (faults : A → ℕ) (t : Terms A) (server : A) (ending : Ending)
     (trail : List Event) : Type 0 where
   pub later : (begun : A) → t.began ≡ Some begun → faults begun ≤ faults server
-  pub since : (begun : A) → t.began ≡ Some begun → EndsSo (Rose (faults begun) (faults server))
+  pub since : (begun : A) → t.began ≡ Some begun → EndsService (Rose (faults begun) (faults server))
       t.collections ending trail
 
 -- a server that stopped stays so
@@ -117,7 +118,7 @@ faults_after counts (e ∷ trail) n = faults_after counts trail (if counts e the
 
 -- It is at least what the trail's Disk replies come to; and, where the server began on a sound volume, its stops with
 -- them.
-pub record AreCounted {A : Type 0} (faults : A → ℕ) (stands : A → State → Type 0) (t : Terms A) (first : ℕ → ℕ)
+pub record CountsFaults {A : Type 0} (faults : A → ℕ) (stands : A → State → Type 0) (t : Terms A) (first : ℕ → ℕ)
     (server : A) (trail : List Event) : Type 0 where
   pub told : (begun : A) → t.began ≡ Some begun → faults_after tells_disk trail (first (faults begun)) ≤ faults server
   pub stops : (begun : A) (graph : Graph) → t.began ≡ Some begun → stands begun (opening graph)
@@ -144,9 +145,9 @@ Lasts {A} stands clock lasts t server trail moments = (begun : A) (graph : Graph
 
 -- a session was answered, and its port wrote the reply
 pub record Answered {A : Type 0} (old new : Journaled A) (who : ℕ) (request : Request) (name : Option (List ℕ))
-    (p q : Reading) : Type 0 where
+    (p q : PortReading) : Type 0 where
   pub reply : Reply
-  pub answered : Answers p q name reply
+  pub answered : WritesReply p q name reply
   pub events : new.events ≡ old.events ++ events.Ask who request reply ∷ []
   pub room : new.room + 1 ≡ old.room
 
@@ -179,7 +180,7 @@ refusal_in progress = None
 
 -- It is an event of no session, recorded with the disk's moment; and there is none where nothing is told to be
 -- recorded.
-pub record Steps {A : Type 0} (clock : A → ℕ) (old new : Journaled A) (progress : Progress) : Type 0 where
+pub record JournalSteps {A : Type 0} (clock : A → ℕ) (old new : Journaled A) (progress : Progress) : Type 0 where
   pub event : Option Event
   pub events : new.events ≡ old.events ++ recorded event
   pub nobody : (e : Event) → event ≡ Some e → (k : ℕ) → is_of_session k e ≡ false

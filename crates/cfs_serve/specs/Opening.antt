@@ -22,12 +22,12 @@ opening_cause whys.Memory = causes.Memory
 
 -- a fault that an honest disk has, and then it holds no sound volume; a failed call only where one failed; else want of
 -- memory
-abbrev pub IsRefusal : {D : Type 0} → Ghosts D → D → D → Cause → Type 0
-IsRefusal g old new (causes.Volume fault) =
+abbrev pub IsOpeningRefusal : {D : Type 0} → Ghosts D → D → D → Cause → Type 0
+IsOpeningRefusal g old new (causes.Volume fault) =
     IsTrue (g.honest old) → (¬ IsSound (g.content old)) × IsOpenFault (g.content old) (why fault)
-IsRefusal g old new (causes.Disk moment) = (moment ≡ None) × Rose (g.faults old) (g.faults new)
-IsRefusal g old new causes.Memory = Unit {0}
-IsRefusal g old new cause = ⊥
+IsOpeningRefusal g old new (causes.Disk moment) = (moment ≡ None) × Rose (g.faults old) (g.faults new)
+IsOpeningRefusal g old new causes.Memory = Unit {0}
+IsOpeningRefusal g old new cause = ⊥
 
 -- the disk, in a core or handed back
 abbrev pub disk_refused : {D : Type 0} → Result (Kernel D) (Refused D) → D

@@ -12,11 +12,11 @@ use Rattle.ufs_model.specs.Script.{request_lines}
 use Rattle.vol_image.specs.Sound.{graph_blocks}
 use Rattle.cfs_core.specs.declared.collecting.CollectFault.TheVariants as faults
 use Rattle.cfs_core.specs.declared.kernel.Status.{Status}
-use Rattle.cfs_core.specs.StandsFor.{is_sweeping}
+use Rattle.cfs_core.specs.StandsFor.{sweeps_now}
 use Rattle.cfs_serve.specs.Calls.{AreExact}
-use Rattle.cfs_ports.specs.Port.{Reading}
+use Rattle.cfs_ports.specs.Port.{PortReading}
 use Rattle.cfs_serve.specs.Charter.{Client}
-use Rattle.cfs_serve.specs.Ending.{EndsSo, IsWanting, cause_of, damage_in, moment_in, not_begun}
+use Rattle.cfs_serve.specs.Ending.{EndsService, IsWanting, cause_of, damage_in, moment_in, not_begun}
 use Rattle.cfs_serve.specs.Events.{begins_in, finishes_in, is_calm, is_reply}
 use Rattle.cfs_serve.specs.Ground.{Ground}
 use Rattle.cfs_serve.specs.Hall.{AreOver}
@@ -40,8 +40,8 @@ counts_of sessions trail graph free = record {
 }
 
 -- the sessions, their replies and the finished collections are counted
-abbrev pub AreCounted : (sessions : ℕ) → List Event → Counts → Type 0
-AreCounted sessions trail counts =
+abbrev pub CountsSessions : (sessions : ℕ) → List Event → Counts → Type 0
+CountsSessions sessions trail counts =
     (counts.sessions ≡ sessions) × (counts.replies ≡ length (filter is_reply trail))
     × (counts.collections ≡ finishes_in trail)
 
@@ -62,10 +62,10 @@ abbrev pub free_of : (cylinders : ℕ) → Graph → ℕ
 free_of cylinders graph = 63 * cylinders - 1 - graph_blocks graph
 
 -- Of a sound volume: the server stopped at the moment that is told of the disk, and else not, and no block is damaged.
-abbrev pub IsStop : Cause → (stopped : Option ℕ) → Type 0
-IsStop (causes.Disk moment) stopped = moment ≡ stopped
-IsStop (causes.Volume fault) stopped = ⊥
-IsStop cause stopped = stopped ≡ None
+abbrev pub IsStopTold : Cause → (stopped : Option ℕ) → Type 0
+IsStopTold (causes.Disk moment) stopped = moment ≡ stopped
+IsStopTold (causes.Volume fault) stopped = ⊥
+IsStopTold cause stopped = stopped ≡ None
 
 -- ---- sessions that were served
 
@@ -77,18 +77,18 @@ pub record IsRunFrom (cylinders seed collections : ℕ) (graph : Graph) (rose : 
   pub legal : replay seed graph trail ≡ Some last
   pub exact : 0 < cylinders → AreExact cylinders seed 0 (opening graph) trail
   pub calm : ¬ rose → list_all is_calm trail ≡ true
-  pub stop : IsStop cause last.stopped
+  pub stop : IsStopTold cause last.stopped
   pub counted : counts ≡ counts_of sessions trail last.graph counts.free
-  pub free : last.stopped ≡ None → is_sweeping last.collection ≡ false → counts.free ≡ free_of cylinders last.graph
+  pub free : last.stopped ≡ None → sweeps_now last.collection ≡ false → counts.free ≡ free_of cylinders last.graph
   -- once as many collections are finished as were called for, nothing sweeps
-  pub rests : last.stopped ≡ None → finishes_in trail ≡ collections → is_sweeping last.collection ≡ false
+  pub rests : last.stopped ≡ None → finishes_in trail ≡ collections → sweeps_now last.collection ≡ false
 
 -- the sink of one of them failed
-abbrev pub has_broken : List Reading → Bool
+abbrev pub has_broken : List PortReading → Bool
 has_broken ports = list_any (λ p. p.failed) ports
 
 -- The sessions of these clients were served, and left their ports so.
-pub record IsPlayed (ground : Ground) (seed collections : ℕ) (rose : Type 0) (clients : List Client) (ports : List Reading)
+pub record IsPlayed (ground : Ground) (seed collections : ℕ) (rose : Type 0) (clients : List Client) (ports : List PortReading)
     (counts : Counts) (cause : Cause) (ending : Ending) (trail : List Event) : Type 0 where
   -- the root index is that of each graph that the volume may read as
   pub root : Puid
@@ -97,9 +97,9 @@ pub record IsPlayed (ground : Ground) (seed collections : ℕ) (rose : Type 0) (
       (length clients) counts cause trail
   -- all events of sessions are theirs
   pub over : AreOver root collections clients trail ports
-  pub counted : AreCounted (length clients) trail counts
+  pub counted : CountsSessions (length clients) trail counts
   pub last : TellsLast collections ending trail counts
-  pub ends : EndsSo rose collections ending trail
+  pub ends : EndsService rose collections ending trail
   -- no more collections began than were called for
   pub few : begins_in trail ≤ collections
   -- where the collector was done at no refusal, as many are finished
@@ -112,7 +112,7 @@ pub record IsPlayed (ground : Ground) (seed collections : ℕ) (rose : Type 0) (
 
 -- The sessions of these scripts and sinks have these clients, and their sinks are so as they have left.
 pub record AreClients (scripts : List (List ℕ)) (sinks after : List Intake) (clients : List Client)
-    (ports : List Reading) : Type 0 where
+    (ports : List PortReading) : Type 0 where
   pub lines : map (λ s. s.lines) clients ≡ map request_lines scripts
   pub begun : map (λ s. s.sink) clients ≡ sinks
   pub left : map (λ p. p.sink) ports ≡ after
@@ -133,12 +133,12 @@ abbrev pub HasNone : Ground → Type 0
 HasNone ground = (graph : Graph) → ¬ ground.reads graph
 
 -- why nothing was served
-abbrev pub IsCause : Ground → (rose : Type 0) → (sources after : List Supply) → Cause → Type 0
-IsCause ground rose sources after (causes.Volume fault) =
+abbrev pub IsUnservedCause : Ground → (rose : Type 0) → (sources after : List Supply) → Cause → Type 0
+IsUnservedCause ground rose sources after (causes.Volume fault) =
     HasNone ground × ((scripts : List (List ℕ)) × HaveScripts sources scripts) × ground.faulty fault
-IsCause ground rose sources after (causes.Disk moment) = (moment ≡ None) × rose
+IsUnservedCause ground rose sources after (causes.Disk moment) = (moment ≡ None) × rose
     × ((scripts : List (List ℕ)) × HaveScripts sources scripts)
-IsCause ground rose sources after cause = IsSourceCause sources after cause
+IsUnservedCause ground rose sources after cause = IsSourceCause sources after cause
 
 -- the sources were read and their scripts served, within the limits
 pub record ServesSources (ground : Ground) (seed collections : ℕ) (rose : Type 0) (sources : List Supply)
@@ -150,7 +150,7 @@ pub record ServesSources (ground : Ground) (seed collections : ℕ) (rose : Type
   pub cause : Cause
   pub told : report ≡ record { counts = Some counts; cause = cause }
   pub clients : List Client
-  pub ports : List Reading
+  pub ports : List PortReading
   pub matched : AreClients scripts sinks after clients ports
   pub played : IsPlayed ground seed collections rose clients ports counts cause ending trail
 
@@ -159,7 +159,7 @@ pub record ServesNone (ground : Ground) (rose : Type 0) (sources sources_after :
     (sinks after : List Intake)
     (report : Report) (ending : Ending) (trail : List Event) : Type 0 where
   pub cause : Cause
-  pub is : IsCause ground rose sources sources_after cause
+  pub is : IsUnservedCause ground rose sources sources_after cause
   pub nothing : ServesNothing sinks after report ending trail cause
 
 abbrev pub IsRunOf : Ground → (seed collections : ℕ) → (rose : Type 0) → (sources sources_after : List Supply)

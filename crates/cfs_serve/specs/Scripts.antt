@@ -15,8 +15,8 @@ AreShort scripts = All (λ script. length script ≤ most_script) scripts
 abbrev pub lines_in : List (List ℕ) → ℕ
 lines_in scripts = sum_by (λ script. length (request_lines script)) scripts
 
-abbrev pub AreWithin : List (List ℕ) → Type 0
-AreWithin scripts = AreShort scripts × (lines_in scripts ≤ most_lines)
+abbrev pub AreWithinLimits : List (List ℕ) → Type 0
+AreWithinLimits scripts = AreShort scripts × (lines_in scripts ≤ most_lines)
 
 -- ---- what the sources had left
 
@@ -55,7 +55,7 @@ IsOneCause n source after causes.Memory = Unit {0}
 IsOneCause n source after cause = ⊥
 
 -- The sources before this one gave their scripts, each within its limit, and those behind it weren't read.
-pub record IsFirst (sources after : List Supply) (n : ℕ) : Type 0 where
+pub record IsFirstRead (sources after : List Supply) (n : ℕ) : Type 0 where
   pub scripts : List (List ℕ)
   pub before : HaveFirst sources scripts
   pub count : length scripts ≡ n
@@ -65,11 +65,11 @@ pub record IsFirst (sources after : List Supply) (n : ℕ) : Type 0 where
 abbrev pub IsSourceCause : (sources after : List Supply) → Cause → Type 0
 IsSourceCause sources after (causes.Source i) =
     (i < length sources) × Rose (get_or (faults_of_sources sources) i 0) (get_or (faults_of_sources after) i 0)
-    × IsFirst sources after i
+    × IsFirstRead sources after i
 IsSourceCause sources after (causes.Long i) =
     (i < length sources)
     × ((scripts : List (List ℕ)) → Had sources scripts → most_script < length (slice_index_or scripts i []))
-    × IsFirst sources after i
+    × IsFirstRead sources after i
 IsSourceCause sources after causes.LongTotal = (scripts : List (List ℕ)) → Had sources scripts → AreShort scripts
     × (most_lines < lines_in scripts)
 IsSourceCause sources after causes.Memory = Unit {0}

@@ -4,7 +4,7 @@ use Rattle.std.specs.Prelude.{get_or, slice_index_or, Option, Some, None, IfSome
 use Rattle.std.specs.List.{list_any, list_all}
 use Rattle.cfs_base.specs.Outside.{Intake, Supply, Rose}
 use Rattle.cfs_core.specs.declared.collecting.CollectFault.TheVariants as faults
-use Rattle.cfs_core.specs.StandsFor.{is_sweeping}
+use Rattle.cfs_core.specs.StandsFor.{sweeps_now}
 use Rattle.cfs_ports.specs.Port.{Replied}
 use Rattle.cfs_streams.specs.Writing.{Wrote, WroteSome}
 use Rattle.ufs_model.specs.declared.asked.Event.{Event}
@@ -31,13 +31,13 @@ use Rattle.cfs_serve.specs.Report.{report_text, status_of}
 use Rattle.cfs_audit.specs.Verdict.{IsLegal}
 use Rattle.cfs_serve.specs.Audit.{Finds, Judges}
 use Rattle.cfs_serve.specs.Calls.{AreExact}
-use Rattle.cfs_serve.specs.Ending.{EndsSo, IsWanting, cause_of, damage_in, not_begun}
+use Rattle.cfs_serve.specs.Ending.{EndsService, IsWanting, cause_of, damage_in, not_begun}
 use Rattle.cfs_serve.specs.Events.{BreaksOff, begins_in, events_of_session, finishes_in, is_calm, is_sessions, tells_damage}
 use Rattle.cfs_serve.specs.Events.{wants_memory}
 use Rattle.cfs_serve.specs.Ground.{Ground}
-use Rattle.cfs_serve.specs.Played.{AreCounted, HasNone, TellsLast, IsStop, counts_of, free_of}
+use Rattle.cfs_serve.specs.Played.{CountsSessions, HasNone, TellsLast, IsStopTold, counts_of, free_of}
 use Rattle.cfs_serve.specs.Text.{IsText, last_cause, text_of}
-use Rattle.cfs_serve.specs.Scripts.{AreShort, AreWithin, Had, IsFirst, faults_of_sources, lines_in}
+use Rattle.cfs_serve.specs.Scripts.{AreShort, AreWithinLimits, Had, IsFirstRead, faults_of_sources, lines_in}
 use Rattle.cfs_serve.specs.Whole.{HasPlaces, RoseIn, TellsMade}
 use Rattle.cfs_serve.specs.Words.{Asked, Format, Service, Formats, Shows, Nothing, IfServes, collections_of, is_format}
 use Rattle.cfs_serve.specs.Words.{is_audit, is_service, most_in_source}
@@ -231,7 +231,7 @@ SinkFailed told old new = (WasServed told × (told.cause ≡ causes.Sink) × Som
 abbrev pub SourceFailed : Report → Outside → Outside → Type 0
 SourceFailed told old new =
     (n : ℕ) × (told ≡ record { counts = None; cause = causes.Source n }) × (n < length old.sources)
-    × Rose (get_or (source_faults old) n 0) (get_or (source_faults new) n 0) × IsFirst old.sources new.sources n
+    × Rose (get_or (source_faults old) n 0) (get_or (source_faults new) n 0) × IsFirstRead old.sources new.sources n
 
 -- 7: memory was wanting, also for a line of the report where nothing worse is told; and its text is whole
 abbrev pub MemoryWanting : (short : Bool) → Cause → (text : List ℕ) → Outside → Outside → Type 0
@@ -239,23 +239,23 @@ MemoryWanting short cause text old new = (last_cause short cause ≡ causes.Memo
 
 -- the source of that number is the first that failed or had more than its limit; or all of them together had more, and
 -- none alone
-abbrev pub IsOver : Asked → Cause → (old new : Outside) → Type 0
-IsOver asked (causes.Long n) old new =
+abbrev pub IsOverLimit : Asked → Cause → (old new : Outside) → Type 0
+IsOverLimit asked (causes.Long n) old new =
     (n < length old.sources)
     × ((scripts : List (List ℕ)) → HadLeft old scripts → most_in_source asked < length (slice_index_or scripts n []))
-    × IsFirst old.sources new.sources n
-IsOver asked causes.LongTotal old new =
+    × IsFirstRead old.sources new.sources n
+IsOverLimit asked causes.LongTotal old new =
     (scripts : List (List ℕ)) → HadLeft old scripts → AreShort scripts × (most_lines < lines_in scripts)
-IsOver asked cause old new = ⊥
+IsOverLimit asked cause old new = ⊥
 
 -- 9: nothing was served, and it is told which limit was passed
 abbrev pub LimitPassed : Asked → Report → Outside → Outside → Type 0
-LimitPassed asked told old new = IsNone told.counts × IsOver asked told.cause old new
+LimitPassed asked told old new = IsNone told.counts × IsOverLimit asked told.cause old new
 
 -- What an audit comes to where no count rose: the verdict on a text within the limit, by which the status is 0 or 8; of
 -- a longer one 9; or want of memory.
-abbrev pub IsJudged : (status : ℕ) → Cause → (text : List ℕ) → Type 0
-IsJudged status cause text =
+abbrev pub IsAudited : (status : ℕ) → Cause → (text : List ℕ) → Type 0
+IsAudited status cause text =
     ((length text ≤ most_trail) × (is_verdict cause ≡ true) × Judges cause text × (status ≡ status_of cause))
     ⊎ ((most_trail < length text) × (status ≡ 9)) ⊎ (status ≡ 7)
 
@@ -276,13 +276,13 @@ pub record DidOn (service : Service) (ground : Ground) (graph : Graph) (old new 
   -- no block is damaged: no event tells one, and the core stopped at none
   pub undamaged : (list_any tells_damage trail ≡ false) × (damage_in ending.stop ≡ None)
   -- the moment that is told of a disk is that of the stop; with another cause there was none, and no block was damaged
-  pub stop : WasServed told → IsStop told.cause last.stopped
+  pub stop : WasServed told → IsStopTold told.cause last.stopped
   -- the counts are those of the trail and of the last graph; of what is Free, where there was no stop and nothing
   -- sweeps
   pub counted : IfSome told.counts (λ counts. (counts ≡ counts_of (length old.sources) trail last.graph counts.free)
-      × (last.stopped ≡ None → is_sweeping last.collection ≡ false → counts.free ≡ free_of ground.cylinders last.graph))
+      × (last.stopped ≡ None → sweeps_now last.collection ≡ false → counts.free ≡ free_of ground.cylinders last.graph))
   -- once as many collections are finished as were called for, nothing sweeps
-  pub rests : last.stopped ≡ None → finishes_in trail ≡ service.collections → is_sweeping last.collection ≡ false
+  pub rests : last.stopped ≡ None → finishes_in trail ≡ service.collections → sweeps_now last.collection ≡ false
 
 -- What a run does and tells: by what its words ask for, what its volume is, what is outside before and after, what is
 -- told, and the trail.
@@ -328,10 +328,10 @@ pub record Did (asked : Asked) (ground : Ground) (old new : Outside) (told : Rep
   pub audited : is_audit asked ≡ true → EachSource (λ _ source outside_after. Finds told.cause source outside_after) old new
   pub verdict : is_verdict told.cause ≡ true → is_audit asked ≡ true
   -- after serving the first is told that has come: a failed call, a damage, a sink that broke, want of memory
-  pub ends : WasServed told → EndsSo (RoseIn old.disk new.disk) (collections_of asked) ending trail
+  pub ends : WasServed told → EndsService (RoseIn old.disk new.disk) (collections_of asked) ending trail
   pub spoiled : WasServed told → told.cause ≡ cause_of ending trail fell
   -- whatever volume it is, the report counts the sessions, the replies and the finished collections of the trail
-  pub counts : IfSome told.counts (AreCounted (length old.sources) trail)
+  pub counts : IfSome told.counts (CountsSessions (length old.sources) trail)
   -- and tells of objects and of Free what the core told last, which is handed back
   pub last : IfSome told.counts (TellsLast (collections_of asked) ending trail)
   -- no more collections began than were called for
@@ -364,17 +364,17 @@ pub record Said (asked : Asked) (ground : Ground) (old new : Outside) (told : Re
   pub status_8 : (status ≡ 8) ↔ (is_refutation told.cause ≡ true)
   pub status_9 : status ≡ 9 → LimitPassed asked told old new
   -- a limit that was passed gives 9, unless a source failed or memory was wanting
-  pub over : is_service asked ≡ true → (scripts : List (List ℕ)) → HadLeft old scripts → ¬ (AreWithin scripts)
+  pub over : is_service asked ≡ true → (scripts : List (List ℕ)) → HadLeft old scripts → ¬ (AreWithinLimits scripts)
       → (status ≡ 9) ⊎ (told.cause ≡ causes.Memory) ⊎ (status ≡ 6)
   pub overlong : is_audit asked ≡ true → (text : List ℕ) → HadLeft old (text ∷ []) → most_trail < length text
       → (status ≡ 9) ⊎ (told.cause ≡ causes.Memory) ⊎ (status ≡ 6)
   -- Where no limit was passed and no count rose: a service on a sound volume gives 0 or 7, and on one that is known to
   -- be no sound one 3 or 7; and a page, or a volume to be made, gives 0.
-  pub complete : is_service asked ≡ true → (scripts : List (List ℕ)) → HadLeft old scripts → AreWithin scripts
+  pub complete : is_service asked ≡ true → (scripts : List (List ℕ)) → HadLeft old scripts → AreWithinLimits scripts
       → NoCountRose old new → (graph : Graph) → ground.reads graph → (status ≡ 0) ⊎ (status ≡ 7)
-  pub refused : is_service asked ≡ true → (scripts : List (List ℕ)) → HadLeft old scripts → AreWithin scripts
+  pub refused : is_service asked ≡ true → (scripts : List (List ℕ)) → HadLeft old scripts → AreWithinLimits scripts
       → NoCountRose old new → ground.unsound → (status ≡ 3) ⊎ (status ≡ 7)
   pub judged : is_audit asked ≡ true → (text : List ℕ) → HadLeft old (text ∷ []) → NoCountRose old new
-      → IsJudged status told.cause text
+      → IsAudited status told.cause text
   pub shown : (page : Page) → asked ≡ Shows page → NoCountRose old new → status ≡ 0
   pub formatted : is_format asked ≡ true → NoCountRose old new → status ≡ 0

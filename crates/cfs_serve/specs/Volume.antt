@@ -17,10 +17,10 @@ use Rattle.cfs_serve.specs.declared.ending.Ending.{Ending}
 use Rattle.cfs_serve.specs.declared.report.Report.{Report}
 use Rattle.cfs_serve.specs.Ending.{not_begun}
 use Rattle.cfs_serve.specs.Ground.{Ground, opened}
-use Rattle.cfs_ports.specs.Port.{Reading}
+use Rattle.cfs_ports.specs.Port.{PortReading}
 use Rattle.cfs_serve.specs.Charter.{Client}
 use Rattle.cfs_serve.specs.Events.{tells_disk, tells_fault}
-use Rattle.cfs_serve.specs.Journal.{Rise, faults_after, first_fault}
+use Rattle.cfs_serve.specs.Journal.{MomentsRise, faults_after, first_fault}
 use Rattle.cfs_serve.specs.Played.{AreClients, IsPlayed, ServesNothing}
 
 -- the core stands for a root index of empty slots on so many cylinders; no word was drawn, it hasn't stopped, and no
@@ -44,7 +44,7 @@ ground_at g core = record {
 
 -- The sessions of these clients were served by a core, which is over, and left their ports so; its disk is handed back.
 pub record ServesSessions {D : Type 0} (g : Ghosts D) (core : Kernel D) (collections : ℕ) (clients : List Client)
-    (ports : List Reading) (report : Report) (ending : Ending) (trail : List Event) (moments : List ℕ)
+    (ports : List PortReading) (report : Report) (ending : Ending) (trail : List Event) (moments : List ℕ)
     (disk : D) : Type 0 where
   pub counts : Counts
   pub cause : Cause
@@ -53,7 +53,7 @@ pub record ServesSessions {D : Type 0} (g : Ghosts D) (core : Kernel D) (collect
       ports
       counts cause ending trail
   pub later : g.faults core.disk ≤ g.faults disk
-  pub rise : Rise (g.moment core.disk) moments (g.moment disk)
+  pub rise : MomentsRise (g.moment core.disk) moments (g.moment disk)
   pub crashes : (graph : Graph) → StandsFor g core (opening graph) → RunSurvives g core.words.seed graph trail
       (g.moment core.disk ∷ moments) disk
   pub sound : cause ≡ causes.Nothing → (graph : Graph) → StandsFor g core (opening graph) → (last : State)
@@ -65,7 +65,8 @@ pub record ServesSessions {D : Type 0} (g : Ghosts D) (core : Kernel D) (collect
       → faults_after tells_fault trail (first_fault ending.refused (g.faults core.disk)) ≤ g.faults disk
 
 -- memory was wanting before a session was served
-pub record IsUnserved {D : Type 0} (core : Kernel D) (before after : List Reading) (report : Report) (ending : Ending)
+pub record IsUnserved {D : Type 0} (core : Kernel D) (before after : List PortReading) (report : Report)
+    (ending : Ending)
     (trail : List Event) (disk : D) : Type 0 where
   pub told : report ≡ record { counts = None; cause = causes.Memory }
   pub no_event : trail ≡ []
@@ -78,7 +79,7 @@ pub record ServesCliented {D : Type 0} (g : Ghosts D) (core : Kernel D) (collect
     (sinks after : List Intake) (report : Report) (ending : Ending) (trail : List Event) (moments : List ℕ)
     (disk : D) : Type 0 where
   pub clients : List Client
-  pub ports : List Reading
+  pub ports : List PortReading
   pub matched : AreClients scripts sinks after clients ports
   pub serves : ServesSessions g core collections clients ports report ending trail moments disk
 

@@ -127,15 +127,15 @@ pub record AsksSpin (spin : Spin) (ground : Ground) (old new : Places) (report :
   pub fits : 12 * spin.count + 64 ≤ 63 * spin.cylinders
   pub asks : AsksSessions ground spin.seed 2 (spun spin old) (spun spin new) report ending trail
 
-abbrev pub Asks : Asked → Ground → (old new : Places) → Report → Ending → List Event → Type 0
-Asks (Serves service) ground old new report ending trail =
+abbrev pub AsksServer : Asked → Ground → (old new : Places) → Report → Ending → List Event → Type 0
+AsksServer (Serves service) ground old new report ending trail =
     AsksSessions ground service.seed service.collections old new report ending trail
-Asks (Formats format) ground old new report ending trail =
+AsksServer (Formats format) ground old new report ending trail =
     AsksNone report.cause old new report ending trail × TellsMade report.cause old.disk new.disk
-Asks (Audits text) ground old new report ending trail = AsksAudit old new report ending trail
-Asks (Spins spin) ground old new report ending trail = AsksSpin spin ground old new report ending trail
-Asks (Shows page) ground old new report ending trail = AsksNone (causes.Page page) old new report ending trail
-Asks Nothing ground old new report ending trail = AsksNone causes.Words old new report ending trail
+AsksServer (Audits text) ground old new report ending trail = AsksAudit old new report ending trail
+AsksServer (Spins spin) ground old new report ending trail = AsksSpin spin ground old new report ending trail
+AsksServer (Shows page) ground old new report ending trail = AsksNone (causes.Page page) old new report ending trail
+AsksServer Nothing ground old new report ending trail = AsksNone causes.Words old new report ending trail
 
 -- the status: that of the cause, but for a report that could not be written where nothing worse is told
 abbrev pub status_at_end : (written : Bool) → Cause → ℕ
@@ -155,9 +155,10 @@ status_at_end false (causes.BadLine line) = 8
 status_at_end false (causes.Illegal event) = 8
 
 -- the report of the run is this one, and so it was written
-pub record IsWhole (asked : Asked) (ground : Ground) (old new : Places) (report report_after : Intake) (told : Report)
+pub record IsWholeRun (asked : Asked) (ground : Ground) (old new : Places) (report report_after : Intake)
+    (told : Report)
     (status : ℕ) (ending : Ending) (trail : List Event) : Type 0 where
-  pub run : Asks asked ground old new told ending trail
+  pub run : AsksServer asked ground old new told ending trail
   -- the sink of the report has taken all of its text, or some of its beginning
   pub short : Bool
   pub text : List ℕ

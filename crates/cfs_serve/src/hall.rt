@@ -3,11 +3,11 @@ ghost use Rattle.std.specs.Prelude.{◌≡◌, ◌<◌, ◌≤◌, ◌+◌, ◌*
 ghost use Rattle.std.specs.List.{list_any, sum_by};
 ghost use Rattle.cfs_serve.specs.Events.{finishes_in, tells_disk, wants_memory};
 ghost use Rattle.cfs_core.specs.declared.collecting.CollectFault.TheVariants as faults;
-ghost use Rattle.cfs_serve.specs.Calls.{Passes};
+ghost use Rattle.cfs_serve.specs.Calls.{SessionPasses};
 ghost use Rattle.cfs_serve.specs.Ending.{IsWanting};
-ghost use Rattle.cfs_serve.specs.Journal.{AreCounted, HasEnded, IsKept, IsRun, IsStamped, IsTold, Lasts};
+ghost use Rattle.cfs_serve.specs.Journal.{CountsFaults, HasEnded, IsJournalKept, IsRun, IsStamped, IsTold, Lasts};
 ghost use Rattle.cfs_serve.specs.Journal.{Raises, StaysStopped, first_fault};
-ghost use Rattle.cfs_serve.specs.Hall.{AreFresh, AreHeard, IsSessionTurn, IsStep, IsTurn};
+ghost use Rattle.cfs_serve.specs.Hall.{AreFresh, AreHeard, IsSessionTurn, IsCollectorTurn, IsTurn};
 ghost use Rattle.cfs_serve.specs.Hall.{Moves, has_left_at, is_done_in, turns_left_in, turns_left, turns_left_at};
 
 use crate::ending::Ending;
@@ -41,7 +41,7 @@ impl<A: Server, J: Charter<A>, K: Sink> Model for Hall<A, J, K> {
     ghost use Rattle.cfs_serve.specs.Events.{finishes_in};
     ghost use Rattle.cfs_serve.specs.Hall.{Hearing, AreHeard, HasNoCollector, HasTurns, turns_left, turns_now};
     ghost use Rattle.cfs_serve.specs.Ending.{IsWanting, TellsStop};
-    ghost use Rattle.cfs_serve.specs.Journal.{AreCounted, first_fault};
+    ghost use Rattle.cfs_serve.specs.Journal.{CountsFaults, first_fault};
 
     ghost Value = { Hearing A };
 
@@ -62,7 +62,7 @@ impl<A: Server, J: Charter<A>, K: Sink> Model for Hall<A, J, K> {
         × HasNoCollector J.charter h.rest.turns h.rest.refused
         × (h.rest.turns ≡ 0 → h.rest.refused ≡ None → finishes_in h.journal.events ≡ J.charter.collections)
         × (0 < h.rest.turns → h.rest.refused ≡ None)
-        × AreCounted A.faults A.stands J.charter (first_fault h.rest.refused) h.journal.server h.journal.events
+        × CountsFaults A.faults A.stands J.charter (first_fault h.rest.refused) h.journal.server h.journal.events
         × TellsStop h.rest.refused (A.stop h.journal.server)
         × (h.rest.refused ≡ Some faults.Memory → IsWanting J.charter.collections h.journal.events) };
 }
@@ -82,7 +82,7 @@ fn port_turn<A: Server, J: Charter<A>, K: Sink>(
     ensures stamped { IsStamped A.clock journal.old journal.new }
     ensures stays { StaysStopped A.stop journal.old journal.new }
     ensures raised { Raises A.faults A.stands J.charter journal.old journal.new }
-    ensures passes { Passes A.clock A.tally journal.old.server journal.new.server }
+    ensures passes { SessionPasses A.clock A.tally journal.old.server journal.new.server }
 {
     if port.has_failed() {
         port.leave();
@@ -125,7 +125,7 @@ impl<A: Server, J: Charter<A>, K: Sink> Hall<A, J, K> {
         requires opens { IsRun A.stands A.has_stopped A.is_damaged A.tally J.charter server [] }
         requires lasts { Lasts A.stands A.clock A.lasts J.charter server [] [] }
         requires told { IsTold A.faults A.has_stopped A.is_damaged J.charter server [] }
-        requires kept { IsKept A.clock A.has_stopped A.tally J.charter server [] [] }
+        requires kept { IsJournalKept A.clock A.has_stopped A.tally J.charter server [] [] }
         requires turns { (A.tally server).steps + sum_by turns_left ports.items < turns }
         requires events { (A.tally server).events ≤ 3 * collections }
         requires runs { A.has_stopped server ≡ false }
@@ -166,7 +166,7 @@ impl<A: Server, J: Charter<A>, K: Sink> Hall<A, J, K> {
     /// One turn of the collector that isn't done: a step.
     fn collector_turn(&mut self)
         requires { 0 < self.old.turns }
-        ensures turn { IsStep A.clock self.old self.new }
+        ensures turn { IsCollectorTurn A.clock self.old self.new }
         ensures raised { Raises A.faults A.stands J.charter self.old.journal self.new.journal }
     {
         let progress = self.journal.collect(self.alloc);
@@ -264,13 +264,13 @@ impl<A: Server, J: Charter<A>, K: Sink> Hall<A, J, K> {
         ensures ports { result.ports.items ≡ self.ports }
         ensures starved { result.starved ≡ list_any wants_memory result.trail.events }
         ensures failed { result.failed ≡ list_any tells_disk result.trail.events }
-        ensures kept { IsKept A.clock A.has_stopped A.tally J.charter result.server result.trail.events
+        ensures kept { IsJournalKept A.clock A.has_stopped A.tally J.charter result.server result.trail.events
             result.trail.moments }
         ensures collected { self.left ≡ 0 → result.ending.refused ≡ None
             → finishes_in result.trail.events ≡ J.charter.collections }
         ensures wanting { result.ending.refused ≡ Some faults.Memory
             → IsWanting J.charter.collections result.trail.events }
-        ensures counted { AreCounted A.faults A.stands J.charter (first_fault result.ending.refused) result.server
+        ensures counted { CountsFaults A.faults A.stands J.charter (first_fault result.ending.refused) result.server
             result.trail.events }
     {
         let Hall {

@@ -4,16 +4,17 @@ ghost use Rattle.std.specs.Prelude.{Option, ℕ};
 ghost use Rattle.std.specs.List.{list_any};
 ghost use Rattle.ufs_model.specs.declared.asked.Event.TheVariants as events;
 ghost use Rattle.ufs_model.specs.declared.asked.Request as requests;
-ghost use Rattle.cfs_ports.specs.Heard.{HasRoom};
+ghost use Rattle.cfs_ports.specs.Heard.{HasRoomForName};
 ghost use Rattle.cfs_base.specs.Outside.{Rose};
 ghost use Rattle.cfs_serve.specs.Charter.{Terms};
 ghost use Rattle.cfs_serve.specs.Events.{tells_disk, wants_memory};
-ghost use Rattle.cfs_serve.specs.Calls.{Passes, Spends, SpendsOne, Tally, event_by, refusal_by};
-ghost use Rattle.cfs_serve.specs.Ending.{IsWanting, Stops, TellsStop};
+ghost use Rattle.cfs_serve.specs.Calls.{SessionPasses, SpendsStep, SpendsOne, Tally, event_by, refusal_by};
+ghost use Rattle.cfs_serve.specs.Ending.{IsWanting, StopsAmong, TellsStop};
 ghost use Rattle.cfs_serve.specs.Events.{finishes_in};
-ghost use Rattle.cfs_serve.specs.Journal.{IsKept, IsRun, IsStamped, IsTold, Lasts, Raises, Answered, is_progress_made};
+ghost use Rattle.cfs_serve.specs.Journal.{IsJournalKept, IsRun, IsStamped, IsTold, Lasts, Raises, Answered};
+ghost use Rattle.cfs_serve.specs.Journal.{is_progress_made};
 ghost use Rattle.cfs_serve.specs.Journal.{StaysStopped};
-ghost use Rattle.cfs_serve.specs.Journal.{Steps, is_quiet_fault, is_recorded, recorded, refusal_in, stamps};
+ghost use Rattle.cfs_serve.specs.Journal.{JournalSteps, is_quiet_fault, is_recorded, recorded, refusal_in, stamps};
 
 use crate::server::Server;
 use cfs_base::{Session, Sink};
@@ -72,8 +73,8 @@ impl<A: Server, J: Charter<A>> Model for Journal<A, J> {
     ghost use Rattle.std.specs.List.{list_any};
     ghost use Rattle.cfs_serve.specs.Events.{tells_disk, wants_memory};
     ghost use Rattle.std.specs.Prelude.{None};
-    ghost use Rattle.cfs_serve.specs.Ending.{Stops};
-    ghost use Rattle.cfs_serve.specs.Journal.{Journaled, IsKept, IsRun, IsTold, Lasts};
+    ghost use Rattle.cfs_serve.specs.Ending.{StopsAmong};
+    ghost use Rattle.cfs_serve.specs.Journal.{Journaled, IsJournalKept, IsRun, IsTold, Lasts};
 
     ghost Value = { Journaled A };
 
@@ -92,8 +93,8 @@ impl<A: Server, J: Charter<A>> Model for Journal<A, J> {
         × Lasts A.stands A.clock A.lasts J.charter j.server j.trail.events j.trail.moments
         × IsTold A.faults A.has_stopped A.is_damaged J.charter j.server j.trail.events
         × ((A.tally j.server).called ≡ J.charter.collections) × (j.failed ≡ list_any tells_disk j.trail.events)
-        × Stops None (A.stop j.server) j.trail.events
-        × IsKept A.clock A.has_stopped A.tally J.charter j.server j.trail.events j.trail.moments };
+        × StopsAmong None (A.stop j.server) j.trail.events
+        × IsJournalKept A.clock A.has_stopped A.tally J.charter j.server j.trail.events j.trail.moments };
 }
 
 impl<A: Server, J: Charter<A>> Journal<A, J> {
@@ -103,7 +104,7 @@ impl<A: Server, J: Charter<A>> Journal<A, J> {
         requires opens { IsRun A.stands A.has_stopped A.is_damaged A.tally J.charter server [] }
         requires lasts { Lasts A.stands A.clock A.lasts J.charter server [] [] }
         requires told { IsTold A.faults A.has_stopped A.is_damaged J.charter server [] }
-        requires kept { IsKept A.clock A.has_stopped A.tally J.charter server [] [] }
+        requires kept { IsJournalKept A.clock A.has_stopped A.tally J.charter server [] [] }
         requires runs { A.has_stopped server ≡ false }
         requires seed { A.seed server ≡ J.charter.seed }
         requires size { A.cylinders server ≡ J.charter.cylinders }
@@ -137,7 +138,7 @@ impl<A: Server, J: Charter<A>> Journal<A, J> {
         ensures stamped { IsStamped A.clock self.old self.new }
         ensures stays { StaysStopped A.stop self.old self.new }
         ensures raised { Raises A.faults A.stands J.charter self.old self.new }
-        ensures passes { Passes A.clock A.tally self.old.server self.new.server }
+        ensures passes { SessionPasses A.clock A.tally self.old.server self.new.server }
         ensures room { self.new.room + 1 ≡ self.old.room }
     {
         self.starved = starved_at(why, self.starved);
@@ -156,12 +157,12 @@ impl<A: Server, J: Charter<A>> Journal<A, J> {
     )
         requires room { 0 < self.old.room }
         requires few { length self.old.events < 4294967295 }
-        requires name { HasRoom name port.old.names.room }
+        requires name { HasRoomForName name port.old.names.room }
         ensures answered { Answered self.old self.new session request name port.old port.new }
         ensures stamped { IsStamped A.clock self.old self.new }
         ensures stays { StaysStopped A.stop self.old self.new }
         ensures raised { Raises A.faults A.stands J.charter self.old self.new }
-        ensures passes { Passes A.clock A.tally self.old.server self.new.server }
+        ensures passes { SessionPasses A.clock A.tally self.old.server self.new.server }
     {
         let reply = self.server.answer(alloc, session, &request);
         self.starved = starved_by(&reply, self.starved);
@@ -186,7 +187,7 @@ impl<A: Server, J: Charter<A>> Journal<A, J> {
         ensures stamped { IsStamped A.clock self.old self.new }
         ensures stays { StaysStopped A.stop self.old self.new }
         ensures raised { Raises A.faults A.stands J.charter self.old self.new }
-        ensures passes { Passes A.clock A.tally self.old.server self.new.server }
+        ensures passes { SessionPasses A.clock A.tally self.old.server self.new.server }
         ensures room { self.new.room + 1 ≡ self.old.room }
     {
         let stopped = self.server.leave(session);
@@ -197,7 +198,7 @@ impl<A: Server, J: Charter<A>> Journal<A, J> {
     /// A step of the collector, recorded where it is an event.
     pub fn collect(&mut self, alloc: Global) -> Progress
         requires { 0 < self.old.room }
-        ensures steps { Steps A.clock self.old self.new result }
+        ensures steps { JournalSteps A.clock self.old self.new result }
         ensures raised { Raises A.faults A.stands J.charter self.old self.new }
         ensures refusal { TellsStop (refusal_in result) (A.stop self.new.server) }
         ensures quiet { is_quiet_fault (refusal_in result) ≡ true
@@ -223,13 +224,13 @@ impl<A: Server, J: Charter<A>> Journal<A, J> {
         ensures events { result.1.events ≡ self.events }
         ensures starved { result.2 ≡ list_any wants_memory self.events }
         ensures failed { result.3 ≡ list_any tells_disk self.events }
-        ensures stops { Stops None (A.stop self.server) self.events }
+        ensures stops { StopsAmong None (A.stop self.server) self.events }
         ensures size { A.cylinders self.server ≡ J.charter.cylinders }
         ensures called { (A.tally self.server).called ≡ J.charter.collections }
         ensures run { IsRun A.stands A.has_stopped A.is_damaged A.tally J.charter self.server self.events }
         ensures lasts { Lasts A.stands A.clock A.lasts J.charter self.server self.events result.1.moments }
         ensures told { IsTold A.faults A.has_stopped A.is_damaged J.charter self.server self.events }
-        ensures kept { IsKept A.clock A.has_stopped A.tally J.charter self.server self.events result.1.moments }
+        ensures kept { IsJournalKept A.clock A.has_stopped A.tally J.charter self.server self.events result.1.moments }
     {
         let Journal {
             server,
@@ -279,7 +280,7 @@ fn progress_of(made: Result<Step, CollectFault>) -> (Option<Event>, Progress)
     ensures event { result.0 ≡ event_by made }
     ensures none { is_recorded result.1 ≡ false → event_by made ≡ None }
     ensures idle { result.1 ≡ Progress.Idle → made ≡ Ok Step.Idle }
-    ensures spends { is_progress_made result.1 ≡ true → (c : Tally) (d : Tally) → Spends c d made
+    ensures spends { is_progress_made result.1 ≡ true → (c : Tally) (d : Tally) → SpendsStep c d made
         → SpendsOne c d (is_recorded result.1) }
     ensures refusal { refusal_in result.1 ≡ refusal_by made }
 {

@@ -2,7 +2,7 @@
 ghost use Rattle.std.specs.Prelude.{◌≡◌, ◌⊎◌, ◌%◌, ◌*◌, ◌≤◌, None, Some, string_bytes, map, length, option_map};
 ghost use Rattle.cfs_base.specs.Outside.{Rose};
 ghost use Rattle.cfs_serve.specs.Words.{Asked, Format, InMemory, asked_by, format_in, page_in};
-ghost use Rattle.cfs_serve.specs.Whole.{Asks, HasDisk, HasPlaces, status_at_end};
+ghost use Rattle.cfs_serve.specs.Whole.{AsksServer, HasDisk, HasPlaces, status_at_end};
 ghost use Rattle.cfs_serve.specs.Disks.{MakesVolume, OnDisk};
 ghost use Rattle.cfs_serve.specs.Ground.{ground_of};
 ghost use Rattle.cfs_serve.specs.Text.{first_line, line_if, printed_line};
@@ -117,7 +117,7 @@ fn read_asked<D: Disk + Send, S: Source, K: Sink + Send, G: Gate + Sync, R: Thre
     ensures disk { OnDisk D.Disk (asked_by words.now) result.played.report result.played.ending
         result.played.trail.events
         result.played.trail.moments disk result.disk }
-    ensures asks { Asks (asked_by words.now) (ground_of D.Disk (asked_by words.now) disk)
+    ensures asks { AsksServer (asked_by words.now) (ground_of D.Disk (asked_by words.now) disk)
         (record {
           disk = option_map D.faults disk;
           sources = map S.supply sources.old.items;
@@ -210,7 +210,7 @@ fn do_asked<D: Disk + Send, S: Source, K: Sink + Send, G: Gate + Sync, R: Thread
     ensures disk { OnDisk D.Disk (asked_by words.now) result.played.report result.played.ending
         result.played.trail.events
         result.played.trail.moments disk result.disk }
-    ensures asks { Asks (asked_by words.now) (ground_of D.Disk (asked_by words.now) disk)
+    ensures asks { AsksServer (asked_by words.now) (ground_of D.Disk (asked_by words.now) disk)
         (record {
           disk = option_map D.faults disk;
           sources = map S.supply sources.old.items;

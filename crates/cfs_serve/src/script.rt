@@ -1,7 +1,7 @@
 //! The script of a session, and what ports are made of.
 ghost use Rattle.std.specs.Prelude.{◌≡◌, ◌≤◌, length, IfErr, IfOk};
 ghost use Rattle.ufs_model.specs.Script.{request_lines};
-ghost use Rattle.cfs_ports.specs.Port.{IsNew};
+ghost use Rattle.cfs_ports.specs.Port.{IsNewPort};
 
 use cfs_base::{Puid, Sink};
 use cfs_ports::{Port, PortFault};
@@ -59,7 +59,7 @@ impl Script {
 
     /// The port of a session with this script, which knows the root index. The sink comes back where memory is wanting.
     pub fn into_port<K: Sink>(self, alloc: Global, root: Puid, sink: K) -> Result<Port<K>, K>
-        ensures new { IfOk result (IsNew root) }
+        ensures new { IfOk result (IsNewPort root) }
         ensures lines { IfOk result (λ p. p.lines ≡ request_lines self) }
         ensures sink { IfOk result (λ p. p.sink ≡ K.intake sink) }
         ensures back { IfErr result (λ back. back ≡ sink) }

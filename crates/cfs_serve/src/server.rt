@@ -7,10 +7,11 @@ ghost use Rattle.cfs_script.specs.Room.{FitsLine};
 ghost use Rattle.ufs_model.specs.declared.asked.Event.TheVariants as events;
 ghost use Rattle.ufs_model.specs.Asks.{IsAsked};
 ghost use Rattle.ufs_model.specs.State.{State};
-ghost use Rattle.cfs_serve.specs.Calls.{GoesOn, IsExact, Makes, MayGoOn, MayMake, MayTally, Tallies, Tally, Tells};
-ghost use Rattle.cfs_serve.specs.Calls.{EndsCollecting, Passes, PassesStep, TellsStep, event_by, refusal_by};
+ghost use Rattle.cfs_serve.specs.Calls.{CrashesGoOn, IsExact, MakesServed, MayGoOn, MayMake, MayTally, Tallies, Tally};
+ghost use Rattle.cfs_serve.specs.Calls.{TellsEvent};
+ghost use Rattle.cfs_serve.specs.Calls.{EndsCollecting, SessionPasses, PassesStep, TellsStep, event_by, refusal_by};
 ghost use Rattle.cfs_serve.specs.Calls.{tells_stop_at};
-ghost use Rattle.cfs_serve.specs.Ending.{Stops, TellsStop, damage_in};
+ghost use Rattle.cfs_serve.specs.Ending.{StopsAmong, TellsStop, damage_in};
 ghost use Rattle.cfs_serve.specs.Journal.{recorded};
 ghost use Rattle.cfs_core.specs.declared.kernel.Stop.{Stop};
 ghost use Rattle.ufs_model.specs.Graph.{Graph};
@@ -63,11 +64,11 @@ pub trait Server: Asker {
         ensures tallies { (s : State) → Self.stands self.old s
             → Tallies has_stopped tally (Self.seed self.old) self.old self.new s (events.Ask who request.now result) }
         ensures called { (tally self.new).called ≡ (tally self.old).called }
-        ensures passes { Passes clock tally self.old self.new }
-        ensures lasts { GoesOn Self.stands clock lasts (Self.seed self.old) self.old self.new
+        ensures passes { SessionPasses clock tally self.old self.new }
+        ensures lasts { CrashesGoOn Self.stands clock lasts (Self.seed self.old) self.old self.new
             (events.Ask who request.now result) }
-        ensures tells { Tells faults has_stopped is_damaged self.old self.new (events.Ask who request.now result) }
-        ensures stops { Stops (stop self.old) (stop self.new) (events.Ask who request.now result ∷ []) }
+        ensures tells { TellsEvent faults has_stopped is_damaged self.old self.new (events.Ask who request.now result) }
+        ensures stops { StopsAmong (stop self.old) (stop self.new) (events.Ask who request.now result ∷ []) }
         ensures undamaged { (s : State) → Self.stands self.old s → is_damaged self.old ≡ false
             → is_damaged self.new ≡ false }
         ensures fits { FitsLine result }
@@ -78,17 +79,17 @@ pub trait Server: Asker {
     /// A session leaves. The moment at which the server stopped in this call, if it did.
     fn leave(&mut self, who: Session) -> Option<u64>
         ensures event { (s : State) → Self.stands self.old s
-            → Makes (Self.stands self.new) (Self.seed self.old) s (events.Leave who result) }
+            → MakesServed (Self.stands self.new) (Self.seed self.old) s (events.Leave who result) }
         ensures tallies { (s : State) → Self.stands self.old s
             → Tallies has_stopped tally (Self.seed self.old) self.old self.new s (events.Leave who result) }
         ensures halts { (s : State) → Self.stands self.old s → IsSome result
             → Rose (faults self.old) (faults self.new) }
         ensures called { (tally self.new).called ≡ (tally self.old).called }
-        ensures passes { Passes clock tally self.old self.new }
-        ensures lasts { GoesOn Self.stands clock lasts (Self.seed self.old) self.old self.new
+        ensures passes { SessionPasses clock tally self.old self.new }
+        ensures lasts { CrashesGoOn Self.stands clock lasts (Self.seed self.old) self.old self.new
             (events.Leave who result) }
-        ensures tells { Tells faults has_stopped is_damaged self.old self.new (events.Leave who result) }
-        ensures stops { Stops (stop self.old) (stop self.new) (events.Leave who result ∷ []) }
+        ensures tells { TellsEvent faults has_stopped is_damaged self.old self.new (events.Leave who result) }
+        ensures stops { StopsAmong (stop self.old) (stop self.new) (events.Leave who result ∷ []) }
         ensures undamaged { (s : State) → Self.stands self.old s → is_damaged self.old ≡ false
             → is_damaged self.new ≡ false }
         ensures size { cylinders self.new ≡ cylinders self.old }
@@ -101,7 +102,7 @@ pub trait Server: Asker {
             → MayMake (Self.stands self.new) (Self.seed self.old) s (event_by result) }
         ensures lasts { MayGoOn Self.stands clock lasts (Self.seed self.old) self.old self.new (event_by result) }
         ensures tells { TellsStep faults has_stopped is_damaged self.old self.new result }
-        ensures stops { Stops (stop self.old) (stop self.new) (recorded (event_by result))
+        ensures stops { StopsAmong (stop self.old) (stop self.new) (recorded (event_by result))
             × TellsStop (refusal_by result) (stop self.new) }
         ensures undamaged { (s : State) → Self.stands self.old s → is_damaged self.old ≡ false
             → is_damaged self.new ≡ false }
@@ -123,7 +124,8 @@ pub trait Server: Asker {
     /// The disk's clock. A line that is no request makes no call of the disk.
     fn moment(&self) -> u64
         ensures clock { result ≡ clock self.now }
-        ensures lasts { (who : ℕ) (why : Unread) → GoesOn Self.stands clock lasts (Self.seed self.now) self.now self.now
+        ensures lasts { (who : ℕ) (why : Unread)
+            → CrashesGoOn Self.stands clock lasts (Self.seed self.now) self.now self.now
             (events.Unread who why) };
 }
 

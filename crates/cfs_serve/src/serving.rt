@@ -3,11 +3,12 @@ ghost use Rattle.std.specs.Prelude.{◌≡◌, ◌<◌, ◌≤◌, ◌+◌, ◌*
 ghost use Rattle.std.specs.List.{list_any, sum_by};
 ghost use Rattle.cfs_base.specs.Outside.{Rose};
 ghost use Rattle.cfs_serve.specs.Calls.{IsTallied};
-ghost use Rattle.cfs_serve.specs.Ending.{EndsSo, IsWanting};
+ghost use Rattle.cfs_serve.specs.Ending.{EndsService, IsWanting};
 ghost use Rattle.cfs_core.specs.declared.collecting.CollectFault.TheVariants as faults;
 ghost use Rattle.cfs_serve.specs.Events.{begins_in, finishes_in, tells_disk, tells_fault, wants_memory};
 ghost use Rattle.cfs_serve.specs.Hall.{AllLeft, AreFresh, AreHeard, AreNew, AreOver, client_of, turns_left};
-ghost use Rattle.cfs_serve.specs.Journal.{AreCounted, HasEnded, IsKept, IsRun, IsRunOn, IsTold, Lasts, Rise};
+ghost use Rattle.cfs_serve.specs.Journal.{CountsFaults, HasEnded, IsJournalKept, IsRun, IsRunOn, IsTold, Lasts};
+ghost use Rattle.cfs_serve.specs.Journal.{MomentsRise};
 ghost use Rattle.cfs_serve.specs.Journal.{faults_after, first_fault};
 ghost use Rattle.ufs_model.specs.Graph.{Graph};
 ghost use Rattle.ufs_model.specs.State.{opening};
@@ -47,7 +48,7 @@ fn serve_so<
     requires opens { IsRun A.stands A.has_stopped A.is_damaged A.tally J.charter server [] }
     requires lasts { Lasts A.stands A.clock A.lasts J.charter server [] [] }
     requires told { IsTold A.faults A.has_stopped A.is_damaged J.charter server [] }
-    requires kept { IsKept A.clock A.has_stopped A.tally J.charter server [] [] }
+    requires kept { IsJournalKept A.clock A.has_stopped A.tally J.charter server [] [] }
     requires turns { (A.tally server).steps + sum_by turns_left ports.items < turns }
     requires events { (A.tally server).events ≤ 3 * collections }
     requires runs { A.has_stopped server ≡ false }
@@ -73,12 +74,12 @@ fn serve_so<
     ensures left { IfOk result (λ p. AllLeft p.ports.items) }
     ensures starved { IfOk result (λ p. p.starved ≡ list_any wants_memory p.trail.events) }
     ensures failed { IfOk result (λ p. p.failed ≡ list_any tells_disk p.trail.events) }
-    ensures kept { IfOk result (λ p. IsKept A.clock A.has_stopped A.tally J.charter p.server p.trail.events
+    ensures kept { IfOk result (λ p. IsJournalKept A.clock A.has_stopped A.tally J.charter p.server p.trail.events
         p.trail.moments) }
     ensures collected { IfOk result (λ p.
         (p.ending.refused ≡ None → finishes_in p.trail.events ≡ J.charter.collections)
         × (p.ending.refused ≡ Some faults.Memory → IsWanting J.charter.collections p.trail.events)) }
-    ensures counted { IfOk result (λ p. AreCounted A.faults A.stands J.charter (first_fault p.ending.refused) p.server
+    ensures counted { IfOk result (λ p. CountsFaults A.faults A.stands J.charter (first_fault p.ending.refused) p.server
         p.trail.events) }
     ensures unserved { IfErr result (λ u. (u.server ≡ server) × (u.ports.items ≡ ports.items)) }
 {
@@ -130,7 +131,7 @@ pub fn serve<A: Server + Send, K: Sink + Send, G: Gate + Sync, R: Threads + Wait
         p.server p.trail.events) }
     // how it ended, whatever disk it is
     ensures later { IfOk result (λ p. A.faults server ≤ A.faults p.server) }
-    ensures ends { IfOk result (λ p. EndsSo (Rose (A.faults server) (A.faults p.server)) collections p.ending
+    ensures ends { IfOk result (λ p. EndsService (Rose (A.faults server) (A.faults p.server)) collections p.ending
         p.trail.events) }
     ensures stop { IfOk result (λ p. p.ending.stop ≡ A.stop p.server) }
     // and what was known of crashes as it began is known of the whole trail, from the moments of its events on
@@ -150,7 +151,7 @@ pub fn serve<A: Server + Send, K: Sink + Send, G: Gate + Sync, R: Threads + Wait
     // A server that runs counts the collections of the trail.
     ensures tallied { IfOk result (λ p. A.has_stopped p.server ≡ false → IsTallied (A.tally p.server) p.trail.events) }
     // No moment is below the one before it.
-    ensures rise { IfOk result (λ p. Rise (A.clock server) p.trail.moments (A.clock p.server)) }
+    ensures rise { IfOk result (λ p. MomentsRise (A.clock server) p.trail.moments (A.clock p.server)) }
     // The disk's count of failed calls is at least what the Disk replies come to, and a step that was refused for one
     // without a doubt; and the stops with them, on each graph that the server stood for.
     ensures counted { IfOk result (λ p. faults_after tells_disk p.trail.events

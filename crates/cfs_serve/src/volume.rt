@@ -1,8 +1,8 @@
 //! Volumes, opened.
 ghost use Rattle.std.specs.Prelude.{◌≡◌, ◌*◌, ◌≤◌, IfErr, IfOk, IfSome, IsTrue, None, length};
-ghost use Rattle.cfs_core.specs.Opened.{IsOpened};
+ghost use Rattle.cfs_core.specs.Opened.{IsOpenedCore};
 ghost use Rattle.cfs_serve.specs.Disks.{IsLater};
-ghost use Rattle.cfs_serve.specs.Opening.{IsRefusal, disk_refused, opening_cause};
+ghost use Rattle.cfs_serve.specs.Opening.{IsOpeningRefusal, disk_refused, opening_cause};
 ghost use Rattle.cfs_recover.specs.Recovered.{LeavesSinceBarrier};
 ghost use Rattle.vol_image.specs.Sound.{IsSound, IsSoundAs};
 ghost use Rattle.ufs_model.specs.Graph.{Graph};
@@ -51,14 +51,14 @@ fn told_by(why: RecoverFault) -> Cause
 /// Opens the volume of a disk that a crash left. Nothing was written where the cause is the volume.
 pub(crate) fn open_volume<D: Disk>(alloc: Global, disk: D, seed: u64) -> Result<Core<D>, Refused<D>>
     ensures opened { IsTrue (D.honest disk) → (graph : Graph) → IsSoundAs (D.content disk) graph
-        → IfOk result (IsOpened D.Disk graph seed) }
+        → IfOk result (IsOpenedCore D.Disk graph seed) }
     ensures begins { IfOk result (λ core. (core.words ≡ record { seed = seed; drawn = 0 }) × (core.stop ≡ None)) }
     ensures idle { IfOk result (λ core. core.collections ≡ record { collector = None; called = 0; finished = 0 }) }
     ensures sound { IsTrue (D.honest disk) → IfOk result (λ core. IsSound (D.content disk)) }
     ensures size { IfOk result (λ core. D.blocks disk ≡ 64 * length core.space.free) }
     // Where it is refused, this is told: a failed call only where one failed, a fault of the volume only where it isn't
     // sound.
-    ensures refused { IfErr result (λ e. IsRefusal D.Disk disk e.disk e.cause) }
+    ensures refused { IfErr result (λ e. IsOpeningRefusal D.Disk disk e.disk e.cause) }
     ensures images { IsTrue (D.honest disk) → (graph : Graph) → IsSoundAs (D.content disk) graph
         → LeavesSinceBarrier D.Disk disk (disk_refused result) (λ c. IsSoundAs c graph) }
     ensures later { IsLater D.Disk disk (disk_refused result) }

@@ -19,8 +19,8 @@ unfoldable pub word_of : (seed session place : ℕ) → ℕ
 word_of seed session place = word_at 10 (key_of (to_le_bytes w64 seed ++ (session + 1) ∷ replicate 23 0)) 0 place
 
 -- of a word the lowest three bits tell what is asked, the next six the slot, and the next twelve a size
-abbrev pub slot_in : ℕ → ℕ
-slot_in w = w / 8 % 64
+abbrev pub slot_drawn : ℕ → ℕ
+slot_drawn w = w / 8 % 64
 
 abbrev pub size_in : ℕ → ℕ
 size_in w = w / 512 % 4096
@@ -61,32 +61,32 @@ left_after acts.Size left = left
 
 -- ---- lines, without their ends. The object of slot s is named os, and all lie in the session's own index
 
-abbrev pub line_of : Act → (slot size word : ℕ) → List ℕ
-line_of acts.CreateNormal slot size word =
+abbrev pub act_line : Act → (slot size word : ℕ) → List ℕ
+act_line acts.CreateNormal slot size word =
     codes "create-file o" ++ (decimal slot ++ (codes " normal 00 top " ++ decimal slot))
-line_of acts.CreateSpecial slot size word =
+act_line acts.CreateSpecial slot size word =
     codes "create-file o" ++ (decimal slot ++ (codes " special 2e top " ++ decimal slot))
-line_of acts.CreateIndex slot size word =
+act_line acts.CreateIndex slot size word =
     codes "create-index o" ++ (decimal slot ++ (codes " 64 top " ++ decimal slot))
-line_of acts.Delete slot size word = codes "delete top " ++ decimal slot
-line_of acts.Resize slot size word = codes "resize o" ++ (decimal slot ++ (codes " " ++ decimal size))
-line_of acts.Write slot size word =
+act_line acts.Delete slot size word = codes "delete top " ++ decimal slot
+act_line acts.Resize slot size word = codes "resize o" ++ (decimal slot ++ (codes " " ++ decimal size))
+act_line acts.Write slot size word =
     codes "write o" ++ (decimal slot ++ (codes " 0 " ++ encode_lower (to_be_bytes w32 word)))
-line_of acts.Read slot size word = codes "read o" ++ (decimal slot ++ codes " 0 1")
-line_of acts.Size slot size word = codes "size o" ++ decimal slot
+act_line acts.Read slot size word = codes "read o" ++ (decimal slot ++ codes " 0 1")
+act_line acts.Size slot size word = codes "size o" ++ decimal slot
 
 -- what is asked at a place, where the slots have this left in them
 abbrev pub act_at : (seed session place : ℕ) → List Left → Act
 act_at seed session place left =
-    let w = word_of seed session place in act_of (w % 8) (get_or left (slot_in w) Nothing)
+    let w = word_of seed session place in act_of (w % 8) (get_or left (slot_drawn w) Nothing)
 
 abbrev pub line_at : (seed session place : ℕ) → List Left → List ℕ
 line_at seed session place left =
-    let w = word_of seed session place in line_of (act_at seed session place left) (slot_in w) (size_in w) w
+    let w = word_of seed session place in act_line (act_at seed session place left) (slot_drawn w) (size_in w) w
 
 abbrev pub left_at : (seed session place : ℕ) → List Left → List Left
 left_at seed session place left =
-    let slot = slot_in (word_of seed session place) in
+    let slot = slot_drawn (word_of seed session place) in
     set left slot (left_after (act_at seed session place left) (get_or left slot Nothing))
 
 -- so many lines from a place on, each with its end

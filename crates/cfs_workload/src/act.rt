@@ -1,7 +1,7 @@
 //! What a line of the workload asks, and what it leaves in a slot.
 ghost use Rattle.std.specs.Prelude.{◌≡◌, IfOk};
 ghost use Rattle.std.specs.String.{string_bytes};
-ghost use Rattle.cfs_workload.specs.Workload.{act_of, left_after, line_of, of_file, of_object};
+ghost use Rattle.cfs_workload.specs.Workload.{act_of, left_after, act_line, of_file, of_object};
 ghost use Rattle.cfs_workload.specs.declared.act.Act.TheVariants as acts;
 
 use std::alloc::{AllocError, Global};
@@ -81,7 +81,7 @@ pub fn line_of(
     size: u32,
     word: u32,
 ) -> Result<String, AllocError>
-    ensures { IfOk result (λ line. string_bytes line ≡ line_of act slot size word) }
+    ensures { IfOk result (λ line. string_bytes line ≡ act_line act slot size word) }
 {
     match act {
         Act::CreateNormal => format!(in alloc; "create-file o{slot} normal 00 top {slot}"),
@@ -97,7 +97,7 @@ pub fn line_of(
 
 /// The line that writes the word at the beginning of a file.
 fn write_line(alloc: Global, slot: usize, word: u32) -> Result<String, AllocError>
-    ensures { IfOk result (λ line. string_bytes line ≡ line_of acts.Write slot 0 word) }
+    ensures { IfOk result (λ line. string_bytes line ≡ act_line acts.Write slot 0 word) }
 {
     let digits = hex::encode(alloc, word.to_be_bytes())?;
     format!(in alloc; "write o{slot} 0 {digits}")

@@ -1,6 +1,6 @@
 //! The script of a session, line after line.
 ghost use Rattle.std.specs.Prelude.{◌≡◌, ◌<◌, IfOk};
-ghost use Rattle.cfs_workload.specs.Workload.{script, size_in, slot_in, word_of};
+ghost use Rattle.cfs_workload.specs.Workload.{script, size_in, slot_drawn, word_of};
 
 use crate::act::{Left, act_of, left_after, line_of};
 use cfs_base::NoMemory;
@@ -30,7 +30,7 @@ fn word_of(seed: u64, session: u32, place: u64) -> u32
 
 /// The slot that a word names.
 fn slot_in(word: u32) -> usize
-    ensures slot { result ≡ slot_in word }
+    ensures slot { result ≡ slot_drawn word }
     ensures within { result < 64 }
 {
     (word / 8 % 64) as usize

@@ -23,7 +23,7 @@ use std::process::ExitCode;
 struct Volume {
     disk: Tree,
     space: Space,
-    names: Directory,
+    directory: Directory,
     collector: Collector,
     /// How many objects can be reached.
     kept: u32,
@@ -31,7 +31,7 @@ struct Volume {
     gone: Vec<Puid>,
     ghost size: { disk.cylinders ≡ length space.free },
     ghost blocks: { volume_of collector ≡ 64 * length space.free },
-    ghost room: { names.room ≤ volume_of collector },
+    ghost room: { directory.room ≤ volume_of collector },
 }
 
 fn collector_for(alloc: Global, blocks: u32) -> Option<Collector>
@@ -44,13 +44,13 @@ fn collector_for(alloc: Global, blocks: u32) -> Option<Collector>
     }
 }
 
-/// No names, with room for those of so many blocks.
-fn names_for(alloc: Global, blocks: u32) -> Option<Directory>
-    ensures { IfSome result (λ names. names.room ≡ blocks) }
+/// An empty directory, with room for the identifiers of so many blocks.
+fn directory_for(alloc: Global, blocks: u32) -> Option<Directory>
+    ensures { IfSome result (λ directory. directory.room ≡ blocks) }
 {
-    let mut names = Directory::new(alloc);
-    match names.reserve(blocks) {
-        Ok(()) => Some(names),
+    let mut directory = Directory::new(alloc);
+    match directory.reserve(blocks) {
+        Ok(()) => Some(directory),
         Err(_) => None,
     }
 }
@@ -65,11 +65,11 @@ impl Volume {
         let mut disk = Tree::new(cylinders, objects, kept)?;
         let space = Space::counted(alloc, &mut disk, cylinders).ok()?;
         let collector = collector_for(alloc, 64 * cylinders)?;
-        let names = names_for(alloc, 64 * cylinders)?;
+        let directory = directory_for(alloc, 64 * cylinders)?;
         let mut volume = Volume {
             disk,
             space,
-            names,
+            directory,
             collector,
             kept,
             gone: Vec::new(alloc),
@@ -82,10 +82,10 @@ impl Volume {
     }
 
     fn name(&mut self, id: Puid, kind: Kind) -> Option<()> {
-        if id.block >= self.names.room() || self.names.has_root(id.block) {
+        if id.block >= self.directory.room() || self.directory.has_root(id.block) {
             return None;
         }
-        self.names.add(id, kind);
+        self.directory.add(id, kind);
         Some(())
     }
 
@@ -94,7 +94,7 @@ impl Volume {
         if self.collector.phase() != Phase::Idle {
             return None;
         }
-        self.collector.begin(&[id_of(0)], &self.names).ok()?;
+        self.collector.begin(&[id_of(0)], &self.directory).ok()?;
         for steps in 1..u32::MAX {
             if self.collector.phase() == Phase::Idle {
                 self.restore()?;
@@ -110,7 +110,7 @@ impl Volume {
         for n in 0..self.gone.len() {
             let id = *self.gone.get(n)?;
             self.name(id, Kind::Normal)?;
-            if id.block < self.names.room() {
+            if id.block < self.directory.room() {
                 self.space.took(BlockNo(id.block));
             }
         }
@@ -123,11 +123,11 @@ impl Volume {
             Phase::Marking => self.mark(steps),
             Phase::Inner { .. } => self
                 .collector
-                .sweep_inner(&mut self.disk, &mut self.space, &self.names)
+                .sweep_inner(&mut self.disk, &mut self.space, &self.directory)
                 .ok(),
             Phase::Roots { .. } => self
                 .collector
-                .sweep_roots(&mut self.disk, &mut self.space, &self.names)
+                .sweep_roots(&mut self.disk, &mut self.space, &self.directory)
                 .ok(),
             Phase::Swept => {
                 self.collector.end();
@@ -142,17 +142,17 @@ impl Volume {
             return None;
         }
         if self.collector.has_rescue() {
-            self.collector.take(&self.names);
+            self.collector.take(&self.directory);
             return Some(());
         }
         if self.collector.has_grey() {
-            self.collector.scan(&mut self.disk, &self.names).ok()?;
+            self.collector.scan(&mut self.disk, &self.directory).ok()?;
             self.collector.reserve().ok()?;
             self.collector
                 .rescue(None, id_of(steps.wrapping_mul(77_773) % self.kept.max(1)));
             return Some(());
         }
-        self.gone = self.collector.condemn(&mut self.names).into_vec();
+        self.gone = self.collector.condemn(&mut self.directory).into_vec();
         Some(())
     }
 }
@@ -163,7 +163,7 @@ fn open(rt: &HostRuntime, alloc: Global, cylinders: u32, objects: u32) -> Option
 {
     let mut disk = Tree::new(cylinders, objects, objects)?;
     let opened = recover(alloc, &mut disk).ok()?;
-    let (found, free, calls) = (opened.names.len(), opened.space.free(), disk.calls());
+    let (found, free, calls) = (opened.directory.len(), opened.space.free(), disk.calls());
     println!(rt; "{found} objects opened by {calls} device calls, {free} blocks Free").ok()
 }
 

@@ -14,8 +14,8 @@ pub record Marked : Type 0 where
 abbrev pub colours_of : Marked → Colours
 colours_of m = record { marked = λ block. get_or m.marks block false; grey = m.grey }
 
-abbrev pub blocks_of : Marked → ℕ
-blocks_of m = length m.marks
+abbrev pub blocks_marked : Marked → ℕ
+blocks_marked m = length m.marks
 
 -- how many objects are marked
 abbrev pub count_marked : List Bool → ℕ

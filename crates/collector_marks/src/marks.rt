@@ -1,6 +1,6 @@
 //! Marked objects, and grey indices.
 ghost use Rattle.std.specs.Prelude.{◌≡◌, ◌<◌, IfOk, IfSome, Some, None};
-ghost use Rattle.collector_marks.specs.Kept.{blocks_of, colours_of};
+ghost use Rattle.collector_marks.specs.Kept.{blocks_marked, colours_of};
 ghost use Rattle.marking.specs.Colours.{first_grey, is_index, moved, none_marked, shaded};
 
 use crate::bits::Bits;
@@ -48,7 +48,7 @@ impl Marks {
     /// Nothing is marked on a volume of so many blocks. All memory is taken here.
     pub fn new(alloc: Global, blocks: u32) -> Result<Marks, NoMemory>
         ensures none { IfOk result (λ marks. colours_of marks ≡ none_marked) }
-        ensures blocks { IfOk result (λ marks. blocks_of marks ≡ blocks) }
+        ensures blocks { IfOk result (λ marks. blocks_marked marks ≡ blocks) }
     {
         let marked = Bits::new(alloc, blocks)?;
         let grey = Vec::with_capacity(alloc, blocks as usize)?;
@@ -58,7 +58,7 @@ impl Marks {
     /// Nothing is marked any more.
     pub fn clear(&mut self)
         ensures none { colours_of self.new ≡ none_marked }
-        ensures blocks { blocks_of self.new ≡ blocks_of self.old }
+        ensures blocks { blocks_marked self.new ≡ blocks_marked self.old }
     {
         self.marked.clear();
         self.grey.clear();
@@ -67,9 +67,9 @@ impl Marks {
     /// Marks an object, and makes it the first grey index where it is an index; nothing where it is marked. Takes no
     /// memory.
     pub fn shade(&mut self, id: Puid, kind: Kind)
-        requires { id.block < blocks_of self.old }
+        requires { id.block < blocks_marked self.old }
         ensures shaded { colours_of self.new ≡ shaded id kind (colours_of self.old) }
-        ensures blocks { blocks_of self.new ≡ blocks_of self.old }
+        ensures blocks { blocks_marked self.new ≡ blocks_marked self.old }
     {
         let was_marked = self.marked.put(id.block);
         if !was_marked && is_index(kind) {
@@ -86,7 +86,7 @@ impl Marks {
 
     /// How many blocks the volume has.
     pub fn blocks(&self) -> usize
-        ensures { result ≡ blocks_of self.now }
+        ensures { result ≡ blocks_marked self.now }
     {
         self.marked.len()
     }
@@ -94,7 +94,7 @@ impl Marks {
     /// The first grey index; None exactly where none is grey.
     pub fn next_grey(&self) -> Option<Grey>
         ensures first { result ≡ first_grey (colours_of self.now) }
-        ensures inside { IfSome result (λ e. e.id.block < blocks_of self.now) }
+        ensures inside { IfSome result (λ e. e.id.block < blocks_marked self.now) }
     {
         self.grey.last().copied()
     }
@@ -102,7 +102,7 @@ impl Marks {
     /// Moves the cursor of the first grey index; nothing where none is grey. Takes no memory.
     pub fn advance(&mut self, cursor: u32)
         ensures moved { colours_of self.new ≡ moved (Some cursor) (colours_of self.old) }
-        ensures blocks { blocks_of self.new ≡ blocks_of self.old }
+        ensures blocks { blocks_marked self.new ≡ blocks_marked self.old }
     {
         if let Some(first) = self.grey.pop() {
             self.grey.push_reserved(Grey {
@@ -115,7 +115,7 @@ impl Marks {
     /// The first grey index is grey no more; nothing where none is grey. Takes no memory.
     pub fn finish_grey(&mut self)
         ensures moved { colours_of self.new ≡ moved None (colours_of self.old) }
-        ensures blocks { blocks_of self.new ≡ blocks_of self.old }
+        ensures blocks { blocks_marked self.new ≡ blocks_marked self.old }
     {
         let _ = self.grey.pop();
     }

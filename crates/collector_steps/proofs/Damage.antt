@@ -1,6 +1,6 @@
 -- Why a leaf of an index isn't read: what a device call or a pointer past the disk tells of the index.
 use Rattle.std.proofs.Common.{◌≡◌, ◌≢◌, ℕ, ◌/◌, ◌%◌, ◌≤◌, List, [], ◌∷◌, get_or, false, refl, sym, ap, ◌∙◌, subst}
-use Rattle.collector_steps.proofs.Words.{Ghosts, HeldStep, Image, IsFault, IsLeafTrouble, IsPast, IsPastFrom, IsRootBlock, IsRootTrouble, NoRoot, leaf_pointers, IsScanTrouble, LeadsPast, OnlyReads, PastDisk, Root, Tells, TreeFault, Trouble, block_at, leaf_block, node_block, node_pointers, past_is, path_is, pointers_of, root_spelling, stopped_after_reads, tells_on, tree_of, trouble_of}
+use Rattle.collector_steps.proofs.Words.{Ghosts, HeldStep, Image, IsFault, IsLeafScanTrouble, IsPast, IsPastFrom, IsRootBlock, IsRootTrouble, NoRoot, leaf_pointers, IsScanTrouble, LeadsPast, OnlyReads, PastDisk, Root, Tells, TreeFault, Trouble, block_at, leaf_block, node_block, node_pointers, past_is, path_is, pointers_of, root_spelling, stopped_after_reads, tells_on, tree_of, trouble_of}
 use Rattle.cfs_base.specs.declared.refusal.Damage.{Damage}
 use Rattle.cfs_base.specs.declared.refusal.Trouble.TheVariants as trouble
 use Rattle.block_tree.specs.declared.fault.TreeFault.TheVariants as faults
@@ -44,7 +44,7 @@ module _ {D : Type 0} (g : Ghosts D) (old mid new : D) (n r : ℕ) (root : Root)
   -- the leaf was
   pub leaf_refused : (step : HeldStep) (t : Trouble) → (Tells g old → root.nodes ≡ pointers_of node_pointers (block_at (g.content old) r))
       → (Tells g old → leaf_block (g.content old) (root_spelling root) step.held.leaf ≡ step.held.block) → step.held.block ≢ 0
-      → IsLeafTrouble g mid new root.nodes step t → IsScanTrouble g old new r t
+      → IsLeafScanTrouble g mid new root.nodes step t → IsScanTrouble g old new r t
   leaf_refused step (trouble.Disk tried) nodes there some stop = stopped_after_reads g old mid new n tried reads stop
   leaf_refused step (trouble.Damaged damage) nodes there some (code, block, past) =
       let at : Tells g old → LeadsPast (g.content old) (g.blocks old) r damage.block = λ tells.

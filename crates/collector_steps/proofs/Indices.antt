@@ -122,19 +122,19 @@ module _ (image : Image) (blocks : AreBlocks image) (owner : ℕ) (content : Lis
           rw (none, more) refl
 
   -- a step on the disk is one of the model
-  pub stepped_is : (names : List (Puid × Kind)) (cursor : ℕ) (c : Colours) (step : Option HeldStep) (bytes : List ℕ) → IsStepped image content cursor step
-      → IfSome step (λ s. bytes ≡ block_at image s.held.block) → stepped names step (ids_from bytes 0) c ≡ scanned names i cursor c
-  stepped_is names cursor c None bytes none told =
+  pub stepped_is : (directory : List (Puid × Kind)) (cursor : ℕ) (c : Colours) (step : Option HeldStep) (bytes : List ℕ) → IsStepped image content cursor step
+      → IfSome step (λ s. bytes ≡ block_at image s.held.block) → stepped directory step (ids_from bytes 0) c ≡ scanned directory i cursor c
+  stepped_is directory cursor c None bytes none told =
       let gone : next_held cursor i ≡ None = none_next cursor (λ leaf on there. quiet cursor leaf_limit leaf (subst (NoneHeld image content cursor) (count_is content) none) on (of_held leaf there).1 there) in
-      ap (λ (next : Option ℕ). read names i next c) (sym gone)
-  stepped_is names cursor c (Some s) bytes is told =
+      ap (λ (next : Option ℕ). read directory i next c) (sym gone)
+  stepped_is directory cursor c (Some s) bytes is told =
       let some : leaf_block image content s.held.leaf ≢ 0 = λ gone. is.is_held (sym is.block ∙ gone) in
       let here : next_held cursor i ≡ Some s.held.leaf = first_next cursor s.held.leaf is.on (in_held s.held.leaf some) (λ leaf on below there. quiet cursor s.held.leaf leaf is.before on below there) in
       let content_is : bytes ≡ block_at image (leaf_block image content s.held.leaf) = told ∙ ap (block_at image) (sym is.block) in
       let ids : ids_from bytes 0 ≡ leaf_ids i s.held.leaf = ap (λ (xs : List ℕ). ids_from xs 0) content_is ∙ sym (ids_are s.held.leaf some) in
-      ap (λ (next : Option ℕ). all_shaded names (ids_from bytes 0) (moved next c)) (sym (follows_is cursor s is))
-      ∙ ap (λ (xs : List Puid). all_shaded names xs (moved (cursor_after s.held.leaf i) c)) ids
-      ∙ ap (λ (next : Option ℕ). read names i next c) (sym here)
+      ap (λ (next : Option ℕ). all_shaded directory (ids_from bytes 0) (moved next c)) (sym (follows_is cursor s is))
+      ∙ ap (λ (xs : List Puid). all_shaded directory xs (moved (cursor_after s.held.leaf i) c)) ids
+      ∙ ap (λ (next : Option ℕ). read directory i next c) (sym here)
 
   -- no pointer of it leads past the disk
   pub none_past : (r block : ℕ) → content ≡ block_at image r → ¬ LeadsPast image (length image) r block

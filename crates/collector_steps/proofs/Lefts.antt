@@ -1,6 +1,6 @@
 -- How much a collection has left: no step adds to it, and each takes from it.
 use Rattle.std.proofs.Common.{◌≡◌, ℕ, zero, suc, ◌+◌, ◌-◌, ◌*◌, ◌/◌, ◌<◌, ◌≤◌, ◌==◌, ◌||◌, nat_lt, Bool, true, false, cond, List, [], ◌∷◌, length, Option, Some, None, refl, sym, ap, ◌∙◌, subst, arith, inl, inr}
-use Rattle.collector_steps.proofs.Words.{Collecting, Colours, Grey, HeldStep, IfSome, IsPhaseOf, Kind, Listing, Pass, Phase, Puid, Rescue, all_shaded, cases_lt, colours_in, cylinders_of, first_grey, first_is, ids_from, is_listing, kind_in, left_in, most_steps, moved, next_cursor, next_phase, nat_tests, none_marked, reads_left, reads_of, rescued, shaded, shaded_in, stepped, steps_left, sum_by, sum_by-cons, unmarked_below, volume_of, waiting_in}
+use Rattle.collector_steps.proofs.Words.{Collecting, Colours, Grey, HeldStep, IfSome, IsPhaseOf, Kind, Listing, Pass, Phase, Puid, Rescue, all_shaded, cases_lt, colours_in, cylinders_of, first_grey, first_is, ids_from, is_listing, directory_kind, left_in, most_steps, moved, next_cursor, next_phase, nat_tests, none_marked, reads_left, reads_of, rescued, shaded, shaded_in, stepped, steps_left, sum_by, sum_by-cons, unmarked_below, volume_of, waiting_in}
 use Rattle.marking.specs.Colours.{is_index, shaded_as}
 use Rattle.marking.specs.Steps.{is_live}
 use Rattle.collector_steps.specs.declared.phase.Phase.TheVariants as phases
@@ -85,33 +85,33 @@ module _ (blocks : ℕ) where
             | false ↦ omega (arith, less)
           ]
 
-  module _ (names : Listing) (is : is_listing names ≡ true) (room : names.room ≤ blocks) where
-    as_found : (found : Option Kind) (id : Puid) (c : Colours) → kind_in names.named id ≡ found → reads_left blocks (shaded_as found id c) ≤ reads_left blocks c
+  module _ (directory : Listing) (is : is_listing directory ≡ true) (room : directory.room ≤ blocks) where
+    as_found : (found : Option Kind) (id : Puid) (c : Colours) → directory_kind directory.named id ≡ found → reads_left blocks (shaded_as found id c) ≤ reads_left blocks c
     as_found None id c at = omega arith
-    as_found (Some kind) id c at = let below = kind_below names id kind is at in shaded_less id kind c (omega (arith, below, room))
+    as_found (Some kind) id c at = let below = kind_below directory id kind is at in shaded_less id kind c (omega (arith, below, room))
 
-    one_shaded : (id : Puid) (c : Colours) → reads_left blocks (shaded_in names.named id c) ≤ reads_left blocks c
-    one_shaded id c = as_found (kind_in names.named id) id c refl
+    one_shaded : (id : Puid) (c : Colours) → reads_left blocks (shaded_in directory.named id c) ≤ reads_left blocks c
+    one_shaded id c = as_found (directory_kind directory.named id) id c refl
 
-    pub all_less : (ids : List Puid) (c : Colours) → reads_left blocks (all_shaded names.named ids c) ≤ reads_left blocks c
+    pub all_less : (ids : List Puid) (c : Colours) → reads_left blocks (all_shaded directory.named ids c) ≤ reads_left blocks c
     all_less [] c = omega arith
     all_less (id ∷ ids) c =
-        let rest = all_less ids (shaded_in names.named id c) in
+        let rest = all_less ids (shaded_in directory.named id c) in
         let one = one_shaded id c in
         omega (arith, rest, one)
 
-    pub rescued_less : (r : Rescue) (c : Colours) → reads_left blocks (rescued names.named r c) ≤ reads_left blocks c
-    rescued_less r c = elim (is_live r.index c) as (λ b. reads_left blocks (cond b (shaded_in names.named r.id c) c) ≤ reads_left blocks c) [ true ↦ one_shaded r.id c | false ↦ omega arith ]
+    pub rescued_less : (r : Rescue) (c : Colours) → reads_left blocks (rescued directory.named r c) ≤ reads_left blocks c
+    rescued_less r c = elim (is_live r.index c) as (λ b. reads_left blocks (cond b (shaded_in directory.named r.id c) c) ≤ reads_left blocks c) [ true ↦ one_shaded r.id c | false ↦ omega arith ]
 
     -- the first grey index goes on past a leaf that isn't below its cursor, or it ends
     pub stepped_less : (c : Colours) (e : Grey) (step : Option HeldStep) (ids : List Puid) → first_grey c ≡ Some e → IfSome step (λ s. (e.cursor ≤ s.held.leaf) × (s.held.leaf < 15360))
-        → reads_left blocks (stepped names.named step ids c) < reads_left blocks c
+        → reads_left blocks (stepped directory.named step ids c) < reads_left blocks c
     stepped_less c e step ids first on = by step on
       where
         all : (rest : List Grey) × (c.grey ≡ e ∷ rest)
         all = first_is c e first
 
-        by : (step : Option HeldStep) → IfSome step (λ s. (e.cursor ≤ s.held.leaf) × (s.held.leaf < 15360)) → reads_left blocks (stepped names.named step ids c) < reads_left blocks c
+        by : (step : Option HeldStep) → IfSome step (λ s. (e.cursor ≤ s.held.leaf) × (s.held.leaf < 15360)) → reads_left blocks (stepped directory.named step ids c) < reads_left blocks c
         by None on = moved_on c e all.0 all.1 None tt
         by (Some s) on =
             let shades = all_less ids (moved (next_cursor s) c) in
@@ -137,15 +137,15 @@ module _ (k l : Collecting) (volume : volume_of l ≡ volume_of k) where
       omega (arith, before, after, same, less, volume)
 
   -- a rescue was taken
-  pub takes_less : (names : Listing) → is_listing names ≡ true → names.room ≤ volume_of k → k.phase ≡ phases.Marking → l.phase ≡ k.phase → ¬ (waiting_in k ≡ [])
-      → ((r : Rescue) (rest : List Rescue) → waiting_in k ≡ r ∷ rest → (waiting_in l ≡ rest) × (colours_in l ≡ rescued names.named r (colours_in k))) → steps_left l < steps_left k
-  takes_less names is room marks phase waits taken = at (waiting_in k) refl
+  pub takes_less : (directory : Listing) → is_listing directory ≡ true → directory.room ≤ volume_of k → k.phase ≡ phases.Marking → l.phase ≡ k.phase → ¬ (waiting_in k ≡ [])
+      → ((r : Rescue) (rest : List Rescue) → waiting_in k ≡ r ∷ rest → (waiting_in l ≡ rest) × (colours_in l ≡ rescued directory.named r (colours_in k))) → steps_left l < steps_left k
+  takes_less directory is room marks phase waits taken = at (waiting_in k) refl
     where
       at : (ws : List Rescue) → waiting_in k ≡ ws → steps_left l < steps_left k
       at [] none = absurd (waits none)
       at (r ∷ rest) some =
           let two = taken r rest some in
-          let less = rescued_less (volume_of k) names is room r (colours_in k) in
+          let less = rescued_less (volume_of k) directory is room r (colours_in k) in
           let now = ap (reads_left (volume_of k)) two.1 in
           marks_less marks phase (omega (arith, less, now, ap length two.0, ap length some))
 
@@ -174,11 +174,11 @@ module _ (k l : Collecting) (volume : volume_of l ≡ volume_of k) where
   sweeps_less pass of phase = subst (λ p. left_in p l < steps_left k) (sym phase) (sweeps pass k.phase of)
 
 -- a collection begins
-pub begins_with : (l : Collecting) (names : Listing) (roots : List Puid) → is_listing names ≡ true → names.room ≤ volume_of l → l.phase ≡ phases.Marking → waiting_in l ≡ [] → colours_in l ≡ all_shaded names.named roots none_marked
+pub begins_with : (l : Collecting) (directory : Listing) (roots : List Puid) → is_listing directory ≡ true → directory.room ≤ volume_of l → l.phase ≡ phases.Marking → waiting_in l ≡ [] → colours_in l ≡ all_shaded directory.named roots none_marked
     → steps_left l < most_steps (volume_of l)
-begins_with l names roots is room phase none colours =
+begins_with l directory roots is room phase none colours =
     let now = marking_left l phase in
     let first = none_left (volume_of l) none_marked refl refl in
-    let less = all_less (volume_of l) names is room roots none_marked in
+    let less = all_less (volume_of l) directory is room roots none_marked in
     let same = ap (reads_left (volume_of l)) colours in
     omega (arith, now, first, less, same, ap length none)

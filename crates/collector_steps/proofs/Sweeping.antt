@@ -1,6 +1,6 @@
 -- An image of which one cylinder was swept.
 use Rattle.std.proofs.Common.{◌≡◌, inl, inr, ℕ, ◌+◌, ◌/◌, ◌%◌, ◌==◌, ◌<◌, List, length, refl, sym, ap, ◌∙◌, subst, arith, Bool, true, false, cond, not, Option, Some, None}
-use Rattle.collector_steps.proofs.Words.{Accounts, ChangesOnly, Frames, Graph, HasRoot, Holds, Image, IsOpenTo, IsSome, IsSweptOf, Kind, MapEntry, MayBegin, Misses, NoInner, NoStray, Opened, OwnsItself, Pass, Puid, Sweeps, and_from, and_parts, block_there, both_ways, cases_eq, entry_in, eq-eqb, false_from_ne_true, frames_others, free_entry, goes, has_block, has_root_in, in_image, is_fixed, is_free_entry, is_had, is_made, is_meant, is_of_pass, is_placed, is_root, is_stray, is_taken, not-true, option_map, or_left, owner_is, owner_of, reserved, root_owner, root_placed, root_real, same_Some, swept, true_from_ne_false}
+use Rattle.collector_steps.proofs.Words.{Accounts, ChangesOnly, Frames, Graph, HasRoot, Holds, Image, IsOpenTo, IsSome, IsSweptOf, Kind, MapEntry, MayBegin, Misses, NoInner, NoStray, Opened, OwnsItself, Pass, Puid, Sweeps, and_from, and_parts, block_there, both_ways, cases_eq, entry_in, eq-eqb, false_from_ne_true, frames_others, unheld_entry, goes, has_block, has_root_in, in_image, is_fixed, is_free_entry, is_had, is_made, is_meant, is_of_pass, is_placed, is_root, is_stray, is_taken, not-true, option_map, or_left, owner_is, owner_of, reserved, root_owner, root_placed, root_real, same_Some, swept, true_from_ne_false}
 use Rattle.collector_steps.specs.declared.sweep.Pass.TheVariants as passes
 
 -- whether a pass is over roots
@@ -8,20 +8,20 @@ abbrev is_over : Pass → Bool
 is_over passes.Inner = false
 is_over passes.Roots = true
 
-reserved_stays : (names : List (Puid × Kind)) (pass : Pass) → goes names pass reserved ≡ false
-reserved_stays names passes.Inner = refl
-reserved_stays names passes.Roots = refl
+reserved_stays : (directory : List (Puid × Kind)) (pass : Pass) → goes directory pass reserved ≡ false
+reserved_stays directory passes.Inner = refl
+reserved_stays directory passes.Roots = refl
 
 -- a block of a vanished object lies in a cylinder of the volume
 pub within : (image : Image) (g : Graph) → Holds image g → (n : ℕ) (entry : Option MapEntry) → entry_in image n ≡ entry → is_stray g entry ≡ true → n / 64 < length image / 64
 within image g holds n None was stray = cc
 within image g holds n (Some e) was stray = omega (arith, in_image image g holds n e was, holds.label.size_is)
 
-module _ (names : List (Puid × Kind)) (g : Graph) (roots : (r : ℕ) → has_root_in names r ≡ has_block g.objects r) where
+module _ (directory : List (Puid × Kind)) (g : Graph) (roots : (r : ℕ) → has_root_in directory r ≡ has_block g.objects r) where
   -- ---- what goes
 
-  no_owner : (pass : Pass) (e : MapEntry) → goes names pass e ≡ true → has_block g.objects e.owner ≡ false
-  no_owner pass e h = sym (roots e.owner) ∙ not-true _ (and_parts (is_of_pass pass e) (not (has_root_in names e.owner)) h).1
+  no_owner : (pass : Pass) (e : MapEntry) → goes directory pass e ≡ true → has_block g.objects e.owner ≡ false
+  no_owner pass e h = sym (roots e.owner) ∙ not-true _ (and_parts (is_of_pass pass e) (not (has_root_in directory e.owner)) h).1
 
   -- a made root is none of the inner pass, and the root pass spares it
   of_pass : (pass : Pass) (e : MapEntry) → is_of_pass pass e ≡ true → (is_placed is_taken (Some e) ≡ true) × (is_made (Some e) ≡ false)
@@ -32,13 +32,13 @@ module _ (names : List (Puid × Kind)) (g : Graph) (roots : (r : ℕ) → has_ro
       let two = and_parts (is_root is_taken (Some e)) (not (is_made (Some e))) h in
       (root_placed is_taken (Some e) two.0, not-true _ two.1)
 
-  pub goes_stray : (pass : Pass) (e : MapEntry) → goes names pass e ≡ true → is_stray g (Some e) ≡ true
+  pub goes_stray : (pass : Pass) (e : MapEntry) → goes directory pass e ≡ true → is_stray g (Some e) ≡ true
   goes_stray pass e h =
-      let of = of_pass pass e (and_parts (is_of_pass pass e) (not (has_root_in names e.owner)) h).0 in
+      let of = of_pass pass e (and_parts (is_of_pass pass e) (not (has_root_in directory e.owner)) h).0 in
       and_from _ _ of.0 (and_from _ _ (ap not of.1) (ap not (no_owner pass e h)))
 
   -- and what is stray goes, in the one pass or the other
-  pub stray_goes : (pass : Pass) (e : MapEntry) → is_stray g (Some e) ≡ true → is_root is_taken (Some e) ≡ is_over pass → goes names pass e ≡ true
+  pub stray_goes : (pass : Pass) (e : MapEntry) → is_stray g (Some e) ≡ true → is_root is_taken (Some e) ≡ is_over pass → goes directory pass e ≡ true
   stray_goes pass e h root =
       let one = and_parts (is_placed is_taken (Some e)) _ h in
       let two = and_parts (not (is_made (Some e))) (not (has_block g.objects e.owner)) one.1 in
@@ -50,11 +50,11 @@ module _ (names : List (Puid × Kind)) (g : Graph) (roots : (r : ℕ) → has_ro
 
   -- ---- one cylinder
 
-  module _ (pass : Pass) (cylinder : ℕ) (a b : Image) (sweep : IsSweptOf names pass cylinder a b) where
+  module _ (pass : Pass) (cylinder : ℕ) (a b : Image) (sweep : IsSweptOf directory pass cylinder a b) where
     -- an entry is the same, or went
     data Changed (n : ℕ) : Type 0 where
       Same : entry_in b n ≡ entry_in a n → Changed n
-      Went : (old : MapEntry) → entry_in a n ≡ Some old → goes names pass old ≡ true → entry_in b n ≡ Some free_entry → n / 64 ≡ cylinder → Changed n
+      Went : (old : MapEntry) → entry_in a n ≡ Some old → goes directory pass old ≡ true → entry_in b n ≡ Some unheld_entry → n / 64 ≡ cylinder → Changed n
 
     changed : (n : ℕ) → Changed n
     changed n = elim (cases_eq (n / 64) cylinder) [
@@ -63,10 +63,10 @@ module _ (names : List (Puid × Kind)) (g : Graph) (roots : (r : ℕ) → has_ro
     ]
       where
         at : (entry : Option MapEntry) → entry_in a n ≡ entry → n / 64 ≡ cylinder → Changed n
-        at None was is = Same (sweep.here n is ∙ ap (option_map (swept names pass)) was ∙ sym was)
-        at (Some e) was is = elim (goes names pass e) as (λ t. goes names pass e ≡ t → Changed n) [
-          | true ↦ λ go. Went e was go (sweep.here n is ∙ ap (option_map (swept names pass)) was ∙ ap (λ (t : Bool). Some (cond t free_entry e)) go) is
-          | false ↦ λ stays. Same (sweep.here n is ∙ ap (option_map (swept names pass)) was ∙ ap (λ (t : Bool). Some (cond t free_entry e)) stays ∙ sym was)
+        at None was is = Same (sweep.here n is ∙ ap (option_map (swept directory pass)) was ∙ sym was)
+        at (Some e) was is = elim (goes directory pass e) as (λ t. goes directory pass e ≡ t → Changed n) [
+          | true ↦ λ go. Went e was go (sweep.here n is ∙ ap (option_map (swept directory pass)) was ∙ ap (λ (t : Bool). Some (cond t unheld_entry e)) go) is
+          | false ↦ λ stays. Same (sweep.here n is ∙ ap (option_map (swept directory pass)) was ∙ ap (λ (t : Bool). Some (cond t unheld_entry e)) stays ∙ sym was)
         ] refl
 
     -- what is left of somebody is as it was
@@ -90,7 +90,7 @@ module _ (names : List (Puid × Kind)) (g : Graph) (roots : (r : ℕ) → has_ro
         go_on None was = both_ways _ (ap (is_placed is_taken) (same ∙ was)) placed
         go_on (Some e) was =
             let go = stray_goes pass e (ap (λ (x : Option MapEntry). is_stray g x) (sym (same ∙ was)) ∙ stray) (ap (is_root is_taken) (sym (same ∙ was)) ∙ root) in
-            let now : entry_in b n ≡ Some free_entry = sweep.here n at ∙ ap (option_map (swept names pass)) was ∙ ap (λ (t : Bool). Some (cond t free_entry e)) go in
+            let now : entry_in b n ≡ Some unheld_entry = sweep.here n at ∙ ap (option_map (swept directory pass)) was ∙ ap (λ (t : Bool). Some (cond t unheld_entry e)) go in
             both_ways _ (ap (is_placed is_taken) now) placed
 
     stray_left : (n : ℕ) → is_stray g (entry_in b n) ≡ true → entry_in b n ≡ entry_in a n
@@ -120,12 +120,12 @@ module _ (names : List (Puid × Kind)) (g : Graph) (roots : (r : ℕ) → has_ro
 
     module _ (ds : List Opened) (had : Accounts a g ds) where
       -- a block that went is no map block and not the label
-      went_apart : (n : ℕ) (old : MapEntry) → entry_in a n ≡ Some old → goes names pass old ≡ true → is_fixed n ≡ false
+      went_apart : (n : ℕ) (old : MapEntry) → entry_in a n ≡ Some old → goes directory pass old ≡ true → is_fixed n ≡ false
       went_apart n old was go = false_from_ne_true _ (λ fixed.
           let is : old ≡ reserved = same_Some _ _ (sym was ∙ had.holds.fixed n (in_image a g had.holds n old was) fixed) in
-          both_ways _ (reserved_stays names pass) (ap (goes names pass) (sym is) ∙ go))
+          both_ways _ (reserved_stays directory pass) (ap (goes directory pass) (sym is) ∙ go))
 
-      went_open : (old : MapEntry) → goes names pass old ≡ true → IsOpenTo (λ entry. is_stray g entry) (Some old)
+      went_open : (old : MapEntry) → goes directory pass old ≡ true → IsOpenTo (λ entry. is_stray g entry) (Some old)
       went_open old go = let stray = goes_stray pass old go in inr ((and_parts (is_placed is_taken (Some old)) _ stray).0, stray)
 
       pub changes : ChangesOnly (λ entry. is_stray g entry) a b
@@ -172,9 +172,9 @@ module _ (names : List (Puid × Kind)) (g : Graph) (roots : (r : ℕ) → has_ro
           root : is_root is_taken (entry_in a r) ≡ true
           root = had.rooted n (ap (is_placed is_taken) (sym same) ∙ placed)
 
-          gone : (p : Pass) → pass ≡ p → (old : MapEntry) → entry_in a r ≡ Some old → goes names pass old ≡ true → entry_in b r ≡ Some free_entry → ⊥
+          gone : (p : Pass) → pass ≡ p → (old : MapEntry) → entry_in a r ≡ Some old → goes directory pass old ≡ true → entry_in b r ≡ Some unheld_entry → ⊥
           gone passes.Inner is old was go now =
-              let of = (and_parts (is_of_pass pass old) (not (has_root_in names old.owner)) go).0 in
+              let of = (and_parts (is_of_pass pass old) (not (has_root_in directory old.owner)) go).0 in
               let not_root = (and_parts (is_placed is_taken (Some old)) (not (is_root is_taken (Some old))) (ap (λ (q : Pass). is_of_pass q old) (sym is) ∙ of)).1 in
               both_ways _ (not-true _ not_root) (ap (is_root is_taken) (sym was) ∙ root)
           gone passes.Roots is old was go now = elim (is_root is_taken (entry_in a n)) as (λ t. is_root is_taken (entry_in a n) ≡ t → ⊥) [

@@ -24,15 +24,15 @@ pub use Rattle.cfs_base.specs.declared.identifier.Puid.{Puid}
 pub use Rattle.cfs_base.specs.declared.kind.FileKind.{FileKind}
 pub use Rattle.cfs_base.specs.declared.kind.Kind.{Kind}
 pub use Rattle.cfs_base.specs.declared.refusal.Trouble.{Trouble}
-pub use Rattle.collector_marks.specs.Kept.{blocks_of, colours_of}
-pub use Rattle.collector_steps.specs.Collecting.{Collecting, Collects, IsCollecting, IsWithin, Serves, colours_in, volume_of, waiting_in}
+pub use Rattle.collector_marks.specs.Kept.{blocks_marked, colours_of}
+pub use Rattle.collector_steps.specs.Collecting.{Collecting, Collects, IsCollecting, AreStepsWithin, Serves, colours_in, volume_of, waiting_in}
 pub use Rattle.collector_steps.specs.Left.{cylinders_of, left_in, most_steps, reads_of, steps_left}
 unfoldable pub use Rattle.collector_steps.specs.Left.{reads_left, unmarked_below}
-pub use Rattle.collector_steps.specs.Scan.{IsDamaged, IsLeafTrouble, IsScanTrouble, LeadsPast, NoRoot, PastDisk, next_cursor, stepped, trouble_of}
+pub use Rattle.collector_steps.specs.Scan.{IsDamaged, IsLeafScanTrouble, IsScanTrouble, LeadsPast, NoRoot, PastDisk, next_cursor, stepped, trouble_of}
 unfoldable pub use Rattle.collector_steps.specs.Scan.{ids_from}
-pub use Rattle.collector_steps.specs.Steady.{IsReady}
+pub use Rattle.collector_steps.specs.Steady.{IsPhaseReady}
 pub use Rattle.collector_steps.specs.Sweep.{IsSweptOf, MayBegin, NoInner, NoStray, goes, is_of_pass, swept, swept_map}
-pub use Rattle.collector_steps.specs.Swept.{HasSwept, IsDamage, IsPhaseOf, IsSweep, cylinder_of, next_phase}
+pub use Rattle.collector_steps.specs.Swept.{HasSwept, IsDamageTrouble, IsPhaseOf, IsSweep, cylinder_of, next_phase}
 pub use Rattle.collector_steps.specs.contracts.collector.Collector.{the_view}
 pub use Rattle.collector_steps.specs.declared.phase.Phase.{Phase}
 pub use Rattle.collector_steps.specs.declared.sweep.Pass.{Pass}
@@ -40,7 +40,7 @@ pub use Rattle.cyl_alloc.proofs.Entries.{entry_is, free_count}
 pub use Rattle.cyl_alloc.proofs.Ranges.{count-cons, one}
 pub use Rattle.cyl_alloc.specs.Maps.{IsMapOf}
 pub use Rattle.cyl_alloc.specs.Refusals.{IsMapTrouble}
-pub use Rattle.cyl_alloc.specs.Space.{AreCounts, IsFreeElsewhere, Kept, free_entry}
+pub use Rattle.cyl_alloc.specs.Space.{AreCounts, IsFreeElsewhere, Kept, unheld_entry}
 unfoldable pub use Rattle.cyl_alloc.specs.Space.{free_in_cylinder}
 pub use Rattle.cyl_map.specs.Entry.{IsEntry}
 pub use Rattle.cyl_map.specs.Map.{IsMap, entry_at, free_entries, is_free, is_free_state, map_spelling}
@@ -59,11 +59,11 @@ pub use Rattle.marking.specs.Colours.{Colours, all_shaded, first_grey, moved, no
 pub use Rattle.marking.specs.Leaves.{leaf_ids}
 pub use Rattle.marking.specs.Marking.{IsGrey, IsMarking}
 pub use Rattle.marking.specs.Pace.{IsPaced}
-pub use Rattle.marking.specs.Steps.{AreNames, cursor_after, next_held, read, rescued, scanned, unmarked}
+pub use Rattle.marking.specs.Steps.{IsDirectoryOf, cursor_after, next_held, read, rescued, scanned, unmarked}
 pub use Rattle.marking.specs.declared.memory.Grey.{Grey}
 pub use Rattle.marking.specs.declared.memory.Rescue.{Rescue}
-pub use Rattle.puid_space.specs.Directory.{Listing, blocks_rise, has_root_in, is_listing, kept_by, kind_in, taken_by}
-pub use Rattle.puid_space.specs.Kinds.{kind_of, kinds_of}
+pub use Rattle.puid_space.specs.Directory.{Listing, blocks_rise, has_root_in, is_listing, kept_by, directory_kind, taken_by}
+pub use Rattle.puid_space.specs.Kinds.{object_kind, kinds_of}
 pub use Rattle.std.proofs.lemmas.Bool.{and_from, and_parts, both_ways, cases_eq, cases_lt, eq-eqb, false_from_ne_true, ltb-false, not-true, or_left, true_from_ne_false}
 pub use Rattle.std.proofs.lemmas.Bool.Decides.{nat_tests}
 pub use Rattle.std.proofs.lemmas.List.{append-nil, at_drop_more, drop_all, drop_more, get_or-append-add, get_or-drop, get_or-map, get_or-set_other, get_or-set_same, get_or-take, get_or_append_left, get_or_at, get_or_default, get_or_past, length-append, length-drop, length-map, length-replicate, length-set, length-take, set-get_or, take_all, take_at}

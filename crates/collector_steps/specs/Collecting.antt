@@ -4,7 +4,7 @@ use Rattle.cfs_base.specs.Disk.{Image}
 use Rattle.cfs_base.specs.declared.disk.Disk.{Ghosts}
 use Rattle.cfs_base.specs.declared.identifier.Puid.{Puid}
 use Rattle.cfs_base.specs.declared.kind.Kind.{Kind}
-use Rattle.collector_marks.specs.Kept.{Marked, Waiting, blocks_of, colours_of}
+use Rattle.collector_marks.specs.Kept.{Marked, Waiting, blocks_marked, colours_of}
 use Rattle.marking.specs.declared.memory.Rescue.{Rescue}
 use Rattle.marking.specs.Colours.{Colours}
 use Rattle.marking.specs.Marking.{IsMarking}
@@ -35,7 +35,7 @@ waiting_in k = k.rescues.list
 
 -- the blocks of the volume
 abbrev pub volume_of : Collecting → ℕ
-volume_of k = blocks_of k.marks
+volume_of k = blocks_marked k.marks
 
 -- nothing but room may have changed
 pub record IsAsBefore (old new : Collecting) : Type 0 where
@@ -48,29 +48,29 @@ pub record IsAsBefore (old new : Collecting) : Type 0 where
 -- ---- the disk
 
 -- The disk carries the state's graph, each block has its one use, and the directory has the graph's identifiers.
-pub record Serves {D : Type 0} (g : Ghosts D) (disk : D) (names : List (Puid × Kind)) (s : State)
+pub record Serves {D : Type 0} (g : Ghosts D) (disk : D) (directory : List (Puid × Kind)) (s : State)
     (ds : List Opened) : Type 0 where
   pub state : IsState s
-  pub named : names ≡ kinds_of s.graph
+  pub named : directory ≡ kinds_of s.graph
   pub carries : Carries g s.graph disk
   pub accounts : Accounts (g.content disk) s.graph ds
 
 -- ---- between any two calls
 
 -- At most so many steps were made beside one for each rescue and each block, as long as rescues were counted.
-abbrev pub IsWithin : Collecting → ℕ → Type 0
-IsWithin k more = k.added < 2 ^ 64 - 1 → k.steps ≤ volume_of k + k.added + more
+abbrev pub AreStepsWithin : Collecting → ℕ → Type 0
+AreStepsWithin k more = k.added < 2 ^ 64 - 1 → k.steps ≤ volume_of k + k.added + more
 
 -- By phase: what holds of the marks, or how far the sweep is; and how many steps were made.
 abbrev pub IsCollecting : Phase → Image → State → Collecting → Type 0
 IsCollecting phases.Idle image s k = Unit {0}
 IsCollecting phases.Marking image s k = IsMarking s (colours_in k) (waiting_in k)
     × IsPaced s.graph (colours_in k) (waiting_in k) k.steps k.added
-IsCollecting (phases.Inner cylinder) image s k = NoInner image s.graph cylinder × IsWithin k (2 + cylinder)
+IsCollecting (phases.Inner cylinder) image s k = NoInner image s.graph cylinder × AreStepsWithin k (2 + cylinder)
 IsCollecting (phases.Roots cylinder) image s k =
     NoInner image s.graph (volume_of k / 64)
-    × (NoStray image s.graph cylinder × IsWithin k (2 + volume_of k / 64 + cylinder))
-IsCollecting phases.Swept image s k = IsSwept image s.graph × IsWithin k (2 + 2 * (volume_of k / 64))
+    × (NoStray image s.graph cylinder × AreStepsWithin k (2 + volume_of k / 64 + cylinder))
+IsCollecting phases.Swept image s k = IsSwept image s.graph × AreStepsWithin k (2 + 2 * (volume_of k / 64))
 
 abbrev pub Collects : Image → State → Collecting → Type 0
 Collects image s k = IsCollecting k.phase image s k

@@ -35,21 +35,21 @@ next_cursor step = if step.follows then Some (step.held.leaf + 1) else None
 
 -- the first grey index moves on past a leaf with these identifiers, and each is shaded; or it has no further leaf
 abbrev pub stepped : List (Puid × Kind) → Option HeldStep → List Puid → Colours → Colours
-stepped names None ids c = moved None c
-stepped names (Some step) ids c = all_shaded names ids (moved (next_cursor step) c)
+stepped directory None ids c = moved None c
+stepped directory (Some step) ids c = all_shaded directory ids (moved (next_cursor step) c)
 
 -- ---- why it is refused
 
 -- the block with the pointer that is the last of a path
-abbrev pub holder : Image → ℕ → List ℕ → ℕ
-holder image r [] = r
-holder image r (k ∷ path) = tree_of image (block_at image r) (k ∷ path)
+abbrev pub pointer_holder : Image → ℕ → List ℕ → ℕ
+pointer_holder image r [] = r
+pointer_holder image r (k ∷ path) = tree_of image (block_at image r) (k ∷ path)
 
 -- a pointer in this block of the tree of a root block leads past the disk
 pub record LeadsPast (image : Image) (size r block : ℕ) : Type 0 where
   pub path : List ℕ
   pub k : ℕ
-  pub at : block ≡ holder image r path
+  pub at : block ≡ pointer_holder image r path
   pub past : IsPast size (tree_of image (block_at image r) (path ++ k ∷ []))
 
 -- the root block is none, or a pointer of its tree leads past the disk
@@ -65,9 +65,9 @@ trouble_of block faults.Disk = trouble.Disk false
 trouble_of block (faults.BadPointer past) = trouble.Damaged (record { block = block; code = past_disk })
 
 -- a device call failed, or the leaf's pointer leads past the disk, in a node to which one of these pointers leads
-abbrev pub IsLeafTrouble : {D : Type 0} → Ghosts D → D → D → List ℕ → HeldStep → Trouble → Type 0
-IsLeafTrouble g old new nodes step (trouble.Disk tried) = HasStopped g tried old new
-IsLeafTrouble g old new nodes step (trouble.Damaged damage) =
+abbrev pub IsLeafScanTrouble : {D : Type 0} → Ghosts D → D → D → List ℕ → HeldStep → Trouble → Type 0
+IsLeafScanTrouble g old new nodes step (trouble.Disk tried) = HasStopped g tried old new
+IsLeafScanTrouble g old new nodes step (trouble.Damaged damage) =
     (damage.code ≡ past_disk) × (damage.block ≡ get_or nodes (step.held.leaf / leaf_pointers.count) 0)
     × (g.blocks old ≤ step.held.block)
 

@@ -4,13 +4,13 @@ use Rattle.collector_steps.specs.declared.phase.Phase.{Phase}
 use Rattle.collector_steps.specs.declared.phase.Phase.TheVariants as phases
 
 -- while it marks there is room to hand out each object; a sweep is at a cylinder of the volume
-abbrev pub IsReady : Phase → (blocks spare : ℕ) → Type 0
-IsReady phases.Idle blocks spare = Unit {0}
-IsReady phases.Marking blocks spare = blocks ≤ spare
-IsReady (phases.Inner cylinder) blocks spare = 64 * cylinder < blocks
-IsReady (phases.Roots cylinder) blocks spare = 64 * cylinder < blocks
-IsReady phases.Swept blocks spare = Unit {0}
+abbrev pub IsPhaseReady : Phase → (blocks spare : ℕ) → Type 0
+IsPhaseReady phases.Idle blocks spare = Unit {0}
+IsPhaseReady phases.Marking blocks spare = blocks ≤ spare
+IsPhaseReady (phases.Inner cylinder) blocks spare = 64 * cylinder < blocks
+IsPhaseReady (phases.Roots cylinder) blocks spare = 64 * cylinder < blocks
+IsPhaseReady phases.Swept blocks spare = Unit {0}
 
 pub record IsSteady (phase : Phase) (blocks spare : ℕ) : Type 0 where
   pub some : 0 < blocks
-  pub ready : IsReady phase blocks spare
+  pub ready : IsPhaseReady phase blocks spare

@@ -4,7 +4,7 @@ use Rattle.std.specs.Prelude.{map, option_map, Some}
 use Rattle.cfs_base.specs.Disk.{Image, block_at}
 use Rattle.cfs_base.specs.declared.identifier.Puid.{Puid}
 use Rattle.cfs_base.specs.declared.kind.Kind.{Kind}
-use Rattle.cyl_alloc.specs.Space.{free_entry}
+use Rattle.cyl_alloc.specs.Space.{unheld_entry}
 use Rattle.cyl_map.specs.declared.entry.MapEntry.{MapEntry}
 use Rattle.cyl_map.specs.Volume.{entry_in}
 use Rattle.puid_space.specs.Directory.{has_root_in}
@@ -22,21 +22,21 @@ is_of_pass passes.Roots e = is_root is_taken (Some e) && not (is_made (Some e))
 
 -- a block of the pass whose owner is the root block of no object
 abbrev pub goes : List (Puid × Kind) → Pass → MapEntry → Bool
-goes names pass e = is_of_pass pass e && not (has_root_in names e.owner)
+goes directory pass e = is_of_pass pass e && not (has_root_in directory e.owner)
 
 abbrev pub swept : List (Puid × Kind) → Pass → MapEntry → MapEntry
-swept names pass e = if goes names pass e then free_entry else e
+swept directory pass e = if goes directory pass e then unheld_entry else e
 
 abbrev pub swept_map : List (Puid × Kind) → Pass → List MapEntry → List MapEntry
-swept_map names pass entries = map (swept names pass) entries
+swept_map directory pass entries = map (swept directory pass) entries
 
 -- ---- one cylinder
 
 -- Image b is a, but that each entry of the cylinder that goes is Free.
-pub record IsSweptOf (names : List (Puid × Kind)) (pass : Pass) (cylinder : ℕ) (a b : Image) : Type 0 where
+pub record IsSweptOf (directory : List (Puid × Kind)) (pass : Pass) (cylinder : ℕ) (a b : Image) : Type 0 where
   pub size : length b ≡ length a
   pub contents : (n : ℕ) → n ≢ 64 * cylinder → block_at b n ≡ block_at a n
-  pub here : (n : ℕ) → n / 64 ≡ cylinder → entry_in b n ≡ option_map (swept names pass) (entry_in a n)
+  pub here : (n : ℕ) → n / 64 ≡ cylinder → entry_in b n ≡ option_map (swept directory pass) (entry_in a n)
   pub elsewhere : (n : ℕ) → n / 64 ≢ cylinder → entry_in b n ≡ entry_in a n
 
 -- ---- cylinder after cylinder

@@ -23,20 +23,21 @@ use Rattle.collector_steps.specs.Collecting.{Collecting, Collects, Serves, volum
 use Rattle.collector_steps.specs.Left.{steps_left}
 use Rattle.collector_steps.specs.Sweep.{IsSweptOf, MayBegin}
 
-abbrev pub IsDamage : Trouble → Type 0
-IsDamage (trouble.Disk tried) = ⊥
-IsDamage (trouble.Damaged damage) = Unit {0}
+abbrev pub IsDamageTrouble : Trouble → Type 0
+IsDamageTrouble (trouble.Disk tried) = ⊥
+IsDamageTrouble (trouble.Damaged damage) = Unit {0}
 
 -- One read, and one write where some entry goes.
-pub record IsSweep {D : Type 0} (g : Ghosts D) (names : List (Puid × Kind)) (pass : Pass) (cylinder : ℕ) (old new : D)
+pub record IsSweep {D : Type 0} (g : Ghosts D) (directory : List (Puid × Kind)) (pass : Pass) (cylinder : ℕ)
+    (old new : D)
     (before after : Kept) (result : Result (Unit {0}) Trouble) : Type 0 where
   -- each entry that goes is Free, and no other changed
-  pub swept : Tells g old → OnOk result (IsSweptOf names pass cylinder (g.content old) (g.content new))
+  pub swept : Tells g old → OnOk result (IsSweptOf directory pass cylinder (g.content old) (g.content new))
   -- what is served is served on
-  pub serves : (s : State) (ds : List Opened) → Serves g old names s ds → MayBegin pass (g.content old) s.graph
-      → OnOk result (Serves g new names s ds)
+  pub serves : (s : State) (ds : List Opened) → Serves g old directory s ds → MayBegin pass (g.content old) s.graph
+      → OnOk result (Serves g new directory s ds)
   -- done or failed, each image that a crash leaves has the graph
-  pub leaves : (s : State) (ds : List Opened) → Serves g old names s ds → Leaves g old new (λ c. Holds c s.graph)
+  pub leaves : (s : State) (ds : List Opened) → Serves g old directory s ds → Leaves g old new (λ c. Holds c s.graph)
   -- the counts are again those of the disk
   pub counts : Tells g old → AreCounts (g.content old) before → OnOk result (AreCounts (g.content new) after)
   pub cylinders : length after.free ≡ length before.free
@@ -44,7 +45,7 @@ pub record IsSweep {D : Type 0} (g : Ghosts D) (names : List (Puid × Kind)) (pa
   pub kept : OnErr result (after ≡ before)
   -- a device call failed, or the cylinder's map block is no map, which is not so on a disk that is served
   pub refused : IfErr result (IsMapTrouble g old new (64 * cylinder))
-  pub sound : (s : State) (ds : List Opened) → Serves g old names s ds → IfErr result (λ t. ¬ IsDamage t)
+  pub sound : (s : State) (ds : List Opened) → Serves g old directory s ds → IfErr result (λ t. ¬ IsDamageTrouble t)
   pub unless_tried : IfErr result (λ t. trouble_had_tried t ≡ false → OnlyReads g 1 old new)
   pub calls : MakesAtMost g 2 1 old new
 
@@ -78,12 +79,12 @@ next_phase cylinders (phases.Roots cylinder) =
 next_phase cylinders phases.Swept = phases.Swept
 
 -- A collector swept its next cylinder.
-pub record HasSwept {D : Type 0} (g : Ghosts D) (names : List (Puid × Kind)) (pass : Pass) (old new : D)
+pub record HasSwept {D : Type 0} (g : Ghosts D) (directory : List (Puid × Kind)) (pass : Pass) (old new : D)
     (before after : Kept) (k l : Collecting) (result : Result (Unit {0}) Trouble) : Type 0 where
-  pub sweep : IsSweep g names pass (cylinder_of k.phase) old new before after result
-  pub serves : (s : State) (ds : List Opened) → Serves g old names s ds → Collects (g.content old) s k
-      → OnOk result (Serves g new names s ds)
-  pub keeps : (s : State) (ds : List Opened) → Serves g old names s ds → Collects (g.content old) s k
+  pub sweep : IsSweep g directory pass (cylinder_of k.phase) old new before after result
+  pub serves : (s : State) (ds : List Opened) → Serves g old directory s ds → Collects (g.content old) s k
+      → OnOk result (Serves g new directory s ds)
+  pub keeps : (s : State) (ds : List Opened) → Serves g old directory s ds → Collects (g.content old) s k
       → OnOk result (Collects (g.content new) s l)
   pub phase : OnOk result (l.phase ≡ next_phase (volume_of k / 64) k.phase)
   pub steps : OnOk result (l.steps ≡ count_after k.steps)

@@ -46,7 +46,7 @@ impl Model for Collector {
     ghost Value = { Collecting };
 
     ghost use Rattle.std.specs.Prelude.{◌≡◌, [], vec_capacity};
-    ghost use Rattle.collector_marks.specs.Kept.{blocks_of};
+    ghost use Rattle.collector_marks.specs.Kept.{blocks_marked};
     ghost use Rattle.collector_steps.specs.Steady.{IsSteady};
 
     ghost view = { λ a. record {
@@ -58,7 +58,7 @@ impl Model for Collector {
     } };
 
     ghost invariant = { λ a. (a.condemned.items ≡ [])
-        × IsSteady a.phase (blocks_of a.marks) (vec_capacity a.condemned) };
+        × IsSteady a.phase (blocks_marked a.marks) (vec_capacity a.condemned) };
 }
 
 impl Collector {
@@ -82,10 +82,10 @@ impl Collector {
 
     /// A collection begins: nothing is marked but these objects, the root and each that is open. Makes room for all
     /// that may be condemned.
-    pub fn begin(&mut self, roots: &[Puid], names: &Directory) -> Result<(), NoMemory>
+    pub fn begin(&mut self, roots: &[Puid], directory: &Directory) -> Result<(), NoMemory>
         requires phase { self.old.phase ≡ Phase.Idle }
-        requires blocks { names.now.room ≤ volume_of self.old }
-        ensures begun { OnOk result (colours_in self.new ≡ all_shaded names.now.named roots.now none_marked) }
+        requires blocks { directory.now.room ≤ volume_of self.old }
+        ensures begun { OnOk result (colours_in self.new ≡ all_shaded directory.now.named roots.now none_marked) }
         ensures waiting { OnOk result (waiting_in self.new ≡ []) }
         ensures phase { OnOk result (self.new.phase ≡ Phase.Marking) }
         ensures counts { OnOk result ((self.new.steps ≡ 1) × (self.new.added ≡ 0)) }
@@ -93,19 +93,19 @@ impl Collector {
         // Whatever disk it is, so many steps come to its end, if nothing is rescued.
         ensures left { OnOk result (steps_left self.new < most_steps (volume_of self.new)) }
         ensures same { OnErr result (IsAsBefore self.old self.new) }
-        ensures keeps { (seed : ℕ) (s t : State) (image : Image) → IsState s → names.now.named ≡ kinds_of s.graph
+        ensures keeps { (seed : ℕ) (s t : State) (image : Image) → IsState s → directory.now.named ≡ kinds_of s.graph
             → ((x : Puid) → is_among x roots.now ≡ is_among x (starts_now s)) → next seed s events.Began ≡ Some t
             → OnOk result (Collects image t self.new) }
     {
         kinds_follow_the_graph();
-        let _room = names.room();
+        let _room = directory.room();
         self.condemned.reserve(self.marks.blocks())?;
         self.marks.clear();
         self.rescues.clear();
         self.phase = Phase::Marking;
         self.steps = 1;
         self.added = 0;
-        shade_all(&mut self.marks, names, roots);
+        shade_all(&mut self.marks, directory, roots);
         Ok(())
     }
 
@@ -131,27 +131,28 @@ impl Collector {
     }
 
     /// Takes the oldest rescue, and shades its object where it has no index or its index is marked. Takes no memory.
-    pub fn take(&mut self, names: &Directory)
+    pub fn take(&mut self, directory: &Directory)
         requires phase { self.old.phase ≡ Phase.Marking }
         requires waits { ¬ (waiting_in self.old ≡ []) }
-        requires blocks { names.now.room ≤ volume_of self.old }
+        requires blocks { directory.now.room ≤ volume_of self.old }
         ensures taken { (r : memory.Rescue) (rest : List memory.Rescue) → waiting_in self.old ≡ r ∷ rest
-            → (waiting_in self.new ≡ rest) × (colours_in self.new ≡ rescued names.now.named r (colours_in self.old)) }
+            → (waiting_in self.new ≡ rest)
+            × (colours_in self.new ≡ rescued directory.now.named r (colours_in self.old)) }
         ensures phase { self.new.phase ≡ self.old.phase }
         ensures steps { self.new.steps ≡ count_after self.old.steps }
         ensures added { self.new.added ≡ self.old.added }
         ensures volume { volume_of self.new ≡ volume_of self.old }
         ensures less { steps_left self.new < steps_left self.old }
-        ensures keeps { (s : State) (image : Image) → IsState s → names.now.named ≡ kinds_of s.graph
+        ensures keeps { (s : State) (image : Image) → IsState s → directory.now.named ≡ kinds_of s.graph
             → Collects image s self.old → Collects image s self.new }
     {
         kinds_follow_the_graph();
-        let _room = names.room();
+        let _room = directory.room();
         let Some(rescue) = self.rescues.take() else {
             unreachable!();
         };
         self.steps = self.steps.saturating_add(1);
-        shade_rescued(&mut self.marks, names, rescue);
+        shade_rescued(&mut self.marks, directory, rescue);
     }
 
     /// The collection ends.

@@ -25,46 +25,46 @@ use puid_space::{Directory, kinds_follow_the_graph, taken_are_left_out};
 use std::mem;
 
 /// Takes out of a directory what isn't marked, and adds it to a list that has room for it. Takes no memory.
-fn take_unmarked(marks: &Marks, names: &mut Directory, gone: &mut Vec<Puid>)
-    requires { vec_len gone.old + length names.old.named ≤ vec_capacity gone.old }
-    ensures named { names.new.named ≡ kept_by (colours_of marks.now).marked names.old.named }
-    ensures gone { gone.new.items ≡ gone.old.items ++ taken_by (colours_of marks.now).marked names.old.named }
-    ensures room { names.new.room ≡ names.old.room }
+fn take_unmarked(marks: &Marks, directory: &mut Directory, gone: &mut Vec<Puid>)
+    requires { vec_len gone.old + length directory.old.named ≤ vec_capacity gone.old }
+    ensures named { directory.new.named ≡ kept_by (colours_of marks.now).marked directory.old.named }
+    ensures gone { gone.new.items ≡ gone.old.items ++ taken_by (colours_of marks.now).marked directory.old.named }
+    ensures room { directory.new.room ≡ directory.old.room }
     ensures capacity { vec_capacity gone.new ≡ vec_capacity gone.old }
 {
-    names.take_unless(|block| marks.is_marked(block), gone);
+    directory.take_unless(|block| marks.is_marked(block), gone);
 }
 
 impl Collector {
     /// Nothing is left to read or to take: what isn't marked leaves the directory, all at one stroke, and is handed out
     /// in rising order. Takes no memory.
-    pub fn condemn(&mut self, names: &mut Directory) -> Ids
+    pub fn condemn(&mut self, directory: &mut Directory) -> Ids
         requires phase { self.old.phase ≡ Phase.Marking }
         requires read { self.old.marks.grey ≡ [] }
         requires taken { waiting_in self.old ≡ [] }
-        requires blocks { names.old.room ≤ volume_of self.old }
-        ensures ids { result ≡ unmarked (colours_in self.old) (keys_of names.old.named) }
-        ensures named { names.new.named ≡ kept_by (colours_in self.old).marked names.old.named }
-        ensures room { names.new.room ≡ names.old.room }
+        requires blocks { directory.old.room ≤ volume_of self.old }
+        ensures ids { result ≡ unmarked (colours_in self.old) (keys_of directory.old.named) }
+        ensures named { directory.new.named ≡ kept_by (colours_in self.old).marked directory.old.named }
+        ensures room { directory.new.room ≡ directory.old.room }
         ensures phase { self.new.phase ≡ phases.Inner 0 }
         ensures steps { self.new.steps ≡ count_after self.old.steps }
         ensures added { self.new.added ≡ self.old.added }
         ensures waiting { waiting_in self.new ≡ waiting_in self.old }
         ensures volume { volume_of self.new ≡ volume_of self.old }
         ensures less { steps_left self.new < steps_left self.old }
-        ensures legal { (s : State) (image : Image) → IsState s → names.old.named ≡ kinds_of s.graph
+        ensures legal { (s : State) (image : Image) → IsState s → directory.old.named ≡ kinds_of s.graph
             → Collects image s self.old → MayVanish s result }
-        ensures keeps { (seed : ℕ) (s t : State) (a b : Image) → names.old.named ≡ kinds_of s.graph
+        ensures keeps { (seed : ℕ) (s t : State) (a b : Image) → directory.old.named ≡ kinds_of s.graph
             → Collects a s self.old → graph_blocks s.graph ≤ volume_of self.old
             → next seed s (events.Vanish result) ≡ Some t → Collects b t self.new }
-        ensures left { (seed : ℕ) (s t : State) → names.old.named ≡ kinds_of s.graph
-            → next seed s (events.Vanish result) ≡ Some t → names.new.named ≡ kinds_of t.graph }
+        ensures left { (seed : ℕ) (s t : State) → directory.old.named ≡ kinds_of s.graph
+            → next seed s (events.Vanish result) ≡ Some t → directory.new.named ≡ kinds_of t.graph }
     {
         kinds_follow_the_graph();
         taken_are_left_out();
-        let _room = names.room();
+        let _room = directory.room();
         let mut gone = mem::replace(&mut self.condemned, Vec::new(self.alloc));
-        take_unmarked(&self.marks, names, &mut gone);
+        take_unmarked(&self.marks, directory, &mut gone);
         self.phase = Phase::Inner { cylinder: 0 };
         self.steps = self.steps.saturating_add(1);
         Ids::new(gone)

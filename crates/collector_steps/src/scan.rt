@@ -9,10 +9,11 @@ ghost use Rattle.cfs_base.specs.Disk.{block_at};
 ghost use Rattle.cfs_base.specs.Outside.{count_after};
 ghost use Rattle.cfs_base.specs.Refusals.{trouble_had_tried};
 ghost use Rattle.cfs_base.specs.Run.{Tells};
-ghost use Rattle.collector_marks.specs.Kept.{blocks_of, colours_of};
+ghost use Rattle.collector_marks.specs.Kept.{blocks_marked, colours_of};
 ghost use Rattle.collector_steps.specs.Collecting.{Collects, IsAsBefore, Serves, colours_in, volume_of};
 ghost use Rattle.collector_steps.specs.Left.{steps_left};
-ghost use Rattle.collector_steps.specs.Scan.{IsDamaged, IsLeafTrouble, IsScanTrouble, ids_from, stepped, trouble_of};
+ghost use Rattle.collector_steps.specs.Scan.{IsDamaged, IsLeafScanTrouble, IsScanTrouble, ids_from, stepped};
+ghost use Rattle.collector_steps.specs.Scan.{trouble_of};
 ghost use Rattle.marking.specs.Colours.{first_grey};
 ghost use Rattle.marking.specs.Steps.{scanned};
 ghost use Rattle.marking.specs.declared.memory.Grey as grey;
@@ -53,7 +54,7 @@ fn read_step<D: Disk>(
     requires { step.now.held.leaf < leaf_limit }
     ensures content { Tells D.Disk disk.old
         → OnOk result (into.new ≡ block_at (D.content disk.old) step.now.held.block) }
-    ensures refused { IfErr result (IsLeafTrouble D.Disk disk.old disk.new root.now.nodes step.now) }
+    ensures refused { IfErr result (IsLeafScanTrouble D.Disk disk.old disk.new root.now.nodes step.now) }
     ensures untried { IfErr result (λ trouble. trouble_had_tried trouble ≡ false) }
     ensures reads { OnlyReads D.Disk 1 disk.old disk.new }
 {
@@ -100,12 +101,12 @@ fn next_leaf<D: Disk>(
 }
 
 /// Moves on past a leaf with these bytes, and shades each object in it; or ends the first grey index. Takes no memory.
-fn read_on(marks: &mut Marks, names: &Directory, step: Option<HeldStep>, content: &Block)
+fn read_on(marks: &mut Marks, directory: &Directory, step: Option<HeldStep>, content: &Block)
     requires inside { IfSome step (λ s. s.held.leaf < leaf_limit) }
-    requires blocks { names.now.room ≤ blocks_of marks.old }
+    requires blocks { directory.now.room ≤ blocks_marked marks.old }
     ensures stepped { colours_of marks.new
-        ≡ stepped names.now.named step (ids_from content.now 0) (colours_of marks.old) }
-    ensures blocks { blocks_of marks.new ≡ blocks_of marks.old }
+        ≡ stepped directory.now.named step (ids_from content.now 0) (colours_of marks.old) }
+    ensures blocks { blocks_marked marks.new ≡ blocks_marked marks.old }
 {
     let Some(step) = step else {
         marks.finish_grey();
@@ -116,22 +117,22 @@ fn read_on(marks: &mut Marks, names: &Directory, step: Option<HeldStep>, content
     } else {
         marks.finish_grey();
     }
-    shade_leaf(marks, names, content);
+    shade_leaf(marks, directory, content);
 }
 
 impl Collector {
     /// Reads the next held leaf of the first grey index, and shades each object in it; where no held leaf follows, the
     /// index is grey no more. At most 4 device calls, none of which writes. Takes no memory.
-    pub fn scan<D: Disk>(&mut self, disk: &mut D, names: &Directory) -> Result<(), Trouble>
+    pub fn scan<D: Disk>(&mut self, disk: &mut D, directory: &Directory) -> Result<(), Trouble>
         requires phase { self.old.phase ≡ Phase.Marking }
         requires grey { ¬ (self.old.marks.grey ≡ []) }
-        requires blocks { names.now.room ≤ volume_of self.old }
+        requires blocks { directory.now.room ≤ volume_of self.old }
         requires size { D.blocks disk.old ≡ volume_of self.old }
         ensures scanned { (s : State) (ds : List Opened) (e : grey.Grey) (i : index.Index)
-            → Serves D.Disk disk.old names.now.named s ds → first_grey (colours_in self.old) ≡ Some e
+            → Serves D.Disk disk.old directory.now.named s ds → first_grey (colours_in self.old) ≡ Some e
             → object_at s.graph e.id ≡ Some (objects.Index i)
-            → OnOk result (colours_in self.new ≡ scanned names.now.named i e.cursor (colours_in self.old)) }
-        ensures keeps { (s : State) (ds : List Opened) → Serves D.Disk disk.old names.now.named s ds
+            → OnOk result (colours_in self.new ≡ scanned directory.now.named i e.cursor (colours_in self.old)) }
+        ensures keeps { (s : State) (ds : List Opened) → Serves D.Disk disk.old directory.now.named s ds
             → Collects (D.content disk.old) s self.old → OnOk result (Collects (D.content disk.new) s self.new) }
         ensures waiting { self.new.rescues ≡ self.old.rescues }
         ensures phase { self.new.phase ≡ self.old.phase }
@@ -142,20 +143,20 @@ impl Collector {
         ensures same { OnErr result (IsAsBefore self.old self.new) }
         ensures refused { (e : grey.Grey) → first_grey (colours_in self.old) ≡ Some e
             → IfErr result (IsScanTrouble D.Disk disk.old disk.new e.id.block) }
-        ensures sound { (s : State) (ds : List Opened) → Serves D.Disk disk.old names.now.named s ds
+        ensures sound { (s : State) (ds : List Opened) → Serves D.Disk disk.old directory.now.named s ds
             → Collects (D.content disk.old) s self.old → IfErr result (λ error. ¬ IsDamaged error) }
         ensures untried { IfErr result (λ error. trouble_had_tried error ≡ false) }
         ensures reads { OnlyReads D.Disk 4 disk.old disk.new }
     {
         kinds_follow_the_graph();
-        let _room = names.room();
+        let _room = directory.room();
         let Some(grey) = self.marks.next_grey() else {
             return Ok(());
         };
         let mut content = Block::zero();
         let step = next_leaf(disk, grey.id.block, grey.cursor, &mut content)?;
         self.steps = self.steps.saturating_add(1);
-        read_on(&mut self.marks, names, step, &content);
+        read_on(&mut self.marks, directory, step, &content);
         Ok(())
     }
 }

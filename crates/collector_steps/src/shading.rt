@@ -1,42 +1,42 @@
 //! Objects shaded by their identifiers.
 ghost use Rattle.std.specs.Prelude.{◌≡◌, ◌<◌, ◌≤◌, IfSome};
-ghost use Rattle.collector_marks.specs.Kept.{blocks_of, colours_of};
+ghost use Rattle.collector_marks.specs.Kept.{blocks_marked, colours_of};
 ghost use Rattle.marking.specs.Colours.{all_shaded, shaded_in};
 ghost use Rattle.marking.specs.Steps.{is_live, rescued};
-ghost use Rattle.puid_space.specs.Directory.{kind_in};
+ghost use Rattle.puid_space.specs.Directory.{directory_kind};
 
 use cfs_base::{Kind, Puid};
 use collector_marks::{Marks, Rescue};
 use puid_space::Directory;
 
 /// The kind of an object, whose root block there is room for where it is there.
-fn kind_of(names: &Directory, id: Puid) -> Option<Kind>
-    ensures kind { result ≡ kind_in names.now.named id }
-    ensures inside { IfSome result (λ _. id.block < names.now.room) }
+fn kind_of(directory: &Directory, id: Puid) -> Option<Kind>
+    ensures kind { result ≡ directory_kind directory.now.named id }
+    ensures inside { IfSome result (λ _. id.block < directory.now.room) }
 {
-    let _room = names.room();
-    names.kind(id)
+    let _room = directory.room();
+    directory.kind(id)
 }
 
 /// Shades an object; nothing where it isn't there. Takes no memory.
-pub fn shade_one(marks: &mut Marks, names: &Directory, id: Puid)
-    requires blocks { names.now.room ≤ blocks_of marks.old }
-    ensures shaded { colours_of marks.new ≡ shaded_in names.now.named id (colours_of marks.old) }
-    ensures blocks { blocks_of marks.new ≡ blocks_of marks.old }
+pub fn shade_one(marks: &mut Marks, directory: &Directory, id: Puid)
+    requires blocks { directory.now.room ≤ blocks_marked marks.old }
+    ensures shaded { colours_of marks.new ≡ shaded_in directory.now.named id (colours_of marks.old) }
+    ensures blocks { blocks_marked marks.new ≡ blocks_marked marks.old }
 {
-    if let Some(kind) = kind_of(names, id) {
+    if let Some(kind) = kind_of(directory, id) {
         marks.shade(id, kind);
     }
 }
 
 /// Shades each of these. Takes no memory.
-pub fn shade_all(marks: &mut Marks, names: &Directory, ids: &[Puid])
-    requires blocks { names.now.room ≤ blocks_of marks.old }
-    ensures shaded { colours_of marks.new ≡ all_shaded names.now.named ids.now (colours_of marks.old) }
-    ensures blocks { blocks_of marks.new ≡ blocks_of marks.old }
+pub fn shade_all(marks: &mut Marks, directory: &Directory, ids: &[Puid])
+    requires blocks { directory.now.room ≤ blocks_marked marks.old }
+    ensures shaded { colours_of marks.new ≡ all_shaded directory.now.named ids.now (colours_of marks.old) }
+    ensures blocks { blocks_marked marks.new ≡ blocks_marked marks.old }
 {
     for id in ids {
-        shade_one(marks, names, *id);
+        shade_one(marks, directory, *id);
     }
 }
 
@@ -51,12 +51,12 @@ fn is_live(marks: &Marks, index: Option<Puid>) -> bool
 }
 
 /// Shades the object of a rescue, where it has no index or its index is marked. Takes no memory.
-pub fn shade_rescued(marks: &mut Marks, names: &Directory, rescue: Rescue)
-    requires blocks { names.now.room ≤ blocks_of marks.old }
-    ensures shaded { colours_of marks.new ≡ rescued names.now.named rescue (colours_of marks.old) }
-    ensures blocks { blocks_of marks.new ≡ blocks_of marks.old }
+pub fn shade_rescued(marks: &mut Marks, directory: &Directory, rescue: Rescue)
+    requires blocks { directory.now.room ≤ blocks_marked marks.old }
+    ensures shaded { colours_of marks.new ≡ rescued directory.now.named rescue (colours_of marks.old) }
+    ensures blocks { blocks_marked marks.new ≡ blocks_marked marks.old }
 {
     if is_live(marks, rescue.index) {
-        shade_one(marks, names, rescue.id);
+        shade_one(marks, directory, rescue.id);
     }
 }

@@ -9,7 +9,7 @@ ghost use Rattle.vol_image.specs.Run.{Carries};
 ghost use Rattle.vol_image.specs.Sound.{Holds};
 ghost use Rattle.collector_steps.specs.Sweep as spec;
 ghost use Rattle.collector_steps.specs.Swept.{IsSweep};
-ghost use Rattle.cyl_alloc.specs.Space.{free_entry};
+ghost use Rattle.cyl_alloc.specs.Space.{unheld_entry};
 
 use cfs_base::{Block, BlockNo, Disk, Failed, Place, Trouble};
 use cyl_alloc::Space;
@@ -40,20 +40,21 @@ fn is_of_pass(pass: Pass, entry: MapEntry) -> bool
 }
 
 /// Whether an entry is of a block of the pass whose owner is the root block of no object.
-fn goes(entry: MapEntry, names: &Directory, pass: Pass) -> bool
-    ensures { result ≡ spec.goes names.now.named pass entry }
+fn goes(entry: MapEntry, directory: &Directory, pass: Pass) -> bool
+    ensures { result ≡ spec.goes directory.now.named pass entry }
 {
-    is_of_pass(pass, entry) && !names.has_root(entry.owner)
+    is_of_pass(pass, entry) && !directory.has_root(entry.owner)
 }
 
 /// Makes one entry Free where it goes, and tells whether it does.
-fn sweep_entry(map: &mut Map, place: u8, names: &Directory, pass: Pass) -> bool
+fn sweep_entry(map: &mut Map, place: u8, directory: &Directory, pass: Pass) -> bool
     requires { place < 64 }
-    ensures swept { map.new ≡ set map.old place (spec.swept names.now.named pass (get_or map.old place free_entry)) }
-    ensures goes { result ≡ spec.goes names.now.named pass (get_or map.old place free_entry) }
+    ensures swept { map.new ≡ set map.old place
+        (spec.swept directory.now.named pass (get_or map.old place unheld_entry)) }
+    ensures goes { result ≡ spec.goes directory.now.named pass (get_or map.old place unheld_entry) }
     ensures map { IsMap map.old }
 {
-    let goes = goes(map.get(place), names, pass);
+    let goes = goes(map.get(place), directory, pass);
     if goes {
         map.set(
             place,
@@ -69,14 +70,14 @@ fn sweep_entry(map: &mut Map, place: u8, names: &Directory, pass: Pass) -> bool
 }
 
 /// Makes each entry Free that goes, and counts them.
-fn sweep_map(map: &mut Map, names: &Directory, pass: Pass) -> u32
-    ensures swept { map.new ≡ spec.swept_map names.now.named pass map.old }
-    ensures count { result ≡ count_by (spec.goes names.now.named pass) map.old }
+fn sweep_map(map: &mut Map, directory: &Directory, pass: Pass) -> u32
+    ensures swept { map.new ≡ spec.swept_map directory.now.named pass map.old }
+    ensures count { result ≡ count_by (spec.goes directory.now.named pass) map.old }
     ensures few { result ≤ 64 }
 {
     let mut freed = 0;
     for place in 0..64u8 {
-        if sweep_entry(map, place, names, pass) {
+        if sweep_entry(map, place, directory, pass) {
             freed += 1;
         }
     }
@@ -104,19 +105,19 @@ fn write_block<D: Disk>(disk: &mut D, at: BlockNo, block: &Block) -> Result<(), 
 pub fn sweep_cylinder<D: Disk>(
     disk: &mut D,
     space: &mut Space,
-    names: &Directory,
+    directory: &Directory,
     pass: Pass,
     cylinder: u32,
 ) -> Result<(), Trouble>
     requires size { D.blocks disk.old ≡ 64 * length space.old.free }
     requires on_disk { cylinder < length space.old.free }
-    ensures { IsSweep D.Disk names.now.named pass cylinder disk.old disk.new space.old space.new result }
+    ensures { IsSweep D.Disk directory.now.named pass cylinder disk.old disk.new space.old space.new result }
 {
     kinds_follow_the_graph();
     let blocks = disk.blocks();
     prove!(cylinder < blocks / 64);
     let mut map = read_map(disk, 64 * cylinder)?;
-    let freed = sweep_map(&mut map, names, pass);
+    let freed = sweep_map(&mut map, directory, pass);
     if freed == 0 {
         return Ok(());
     }

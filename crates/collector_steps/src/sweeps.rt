@@ -45,15 +45,16 @@ impl Collector {
         &mut self,
         disk: &mut D,
         space: &mut Space,
-        names: &Directory,
+        directory: &Directory,
     ) -> Result<(), Trouble>
         requires phase { IsPhaseOf passes.Inner self.old.phase }
         requires size { D.blocks disk.old ≡ volume_of self.old }
         requires counts { 64 * length space.old.free ≡ volume_of self.old }
-        ensures { HasSwept D.Disk names.now.named passes.Inner disk.old disk.new space.old space.new self.old self.new
+        ensures { HasSwept D.Disk directory.now.named passes.Inner disk.old disk.new space.old space.new self.old
+            self.new
             result }
     {
-        self.sweep(disk, space, names, Pass::Inner)
+        self.sweep(disk, space, directory, Pass::Inner)
     }
 
     /// The same with roots, but for those of objects that are being made.
@@ -61,32 +62,34 @@ impl Collector {
         &mut self,
         disk: &mut D,
         space: &mut Space,
-        names: &Directory,
+        directory: &Directory,
     ) -> Result<(), Trouble>
         requires phase { IsPhaseOf passes.Roots self.old.phase }
         requires size { D.blocks disk.old ≡ volume_of self.old }
         requires counts { 64 * length space.old.free ≡ volume_of self.old }
-        ensures { HasSwept D.Disk names.now.named passes.Roots disk.old disk.new space.old space.new self.old self.new
+        ensures { HasSwept D.Disk directory.now.named passes.Roots disk.old disk.new space.old space.new self.old
+            self.new
             result }
     {
-        self.sweep(disk, space, names, Pass::Roots)
+        self.sweep(disk, space, directory, Pass::Roots)
     }
 
     fn sweep<D: Disk>(
         &mut self,
         disk: &mut D,
         space: &mut Space,
-        names: &Directory,
+        directory: &Directory,
         pass: Pass,
     ) -> Result<(), Trouble>
         requires phase { IsPhaseOf pass self.old.phase }
         requires size { D.blocks disk.old ≡ volume_of self.old }
         requires counts { 64 * length space.old.free ≡ volume_of self.old }
-        ensures { HasSwept D.Disk names.now.named pass disk.old disk.new space.old space.new self.old self.new result }
+        ensures { HasSwept D.Disk directory.now.named pass disk.old disk.new space.old space.new self.old self.new
+            result }
     {
         kinds_follow_the_graph();
         let cylinders = disk.blocks() / 64;
-        sweep_cylinder(disk, space, names, pass, cylinder_of(self.phase))?;
+        sweep_cylinder(disk, space, directory, pass, cylinder_of(self.phase))?;
         self.phase = next_phase(self.phase, cylinders);
         self.steps = self.steps.saturating_add(1);
         Ok(())

@@ -34,11 +34,11 @@ pub enum Made {
 pub struct Volume {
     disk: MemoryDisk,
     space: Space,
-    names: Directory,
+    directory: Directory,
     collector: Collector,
     ghost blocks: { length (contents disk) ≡ 64 },
     ghost cylinders: { length space.free ≡ 1 },
-    ghost room: { names.room ≤ 64 },
+    ghost room: { directory.room ≤ 64 },
     ghost marks: { volume_of collector ≡ 64 },
 }
 
@@ -47,13 +47,13 @@ impl Volume {
     pub fn new(alloc: Global) -> Option<Volume> {
         let mut disk = MemoryDisk::new(alloc, BLOCKS).ok()?;
         let space = Space::counted(alloc, &mut disk, 1).ok()?;
-        let mut names = Directory::new(alloc);
-        names.reserve(BLOCKS).ok()?;
+        let mut directory = Directory::new(alloc);
+        directory.reserve(BLOCKS).ok()?;
         let collector = Collector::new(alloc, BLOCKS).ok()?;
         Some(Volume {
             disk,
             space,
-            names,
+            directory,
             collector,
         })
     }
@@ -99,14 +99,14 @@ impl Volume {
     /// An object is there with this kind, or isn't there.
     fn name(&mut self, object: Object, kind: Option<Kind>) -> Option<()> {
         let id = object.id();
-        let _ = self.names.remove(id);
+        let _ = self.directory.remove(id);
         let Some(kind) = kind else {
             return Some(());
         };
-        if id.block >= self.names.room() || self.names.has_root(id.block) {
+        if id.block >= self.directory.room() || self.directory.has_root(id.block) {
             return None;
         }
-        self.names.add(id, kind);
+        self.directory.add(id, kind);
         Some(())
     }
 
@@ -181,7 +181,7 @@ impl Volume {
         if self.collector.phase() != Phase::Idle {
             return None;
         }
-        self.collector.begin(&roots, &self.names).ok()
+        self.collector.begin(&roots, &self.directory).ok()
     }
 
     /// The next step of the collection.
@@ -191,13 +191,13 @@ impl Volume {
             Phase::Marking => self.mark(),
             Phase::Inner { .. } => {
                 self.collector
-                    .sweep_inner(&mut self.disk, &mut self.space, &self.names)
+                    .sweep_inner(&mut self.disk, &mut self.space, &self.directory)
                     .ok()?;
                 Some(Made::Swept)
             }
             Phase::Roots { .. } => {
                 self.collector
-                    .sweep_roots(&mut self.disk, &mut self.space, &self.names)
+                    .sweep_roots(&mut self.disk, &mut self.space, &self.directory)
                     .ok()?;
                 Some(Made::Swept)
             }
@@ -214,14 +214,14 @@ impl Volume {
             return None;
         }
         if self.collector.has_rescue() {
-            self.collector.take(&self.names);
+            self.collector.take(&self.directory);
             return Some(Made::Marked);
         }
         if self.collector.has_grey() {
-            self.collector.scan(&mut self.disk, &self.names).ok()?;
+            self.collector.scan(&mut self.disk, &self.directory).ok()?;
             return Some(Made::Marked);
         }
-        let taken = self.collector.condemn(&mut self.names);
+        let taken = self.collector.condemn(&mut self.directory);
         Some(objects_in(taken.as_slice()).map_or(Made::Disordered, Made::Condemned))
     }
 

@@ -1,11 +1,11 @@
 -- Counts, and the Free blocks of the image that they count.
 use Rattle.std.proofs.Common.{◌≡◌, ◌≢◌, inl, inr, ℕ, ◌+◌, ◌-◌, ◌*◌, min, true, ◌/◌, ◌%◌, ◌<◌, ◌≤◌, false, List, length, get_or, set, Some, position, refl, sym, ◌∙◌, ap, subst, arith, length-set}
-use Rattle.cyl_alloc.proofs.Words.{AreCounts, Image, IsEntry, IsFirstAbove, IsFreeElsewhere, IsLeastFree, IsMapOf, Kept, MapEntry, after_giving, after_taking, cases_eq, cases_lt, count_at, count_by-le-length, entry_in, free_entries, free_entry, free_from, free_in_cylinder, get_or-set_other, get_or-set_same, get_or_default, is_free, is_free_entry, is_free_in, length-range_with_len, length-with_entry, map_in_image, position-Some, range_with_len, same_lists, sum, sum_by-set, take-length, with_count, with_entry}
+use Rattle.cyl_alloc.proofs.Words.{AreCounts, Image, IsEntry, IsFirstAbove, IsFreeElsewhere, IsLeastFree, IsMapOf, Kept, MapEntry, after_giving, after_taking, cases_eq, cases_lt, count_at, count_by-le-length, entry_in, free_entries, unheld_entry, free_from, free_in_cylinder, get_or-set_other, get_or-set_same, get_or_default, is_free, is_free_entry, is_free_in, length-range_with_len, length-with_entry, map_in_image, position-Some, range_with_len, same_lists, sum, sum_by-set, take-length, with_count, with_entry}
 use Rattle.std.proofs.Common.{Bool}
 use Rattle.std.proofs.Math.Path.{fun_ext}
 use Rattle.std.specs.Prelude.{Option, count_by}
 use Rattle.cyl_map.proofs.Volumes.{entry_in-set}
-use Rattle.cyl_alloc.specs.Left.{Left}
+use Rattle.cyl_alloc.specs.Left.{LeftCommit}
 use Rattle.cyl_alloc.proofs.Ranges.{sum_of, none_in, same_count}
 use Rattle.cyl_alloc.proofs.Entries.{free_is, free_count, elsewhere, alike, one_free_less, one_free_more}
 
@@ -50,7 +50,7 @@ counts-set image other kept n count counts elsewhere lt is = record {
 
 -- the same of the lists that are kept
 pub counts_put : (image other : Image) (kept : Kept) (free new : List ℕ) (n count : ℕ) → AreCounts image kept → IsFreeElsewhere image n other → n < 64 * length kept.free → count ≡ free_in_cylinder other (n / 64)
-    → free ≡ kept.free → new ≡ set free (n / 64) count → (left : Option Left) → AreCounts other (record { free = new; left = left })
+    → free ≡ kept.free → new ≡ set free (n / 64) count → (left : Option LeftCommit) → AreCounts other (record { free = new; left = left })
 counts_put image other kept free new n count counts elsewhere lt is same put left =
     let is = counts-set image other kept n count counts elsewhere lt is in
     subst (λ (l : List ℕ). AreCounts other (record { free = l; left = left })) (sym (put ∙ ap (λ (l : List ℕ). set l (n / 64) count) same)) (record { size = is.size; each = is.each })
@@ -111,23 +111,21 @@ counts_one image kept other one two =
 -- cylinder j is the first that counts a Free block, and its map has the first Free entry at k
 pub is_least : (image : Image) (kept : Kept) (j k : ℕ) (map : List MapEntry) → AreCounts image kept → IsFirstAbove kept.free (Some j) → IsMapOf image (64 * j) map → position is_free map ≡ Some k → IsLeastFree image (64 * j + k)
 is_least image kept j k map counts first is at =
-    let found = position-Some is_free map k free_entry at in
+    let found = position-Some is_free map k unheld_entry at in
     let place : (64 * j + k) % 64 ≡ k = omega (arith, found.0, is.is_map.long) in
     record {
       free =
-          free_is image (64 * j) map is (64 * j + k) free_entry (omega (arith, found.0, is.is_map.long))
-          ∙ ap (λ (i : ℕ). is_free (get_or map i free_entry)) place
+          free_is image (64 * j) map is (64 * j + k) unheld_entry (omega (arith, found.0, is.is_map.long))
+          ∙ ap (λ (i : ℕ). is_free (get_or map i unheld_entry)) place
           ∙ found.1;
       least = λ m before. elim (cases_lt (m / 64) j) [
         | inl earlier ↦ none_free image (m / 64) m (sym (counts.each (m / 64) (omega (arith, first.0))) ∙ first.2 (m / 64) earlier) refl
         | inr here ↦
-            free_is image (64 * j) map is m free_entry (omega (arith, found.0, is.is_map.long))
+            free_is image (64 * j) map is m unheld_entry (omega (arith, found.0, is.is_map.long))
             ∙ found.2 (m % 64) (omega (arith, found.0, is.is_map.long))
       ];
     }
 
--- where the map has no Free entry, the counts aren't the image's
-pub no_counts : (image : Image) (kept : Kept) (j : ℕ) (map : List MapEntry) → IsFirstAbove kept.free (Some j) → IsMapOf image (64 * j) map → free_entries map ≡ 0 → ¬ AreCounts image kept
-no_counts image kept j map first is none counts =
-    let at : 64 * j / 64 ≡ j = omega arith in
-    omega (arith, first.1, counts.each j first.0, free_count image (64 * j) map is, ap (free_in_cylinder image) at)
+-- where the map has no Free entry, its cylinder has no Free block
+pub none_in_map : (image : Image) (n : ℕ) (map : List MapEntry) → IsMapOf image n map → free_entries map ≡ 0 → free_in_cylinder image (n / 64) ≡ 0
+none_in_map image n map is none = sym (free_count image n map is) ∙ none

@@ -1,6 +1,6 @@
 -- The entries of a volume whose maps a disk holds.
 use Rattle.std.proofs.Common.{◌≡◌, ◌≢◌, inl, inr, ℕ, ◌+◌, ◌*◌, ◌/◌, ◌%◌, ◌<◌, true, false, List, replicate, get_or, set, Option, Some, None, refl, sym, ◌∙◌, ap, subst, arith}
-use Rattle.cyl_alloc.proofs.Words.{All-replicate, Image, IsBadMap, IsEntry, IsFirstBadEntry, IsFreeElsewhere, IsGoodMap, IsMap-set, IsMapOf, IsSome, MapEntry, SpellsMap, block_at, cases_eq, entries_of, entry_at, entry_at-map_spelling, entry_in, entry_in-with_entry_other, entry_in-with_entry_same, entry_of_bad, free_entries, free_entry, free_in_cylinder, is_free, is_free_entry, is_free_in, length-entries_of, length-with_entry, map_of, map_spelling, map_spelling-set, spelling, spells_these, with_bytes, with_entry}
+use Rattle.cyl_alloc.proofs.Words.{All-replicate, Image, IsBadMap, IsEntry, IsFirstBadEntry, IsFreeElsewhere, IsGoodMap, IsMap-set, IsMapOf, IsSome, MapEntry, SpellsMap, block_at, cases_eq, entries_of, entry_at, entry_at-map_spelling, entry_in, entry_in-with_entry_other, entry_in-with_entry_same, entry_of_bad, free_entries, unheld_entry, free_in_cylinder, is_free, is_free_entry, is_free_in, length-entries_of, length-with_entry, map_of, map_spelling, map_spelling-set, spelling, spells_these, with_bytes, with_entry}
 use Rattle.cyl_alloc.proofs.Ranges.{listed, one_less, count_in}
 
 -- ---- a map that was read
@@ -16,7 +16,7 @@ module _ (image : Image) (n : ℕ) (map : List MapEntry) (is : IsMapOf image n m
   free_is m d same = ap is_free_entry (entry_is m d same)
 
   pub is_good : IsGoodMap image n
-  is_good k lt = subst IsSome (sym (entry_is (map_of n + k) free_entry (omega arith))) refl
+  is_good k lt = subst IsSome (sym (entry_is (map_of n + k) unheld_entry (omega arith))) refl
 
   -- as many are Free as the map has Free entries
   pub free_count : free_entries map ≡ free_in_cylinder image (n / 64)
@@ -26,12 +26,12 @@ module _ (image : Image) (n : ℕ) (map : List MapEntry) (is : IsMapOf image n m
       ∙ ap (count_in (is_free_in image) (map_of n)) is.is_map.long
 
 -- 512 zero bytes are those of a map
-zeros : replicate 512 0 ≡ map_spelling (replicate 64 free_entry)
+zeros : replicate 512 0 ≡ map_spelling (replicate 64 unheld_entry)
 unfolding spelling
 zeros = refl
 
 pub zeros_spell : (bytes : List ℕ) → bytes ≡ replicate 512 0 → SpellsMap bytes
-zeros_spell bytes is = (spells_these bytes (replicate 64 free_entry) (record { long = refl; each = All-replicate IsEntry 64 free_entry (record { in_table = refl }) }) (is ∙ zeros)).1
+zeros_spell bytes is = (spells_these bytes (replicate 64 unheld_entry) (record { long = refl; each = All-replicate IsEntry 64 unheld_entry (record { in_table = refl }) }) (is ∙ zeros)).1
 
 -- a map with one entry put into it is one
 pub spells_with : (bytes : List ℕ) (k : ℕ) (e : MapEntry) → SpellsMap bytes → k < 64 → IsEntry e → SpellsMap (with_bytes bytes k (spelling e))

@@ -1,6 +1,6 @@
 -- The sums of counts: one of them changed, and the first that isn't 0.
 use Rattle.std.proofs.Common.{◌≡◌, ◌≢◌, ℕ, suc, ◌+◌, ◌-◌, ◌*◌, ◌/◌, ◌%◌, ◌<◌, ◌≤◌, List, [], ◌∷◌, length, take, drop, set, get_or, replicate, refl, sym, ◌∙◌, ap, arith, inl, inr, length-drop, length-set, Some, None}
-use Rattle.cyl_alloc.proofs.Words.{All-replicate, All-set, AreSums, IsFirstAbove, IsKept, cases_eq, cases_lt, drop-set-add, drop-set-lt, get_or-drop, get_or-le-sum_by, get_or-replicate, get_or-set_other, get_or-set_same, get_or-take, get_or_past, group_sum, length-replicate, length-take, sum, sum_by-cons, sum_by-le, sum_by-set, sum_by-take-drop, sum_by-take-le, take-set-le, take-set-lt}
+use Rattle.cyl_alloc.proofs.Words.{All-replicate, All-set, AreSums, IsFirstAbove, AreFreeCounts, cases_eq, cases_lt, drop-set-add, drop-set-lt, get_or-drop, get_or-le-sum_by, get_or-replicate, get_or-set_other, get_or-set_same, get_or-take, get_or_past, group_sum, length-replicate, length-take, sum, sum_by-cons, sum_by-le, sum_by-set, sum_by-take-drop, sum_by-take-le, take-set-le, take-set-lt}
 
 abbrev itself : ℕ → ℕ
 itself n = n
@@ -43,7 +43,7 @@ group-set_other xs i y k other = ap sum (elim (cases_lt i (256 * k)) [
 
 -- ---- all sums
 
-pub sum-most : (xs : List ℕ) → IsKept xs → sum xs ≤ 4194304
+pub sum-most : (xs : List ℕ) → AreFreeCounts xs → sum xs ≤ 4194304
 sum-most xs kept = omega (arith, sum_by-le itself 64 xs kept.each, kept.most)
 
 -- the sum of a cylinder's group

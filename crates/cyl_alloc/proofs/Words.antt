@@ -6,10 +6,10 @@ pub use Rattle.cfs_base.specs.Refusals.{refused_by}
 pub use Rattle.cfs_base.specs.Run.{Leaves, Tells, left_now}
 pub use Rattle.cfs_base.specs.declared.disk.Disk.{Ghosts}
 pub use Rattle.cfs_base.specs.declared.refusal.Trouble.{Trouble}
-pub use Rattle.cyl_alloc.specs.Counts.{AreSums, IsFirstAbove, IsKept, group_sum}
+pub use Rattle.cyl_alloc.specs.Counts.{AreSums, IsFirstAbove, AreFreeCounts, group_sum}
 pub use Rattle.cyl_alloc.specs.Maps.{IsMapOf}
 pub use Rattle.cyl_alloc.specs.Refusals.{IsFindRefusal, IsMapTrouble}
-pub use Rattle.cyl_alloc.specs.Space.{AreCounts, IsBadMap, IsFreeElsewhere, IsGoodMap, IsLeastFree, Kept, after_giving, after_taking, count_at, entered, free_entry, with_count}
+pub use Rattle.cyl_alloc.specs.Space.{AreCounts, IsBadMap, IsFreeElsewhere, IsGoodMap, IsLeastFree, IsMiscounted, Kept, after_giving, after_taking, count_at, entered, unheld_entry, with_count}
 unfoldable pub use Rattle.cyl_alloc.specs.Space.{free_in_cylinder}
 pub use Rattle.cyl_map.proofs.Entries.{entry_of_bad}
 pub use Rattle.cyl_map.proofs.FreeEntries.{none_counted, position-map}

@@ -4,7 +4,7 @@ use Rattle.std.specs.Prelude.{None}
 use Rattle.std.specs.List.{All}
 
 -- as many as a volume may have cylinders, each of up to 64 blocks
-pub record IsKept (free : List ℕ) : Type 0 where
+pub record AreFreeCounts (free : List ℕ) : Type 0 where
   pub some : 1 ≤ length free
   pub most : length free ≤ 65536
   pub each : All (λ n. n ≤ 64) free
@@ -15,7 +15,7 @@ group_sum free k = sum (take 256 (drop (256 * k) free))
 
 -- the sum of each 256, and of all
 pub record AreSums (free groups : List ℕ) (total : ℕ) : Type 0 where
-  pub kept : IsKept free
+  pub kept : AreFreeCounts free
   pub count : length groups ≡ (length free + 255) / 256
   pub each : (k : ℕ) → get_or groups k 0 ≡ group_sum free k
   pub all : total ≡ sum free

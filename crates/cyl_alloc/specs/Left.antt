@@ -8,7 +8,7 @@ use Rattle.cyl_alloc.specs.declared.part.Part.TheVariants.{Copy, Flip, Clear}
 
 -- the object's root block and shadow root; the blocks whose entries are still to be changed, the shadow root as the
 -- last; and whether the root has the shadow root's content
-pub record Left : Type 0 where
+pub record LeftCommit : Type 0 where
   pub root : ℕ
   pub shadow : ℕ
   pub rest : List ℕ
@@ -19,42 +19,42 @@ pub record Left : Type 0 where
 abbrev pub block_no : ℕ → BlockNo
 block_no n = record { 0 = n }
 
-abbrev pub part_in : Left → Bool → List ℕ → Part
-part_in l false rest = Copy (block_no l.root) (block_no l.shadow)
-part_in l true [] = Clear (block_no l.root)
-part_in l true (n ∷ ns) = Flip (block_no n)
+abbrev pub next_part_in : LeftCommit → Bool → List ℕ → Part
+next_part_in l false rest = Copy (block_no l.root) (block_no l.shadow)
+next_part_in l true [] = Clear (block_no l.root)
+next_part_in l true (n ∷ ns) = Flip (block_no n)
 
 -- the next one
-abbrev pub part_of : Left → Part
-part_of l = part_in l l.copied l.rest
+abbrev pub next_part_of : LeftCommit → Part
+next_part_of l = next_part_in l l.copied l.rest
 
-abbrev pub after_in : Left → Bool → List ℕ → Option Left
+abbrev pub after_in : LeftCommit → Bool → List ℕ → Option LeftCommit
 after_in l false rest = Some (record l { copied = true })
 after_in l true [] = None
 after_in l true (n ∷ ns) = Some (record l { rest = ns })
 
 -- what is left after it
-abbrev pub after_part : Left → Option Left
+abbrev pub after_part : LeftCommit → Option LeftCommit
 after_part l = after_in l l.copied l.rest
 
-abbrev pub after_next : Option Left → Option Left
+abbrev pub after_next : Option LeftCommit → Option LeftCommit
 after_next None = None
 after_next (Some l) = after_part l
 
 -- how many there are
-abbrev pub parts_left : Option Left → ℕ
+abbrev pub parts_left : Option LeftCommit → ℕ
 parts_left None = 0
 parts_left (Some l) = 1 + length l.rest + (if l.copied then 0 else 1)
 
 -- ---- the entries that are changed one after another
 
 -- the blocks whose entries are changed next, where the root is copied
-abbrev pub flips_in : Option Left → List ℕ
+abbrev pub flips_in : Option LeftCommit → List ℕ
 flips_in None = []
 flips_in (Some l) = if l.copied then l.rest else []
 
 -- what is left once those of the first i of them are changed
-abbrev pub after_flips : ℕ → Option Left → Option Left
+abbrev pub after_flips : ℕ → Option LeftCommit → Option LeftCommit
 after_flips i None = None
 after_flips i (Some l) = Some (record l { rest = drop i l.rest })
 
@@ -66,16 +66,16 @@ is_first s (n ∷ ns) = n == s
 -- ---- reads
 
 -- the block by which an object with this root block is read
-abbrev pub shown_in : Option Left → ℕ → ℕ
-shown_in None r = r
-shown_in (Some l) r = if (l.root == r) && not l.copied then l.shadow else r
+abbrev pub block_shown : Option LeftCommit → ℕ → ℕ
+block_shown None r = r
+block_shown (Some l) r = if (l.root == r) && not l.copied then l.shadow else r
 
 -- ---- a disk of this many blocks
 
 -- all blocks of it lie on the disk
-abbrev pub IsNear : ℕ → Option Left → Type 0
-IsNear size None = Unit {0}
-IsNear size (Some l) = (l.root < size) × (l.shadow < size) × All (λ n. n < size) l.rest
+abbrev pub LiesOnDisk : ℕ → Option LeftCommit → Type 0
+LiesOnDisk size None = Unit {0}
+LiesOnDisk size (Some l) = (l.root < size) × (l.shadow < size) × All (λ n. n < size) l.rest
 
 abbrev pub IsPartNear : ℕ → Part → Type 0
 IsPartNear size (Copy root shadow) = (root.0 < size) × (shadow.0 < size)

@@ -11,7 +11,7 @@ use Rattle.cfs_base.specs.declared.refusal.Trouble.{Trouble}
 use Rattle.cfs_base.specs.declared.refusal.Trouble.TheVariants as trouble
 use Rattle.cyl_map.specs.Volume.{map_of}
 use Rattle.cyl_alloc.specs.Counts.{IsFirstAbove}
-use Rattle.cyl_alloc.specs.Space.{Kept, AreCounts, IsBadMap, IsGoodMap}
+use Rattle.cyl_alloc.specs.Space.{Kept, IsBadMap, IsGoodMap, IsMiscounted}
 
 -- ---- the map of one block
 
@@ -34,7 +34,7 @@ pub record IsNoFind {D : Type 0} (g : Ghosts D) (old : D) (kept : Kept) (damage 
   pub on_disk : damage.block < g.blocks old
   pub first : IsFirstAbove kept.free (Some (damage.block / 64))
   pub why : ((damage.code ≡ no_entry) × (Tells g old → IsBadMap (g.content old) damage.block))
-      ⊎ ((damage.code ≡ other_count) × (Tells g old → ¬ AreCounts (g.content old) kept))
+      ⊎ ((damage.code ≡ other_count) × IsMiscounted (Tells g old) (g.content old) kept damage.block)
 
 -- no block is Free, a device call failed, or no Free block was found where one was counted
 abbrev pub IsFindRefusal : {D : Type 0} → Ghosts D → D → D → Kept → Refused → Type 0

@@ -7,12 +7,12 @@ use Rattle.cyl_map.specs.declared.state.BlockState.{BlockState}
 use Rattle.cyl_map.specs.declared.state.BlockState.TheVariants.{Free, Allocated, IntendAllocate}
 use Rattle.cyl_map.specs.declared.entry.MapEntry.{MapEntry}
 use Rattle.cyl_map.specs.Volume.{entry_in, is_free_in, free_from, map_of}
-use Rattle.cyl_alloc.specs.Left.{Left}
+use Rattle.cyl_alloc.specs.Left.{LeftCommit}
 
 -- what a space keeps: how many blocks of each cylinder are Free, and a commit that isn't carried out
 pub record Kept : Type 0 where
   pub free : List ℕ
-  pub left : Option Left
+  pub left : Option LeftCommit
 
 -- ---- one count changed
 
@@ -42,6 +42,12 @@ free_in_cylinder image j = free_from image (64 * j) 64
 pub record AreCounts (image : Image) (kept : Kept) : Type 0 where
   pub size : length image ≡ 64 * length kept.free
   pub each : (j : ℕ) → j < length kept.free → get_or kept.free j 0 ≡ free_in_cylinder image j
+
+-- Block n is a map block, in whose cylinder some blocks are counted Free; where the disk tells, none is.
+pub record IsMiscounted (Told : Type 0) (image : Image) (kept : Kept) (n : ℕ) : Type 0 where
+  pub map : n ≡ map_of n
+  pub counted : 0 < count_at kept n
+  pub none : Told → free_in_cylinder image (n / 64) ≡ 0
 
 -- as many blocks, and in all cylinders but that of block n the same are Free
 pub record IsFreeElsewhere (image : Image) (n : ℕ) (other : Image) : Type 0 where
@@ -81,5 +87,5 @@ abbrev pub intended : Place → ℕ → MapEntry
 intended place owner = entered IntendAllocate place owner
 
 -- a block that nobody holds
-abbrev pub free_entry : MapEntry
-free_entry = record { state = Free; committed = false; place = None; owner = 0 }
+abbrev pub unheld_entry : MapEntry
+unheld_entry = record { state = Free; committed = false; place = None; owner = 0 }

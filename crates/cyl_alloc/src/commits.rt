@@ -40,7 +40,7 @@ impl Space {
     /// The block by which an object is read: the shadow root where its commit is kept and its root isn't copied, else
     /// the root.
     pub fn shown(&self, root: BlockNo) -> BlockNo
-        ensures shown { result.0 ≡ left.shown_in self.now.left root.0 }
+        ensures shown { result.0 ≡ left.block_shown self.now.left root.0 }
         // It lies on the disk where the root does.
         ensures near { root.0 < 64 * length self.now.free → result.0 < 64 * length self.now.free }
     {
@@ -52,7 +52,7 @@ impl Space {
 
     /// The next part of the commit that is kept. None exactly where none is.
     pub fn next_part(&self) -> Option<Part>
-        ensures part { result ≡ option_map (λ l. left.part_of l) self.now.left }
+        ensures part { result ≡ option_map (λ l. left.next_part_of l) self.now.left }
         ensures near { IfSome result (left.IsPartNear (64 * length self.now.free)) }
     {
         match &self.unfinished {
@@ -63,7 +63,7 @@ impl Space {
 
     /// Whether the next block whose entry is changed is the shadow root.
     pub fn is_shadow_next(&self) -> bool
-        ensures { (l : left.Left) → self.now.left ≡ Some l → result ≡ left.is_first l.shadow l.rest }
+        ensures { (l : left.LeftCommit) → self.now.left ≡ Some l → result ≡ left.is_first l.shadow l.rest }
     {
         match &self.unfinished {
             Some(commit) => commit.is_shadow_next(),
@@ -98,7 +98,7 @@ impl Space {
 
     /// The shadow root of the commit that is kept; 0 where none is.
     pub fn shadow(&self) -> BlockNo
-        ensures { (l : left.Left) → self.now.left ≡ Some l → result.0 ≡ l.shadow }
+        ensures { (l : left.LeftCommit) → self.now.left ≡ Some l → result.0 ≡ l.shadow }
     {
         match &self.unfinished {
             Some(commit) => commit.shadow(),

@@ -1,6 +1,6 @@
 //! How many blocks of each cylinder are Free, in memory.
 ghost use Rattle.std.specs.Prelude.{◌≡◌, ◌<◌, ◌≤◌, length, get_or, replicate, set, sum, IfOk};
-ghost use Rattle.cyl_alloc.specs.Counts.{IsFirstAbove, IsKept};
+ghost use Rattle.cyl_alloc.specs.Counts.{IsFirstAbove, AreFreeCounts};
 
 use cfs_base::NoMemory;
 use std::alloc::Global;
@@ -42,7 +42,7 @@ impl Counts {
         requires some { 1 ≤ cylinders }
         requires most { cylinders ≤ 65536 }
         ensures zeros { IfOk result (λ counts. counts ≡ replicate cylinders 0) }
-        ensures kept { IfOk result IsKept }
+        ensures kept { IfOk result AreFreeCounts }
     {
         let each = vec![in alloc; 0; cylinders as usize]?;
         let groups = vec![in alloc; 0; cylinders.div_ceil(GROUP) as usize]?;
@@ -56,7 +56,7 @@ impl Counts {
     /// The sum of all.
     pub fn total(&self) -> u32
         ensures sum { result ≡ sum self.now }
-        ensures kept { IsKept self.now }
+        ensures kept { AreFreeCounts self.now }
     {
         self.total
     }
@@ -75,7 +75,7 @@ impl Counts {
         requires cylinder { cylinder < length self.old }
         requires most { count ≤ 64 }
         ensures put { self.new ≡ set self.old cylinder count }
-        ensures kept { IsKept self.new }
+        ensures kept { AreFreeCounts self.new }
     {
         let at = cylinder as usize;
         let old = self.each[at];
@@ -88,7 +88,7 @@ impl Counts {
     /// The first cylinder whose count isn't 0.
     pub fn first(&self) -> Option<u32>
         ensures first { IsFirstAbove self.now result }
-        ensures kept { IsKept self.now }
+        ensures kept { AreFreeCounts self.now }
     {
         let group = first_above(&self.groups)?;
         let from = group * GROUP as usize;

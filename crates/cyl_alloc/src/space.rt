@@ -10,7 +10,7 @@ ghost use Rattle.std.specs.Borrow.{sem};
 ghost use Rattle.cyl_map.specs.Entry.{IsEntry};
 ghost use Rattle.cyl_map.specs.Map.{SpellsMap, entries_of, is_free_state};
 ghost use Rattle.cyl_map.specs.Volume.{map_of, map_with, with_entry, is_free_in, free_from};
-ghost use Rattle.cyl_alloc.specs.Counts.{IsKept};
+ghost use Rattle.cyl_alloc.specs.Counts.{AreFreeCounts};
 ghost use Rattle.cyl_alloc.specs.Enters.{Enters};
 ghost use Rattle.cyl_alloc.specs.Known.{LendsKnown};
 ghost use Rattle.cyl_alloc.specs.Maps.{IsMapOf};
@@ -38,15 +38,15 @@ pub struct Space {
 
 impl Model for Space {
     ghost use Rattle.std.specs.Prelude.{◌*◌, length};
-    ghost use Rattle.cyl_alloc.specs.Counts.{IsKept};
-    ghost use Rattle.cyl_alloc.specs.Left.{IsNear};
+    ghost use Rattle.cyl_alloc.specs.Counts.{AreFreeCounts};
+    ghost use Rattle.cyl_alloc.specs.Left.{LiesOnDisk};
     ghost use Rattle.cyl_alloc.specs.Space.{Kept};
 
     ghost Value = { Kept };
 
     ghost view = { λ a. record { free = a.counts; left = a.unfinished } };
 
-    ghost invariant = { λ a. IsKept a.counts × IsNear (64 * length a.counts) a.unfinished };
+    ghost invariant = { λ a. AreFreeCounts a.counts × LiesOnDisk (64 * length a.counts) a.unfinished };
 }
 
 impl Space {
@@ -120,7 +120,7 @@ impl Space {
         ensures sum { result ≡ sum self.now.free }
         ensures counted { (image : Image) → spec.AreCounts image self.now →
             result ≡ free_from image 0 (length image) }
-        ensures kept { IsKept self.now.free }
+        ensures kept { AreFreeCounts self.now.free }
     {
         self.counts.total()
     }
@@ -229,7 +229,7 @@ impl Space {
         requires size { D.blocks disk.old ≡ 64 * length self.old.free }
         requires on_disk { block.0 < D.blocks disk.old }
         ensures freed { Tells D.Disk disk.old → OnOk result
-            (D.content disk.new ≡ with_entry (D.content disk.old) block.0 spec.free_entry) }
+            (D.content disk.new ≡ with_entry (D.content disk.old) block.0 spec.unheld_entry) }
         ensures whole { Tells D.Disk disk.old → OnOk result
             (spec.IsGoodMap (D.content disk.old) block.0) }
         ensures told { OnOk result ((n : ℕ) → IsTrue (D.told disk.old n) → IsTrue (D.told disk.new n)) }
@@ -245,7 +245,7 @@ impl Space {
             trouble_had_tried trouble ≡ false → OnlyReads D.Disk 1 disk.old disk.new) }
         ensures images { Tells D.Disk disk.old → Leaves D.Disk disk.old disk.new
             (Written (left_now D.Disk disk.old) (map_of block.0)
-            (map_with (D.content disk.old) block.0 spec.free_entry)) }
+            (map_with (D.content disk.old) block.0 spec.unheld_entry)) }
         ensures calls { MakesAtMost D.Disk 2 1 disk.old disk.new }
     {
         let mut map = Block::zero();

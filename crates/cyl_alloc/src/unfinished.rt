@@ -49,9 +49,9 @@ pub(crate) struct Unfinished {
 
 impl Model for Unfinished {
     ghost use Rattle.std.specs.Prelude.{drop};
-    ghost use Rattle.cyl_alloc.specs.Left.{Left};
+    ghost use Rattle.cyl_alloc.specs.Left.{LeftCommit};
 
-    ghost Value = { Left };
+    ghost Value = { LeftCommit };
 
     ghost view = { λ a. record {
       root = a.root.0;
@@ -77,7 +77,7 @@ impl Unfinished {
 
     /// The block by which an object is read.
     pub fn shown(&self, root: BlockNo) -> BlockNo
-        ensures { result.0 ≡ spec.shown_in (Some self.now) root.0 }
+        ensures { result.0 ≡ spec.block_shown (Some self.now) root.0 }
     {
         if self.root == root && !self.copied {
             self.shadow
@@ -88,7 +88,7 @@ impl Unfinished {
 
     /// The next part.
     pub fn part(&self) -> Part
-        ensures { result ≡ spec.part_of self.now }
+        ensures { result ≡ spec.next_part_of self.now }
     {
         if !self.copied {
             return Part::Copy {

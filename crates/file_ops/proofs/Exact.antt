@@ -12,14 +12,13 @@ use Rattle.file_ops.proofs.Begun.{draft_changes, of_object, replaced_begun}
 use Rattle.special_files.specs.Order.{claims_anew}
 use Rattle.ufs_model.proofs.Rising.{filter-rises, in_filter, in_withs, same_numbers, to_filter, to_withs, with_numbers-rise}
 use Rattle.ufs_model.specs.Numbers.{lacking, merged, numbers_rise, parents, shared}
-use Rattle.ufs_model.specs.Object.{cut_leaf, resize_anew, size_of}
+use Rattle.ufs_model.specs.Object.{cut_leaf, resize_anew}
 use Rattle.ufs_model.specs.declared.change.Change.TheVariants.{SetSize}
 use Rattle.ufs_model.specs.declared.object.Object.TheVariants as objects
 use Rattle.vol_image.proofs.Parts.{in_image}
 use Rattle.vol_owners.proofs.Entries.{free_unplaced}
 use Rattle.vol_owners.proofs.Sums.{count_in, ones_le, run-suc}
 use Rattle.vol_owners.specs.Change.{IsOpenTo}
-use Rattle.vol_owners.specs.Owner.{is_of}
 use Rattle.vol_owners.specs.Room.{one_of}
 
 -- ---- counts of Free blocks

@@ -27,12 +27,12 @@ pub use Rattle.special_files.proofs.CommitDraft.{without_none}
 pub use Rattle.special_files.proofs.Levels.{length-none, none_is}
 pub use Rattle.special_files.proofs.Lists.{first_here}
 pub use Rattle.special_files.proofs.Refusals.{damage_since, refusal_after_reads}
-pub use Rattle.special_files.specs.Becomes.{Becomes}
+pub use Rattle.special_files.specs.Becomes.{DraftBecomes}
 pub use Rattle.special_files.specs.Committing.{Committed, IsOldOrNew}
 pub use Rattle.special_files.specs.Drafting.{Drafting, HasNoneFresh, IsOpen, begun_at, fresh_of, need_beside, opened_as, shadow_need}
-pub use Rattle.special_files.specs.Ends.{Ends}
+pub use Rattle.special_files.specs.Ends.{EndsCall}
 pub use Rattle.special_files.specs.Order.{ClaimsAndDrops, claims_by_leaf}
-pub use Rattle.special_files.specs.Refusal.{IsTrouble, is_damaged, is_full_refusal}
+pub use Rattle.special_files.specs.Refusal.{IsDraftTrouble, has_met_damage, is_full_refusal}
 pub use Rattle.special_files.specs.Store.{replaced, without_draft}
 pub use Rattle.std.proofs.Common.{Bool, Err, List, None, Ok, Option, Some, [], ap, arith, cond, drop, false, get_or, inl, inr, length, not, refl, subst, sym, take, true, ℕ, ◌++◌, ◌+◌, ◌-◌, ◌/◌, ◌<◌, ◌∙◌, ◌∷◌, ◌≡◌, ◌≤◌}
 pub use Rattle.std.proofs.Math.Seq.{take-append_seam}

@@ -15,12 +15,13 @@ use Rattle.cfs_base.specs.declared.refusal.Refused.TheVariants as refusals
 use Rattle.block_tree.specs.Root.{IsRootBlock}
 use Rattle.block_tree.specs.declared.root.Root.{Root}
 use Rattle.claims.specs.Claims.{AreClaimed}
-use Rattle.cyl_alloc.specs.Left.{Left}
+use Rattle.cyl_alloc.specs.Left.{LeftCommit}
 use Rattle.cyl_alloc.specs.Space.{Kept}
 use Rattle.cyl_map.specs.declared.entry.MapEntry.{MapEntry}
-use Rattle.file_ops.specs.Files.{HasFile}
+use Rattle.file_ops.specs.Files.{StoreHasFile}
 use Rattle.intentions.specs.Left as commit
 use Rattle.intentions.specs.Left.{StoreIs}
+use Rattle.leaf_changes.specs.Tops.{Top, disk_top}
 use Rattle.normal_files.specs.Ends.{IsNoSpace}
 use Rattle.normal_files.specs.Frees.{IsDropDamage, TakesNone}
 use Rattle.normal_files.specs.Order.{claims_of}
@@ -31,7 +32,7 @@ use Rattle.special_files.specs.Committing.{IsAtBit, IsNoted, IsOldOrNew, TakesSh
 use Rattle.special_files.specs.Drafting.{none_of}
 use Rattle.special_files.specs.Order.{claims_anew, claims_by_leaf}
 use Rattle.special_files.specs.Refusal as special
-use Rattle.special_files.specs.Refusal.{is_damaged, is_full_refusal}
+use Rattle.special_files.specs.Refusal.{has_met_damage, is_full_refusal}
 use Rattle.ufs_model.specs.Graph.{Graph, with_object}
 use Rattle.ufs_model.specs.Numbers.{missing}
 use Rattle.ufs_model.specs.Object.{IsInside, changed_object, leaves_in, resized, written, written_anew}
@@ -44,9 +45,9 @@ use Rattle.vol_owners.specs.Account.{Opened}
 use Rattle.vol_owners.specs.Change.{ChangesOnly, of_owner}
 
 -- the store has this file, it is of the kind, and the place of the change lies within it
-pub record MayChange {D : Type 0} (g : Ghosts D) (at : ℕ) (kind : FileKind) (change : Change) (graph : Graph)
+pub record MayChangeFile {D : Type 0} (g : Ghosts D) (at : ℕ) (kind : FileKind) (change : Change) (graph : Graph)
     (ds : List Opened) (id : Puid) (f : File) (d : D) (space : Kept) : Type 0 where
-  pub has : HasFile g graph ds d space at id f
+  pub has : StoreHasFile g graph ds d space at id f
   pub kind_is : f.kind ≡ kind
   pub inside : IsInside change (objects.File f)
 
@@ -72,15 +73,15 @@ IsDurable kinds.Special change f = Unit {0}
 pub record Changed {D : Type 0} (g : Ghosts D) (kind : FileKind) (change : Change) (graph : Graph) (ds : List Opened)
     (id : Puid) (f : File) (old new : D) (space : Kept) : Type 0 where
   pub store : StoreIs g (with_object graph id (changed_object change (objects.File f))) ds new space
-  pub only : ChangesOnly (λ entry. of_owner id.block entry) (g.content old) (commit.end_of g new space)
+  pub only : ChangesOnly (λ entry. of_owner id.block entry) (g.content old) (commit.final_image g new space)
   pub settled : IsDurable kind change f → IsSettled g new
 
 -- done or not, a crash leaves a special file old or new, and of a normal one the size and each leaf
-abbrev pub MayLeave : FileKind → Change → Graph → Puid → File → Image → Type 0
-MayLeave kinds.Normal (Overwrite offset bytes) graph id f c = IsPartly c graph id f (written f offset bytes)
-MayLeave kinds.Normal (SetSize size) graph id f c = IsPartly c graph id f (resized f size)
-MayLeave kinds.Normal (Fill slot what) graph id f c = Holds c graph
-MayLeave kinds.Special change graph id f c = IsOldOrNew graph graph id (changed_object change (objects.File f)) c
+abbrev pub MayLeaveFile : FileKind → Change → Graph → Puid → File → Image → Type 0
+MayLeaveFile kinds.Normal (Overwrite offset bytes) graph id f c = IsPartly c graph id f (written f offset bytes)
+MayLeaveFile kinds.Normal (SetSize size) graph id f c = IsPartly c graph id f (resized f size)
+MayLeaveFile kinds.Normal (Fill slot what) graph id f c = Holds c graph
+MayLeaveFile kinds.Special change graph id f c = IsOldOrNew graph graph id (changed_object change (objects.File f)) c
 
 -- ---- which blocks it takes, each the least-numbered Free one
 
@@ -113,67 +114,76 @@ least_size (Overwrite offset bytes) = offset + length bytes
 least_size (SetSize size) = 0
 least_size (Fill slot what) = 0
 
+-- only a resize may come to that
+abbrev pub is_resize : Change → Bool
+is_resize (Overwrite offset bytes) = false
+is_resize (SetSize size) = true
+is_resize (Fill slot what) = false
+
 -- no block is left for a shadow root, of those that were counted
 pub record IsNoneLeft (after : Kept) (damage : Damage) : Type 0 where
   pub code : damage.code ≡ too_full
   pub block : damage.block ≡ 0
   pub none : sum after.free ≡ 0
 
--- what is wrong where a special file is changed: with a block that was read; its root is one of fewer bytes; or none is
--- left
+-- what is wrong where a special file is changed: with a block that was read; its root is one of fewer bytes; or, of a
+-- resize, none is left
 pub data IsBesideDamage {D : Type 0} (g : Ghosts D) (at : ℕ) (change : Change) (old new : D) (after : Kept)
     (damage : Damage) : Type 0 where
-  OfBlock : special.IsDamage g at old new after damage → IsBesideDamage g at change old new after damage
+  OfBlock : special.IsDraftDamage g (disk_top g at old) old new after damage
+      → IsBesideDamage g at change old new after damage
   Short : damage.code ≡ no_root → damage.block ≡ at
       → (Tells g old → (root : Root) → IsRootBlock (block_at (g.content old) at) root → root.size < least_size change)
       → IsBesideDamage g at change old new after damage
-  NoneLeft : IsNoneLeft after damage → IsBesideDamage g at change old new after damage
+  NoneLeft : is_resize change ≡ true → IsNoneLeft after damage → IsBesideDamage g at change old new after damage
 
 -- what is wrong where a normal file is: with a block of it, with a map, or with the counts
-pub data IsPlaceDamage {D : Type 0} (g : Ghosts D) (at : ℕ) (old new : D) (after : Kept)
+pub data IsPlaceDamage {D : Type 0} (g : Ghosts D) (at : Top) (old new : D) (after : Kept)
     (damage : Damage) : Type 0 where
   OfFile : normal.IsDamage g at old damage → IsPlaceDamage g at old new after damage
   OfClaims : IsNoSpace g old new after damage → IsPlaceDamage g at old new after damage
   OfDrops : IsDropDamage g at old new damage → IsPlaceDamage g at old new after damage
 
-abbrev pub IsFileDamage : {D : Type 0} → Ghosts D → (at : ℕ) → FileKind → Change → D → D → Kept → Damage → Type 0
+abbrev pub IsFileDamage : {D : Type 0} → Ghosts D → Top → FileKind → Change → D → D → Kept → Damage → Type 0
 IsFileDamage g at kinds.Normal change old new after damage = IsPlaceDamage g at old new after damage
-IsFileDamage g at kinds.Special change old new after damage = IsBesideDamage g at change old new after damage
+IsFileDamage g at kinds.Special change old new after damage = IsBesideDamage g at.block change old new after damage
 
--- too few blocks are Free, a device call failed, a block that was read is damaged, or memory is wanted, for a special
--- file alone
-abbrev pub IsFileRefusal : {D : Type 0} → Ghosts D → (at : ℕ) → FileKind → (floor : ℕ) → Change → D → D → Kept → Refused
+-- as many blocks as it tells are counted Free, too few; a device call failed; a block that was read is damaged; or
+-- memory is wanted, for a special file alone
+abbrev pub IsFileRefusal : {D : Type 0} → Ghosts D → Top → FileKind → (floor : ℕ) → Change → D → D → Kept → Refused
     → Type 0
-IsFileRefusal g at kind floor change old new after (refusals.Full need) = need.free < need.need + floor
+IsFileRefusal g at kind floor change old new after (refusals.Full need) =
+    (need.free ≡ sum after.free) × (need.free < need.need + floor)
 IsFileRefusal g at kind floor change old new after (refusals.Disk tried) = HasStopped g tried old new
 IsFileRefusal g at kind floor change old new after (refusals.Damaged damage) =
     IsFileDamage g at kind change old new after damage
 IsFileRefusal g at kind floor change old new after refusals.Memory = kind ≡ kinds.Special
 
 -- the same of a draft that is committed, before which a write was tried or not
-abbrev pub IsCommitRefusal : {D : Type 0} → Ghosts D → (at : ℕ) → (wrote : Bool) → D → D → Kept → Refused → Type 0
-IsCommitRefusal g at wrote old new after (refusals.Full need) = ⊥
-IsCommitRefusal g at wrote old new after (refusals.Disk tried) =
+abbrev pub IsCommitRefusal : {D : Type 0} → Ghosts D → Top → (wrote : Bool) → D → D → (before after : Kept) → Refused
+    → Type 0
+IsCommitRefusal g at wrote old new before after (refusals.Full need) = ⊥
+IsCommitRefusal g at wrote old new before after (refusals.Disk tried) =
     (t : Bool) × (tried ≡ wrote || t) × HasStopped g t old new
-IsCommitRefusal g at wrote old new after (refusals.Damaged damage) =
-    special.IsDamage g at old new after damage ⊎ IsNoneLeft after damage
-IsCommitRefusal g at wrote old new after refusals.Memory = ⊥
+IsCommitRefusal g at wrote old new before after (refusals.Damaged damage) =
+    special.IsDraftDamage g at old new after damage ⊎ (IsNoneLeft after damage × (after ≡ before))
+IsCommitRefusal g at wrote old new before after refusals.Memory = ⊥
 
 -- ---- the call
 
 -- a special file's commit is unfinished then; a normal file is changed in place
-abbrev pub LeavesCommit : FileKind → ℕ → Option Left → Type 0
-LeavesCommit kinds.Normal at left = left ≡ None
-LeavesCommit kinds.Special at left = (l : Left) × IsNoted at left l
+abbrev pub LeavesFileCommit : FileKind → ℕ → Option LeftCommit → Type 0
+LeavesFileCommit kinds.Normal at left = left ≡ None
+LeavesFileCommit kinds.Special at left = (l : LeftCommit) × IsNoted at left l
 
 -- how it ends on any disk
-pub record EndsChange {D : Type 0} (g : Ghosts D) (at : ℕ) (kind : FileKind) (floor : ℕ) (change : Change)
+pub record EndsChange {D : Type 0} (g : Ghosts D) (at : Top) (kind : FileKind) (floor : ℕ) (change : Change)
     (old new : D) (before after : Kept) (result : Result (Unit {0}) Refused) : Type 0 where
   pub refused : IfErr result (IsFileRefusal g at kind floor change old new after)
   -- where nothing was tried all is as it was, after Full and want of memory too
   pub untried : IfErr result (λ e. is_untried e ≡ true → (after ≡ before) × OnlyReads g 31093 old new)
   pub cylinders : length after.free ≡ length before.free
-  pub left : OnOk result (LeavesCommit kind at after.left)
+  pub left : OnOk result (LeavesFileCommit kind at.block after.left)
   -- where it is unfinished, its bit was tried
   pub bit : OnOk result (IsAtBit g old new after.left)
   pub calls : MakesAtMost g 62300 30971 old new
@@ -182,26 +192,26 @@ pub record EndsChange {D : Type 0} (g : Ghosts D) (at : ℕ) (kind : FileKind) (
 pub record ChangesFile {D : Type 0} (g : Ghosts D) (at : ℕ) (kind : FileKind) (floor : ℕ) (change : Change)
     (old new : D) (before after : Kept) (result : Result (Unit {0}) Refused) : Type 0 where
   pub done : (graph : Graph) (ds : List Opened) (id : Puid) (f : File)
-      → MayChange g at kind change graph ds id f old before
+      → MayChangeFile g at kind change graph ds id f old before
       → OnOk result (Changed g kind change graph ds id f old new after)
   pub order : (graph : Graph) (ds : List Opened) (id : Puid) (f : File)
-      → MayChange g at kind change graph ds id f old before
-      → OnOk result (ClaimsFor kind change at f (g.content old) (commit.end_of g new after))
+      → MayChangeFile g at kind change graph ds id f old before
+      → OnOk result (ClaimsFor kind change at f (g.content old) (commit.final_image g new after))
   pub leaves : (graph : Graph) (ds : List Opened) (id : Puid) (f : File)
-      → MayChange g at kind change graph ds id f old before → Leaves g old new (MayLeave kind change graph id f)
+      → MayChangeFile g at kind change graph ds id f old before → Leaves g old new (MayLeaveFile kind change graph id f)
   -- Full exactly where the need and the floor aren't Free
   pub room : (graph : Graph) (ds : List Opened) (id : Puid) (f : File)
-      → MayChange g at kind change graph ds id f old before
+      → MayChangeFile g at kind change graph ds id f old before
       → OnOk result (need_for kind change f + floor ≤ sum before.free)
   pub full : (graph : Graph) (ds : List Opened) (id : Puid) (f : File)
-      → MayChange g at kind change graph ds id f old before → IfErr result (λ e. is_full_refusal e ≡ true →
+      → MayChangeFile g at kind change graph ds id f old before → IfErr result (λ e. is_full_refusal e ≡ true →
       (e ≡ refusals.Full (record { free = sum before.free; need = need_for kind change f }))
       × (sum before.free < need_for kind change f + floor))
   -- where a write was tried they were, or the file stayed as it was
   pub begun : (graph : Graph) (ds : List Opened) (id : Puid) (f : File)
-      → MayChange g at kind change graph ds id f old before → IfErr result (λ e. e ≡ refusals.Disk true →
+      → MayChangeFile g at kind change graph ds id f old before → IfErr result (λ e. e ≡ refusals.Disk true →
       (need_for kind change f + floor ≤ sum before.free) ⊎ Leaves g old new (λ c. Holds c graph))
   -- no damage where the disk holds the file
   pub sound : (graph : Graph) (ds : List Opened) (id : Puid) (f : File)
-      → MayChange g at kind change graph ds id f old before → IfErr result (λ e. is_damaged e ≡ false)
-  pub ends : EndsChange g at kind floor change old new before after result
+      → MayChangeFile g at kind change graph ds id f old before → IfErr result (λ e. has_met_damage e ≡ false)
+  pub ends : EndsChange g (disk_top g at old) kind floor change old new before after result

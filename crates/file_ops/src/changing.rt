@@ -2,6 +2,7 @@
 ghost use Rattle.std.specs.Prelude.{◌≡◌, ◌≢◌, ◌+◌, ◌*◌, ◌<◌, ◌≤◌, true, is_some, length, IfErr, None};
 ghost use Rattle.cfs_base.specs.declared.refusal.Refused.TheVariants as refusals;
 ghost use Rattle.file_ops.specs.Changes as spec;
+ghost use Rattle.leaf_changes.specs.Tops.{root_top};
 ghost use Rattle.normal_files.specs.Standing.{IsRootAt};
 ghost use Rattle.ufs_model.specs.declared.change.Change.TheVariants.{Overwrite, SetSize};
 
@@ -16,9 +17,9 @@ use special_files::Room;
 /// changed as one commit in the room that is handed in, and takes blocks for all that it writes anew.
 /// `Full` where fewer blocks are Free than it takes, with the floor. `Damaged` names the root block, with code 3, which
 /// is none, or is a special file's of fewer bytes; a block with a pointer past the disk, with code 4; a map, with code
-/// 2, that is none, or with code 12, that has no Free block where some were counted; block 0, with code 11, where none
-/// is left for a shadow root. After `Full`, `Memory` and a `Disk` that wasn't tried all is as it was. After others a
-/// special file is old or new, and of a normal one each leaf is.
+/// 2, that is none, or with code 12, that has no Free block where some were counted. After `Full`, `Memory` and a
+/// `Disk` that wasn't tried all is as it was. After others a special file is old or new, and of a normal one each leaf
+/// is.
 pub fn write<D: Disk>(
     room: Option<Room>,
     disk: &mut D,
@@ -43,8 +44,8 @@ pub fn write<D: Disk>(
     // Memory is wanted only where no room was handed in.
     ensures memory { is_some room ≡ true → IfErr result (λ e. e ≢ refusals.Memory) }
     // On a disk that holds another root, or tells nothing, it ends so too.
-    ensures ends { spec.EndsChange D.Disk at.0 kind floor (Overwrite offset bytes.now) disk.old disk.new space.old
-        space.new result }
+    ensures ends { spec.EndsChange D.Disk (root_top at.0 root.now) kind floor (Overwrite offset bytes.now) disk.old
+        disk.new space.old space.new result }
 {
     match kind {
         FileKind::Normal => match normal_files::write(disk, space, at, root, offset, bytes, floor) {
@@ -58,7 +59,8 @@ pub fn write<D: Disk>(
     }
 }
 
-/// Sets the size of a file of this kind, in bytes. Refused as in `write`. A normal file set to less ends in writes that
+/// Sets the size of a file of this kind, in bytes. Refused as in `write`; of a special file `Damaged` may name block 0,
+/// with code 11, where none is left for a shadow root. A normal file set to less ends in writes that
 /// free what it had, and that no barrier follows; all else outlasts a crash once it is done.
 pub fn resize<D: Disk>(
     room: Option<Room>,

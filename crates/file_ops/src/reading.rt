@@ -8,10 +8,11 @@ ghost use Rattle.cfs_base.specs.declared.identifier.Puid.{Puid};
 ghost use Rattle.cyl_alloc.specs.Space.{Kept};
 ghost use Rattle.file_ops.specs.Files as spec;
 ghost use Rattle.intentions.specs.Left.{IsShownAt};
+ghost use Rattle.leaf_changes.specs.Tops.{root_top, still_top};
 ghost use Rattle.normal_files.specs.Refusal.{IsTrouble};
 ghost use Rattle.normal_files.specs.Standing.{IsRootAt};
 ghost use Rattle.normal_files.specs.Touched.{leaves_touched, nodes_touched};
-ghost use Rattle.special_files.specs.Refusal.{is_damaged};
+ghost use Rattle.special_files.specs.Refusal.{has_met_damage};
 ghost use Rattle.ufs_model.specs.Graph.{Graph};
 ghost use Rattle.ufs_model.specs.declared.object.File.{File};
 ghost use Rattle.ufs_model.specs.declared.object.Object.TheVariants as objects;
@@ -49,8 +50,8 @@ pub fn read<D: Disk>(
     // No damage where the disk holds the file.
     ensures sound { (graph : Graph) (ds : List Opened) (space : Kept) (id : Puid) (f : File)
         → IsShownAt D.Disk graph ds disk.old space id (objects.File f) at.0
-        → IsRootAt (D.content disk.old) at.0 root.now → IfErr result (λ e. is_damaged e ≡ false) }
-    ensures refused { IfErr result (spec.IsReadRefusal D.Disk at.0 disk.old disk.new) }
+        → IsRootAt (D.content disk.old) at.0 root.now → IfErr result (λ e. has_met_damage e ≡ false) }
+    ensures refused { IfErr result (spec.IsReadRefusal D.Disk (root_top at.0 root.now) disk.old disk.new) }
     ensures untried { IfErr result (λ e. had_tried e ≡ false) }
     // one read a node, and one a leaf
     ensures reads { OnlyReads D.Disk (nodes_touched offset count + leaves_touched offset count) disk.old disk.new }
@@ -78,7 +79,7 @@ pub fn read_root<D: Disk>(disk: &mut D, at: BlockNo) -> Result<Root, Trouble>
     ensures sound { (graph : Graph) (ds : List Opened) (space : Kept) (id : Puid) (f : File)
         → IsShownAt D.Disk graph ds disk.old space id (objects.File f) at.0
         → IfErr result (λ trouble. is_damage trouble ≡ false) }
-    ensures refused { IfErr result (IsTrouble D.Disk at.0 disk.old disk.new) }
+    ensures refused { IfErr result (IsTrouble D.Disk (still_top at.0) disk.old disk.new) }
     ensures untried { IfErr result (λ trouble. trouble_had_tried trouble ≡ false) }
     ensures reads { OnlyReads D.Disk 1 disk.old disk.new }
 {
@@ -99,7 +100,7 @@ pub fn size<D: Disk>(disk: &mut D, at: BlockNo) -> Result<u64, Trouble>
     ensures sound { (graph : Graph) (ds : List Opened) (space : Kept) (id : Puid) (f : File)
         → IsShownAt D.Disk graph ds disk.old space id (objects.File f) at.0
         → IfErr result (λ trouble. is_damage trouble ≡ false) }
-    ensures refused { IfErr result (IsTrouble D.Disk at.0 disk.old disk.new) }
+    ensures refused { IfErr result (IsTrouble D.Disk (still_top at.0) disk.old disk.new) }
     ensures untried { IfErr result (λ trouble. trouble_had_tried trouble ≡ false) }
     ensures reads { OnlyReads D.Disk 1 disk.old disk.new }
 {

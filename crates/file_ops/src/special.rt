@@ -7,12 +7,12 @@ ghost use Rattle.cfs_base.specs.Run.{Leaves};
 ghost use Rattle.cfs_base.specs.declared.identifier.Puid.{Puid};
 ghost use Rattle.cfs_base.specs.declared.kind.FileKind.TheVariants as kinds;
 ghost use Rattle.cfs_base.specs.declared.refusal.Refused.TheVariants as refused;
-ghost use Rattle.cyl_alloc.specs.Left.{Left};
+ghost use Rattle.cyl_alloc.specs.Left.{LeftCommit};
 ghost use Rattle.file_ops.specs.Changes as spec;
 ghost use Rattle.intentions.specs.Store.{StoreHas};
-ghost use Rattle.special_files.specs.Committing.{Committed, IsAtBit, IsNoted, IsOldOrNew};
+ghost use Rattle.special_files.specs.Committing.{Committed, IsAtBit, IsNoted, IsOldOrNew, draft_top};
 ghost use Rattle.special_files.specs.Drafting.{IsOpen};
-ghost use Rattle.special_files.specs.Refusal.{is_damaged};
+ghost use Rattle.special_files.specs.Refusal.{has_met_damage};
 ghost use Rattle.ufs_model.specs.Graph.{Graph, object_at};
 ghost use Rattle.ufs_model.specs.declared.change.Change.TheVariants.{Overwrite, SetSize};
 ghost use Rattle.ufs_model.specs.declared.object.Draft as drafts;
@@ -51,12 +51,13 @@ fn commit<D: Disk>(
         → draft.created ≡ None → Leaves D.Disk disk.old disk.new (IsOldOrNew graph graph id d.object) }
     ensures sound { (graph : Graph) (ds : List Opened) (id : Puid) (o : Object) (d : drafts.Draft)
         → StoreHas D.Disk graph ds disk.old space.old → object_at graph id ≡ Some o → IsOpen ds id draft d
-        → draft.created ≡ None → 1 ≤ sum space.old.free → IfErr result (λ e. is_damaged e ≡ false) }
-    ensures refused { IfErr result (spec.IsCommitRefusal D.Disk draft.at wrote disk.old disk.new space.new) }
+        → draft.created ≡ None → 1 ≤ sum space.old.free → IfErr result (λ e. has_met_damage e ≡ false) }
+    ensures refused { IfErr result (spec.IsCommitRefusal D.Disk (draft_top draft) wrote disk.old disk.new space.old
+        space.new) }
     ensures untried { IfErr result (λ e. e ≡ refused.Disk false
         → (space.new ≡ space.old) × OnlyReads D.Disk 241 disk.old disk.new) }
     ensures cylinders { length space.new.free ≡ length space.old.free }
-    ensures left { OnOk result ((l : Left) × IsNoted draft.at space.new.left l) }
+    ensures left { OnOk result ((l : LeftCommit) × IsNoted draft.at space.new.left l) }
     ensures bit { OnOk result (IsAtBit D.Disk disk.old disk.new space.new.left) }
     ensures calls { MakesAtMost D.Disk 31207 15485 disk.old disk.new }
 {

@@ -1,9 +1,7 @@
 -- Entries of one map, changed by one write of it: a crash leaves all of the changes or none.
 use Rattle.std.proofs.Common.{◌≡◌, ℕ, ◌+◌, ◌*◌, ◌/◌, ◌<◌, IsTrue, Bool, true, List, [], ◌∷◌, ◌++◌, length, set, take, drop, Ok, Err, Option, Some, refl, sym, ◌∙◌, ap, subst, arith, append_assoc}
-use Rattle.std.specs.List.{All}
 use Rattle.std.specs.Prelude.{◌==◌, ◌≤◌, OnOk, Result}
-use Rattle.std.proofs.lemmas.List.Elements.{All-head, All-tail}
-use Rattle.std.proofs.lemmas.List.{get_or-set_same, set-get_or, set-set, take-append-drop}
+use Rattle.std.proofs.lemmas.List.{take-append-drop}
 use Rattle.block_tree.specs.Reads.{is_damage}
 use Rattle.cfs_base.specs.Calls.{OnlyReads}
 use Rattle.cfs_base.specs.Disk.{Image, IsSameDisk, Nothing, Written, block_at}
@@ -11,58 +9,49 @@ use Rattle.cfs_base.specs.Run.{Leaves, Tells, left_now}
 use Rattle.cfs_base.specs.declared.disk.Disk.{Ghosts}
 use Rattle.cfs_base.specs.declared.refusal.Trouble.{Trouble}
 use Rattle.cfs_base.proofs.Runs.{wider}
-use Rattle.cyl_alloc.specs.Left.{Left, after_flips, flips_in}
+use Rattle.cyl_alloc.specs.Left.{LeftCommit, after_flips, block_no, flips_in}
 use Rattle.cyl_alloc.specs.Refusals.{IsMapTrouble}
 use Rattle.cyl_alloc.specs.Maps.{IsMapOf}
 use Rattle.cyl_alloc.specs.Space.{AreCounts, HasMoreFree, IsFreeElsewhere, Kept, after_giving, free_in_cylinder}
 use Rattle.cyl_map.specs.Map.{SpellsMap, entries_of}
 use Rattle.cyl_map.specs.declared.entry.MapEntry.{MapEntry}
-use Rattle.cyl_map.specs.Volume.{map_of, map_with, with_entry}
-use Rattle.cyl_map.proofs.Volumes.{map_in_image}
+use Rattle.cyl_map.specs.Volume.{map_of}
 use Rattle.finisher.specs.Going.{Goes, GoesFrom}
-use Rattle.finisher.specs.Runs.{AfterRun, FlipsFirst, IsFirst, WritesMap, runs}
+use Rattle.finisher.specs.Runs.{AfterRun}
 use Rattle.finisher.proofs.Calls.{goes_kept, goes_reads, goes_since, goes_then, goes_told}
-use Rattle.finisher.proofs.Going.{flip_sound, left_is, still_sound}
-use Rattle.finisher.proofs.Runs.{first_left, first_rest, to_flip-append}
+use Rattle.finisher.proofs.Going.{flip_sound, left_is, still_sound, turned_free}
+use Rattle.finisher.proofs.Runs.{first_left, to_flip-append}
 use Rattle.intentions.specs.Course.{Course, IsOn, Settling}
-use Rattle.intentions.specs.Entries.{changed}
 use Rattle.intentions.specs.Flips.{Flip, MayFlip, flip, flipped, flips}
-use Rattle.intentions.specs.Left.{AreOpen, HasLeft, IsGoing, coming, how_for, to_flip}
+use Rattle.intentions.specs.Left.{AreOpen, HasLeft, IsGoing, coming, to_flip}
+use Rattle.intentions.specs.Runs.{FlipsFirst, IsFirst, WritesMap, flips_of, runs}
 use Rattle.intentions.specs.declared.change.Change.TheVariants.{ClearBit}
+use Rattle.intentions.specs.declared.run.Rule.TheVariants.{Settle}
 use Rattle.intentions.proofs.Courses.{on_holds, tried, wrote}
-use Rattle.intentions.proofs.Flips.{flip_is, flipped_append, flipped_on, may_first, may_then}
+use Rattle.intentions.proofs.Flips.{flipped_append, flipped_on, may_first, may_then}
+use Rattle.intentions.proofs.Runs.{first_rest, flipped_sets, flips_settle}
 use Rattle.ufs_model.specs.Graph.{Graph}
 use Rattle.ufs_model.specs.Numbers.{has_number}
 use Rattle.vol_image.specs.Sound.{Holds}
 use Rattle.vol_owners.specs.Account.{Accounts, Opened}
 use Rattle.vol_owners.specs.Change.{of_owners}
 
--- one change writes its map alone, and so do all
-flip_sets : (w : Course) (image : Image) (x : Flip) (xs : List Flip) → MayFlip w image (x ∷ xs) → flip image x ≡ set image (map_of x.block) (block_at (flip image x) (map_of x.block))
-unfolding with_entry
-flip_sets w image x xs may =
-    let e = may.0.0 in
-    let is = flip_is image x e may.0.1 in
-    is ∙ ap (set image (map_of x.block)) (sym (get_or-set_same image (map_of x.block) (map_with image x.block (changed x.how e)) [] (map_in_image image x.block e may.0.1)) ∙ ap (λ (i : Image). block_at i (map_of x.block)) (sym is))
-
-flipped_sets : (w : Course) (m s : ℕ) (ns : List ℕ) (image : Image) → MayFlip w image (to_flip s ns) → All (λ k. map_of k ≡ m) ns → flipped image (to_flip s ns) ≡ set image m (block_at (flipped image (to_flip s ns)) m)
-flipped_sets w m s [] image may all = sym (set-get_or image m [])
-flipped_sets w m s (n ∷ ns) image may all =
-    let x : Flip = record { block = n; how = how_for (n == s) } in
-    let rest = flipped_sets w m s ns (flip image x) may.1 (All-tail (λ k. map_of k ≡ m) n ns all) in
-    let here = subst (λ (k : ℕ). flip image x ≡ set image k (block_at (flip image x) k)) (All-head (λ k. map_of k ≡ m) n ns all) (flip_sets w image x (to_flip s ns) may) in
-    rest ∙ ap (λ (i : Image). set i m (block_at (flipped (flip image x) (to_flip s ns)) m)) here ∙ set-set image m _ _
-
 opens_then : (T : Option MapEntry → Bool) (xs ys : List Flip) (a : Image) → AreOpen T a (xs ++ ys) → AreOpen T (flipped a xs) ys
 opens_then T [] ys a opens = opens
 opens_then T (x ∷ xs) ys a opens = opens_then T xs ys (flip a x) opens.1
 
-abbrev so_far : ℕ → ℕ → List ℕ → Left
+abbrev so_far : ℕ → ℕ → List ℕ → LeftCommit
 so_far r s rest = record { root = r; shadow = s; rest = rest; copied = true }
 
-module _ {D : Type 0} (g : Ghosts D) (d0 d1 : D) (k0 k1 : Kept) (r s n i freed : ℕ) (ns was now : List ℕ) (run : FlipsFirst s n i freed ns was now) (below : n < 64 * length k0.free) where
+module _ {D : Type 0} (g : Ghosts D) (d0 d1 : D) (k0 k1 : Kept) (r s n i freed : ℕ) (ns was now : List ℕ) (run : FlipsFirst (Settle (block_no s)) n i freed ns was now) (below : n < 64 * length k0.free) where
   abbrev first : List Flip
   first = to_flip s (take i ns)
+
+  settle : flips_of (Settle (block_no s)) (take i ns) ≡ first
+  settle = flips_settle (block_no s) (take i ns)
+
+  free : (image : Image) → block_at image (map_of n) ≡ was → HasMoreFree image n freed (flipped image first)
+  free image same = subst (λ (fs : List Flip). HasMoreFree image n freed (flipped image fs)) settle (run.free (λ m. turned_free (m == s)) image same)
 
   abbrev rest : List Flip
   rest = to_flip s (drop i ns) ++ flips ClearBit (r ∷ [])
@@ -81,7 +70,9 @@ module _ {D : Type 0} (g : Ghosts D) (d0 d1 : D) (k0 k1 : Kept) (r s n i freed :
     may = subst (λ (fs : List Flip). MayFlip w (g.content d0) fs) plan_split has.goes.3
 
     sets : flipped (g.content d0) first ≡ set (g.content d0) (map_of n) now
-    sets = flipped_sets w (map_of n) s (take i ns) (g.content d0) (may_first w first rest (g.content d0) may) run.here ∙ ap (set (g.content d0) (map_of n)) (run.changed (g.content d0) same)
+    sets =
+        sym (ap (flipped (g.content d0)) settle)
+        ∙ flipped_sets (Settle (block_no s)) (map_of n) (take i ns) (g.content d0) run.here ∙ ap (set (g.content d0) (map_of n)) (run.changed (g.content d0) same)
 
     on_all : IsOn w (set (g.content d0) (map_of n) now)
     on_all = subst (IsOn w) sets (flipped_on w first (g.content d0) has.goes.1 has.goes.2.content (may_first w first rest (g.content d0) may))
@@ -113,7 +104,7 @@ module _ {D : Type 0} (g : Ghosts D) (d0 d1 : D) (k0 k1 : Kept) (r s n i freed :
             wrote g w d0 d1 (map_of n) now has.goes.2 within on_all images disk put told,
             subst (λ (a : Image). MayFlip w a rest) (sym content) (may_then w first rest (g.content d0) may),
           );
-          counts = subst (λ (a : Image). AreCounts a k1) (sym content) (counts (g.content d0) (flipped (g.content d0) first) has.counts (run.free (g.content d0) same));
+          counts = subst (λ (a : Image). AreCounts a k1) (sym content) (counts (g.content d0) (flipped (g.content d0) first) has.counts (free (g.content d0) same));
         }
 
         run_store : (ds : List Opened) (store : HasLeft g graph ds d0 k0 (so_far r s ns)) → store.going ≡ has → HasLeft g graph ds d1 k1 (so_far r s (drop i ns))
@@ -146,19 +137,19 @@ module _ {D : Type 0} (g : Ghosts D) (d0 d1 : D) (k0 k1 : Kept) (r s n i freed :
     store = λ graph ds has. tt;
   }
 
-  pub run_so : (l : Left) → l.copied ≡ true → l.rest ≡ ns → l.root ≡ r → l.shadow ≡ s → (result : Result (Unit {0}) Trouble) → block_at (g.content d0) (map_of n) ≡ was → WritesMap g (map_of n) now d0 d1 result
+  pub run_so : (l : LeftCommit) → l.copied ≡ true → l.rest ≡ ns → l.root ≡ r → l.shadow ≡ s → (result : Result (Unit {0}) Trouble) → block_at (g.content d0) (map_of n) ≡ was → WritesMap g (map_of n) now d0 d1 result
       → OnOk result ((image other : Image) → AreCounts image k0 → HasMoreFree image n freed other → AreCounts other k1) → GoesFrom g d0 d1 k0 k1 (Some l) (Some (record l { rest = drop i ns })) result
   run_so l copied rest_is root_is shadow_is result same writes counts =
-      subst (λ (x : Left). GoesFrom g d0 d1 k0 k1 (Some x) (Some (record x { rest = drop i ns })) result) (left_is l r s ns true root_is shadow_is rest_is copied) (run_made result same writes counts)
+      subst (λ (x : LeftCommit). GoesFrom g d0 d1 k0 k1 (Some x) (Some (record x { rest = drop i ns })) result) (left_is l r s ns true root_is shadow_is rest_is copied) (run_made result same writes counts)
 
 -- The map isn't read.
-pub load_failed : {D : Type 0} (g : Ghosts D) (d0 d1 : D) (k : Kept) (n : ℕ) (w : Option Left) (t : Trouble) → IsFirst n (flips_in w) → OnlyReads g 1 d0 d1 → IsMapTrouble g d0 d1 n t → GoesFrom g d0 d1 k k w w (Err t)
+pub load_failed : {D : Type 0} (g : Ghosts D) (d0 d1 : D) (k : Kept) (n : ℕ) (w : Option LeftCommit) (t : Trouble) → IsFirst n (flips_in w) → OnlyReads g 1 d0 d1 → IsMapTrouble g d0 d1 n t → GoesFrom g d0 d1 k k w w (Err t)
 load_failed g d0 d1 k n w t is only refused =
     let left = first_left n w is in
     let l = left.0 in
     let rest = first_rest n l.rest (subst (IsFirst n) left.3 is) in
-    subst (λ (x : Option Left). GoesFrom g d0 d1 k k x x (Err t)) (sym left.1)
-    (subst (λ (x : Left). GoesFrom g d0 d1 k k (Some x) (Some x) (Err t)) (left_is l l.root l.shadow (n ∷ rest.0) true refl refl rest.1 left.2) (record {
+    subst (λ (x : Option LeftCommit). GoesFrom g d0 d1 k k x x (Err t)) (sym left.1)
+    (subst (λ (x : LeftCommit). GoesFrom g d0 d1 k k (Some x) (Some x) (Err t)) (left_is l l.root l.shadow (n ∷ rest.0) true refl refl rest.1 left.2) (record {
       goes = λ graph has. tt;
       store = λ graph ds has. tt;
       comes = λ graph has. tt;
@@ -168,8 +159,8 @@ load_failed g d0 d1 k n w t is only refused =
 
 -- A run of blocks whose map was read, changed in memory and written.
 module _ {D : Type 0} (g : Ghosts D) (d0 d1 d2 : D) (k mid new : Kept) (n i freed shadow : ℕ) (was now blocks : List ℕ) (size : g.blocks d0 ≡ 64 * length k.free) (on_disk : n < g.blocks d0) (first : IsFirst n (flips_in k.left))
-    (only : OnlyReads g 1 d0 d1) (map : Tells g d0 → IsMapOf (g.content d0) n (entries_of was)) (spells : SpellsMap was) (shadow_is : (l : Left) → k.left ≡ Some l → shadow ≡ l.shadow) (blocks_are : blocks ≡ flips_in k.left) (run : FlipsFirst shadow n i freed blocks was now) where
-  abbrev l : Left
+    (only : OnlyReads g 1 d0 d1) (map : Tells g d0 → IsMapOf (g.content d0) n (entries_of was)) (spells : SpellsMap was) (shadow_is : (l : LeftCommit) → k.left ≡ Some l → shadow ≡ l.shadow) (blocks_are : blocks ≡ flips_in k.left) (run : FlipsFirst (Settle (block_no shadow)) n i freed blocks was now) where
+  abbrev l : LeftCommit
   l = (first_left n k.left first).0
 
   abbrev l_is : k.left ≡ Some l
@@ -183,23 +174,22 @@ module _ {D : Type 0} (g : Ghosts D) (d0 d1 d2 : D) (k mid new : Kept) (n i free
   run_from k1 result writes counts =
       goes_told g d0 d2 k k1 (Some l) (Some (record l { rest = drop i l.rest })) result (λ tells.
       goes_then g d0 d1 d2 k k k1 (Some l) (Some l) (Some (record l { rest = drop i l.rest })) result (goes_reads g d0 d1 d2 1 only k (Some l))
-      (run_so g d1 d2 k k1 l.root shadow n i freed l.rest was now (subst (λ (ns : List ℕ). FlipsFirst shadow n i freed ns was now) rest_is run) (omega (arith, size, on_disk)) l
+      (run_so g d1 d2 k k1 l.root shadow n i freed l.rest was now (subst (λ (ns : List ℕ). FlipsFirst (Settle (block_no shadow)) n i freed ns was now) rest_is run) (omega (arith, size, on_disk)) l
       (first_left n k.left first).2 refl refl (sym (shadow_is l l_is)) result (ap (λ (a : Image). block_at a (map_of n)) only.content ∙ (map tells).spelled ∙ sym spells.spelled) writes counts))
 
-  pub run_failed : (now_kept : Kept) → now_kept ≡ k → (t : Trouble) → WritesMap g (map_of n) now d1 d2 (Err t) → Goes g d0 d2 k now_kept (Err t)
-  run_failed now_kept kept t writes =
-      subst (λ (x : Kept). Goes g d0 d2 k x (Err t)) (sym kept)
-      (subst (λ (w : Option Left). GoesFrom g d0 d2 k k w k.left (Err t)) (sym l_is)
-      (goes_since g d0 d2 k k (Some l) (Some (record l { rest = drop i l.rest })) k.left t t refl (run_from k (Err t) writes tt)))
+  pub run_failed : (t : Trouble) → WritesMap g (map_of n) now d1 d2 (Err t) → Goes g d0 d2 k k (Err t)
+  run_failed t writes =
+      subst (λ (w : Option LeftCommit). GoesFrom g d0 d2 k k w k.left (Err t)) (sym l_is)
+      (goes_since g d0 d2 k k (Some l) (Some (record l { rest = drop i l.rest })) k.left t t refl (run_from k (Err t) writes tt))
 
-  module _ (held : Kept) (kept : held ≡ k) (given : mid ≡ after_giving held n freed) (noted : new ≡ record mid { left = after_flips i mid.left }) where
+  module _ (given : mid ≡ after_giving k n freed) (noted : new ≡ record mid { left = after_flips i mid.left }) where
     left_now_is : new.left ≡ Some (record l { rest = drop i l.rest })
-    left_now_is = ap (λ (x : Kept). x.left) noted ∙ ap (λ (x : Kept). after_flips i x.left) given ∙ ap (λ (x : Kept). after_flips i x.left) kept ∙ ap (after_flips i) l_is
+    left_now_is = ap (λ (x : Kept). x.left) noted ∙ ap (λ (x : Kept). after_flips i x.left) given ∙ ap (after_flips i) l_is
 
-    pub run_done : WritesMap g (map_of n) now d1 d2 (Ok (tt {0})) → ((image other : Image) → AreCounts image held → IsFreeElsewhere image n other → free_in_cylinder other (n / 64) ≡ free_in_cylinder image (n / 64) + freed → AreCounts other mid) → Goes g d0 d2 k new (Ok tt)
+    pub run_done : WritesMap g (map_of n) now d1 d2 (Ok (tt {0})) → ((image other : Image) → AreCounts image k → IsFreeElsewhere image n other → free_in_cylinder other (n / 64) ≡ free_in_cylinder image (n / 64) + freed → AreCounts other mid) → Goes g d0 d2 k new (Ok tt)
     run_done writes counts =
         goes_kept g d0 d2 k mid new l (Some (record l { rest = drop i l.rest })) l_is (ap (λ (x : Kept). x.free) noted) left_now_is
-        (run_from mid (Ok tt) writes (λ image other at more. counts image other (subst (AreCounts image) (sym kept) at) more.elsewhere more.more))
+        (run_from mid (Ok tt) writes (λ image other at more. counts image other at more.elsewhere more.more))
 
     pub run_after : 1 + runs (drop i blocks) ≡ runs blocks → AfterRun k.left new.left
     run_after count = record {

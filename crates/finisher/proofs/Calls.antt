@@ -3,14 +3,13 @@ use Rattle.std.proofs.Common.{◌≡◌, inl, ℕ, Bool, true, false, List, Ok, 
 use Rattle.std.specs.Prelude.{IfErr, Result}
 use Rattle.std.proofs.Common.{cond}
 use Rattle.intentions.proofs.Reading.{going_reads, store_reads}
-use Rattle.finisher.specs.Going.{Goes, GoesFrom, IsLeftTrouble, IsUncopied, PartEnds}
-use Rattle.finisher.specs.Runs.{WritesMap}
+use Rattle.finisher.specs.Going.{Goes, GoesFrom, IsLeftTrouble, PartEnds}
 use Rattle.std.specs.Prelude.{is_some}
 use Rattle.cfs_base.proofs.Calls.{reads_make, stopped_after_reads, tells_on, then_tried}
 use Rattle.cfs_base.specs.Calls.{MakesAtMost, OnlyReads}
 use Rattle.cfs_base.specs.Disk.{Nothing}
 use Rattle.cfs_base.specs.Refusals.{trouble_had_tried}
-use Rattle.cyl_alloc.specs.Left.{after_next, after_in, after_part}
+use Rattle.cyl_alloc.specs.Left.{after_next, after_part}
 use Rattle.std.specs.Prelude.{◌<◌, ◌≤◌}
 use Rattle.std.proofs.Common.{arith}
 use Rattle.std.specs.Result.{IsErrAnd}
@@ -30,7 +29,7 @@ use Rattle.ufs_model.specs.declared.object.Object.{Object}
 use Rattle.ufs_model.specs.Graph.{Graph}
 use Rattle.vol_image.specs.Sound.{Holds}
 use Rattle.vol_owners.specs.Account.{Opened}
-use Rattle.cyl_alloc.specs.Left.{Left}
+use Rattle.cyl_alloc.specs.Left.{LeftCommit}
 use Rattle.intentions.specs.Left.{GoesOn, GoesWith, StoreWith, coming}
 
 -- ---- counts of an image are those of its Free blocks alone, whatever is left
@@ -38,11 +37,11 @@ use Rattle.intentions.specs.Left.{GoesOn, GoesWith, StoreWith, coming}
 pub counts_alike : (image : Image) (k j : Kept) → j.free ≡ k.free → AreCounts image k → AreCounts image j
 counts_alike image k j same counts = subst (λ (free : List ℕ). AreCounts image (record { free = free; left = j.left })) (sym same) (record { size = counts.size; each = counts.each })
 
-pub goes_alike : {D : Type 0} (g : Ghosts D) (graph : Graph) (d : D) (k j : Kept) (w : Option Left) → j.free ≡ k.free → GoesWith g graph d k w → GoesWith g graph d j w
+pub goes_alike : {D : Type 0} (g : Ghosts D) (graph : Graph) (d : D) (k j : Kept) (w : Option LeftCommit) → j.free ≡ k.free → GoesWith g graph d k w → GoesWith g graph d j w
 goes_alike g graph d k j None same has = (has.0, counts_alike (g.content d) k j same has.1)
 goes_alike g graph d k j (Some l) same has = record { id = has.id; object = has.object; root_is = has.root_is; goes = has.goes; counts = counts_alike (g.content d) k j same has.counts }
 
-pub store_alike : {D : Type 0} (g : Ghosts D) (graph : Graph) (ds : List Opened) (d : D) (k j : Kept) (w : Option Left) → j.free ≡ k.free → StoreWith g graph ds d k w → StoreWith g graph ds d j w
+pub store_alike : {D : Type 0} (g : Ghosts D) (graph : Graph) (ds : List Opened) (d : D) (k j : Kept) (w : Option LeftCommit) → j.free ≡ k.free → StoreWith g graph ds d k w → StoreWith g graph ds d j w
 store_alike g graph ds d k j None same has = record { carries = has.carries; account = has.account; counts = counts_alike (g.content d) k j same has.counts; ordered = has.ordered }
 store_alike g graph ds d k j (Some l) same has = record {
   going = record { id = has.going.id; object = has.going.object; root_is = has.going.root_is; goes = has.going.goes; counts = counts_alike (g.content d) k j same has.going.counts };
@@ -55,9 +54,9 @@ store_alike g graph ds d k j (Some l) same has = record {
 }
 
 -- a part that was made is kept so
-pub goes_kept : {D : Type 0} (g : Ghosts D) (d0 d1 : D) (k0 mid new : Kept) (l : Left) (w : Option Left) → k0.left ≡ Some l → new.free ≡ mid.free → new.left ≡ w → GoesFrom g d0 d1 k0 mid (Some l) w (Ok tt) → Goes g d0 d1 k0 new (Ok tt)
+pub goes_kept : {D : Type 0} (g : Ghosts D) (d0 d1 : D) (k0 mid new : Kept) (l : LeftCommit) (w : Option LeftCommit) → k0.left ≡ Some l → new.free ≡ mid.free → new.left ≡ w → GoesFrom g d0 d1 k0 mid (Some l) w (Ok tt) → Goes g d0 d1 k0 new (Ok tt)
 goes_kept g d0 d1 k0 mid new l w was free now goes =
-    subst (λ (x : Option Left). GoesFrom g d0 d1 k0 new x new.left (Ok tt)) (sym was) (subst (λ (x : Option Left). GoesFrom g d0 d1 k0 new (Some l) x (Ok tt)) (sym now) (record {
+    subst (λ (x : Option LeftCommit). GoesFrom g d0 d1 k0 new x new.left (Ok tt)) (sym was) (subst (λ (x : Option LeftCommit). GoesFrom g d0 d1 k0 new (Some l) x (Ok tt)) (sym now) (record {
       goes = λ graph has. goes_alike g graph d1 mid new w free (goes.goes graph has);
       store = λ graph ds has. store_alike g graph ds d1 mid new w free (goes.store graph ds has);
       comes = goes.comes;
@@ -65,7 +64,7 @@ goes_kept g d0 d1 k0 mid new l w was free now goes =
       sound = goes.sound;
     }))
 
-pub goes_noted : {D : Type 0} (g : Ghosts D) (d0 d1 : D) (k0 mid new : Kept) (l : Left) → k0.left ≡ Some l → mid.left ≡ k0.left → new ≡ record mid { left = after_next mid.left } → GoesFrom g d0 d1 k0 mid (Some l) (after_part l) (Ok tt) → Goes g d0 d1 k0 new (Ok tt)
+pub goes_noted : {D : Type 0} (g : Ghosts D) (d0 d1 : D) (k0 mid new : Kept) (l : LeftCommit) → k0.left ≡ Some l → mid.left ≡ k0.left → new ≡ record mid { left = after_next mid.left } → GoesFrom g d0 d1 k0 mid (Some l) (after_part l) (Ok tt) → Goes g d0 d1 k0 new (Ok tt)
 goes_noted g d0 d1 k0 mid new l was same noted goes =
     goes_kept g d0 d1 k0 mid new l (after_part l) was (ap (λ (k : Kept). k.free) noted) (ap (λ (k : Kept). k.left) noted ∙ ap after_next (same ∙ was)) goes
 
@@ -80,7 +79,7 @@ nothing_left g d k = record {
 }
 
 -- one call after another
-pub goes_then : {D : Type 0} (g : Ghosts D) (d0 d1 d2 : D) (k0 k1 k2 : Kept) (w0 w1 w2 : Option Left) (r : Result (Unit {0}) Trouble) → GoesFrom g d0 d1 k0 k1 w0 w1 (Ok tt) → GoesFrom g d1 d2 k1 k2 w1 w2 r → GoesFrom g d0 d2 k0 k2 w0 w2 r
+pub goes_then : {D : Type 0} (g : Ghosts D) (d0 d1 d2 : D) (k0 k1 k2 : Kept) (w0 w1 w2 : Option LeftCommit) (r : Result (Unit {0}) Trouble) → GoesFrom g d0 d1 k0 k1 w0 w1 (Ok tt) → GoesFrom g d1 d2 k1 k2 w1 w2 r → GoesFrom g d0 d2 k0 k2 w0 w2 r
 goes_then g d0 d1 d2 k0 k1 k2 w0 w1 w2 (Ok u) first second = record {
   goes = λ graph has. second.goes graph (first.goes graph has);
   store = λ graph ds has. second.store graph ds (first.store graph ds has);
@@ -97,7 +96,7 @@ goes_then g d0 d1 d2 k0 k1 k2 w0 w1 w2 (Err t) first second = record {
 }
 
 -- nothing was done yet
-pub goes_begin : {D : Type 0} (g : Ghosts D) (d : D) (k : Kept) (w : Option Left) → GoesFrom g d d k k w w (Ok tt)
+pub goes_begin : {D : Type 0} (g : Ghosts D) (d : D) (k : Kept) (w : Option LeftCommit) → GoesFrom g d d k k w w (Ok tt)
 goes_begin g d k w = record {
   goes = λ graph has. has;
   store = λ graph ds has. has;
@@ -107,7 +106,7 @@ goes_begin g d k w = record {
 }
 
 -- what a `?` makes of a trouble
-pub goes_passed : {D : Type 0} (g : Ghosts D) (d0 d1 : D) (k0 k1 : Kept) (w0 w1 : Option Left) (r : Result (Unit {0}) Trouble) (e : Trouble) → IsErrAnd r (λ k. k ≡ e) → GoesFrom g d0 d1 k0 k1 w0 w1 (Err e) → GoesFrom g d0 d1 k0 k1 w0 w1 r
+pub goes_passed : {D : Type 0} (g : Ghosts D) (d0 d1 : D) (k0 k1 : Kept) (w0 w1 : Option LeftCommit) (r : Result (Unit {0}) Trouble) (e : Trouble) → IsErrAnd r (λ k. k ≡ e) → GoesFrom g d0 d1 k0 k1 w0 w1 (Err e) → GoesFrom g d0 d1 k0 k1 w0 w1 r
 goes_passed g d0 d1 k0 k1 w0 w1 (Ok u) e is goes = absurd is
 goes_passed g d0 d1 k0 k1 w0 w1 (Err k) e is goes = subst (λ (x : Trouble). GoesFrom g d0 d1 k0 k1 w0 w1 (Err x)) (sym is) goes
 
@@ -117,24 +116,9 @@ goes_passed g d0 d1 k0 k1 w0 w1 (Err k) e is goes = subst (λ (x : Trouble). Goe
 pub entry_ends : {D A : Type 0} (g : Ghosts D) (d0 d1 : D) (n : ℕ) {f : MapEntry → MapEntry} (x : A) → ChangesEntry g n f d0 d1 (Ok x) → PartEnds g d0 d1 (Ok tt)
 entry_ends g d0 d1 n x change = record { tells = λ tells. still_tells g tells change.told change.calls.same; tried = change.tried; refused = tt; unless_tried = tt }
 
--- a map that was read is written
-pub map_ends : {D : Type 0} (g : Ghosts D) (d0 d1 d2 : D) (m : ℕ) (bytes : List ℕ) → OnlyReads g 1 d0 d1 → (result : Result (Unit {0}) Trouble) → WritesMap g m bytes d1 d2 result → PartEnds g d0 d2 result
-map_ends g d0 d1 d2 m bytes only (Ok u) writes = record {
-  tells = λ tells. still_tells g (tells_on g d0 d1 d2 1 only tells) writes.told writes.calls.same;
-  tried = then_tried g d0 d1 d2 1 0 (reads_make g d0 d1 1 only) writes.tried;
-  refused = tt;
-  unless_tried = tt;
-}
-map_ends g d0 d1 d2 m bytes only (Err t) writes = record {
-  tells = λ tells. tt;
-  tried = tt;
-  refused = subst (λ (e : Trouble). IsLeftTrouble g d0 d2 e) (sym writes.refused.0) (stopped_after_reads g d0 d1 d2 1 true only writes.refused.1);
-  unless_tried = λ un. (let no : true ≡ false = sym (ap trouble_had_tried writes.refused.0) ∙ un in cc);
-}
-
 -- a part that begins with a read
 module _ {D : Type 0} (g : Ghosts D) (d0 d1 d2 : D) (n : ℕ) (only : OnlyReads g n d0 d1) where
-  pub goes_reads : (k : Kept) (w : Option Left) → GoesFrom g d0 d1 k k w w (Ok tt)
+  pub goes_reads : (k : Kept) (w : Option LeftCommit) → GoesFrom g d0 d1 k k w w (Ok tt)
   goes_reads k w = record {
     goes = λ graph has. going_reads g graph d0 d1 k n only w has;
     store = λ graph ds has. store_reads g graph d0 d1 k n only ds w has;
@@ -145,14 +129,14 @@ module _ {D : Type 0} (g : Ghosts D) (d0 d1 d2 : D) (n : ℕ) (only : OnlyReads 
 
   pub reads_left : (t : Trouble) → IsLeftTrouble g d1 d2 t → IsLeftTrouble g d0 d2 t
   reads_left (trouble.Disk tried) is = stopped_after_reads g d0 d1 d2 n tried only is
-  reads_left (trouble.Damaged damage) is = (is.0, is.1, λ tells. is.2 (tells_on g d0 d1 d2 n only tells))
+  reads_left (trouble.Damaged damage) is = (is.0, is.1, is.2, λ tells. is.3 (tells_on g d0 d1 d2 n only tells))
 
   pub reads_end : (m t : ℕ) (result : Result (Unit {0}) Trouble) → PartEnds g d1 d2 result → MakesAtMost g m t d1 d2 → IfErr result (λ e. e ≡ trouble.Disk true) → PartEnds g d0 d2 result
   reads_end m t (Ok u) ends calls told = record { tells = λ tells. ends.tells (tells_on g d0 d1 d2 n only tells); tried = then_tried g d0 d1 d2 n 0 (reads_make g d0 d1 n only) ends.tried; refused = tt; unless_tried = tt }
   reads_end m t (Err e) ends calls told = record { tells = λ tells. tt; tried = tt; refused = reads_left e ends.refused; unless_tried = λ un. (let no : true ≡ false = sym (ap trouble_had_tried told) ∙ un in cc) }
 
 -- what holds where the disk tells its content holds wherever the store has its objects
-pub goes_told : {D : Type 0} (g : Ghosts D) (d0 d1 : D) (k0 k1 : Kept) (w0 w1 : Option Left) (r : Result (Unit {0}) Trouble) → (Tells g d0 → GoesFrom g d0 d1 k0 k1 w0 w1 r) → GoesFrom g d0 d1 k0 k1 w0 w1 r
+pub goes_told : {D : Type 0} (g : Ghosts D) (d0 d1 : D) (k0 k1 : Kept) (w0 w1 : Option LeftCommit) (r : Result (Unit {0}) Trouble) → (Tells g d0 → GoesFrom g d0 d1 k0 k1 w0 w1 r) → GoesFrom g d0 d1 k0 k1 w0 w1 r
 goes_told g d0 d1 k0 k1 w0 w1 r goes = record {
   goes = λ graph has. (goes (tells w0 graph has)).goes graph has;
   comes = λ graph has. (goes (tells w0 graph has)).comes graph has;
@@ -161,40 +145,30 @@ goes_told g d0 d1 k0 k1 w0 w1 r goes = record {
   store = λ graph ds has. (goes (tells w0 graph (bare w0 graph ds has))).store graph ds has;
 }
   where
-    at : (b : Bool) (graph : Graph) (id : Puid) (o : Object) (l : Left) → GoesOn g b graph id o l d0 → Tells g d0
+    at : (b : Bool) (graph : Graph) (id : Puid) (o : Object) (l : LeftCommit) → GoesOn g b graph id o l d0 → Tells g d0
     at false graph id o l goes = goes.0.tells
     at true graph id o l goes = goes.2.tells
 
-    tells : (w : Option Left) (graph : Graph) → GoesWith g graph d0 k0 w → Tells g d0
+    tells : (w : Option LeftCommit) (graph : Graph) → GoesWith g graph d0 k0 w → Tells g d0
     tells None graph has = has.0.tells
     tells (Some l) graph has = at l.copied graph has.id has.object l has.goes
 
-    bare : (w : Option Left) (graph : Graph) (ds : List Opened) → StoreWith g graph ds d0 k0 w → GoesWith g graph d0 k0 w
+    bare : (w : Option LeftCommit) (graph : Graph) (ds : List Opened) → StoreWith g graph ds d0 k0 w → GoesWith g graph d0 k0 w
     bare None graph ds has = (has.carries, has.counts)
     bare (Some l) graph ds has = has.going
 
 -- a trouble told as of a call that had tried something before
-pub goes_since : {D : Type 0} (g : Ghosts D) (d0 d1 : D) (k0 k1 : Kept) (w0 w1 w2 : Option Left) (t e : Trouble) → is_damage e ≡ is_damage t → GoesFrom g d0 d1 k0 k1 w0 w1 (Err t) → GoesFrom g d0 d1 k0 k1 w0 w2 (Err e)
+pub goes_since : {D : Type 0} (g : Ghosts D) (d0 d1 : D) (k0 k1 : Kept) (w0 w1 w2 : Option LeftCommit) (t e : Trouble) → is_damage e ≡ is_damage t → GoesFrom g d0 d1 k0 k1 w0 w1 (Err t) → GoesFrom g d0 d1 k0 k1 w0 w2 (Err e)
 goes_since g d0 d1 k0 k1 w0 w1 w2 t e same goes = record { goes = λ graph has. tt; store = λ graph ds has. tt; comes = λ graph has. tt; leaves = goes.leaves; sound = λ graph has. same ∙ goes.sound graph has }
 
 pub same_damage : (t : Trouble) → is_damage (trouble_after_try t) ≡ is_damage t
 same_damage (trouble.Disk tried) = refl
 same_damage (trouble.Damaged damage) = refl
 
-pub some_left : (w : Option Left) (n : ℕ) → n ≡ cond (is_some w) 1 0 → 0 < n → (l : Left) × (w ≡ Some l)
+pub some_left : (w : Option LeftCommit) (n : ℕ) → n ≡ cond (is_some w) 1 0 → 0 < n → (l : LeftCommit) × (w ≡ Some l)
 some_left None n is more = absurd (omega (arith, is, more))
 some_left (Some l) n is more = (l, refl)
 
-pub none_left : (w : Option Left) (n : ℕ) → n ≡ cond (is_some w) 1 0 → n ≤ 0 → w ≡ None
+pub none_left : (w : Option LeftCommit) (n : ℕ) → n ≡ cond (is_some w) 1 0 → n ≤ 0 → w ≡ None
 none_left None n is least = refl
 none_left (Some l) n is least = absurd (omega (arith, is, least))
-
--- ---- the first part, of a commit that was kept just now
-
-pub uncopied : (r : ℕ) (w : Option Left) → IsUncopied r w → (l : Left) × (w ≡ Some l) × (l.copied ≡ false) × (l.root ≡ r)
-uncopied r None is = absurd is
-uncopied r (Some l) is = (l, refl, is.0, is.1)
-
-pub copy_noted : {D : Type 0} (g : Ghosts D) (d0 d1 : D) (k0 new : Kept) (l : Left) → k0.left ≡ Some l → l.copied ≡ false → new ≡ record k0 { left = after_next k0.left } → GoesFrom g d0 d1 k0 k0 (Some l) (Some (record l { copied = true })) (Ok tt) → Goes g d0 d1 k0 new (Ok tt)
-copy_noted g d0 d1 k0 new l was un noted goes = goes_noted g d0 d1 k0 k0 new l was refl noted
-    (subst (λ (w : Option Left). GoesFrom g d0 d1 k0 k0 (Some l) w (Ok tt)) (sym (ap (λ (b : Bool). after_in l b l.rest) un)) goes)

@@ -13,8 +13,8 @@ use Rattle.vol_image.proofs.Parts.{root_placed, taken_apart}
 use Rattle.vol_image.proofs.Steps.{not_map}
 use Rattle.vol_image.specs.Run.{Carries}
 use Rattle.std.proofs.lemmas.Option.{same_Some}
-use Rattle.finisher.specs.Going.{GoesFrom, is_freed}
-use Rattle.cyl_alloc.specs.Left.{after_in, after_part, block_no, part_in, part_of}
+use Rattle.finisher.specs.Going.{GoesFrom}
+use Rattle.cyl_alloc.specs.Left.{after_in, after_part, block_no, next_part_in, next_part_of}
 use Rattle.cyl_alloc.specs.declared.part.Part.TheVariants as parts_are
 use Rattle.cyl_alloc.specs.declared.part.Part.{Part}
 use Rattle.std.specs.Option.{option_map}
@@ -34,7 +34,7 @@ use Rattle.cyl_map.specs.Volume.{entry_in, with_entry}
 use Rattle.intentions.specs.Calls.{ChangesBit, ChangesEntry}
 use Rattle.intentions.specs.Commit.{Copies, IsCommitted}
 use Rattle.intentions.specs.Course.{Course, IsCourse, IsOn, Keeps, Settling}
-use Rattle.intentions.specs.Entries.{changed}
+use Rattle.intentions.specs.Entries.{changed_entry}
 use Rattle.intentions.specs.Store.{StoreHas}
 use Rattle.intentions.specs.declared.change.Change.{Change}
 use Rattle.intentions.specs.declared.change.Change.TheVariants.{ClearBit}
@@ -48,15 +48,16 @@ use Rattle.ufs_model.specs.declared.object.Object.{Object}
 use Rattle.ufs_model.specs.Graph.{Graph}
 use Rattle.vol_image.specs.Sound.{Holds}
 use Rattle.vol_owners.specs.Account.{Accounts, Opened}
-use Rattle.cyl_alloc.specs.Left.{Left}
+use Rattle.cyl_alloc.specs.Left.{LeftCommit}
 use Rattle.vol_owners.specs.Change.{of_owners}
 use Rattle.intentions.specs.Left.{AreOpen, HasLeft, IsGoing, coming, how_for, to_flip}
+use Rattle.intentions.specs.Runs.{is_freed}
 
-abbrev parts : ℕ → ℕ → List ℕ → Bool → Left
+abbrev parts : ℕ → ℕ → List ℕ → Bool → LeftCommit
 parts r s rest b = record { root = r; shadow = s; rest = rest; copied = b }
 
 -- the same parts
-pub left_is : (l : Left) (r s : ℕ) (rest : List ℕ) (b : Bool) → l.root ≡ r → l.shadow ≡ s → l.rest ≡ rest → l.copied ≡ b → parts r s rest b ≡ l
+pub left_is : (l : LeftCommit) (r s : ℕ) (rest : List ℕ) (b : Bool) → l.root ≡ r → l.shadow ≡ s → l.rest ≡ rest → l.copied ≡ b → parts r s rest b ≡ l
 left_is l r s rest b er es et eb =
     subst (λ (x : ℕ). parts x s rest b ≡ l) er (subst (λ (x : ℕ). parts l.root x rest b ≡ l) es (subst (λ (x : List ℕ). parts l.root l.shadow x b ≡ l) et (subst (λ (x : Bool). parts l.root l.shadow l.rest x ≡ l) eb refl)))
 
@@ -64,10 +65,10 @@ pub still_sound : (t : Trouble) → is_damage (trouble_after_try t) ≡ false �
 still_sound (trouble.Disk tried) h = refl
 still_sound (trouble.Damaged damage) h = h
 
-abbrev before_copy : ℕ → ℕ → List ℕ → Left
+abbrev before_copy : ℕ → ℕ → List ℕ → LeftCommit
 before_copy r s rest = record { root = r; shadow = s; rest = rest; copied = false }
 
-abbrev after_copy : ℕ → ℕ → List ℕ → Left
+abbrev after_copy : ℕ → ℕ → List ℕ → LeftCommit
 after_copy r s rest = record { root = r; shadow = s; rest = rest; copied = true }
 
 -- ---- the copy
@@ -136,14 +137,14 @@ module _ {D : Type 0} (g : Ghosts D) (graph : Graph) (d0 d1 : D) (k0 k1 : Kept) 
   pub may : MayFlip w (g.content d0) (to_flip s (n ∷ ns) ++ flips ClearBit (r ∷ []))
   may = has.goes.3
 
-  module _ {A : Type 0} (result : Result A Trouble) (change : ChangesEntry g n (λ e. changed how e) d0 d1 result) where
+  module _ {A : Type 0} (result : Result A Trouble) (change : ChangesEntry g n (λ e. changed_entry how e) d0 d1 result) where
     pub flip_leaves : Leaves g d0 d1 (λ x. Holds x graph)
     flip_leaves = wider g d0 d1 (IsOn w) (λ x. Holds x graph) (change.leaves w may.0.0 fits keeps may.0.1 may.0.2) (λ x on. on_holds w x fits on)
 
   pub flip_sound : (t : Trouble) → IsMapTrouble g d0 d1 n t → is_damage (trouble_after_try t) ≡ false
   flip_sound t is = no_damage g n how d0 d1 w fits keeps may.0.0 may.0.1 t is
 
-  module _ {A : Type 0} (x : A) (change : ChangesEntry g n (λ e. changed how e) d0 d1 (Ok x)) where
+  module _ {A : Type 0} (x : A) (change : ChangesEntry g n (λ e. changed_entry how e) d0 d1 (Ok x)) where
     pub flip_content : g.content d1 ≡ flip (g.content d0) (record { block = n; how = how })
     flip_content = change.put keeps.tells may.0.0 may.0.1 ∙ sym (flip_is (g.content d0) (record { block = n; how = how }) may.0.0 may.0.1)
 
@@ -164,7 +165,7 @@ module _ {D : Type 0} (g : Ghosts D) (graph : Graph) (d0 d1 : D) (k0 k1 : Kept) 
       counts = counts;
     }
 
-pub flip_store : {D A : Type 0} (g : Ghosts D) (graph : Graph) (ds : List Opened) (d0 d1 : D) (k0 k1 : Kept) (r s n : ℕ) (ns : List ℕ) → HasLeft g graph ds d0 k0 (after_copy r s (n ∷ ns)) → (x : A) → ChangesEntry g n (λ e. changed (how_for (n == s)) e) d0 d1 (Ok x)
+pub flip_store : {D A : Type 0} (g : Ghosts D) (graph : Graph) (ds : List Opened) (d0 d1 : D) (k0 k1 : Kept) (r s n : ℕ) (ns : List ℕ) → HasLeft g graph ds d0 k0 (after_copy r s (n ∷ ns)) → (x : A) → ChangesEntry g n (λ e. changed_entry (how_for (n == s)) e) d0 d1 (Ok x)
     → AreCounts (g.content d1) k1 → HasLeft g graph ds d1 k1 (after_copy r s ns)
 flip_store g graph ds d0 d1 k0 k1 r s n ns has x change counts = record {
   going = flip_goes g graph d0 d1 k0 k1 r s n ns has.going x change counts;
@@ -182,23 +183,23 @@ module _ {D : Type 0} (g : Ghosts D) (graph : Graph) (d0 d1 : D) (k0 : Kept) (r 
   abbrev w_end : Course
   w_end = Settling has.goes.0 graph has.id has.object s
 
-  pub clear_leaves : (result : Result (Unit {0}) Trouble) → ChangesBit g r (λ e. changed ClearBit e) d0 d1 result → Leaves g d0 d1 (λ x. Holds x graph)
+  pub clear_leaves : (result : Result (Unit {0}) Trouble) → ChangesBit g r (λ e. changed_entry ClearBit e) d0 d1 result → Leaves g d0 d1 (λ x. Holds x graph)
   clear_leaves result change = (let may = has.goes.3 in wider g d0 d1 (IsOn w_end) (λ x. Holds x graph) (change.leaves w_end may.0.0 has.goes.1 has.goes.2 may.0.1 may.0.2) (λ x on. on_holds w_end x has.goes.1 on))
 
   pub clear_sound : (t : Trouble) → IsMapTrouble g d0 d1 r t → is_damage (trouble_after_try t) ≡ false
   clear_sound t is = no_damage g r ClearBit d0 d1 w_end has.goes.1 has.goes.2 has.goes.3.0.0 has.goes.3.0.1 t is
 
-  module _ (change : ChangesBit g r (λ e. changed ClearBit e) d0 d1 (Ok (tt {0}))) where
+  module _ (change : ChangesBit g r (λ e. changed_entry ClearBit e) d0 d1 (Ok (tt {0}))) where
     pub clear_comes : g.content d1 ≡ coming (g.content d0) (Some (after_copy r s []))
     clear_comes = (let may = has.goes.3 in change.put has.goes.2.tells may.0.0 may.0.1 ∙ sym (flip_is (g.content d0) (record { block = r; how = ClearBit }) may.0.0 may.0.1))
 
     pub clear_goes : Carries g graph d1 × AreCounts (g.content d1) k0
     clear_goes = (let may = has.goes.3 in let settled = change.settled has.goes.2.tells in (
       carries_ended g w_end d1 has.goes.1 (change.keeps w_end may.0.0 has.goes.1 has.goes.2 may.0.1 may.0.2) settled,
-      subst (λ (i : Image). AreCounts i k0) (sym (change.put has.goes.2.tells may.0.0 may.0.1)) (counts_same (g.content d0) k0 r may.0.0 (changed ClearBit may.0.0) has.counts may.0.1 may.0.2.entry refl),
+      subst (λ (i : Image). AreCounts i k0) (sym (change.put has.goes.2.tells may.0.0 may.0.1)) (counts_same (g.content d0) k0 r may.0.0 (changed_entry ClearBit may.0.0) has.counts may.0.1 may.0.2.entry refl),
     ))
 
-pub clear_store : {D : Type 0} (g : Ghosts D) (graph : Graph) (ds : List Opened) (d0 d1 : D) (k0 : Kept) (r s : ℕ) → HasLeft g graph ds d0 k0 (after_copy r s []) → ChangesBit g r (λ e. changed ClearBit e) d0 d1 (Ok (tt {0})) → StoreHas g graph ds d1 k0
+pub clear_store : {D : Type 0} (g : Ghosts D) (graph : Graph) (ds : List Opened) (d0 d1 : D) (k0 : Kept) (r s : ℕ) → HasLeft g graph ds d0 k0 (after_copy r s []) → ChangesBit g r (λ e. changed_entry ClearBit e) d0 d1 (Ok (tt {0})) → StoreHas g graph ds d1 k0
 clear_store g graph ds d0 d1 k0 r s has change =
     let done = clear_goes g graph d0 d1 k0 r s has.going change in
     record {
@@ -243,7 +244,7 @@ module _ {D : Type 0} (g : Ghosts D) (d0 d1 : D) where
 
   module _ (k0 k1 : Kept) (r s n : ℕ) (ns : List ℕ) where
     abbrev turn : MapEntry → MapEntry
-    turn e = changed (how_for (n == s)) e
+    turn e = changed_entry (how_for (n == s)) e
 
     pub flipped_so : {A : Type 0} (x : A) → ChangesEntry g n turn d0 d1 (Ok x) → (Tells g d0 → AreCounts (g.content d0) k0 → AreCounts (g.content d1) k1)
         → GoesFrom g d0 d1 k0 k1 (Some (after_copy r s (n ∷ ns))) (Some (after_copy r s ns)) (Ok tt)
@@ -266,7 +267,7 @@ module _ {D : Type 0} (g : Ghosts D) (d0 d1 : D) where
     }
 
   module _ (k : Kept) (r s : ℕ) where
-    pub cleared_so : (result : Result (Unit {0}) Trouble) → ChangesBit g r (λ e. changed ClearBit e) d0 d1 result → GoesFrom g d0 d1 k k (Some (after_copy r s [])) None result
+    pub cleared_so : (result : Result (Unit {0}) Trouble) → ChangesBit g r (λ e. changed_entry ClearBit e) d0 d1 result → GoesFrom g d0 d1 k k (Some (after_copy r s [])) None result
     cleared_so (Ok u) change = record {
       goes = λ graph has. clear_goes g graph d0 d1 k r s has change;
       comes = λ graph has. clear_comes g graph d0 d1 k r s has change;
@@ -285,10 +286,10 @@ module _ {D : Type 0} (g : Ghosts D) (d0 d1 : D) where
 -- ---- counts
 
 -- a block that is Free stays so
-pub turned_free : (b : Bool) (e : MapEntry) → is_free e ≡ true → is_free (changed (how_for b) e) ≡ true
+pub turned_free : (b : Bool) (e : MapEntry) → is_free e ≡ true → is_free (changed_entry (how_for b) e) ≡ true
 turned_free b e free = at b e.state free
   where
-    at : (b : Bool) (s : BlockState) → is_free (record e { state = s }) ≡ true → is_free (changed (how_for b) (record e { state = s })) ≡ true
+    at : (b : Bool) (s : BlockState) → is_free (record e { state = s }) ≡ true → is_free (changed_entry (how_for b) (record e { state = s })) ≡ true
     at true Free h = refl
     at true Allocated h = cc
     at true IntendAllocate h = cc
@@ -313,34 +314,34 @@ module _ (image : Image) (k : Kept) (n : ℕ) (was now : MapEntry) (counts : Are
 
 -- ---- which part is next
 
-module _ (l : Left) where
-  pub part_copy : (r s : BlockNo) → parts_are.Copy r s ≡ part_of l → (l.copied ≡ false) × (l.root ≡ r.0) × (l.shadow ≡ s.0) × (after_part l ≡ Some (record l { copied = true }))
+module _ (l : LeftCommit) where
+  pub part_copy : (r s : BlockNo) → parts_are.Copy r s ≡ next_part_of l → (l.copied ≡ false) × (l.root ≡ r.0) × (l.shadow ≡ s.0) × (after_part l ≡ Some (record l { copied = true }))
   part_copy r s is = at l.copied l.rest refl refl is
     where
-      at : (b : Bool) (rest : List ℕ) → l.copied ≡ b → l.rest ≡ rest → parts_are.Copy r s ≡ part_in l b rest → (l.copied ≡ false) × (l.root ≡ r.0) × (l.shadow ≡ s.0) × (after_part l ≡ Some (record l { copied = true }))
+      at : (b : Bool) (rest : List ℕ) → l.copied ≡ b → l.rest ≡ rest → parts_are.Copy r s ≡ next_part_in l b rest → (l.copied ≡ false) × (l.root ≡ r.0) × (l.shadow ≡ s.0) × (after_part l ≡ Some (record l { copied = true }))
       at false rest eb er is = let r_is : r ≡ block_no l.root = cc in let s_is : s ≡ block_no l.shadow = cc in
           (eb, sym (ap (λ (b : BlockNo). b.0) r_is), sym (ap (λ (b : BlockNo). b.0) s_is), ap (λ (b : Bool). after_in l b l.rest) eb)
       at true [] eb er is = cc
       at true (n ∷ ns) eb er is = cc
 
-  pub part_flip : (n : BlockNo) → parts_are.Flip n ≡ part_of l → (ns : List ℕ) × (l.copied ≡ true) × (l.rest ≡ n.0 ∷ ns) × (after_part l ≡ Some (record l { rest = ns }))
+  pub part_flip : (n : BlockNo) → parts_are.Flip n ≡ next_part_of l → (ns : List ℕ) × (l.copied ≡ true) × (l.rest ≡ n.0 ∷ ns) × (after_part l ≡ Some (record l { rest = ns }))
   part_flip n is = at l.copied l.rest refl refl is
     where
-      at : (b : Bool) (rest : List ℕ) → l.copied ≡ b → l.rest ≡ rest → parts_are.Flip n ≡ part_in l b rest → (ns : List ℕ) × (l.copied ≡ true) × (l.rest ≡ n.0 ∷ ns) × (after_part l ≡ Some (record l { rest = ns }))
+      at : (b : Bool) (rest : List ℕ) → l.copied ≡ b → l.rest ≡ rest → parts_are.Flip n ≡ next_part_in l b rest → (ns : List ℕ) × (l.copied ≡ true) × (l.rest ≡ n.0 ∷ ns) × (after_part l ≡ Some (record l { rest = ns }))
       at false rest eb er is = cc
       at true [] eb er is = cc
       at true (m ∷ ms) eb er is = let n_is : n ≡ block_no m = cc in
           (ms, eb, er ∙ ap (λ (x : ℕ). x ∷ ms) (sym (ap (λ (b : BlockNo). b.0) n_is)), ap (λ (b : Bool). after_in l b l.rest) eb ∙ ap (λ (x : List ℕ). after_in l true x) er)
 
-  pub part_clear : (r : BlockNo) → parts_are.Clear r ≡ part_of l → (l.copied ≡ true) × (l.rest ≡ []) × (l.root ≡ r.0) × (after_part l ≡ None)
+  pub part_clear : (r : BlockNo) → parts_are.Clear r ≡ next_part_of l → (l.copied ≡ true) × (l.rest ≡ []) × (l.root ≡ r.0) × (after_part l ≡ None)
   part_clear r is = at l.copied l.rest refl refl is
     where
-      at : (b : Bool) (rest : List ℕ) → l.copied ≡ b → l.rest ≡ rest → parts_are.Clear r ≡ part_in l b rest → (l.copied ≡ true) × (l.rest ≡ []) × (l.root ≡ r.0) × (after_part l ≡ None)
+      at : (b : Bool) (rest : List ℕ) → l.copied ≡ b → l.rest ≡ rest → parts_are.Clear r ≡ next_part_in l b rest → (l.copied ≡ true) × (l.rest ≡ []) × (l.root ≡ r.0) × (after_part l ≡ None)
       at false rest eb er is = cc
       at true [] eb er is = let r_is : r ≡ block_no l.root = cc in
           (eb, er, sym (ap (λ (b : BlockNo). b.0) r_is), ap (λ (b : Bool). after_in l b l.rest) eb ∙ ap (λ (x : List ℕ). after_in l true x) er)
       at true (m ∷ ms) eb er is = cc
 
-pub next_is : (w : Option Left) (part : Part) → option_map (λ l. part_of l) w ≡ Some part → (l : Left) × (w ≡ Some l) × (part ≡ part_of l)
+pub next_is : (w : Option LeftCommit) (part : Part) → option_map (λ l. next_part_of l) w ≡ Some part → (l : LeftCommit) × (w ≡ Some l) × (part ≡ next_part_of l)
 next_is None part is = cc
 next_is (Some l) part is = (l, refl, sym (same_Some _ _ is))

@@ -1,5 +1,5 @@
 -- A commit that is past its bit is carried on.
-use Rattle.std.specs.Prelude.{◌≡◌, ℕ, ◌+◌, ◌*◌, ◌<◌, Bool, false, if◌then◌else◌, List, length, Option, Some, None}
+use Rattle.std.specs.Prelude.{◌≡◌, ℕ, ◌+◌, ◌*◌, ◌<◌, false, if◌then◌else◌, List, length, Option, Some, None}
 use Rattle.std.specs.Prelude.{IfErr, IsSome, OnOk, Ok, Err, Result}
 use Rattle.block_tree.specs.Reads.{is_damage}
 use Rattle.cfs_base.specs.Calls.{HasStopped, HasTried, OnlyReads}
@@ -9,12 +9,11 @@ use Rattle.cfs_base.specs.Run.{Leaves, Tells}
 use Rattle.cfs_base.specs.declared.disk.Disk.{Ghosts}
 use Rattle.cfs_base.specs.declared.refusal.Trouble.{Trouble}
 use Rattle.cfs_base.specs.declared.refusal.Trouble.TheVariants as trouble
-use Rattle.cyl_alloc.specs.Left.{Left}
+use Rattle.cyl_alloc.specs.Left.{LeftCommit}
 use Rattle.cyl_alloc.specs.Space.{IsBadMap, Kept}
 use Rattle.cyl_alloc.specs.declared.part.Part.{Part}
 use Rattle.cyl_alloc.specs.declared.part.Part.TheVariants.{Copy, Flip, Clear}
-use Rattle.cyl_map.specs.Map.{is_free}
-use Rattle.cyl_map.specs.declared.entry.MapEntry.{MapEntry}
+use Rattle.cyl_map.specs.Volume.{map_of}
 use Rattle.intentions.specs.Left.{GoesWith, StoreWith, coming}
 use Rattle.ufs_model.specs.Graph.{Graph}
 use Rattle.vol_image.specs.Sound.{Holds}
@@ -24,7 +23,7 @@ use Rattle.vol_owners.specs.Account.{Opened}
 
 -- From what was left to what is left now. The image that is to come stays, each image that a crash leaves on the way
 -- holds all objects, and no damage is met.
-pub record GoesFrom {D : Type 0} (g : Ghosts D) (old new : D) (before after : Kept) (was now : Option Left)
+pub record GoesFrom {D : Type 0} (g : Ghosts D) (old new : D) (before after : Kept) (was now : Option LeftCommit)
     (result : Result (Unit {0}) Trouble) : Type 0 where
   pub goes : (graph : Graph) → GoesWith g graph old before was → OnOk result (GoesWith g graph new after now)
   pub comes : (graph : Graph) → GoesWith g graph old before was
@@ -43,8 +42,8 @@ Goes g old new before after result = GoesFrom g old new before after before.left
 -- a device call failed, or a map block was read and is none
 abbrev pub IsLeftTrouble : {D : Type 0} → Ghosts D → D → D → Trouble → Type 0
 IsLeftTrouble g old new (trouble.Disk tried) = HasStopped g tried old new
-IsLeftTrouble g old new (trouble.Damaged damage) = (damage.code ≡ no_entry) × (damage.block < g.blocks new)
-    × (Tells g old → IsBadMap (g.content new) damage.block)
+IsLeftTrouble g old new (trouble.Damaged damage) = (damage.code ≡ no_entry) × (damage.block ≡ map_of damage.block)
+    × (damage.block < g.blocks new) × (Tells g old → IsBadMap (g.content new) damage.block)
 
 -- one part, and why it isn't made
 pub record PartEnds {D : Type 0} (g : Ghosts D) (old new : D) (result : Result (Unit {0}) Trouble) : Type 0 where
@@ -74,26 +73,15 @@ part_tries (Copy root shadow) = 2
 part_tries (Flip block) = 1
 part_tries (Clear root) = 3
 
-abbrev pub calls_left : Option Left → ℕ
+abbrev pub calls_left : Option LeftCommit → ℕ
 calls_left None = 0
 calls_left (Some l) = (if l.copied then 0 else 3) + (2 * length l.rest + 4)
 
-abbrev pub tries_left : Option Left → ℕ
+abbrev pub tries_left : Option LeftCommit → ℕ
 tries_left None = 0
 tries_left (Some l) = (if l.copied then 0 else 2) + (length l.rest + 3)
 
--- ---- what is left before the copy
-
--- the root at r isn't copied yet
-abbrev pub IsUncopied : ℕ → Option Left → Type 0
-IsUncopied r None = ⊥
-IsUncopied r (Some l) = (l.copied ≡ false) × (l.root ≡ r)
-
--- ---- entries and results
-
--- a block became Free
-abbrev pub is_freed : MapEntry → MapEntry → Bool
-is_freed was now = if is_free was then false else is_free now
+-- ---- results
 
 abbrev pub unit_of : {A : Type 0} → Result A Trouble → Result (Unit {0}) Trouble
 unit_of (Ok x) = Ok tt

@@ -1,19 +1,17 @@
 //! A commit that is past its bit, carried out.
-ghost use Rattle.std.specs.Prelude.{◌≡◌, ◌≢◌, ℕ, ◌*◌, ◌/◌, ◌-◌, ◌<◌, true, false, is_some, length, IfErr, IfOk, IsErr};
+ghost use Rattle.std.specs.Prelude.{◌≡◌, ℕ, ◌*◌, ◌/◌, ◌<◌, true, false, is_some, length, IfOk, IsErr};
 ghost use Rattle.std.specs.Prelude.{IsSome, None, OnOk, Some};
 ghost use Rattle.std.specs.List.{All};
 ghost use Rattle.cfs_base.specs.Calls.{MakesAtMost};
-ghost use Rattle.cfs_base.specs.Disk.{block_at};
 ghost use Rattle.cfs_base.specs.Refusals.{trouble_after_try};
 ghost use Rattle.cfs_base.specs.Run.{IsSettled, Tells};
-ghost use Rattle.cfs_base.specs.declared.refusal.Trouble.TheVariants as troubles;
 ghost use Rattle.cyl_alloc.specs.Left as left;
 ghost use Rattle.finisher.specs.Going as spec;
 ghost use Rattle.finisher.specs.Runs as runs;
 
-use crate::part::{copy, make};
+use crate::part::make;
 use crate::run::flip_run;
-use cfs_base::{Block, BlockNo, Disk, Trouble};
+use cfs_base::{Disk, Trouble};
 use cyl_alloc::Space;
 
 /// Makes one part of the commit that is kept, by at most four device calls, and answers whether there was one.
@@ -30,8 +28,9 @@ pub fn step<D: Disk>(disk: &mut D, space: &mut Space) -> Result<bool, Trouble>
     ensures none { space.old.left ≡ None → (disk.new ≡ disk.old) × (space.new ≡ space.old) }
     ensures cylinders { length space.new.free ≡ length space.old.free }
     ensures ends { IsSome space.old.left → spec.PartEnds D.Disk disk.old disk.new (spec.unit_of result) }
-    ensures of_part { (l : left.Left) → space.old.left ≡ Some l → MakesAtMost D.Disk (spec.part_calls (left.part_of l))
-        (spec.part_tries (left.part_of l)) disk.old disk.new }
+    ensures of_part { (l : left.LeftCommit) → space.old.left ≡ Some l
+        → MakesAtMost D.Disk (spec.part_calls (left.next_part_of l))
+        (spec.part_tries (left.next_part_of l)) disk.old disk.new }
     ensures calls { MakesAtMost D.Disk 4 3 disk.old disk.new }
 {
     let Some(part) = space.next_part() else {
@@ -94,7 +93,7 @@ pub fn finish_all<D: Disk>(disk: &mut D, space: &mut Space) -> Result<(), Troubl
     ensures by_map { MakesAtMost D.Disk (runs.calls_by_map space.old.left) (runs.tries_by_map space.old.left) disk.old
         disk.new }
     // Where the blocks lie in one cylinder, the copy, one read and one write of its map, and the bit.
-    ensures one_map { (l : left.Left) (c : ℕ) → space.old.left ≡ Some l → All (λ n. n / 64 ≡ c) l.rest
+    ensures one_map { (l : left.LeftCommit) (c : ℕ) → space.old.left ≡ Some l → All (λ n. n / 64 ≡ c) l.rest
         → MakesAtMost D.Disk 9 6 disk.old disk.new }
 {
     let mut tried = false;
@@ -106,37 +105,4 @@ pub fn finish_all<D: Disk>(disk: &mut D, space: &mut Space) -> Result<(), Troubl
         tried = true;
     }
     Ok(())
-}
-
-/// The same of a commit that was kept just now, with the content of its shadow root, which isn't read again.
-pub fn finish_written<D: Disk>(
-    disk: &mut D,
-    space: &mut Space,
-    root: BlockNo,
-    content: &Block,
-) -> Result<(), Trouble>
-    requires size { D.blocks disk.old ≡ 64 * length space.old.free }
-    requires on_disk { root.0 < D.blocks disk.old }
-    requires left { spec.IsUncopied root.0 space.old.left }
-    ensures goes { ((l : left.Left) → space.old.left ≡ Some l → block_at (D.content disk.old) l.shadow ≡ content.now)
-        → spec.Goes D.Disk disk.old disk.new space.old space.new result }
-    ensures done { OnOk result (space.new.left ≡ None) }
-    ensures settled { Tells D.Disk disk.old → OnOk result (IsSettled D.Disk disk.new) }
-    ensures cylinders { length space.new.free ≡ length space.old.free }
-    // Nothing is read before the first write.
-    ensures told { IfErr result (λ t. t ≢ troubles.Disk false) }
-    ensures ends { spec.Ends D.Disk disk.old disk.new space.old space.new result }
-    ensures calls { MakesAtMost D.Disk (spec.calls_left space.old.left - 1) (spec.tries_left space.old.left) disk.old
-        disk.new }
-    ensures by_map { MakesAtMost D.Disk (runs.calls_by_map space.old.left - 1) (runs.tries_by_map space.old.left)
-        disk.old disk.new }
-{
-    match copy(disk, root, content) {
-        Ok(()) => space.part_done(),
-        Err(trouble) => return Err(trouble),
-    }
-    match finish_all(disk, space) {
-        Ok(()) => Ok(()),
-        Err(trouble) => Err(trouble.after_try()),
-    }
 }

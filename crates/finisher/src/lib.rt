@@ -7,4 +7,4 @@ mod finish;
 mod part;
 mod run;
 
-pub use finish::{finish_all, finish_written, step};
+pub use finish::{finish_all, step};

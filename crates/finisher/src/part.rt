@@ -16,38 +16,19 @@ ghost use Rattle.finisher.specs.Going as spec;
 
 use cfs_base::{Block, BlockNo, Disk, Trouble};
 use cyl_alloc::{Part, Space};
-use cyl_map::{BlockState, MapEntry};
-use intentions::{Change, change_entry, clear_bit, copy_root};
-
-fn is_free(entry: MapEntry) -> bool
-    ensures { result ≡ map.is_free entry }
-{
-    match entry.state {
-        BlockState::Free => true,
-        BlockState::Allocated | BlockState::IntendAllocate | BlockState::IntendDeallocate => false,
-    }
-}
+use cyl_map::MapEntry;
+use intentions::{Change, change_entry, clear_bit, copy_root, is_freed};
 
 /// The shadow root is given back, and all else is carried out.
-pub(crate) fn how_to(is_shadow: bool) -> Change
+fn how_to(is_shadow: bool) -> Change
     ensures value { result ≡ how_for is_shadow }
-    ensures fits { entries.Fits result }
+    ensures fits { entries.FitsEntry result }
 {
     if is_shadow {
         Change::Undo
     } else {
         Change::Finish
     }
-}
-
-/// Whether a block became Free.
-pub(crate) fn is_freed(was: MapEntry, now: MapEntry) -> bool
-    ensures { result ≡ spec.is_freed was now }
-{
-    if is_free(was) {
-        return false;
-    }
-    is_free(now)
 }
 
 /// Counts a block that became Free.
@@ -74,7 +55,7 @@ fn flip<D: Disk>(
 ) -> Result<(), Trouble>
     requires size { D.blocks disk.old ≡ 64 * length space.old.free }
     requires on_disk { block.0 < D.blocks disk.old }
-    ensures goes { (l : left.Left) (ns : List ℕ) → l.copied ≡ true → l.rest ≡ block.0 ∷ ns
+    ensures goes { (l : left.LeftCommit) (ns : List ℕ) → l.copied ≡ true → l.rest ≡ block.0 ∷ ns
         → is_shadow ≡ (block.0 == l.shadow) → spec.GoesFrom D.Disk disk.old disk.new space.old space.new (Some l)
         (Some (record l { rest = ns })) result }
     ensures kept { IsErr result → space.new ≡ space.old }
@@ -94,9 +75,9 @@ fn flip<D: Disk>(
 }
 
 /// Gives the root this content, which is the shadow root's.
-pub(crate) fn copy<D: Disk>(disk: &mut D, root: BlockNo, content: &Block) -> Result<(), Trouble>
+fn copy<D: Disk>(disk: &mut D, root: BlockNo, content: &Block) -> Result<(), Trouble>
     requires { root.0 < D.blocks disk.old }
-    ensures goes { (l : left.Left) (space : Kept) → l.copied ≡ false → l.root ≡ root.0
+    ensures goes { (l : left.LeftCommit) (space : Kept) → l.copied ≡ false → l.root ≡ root.0
         → block_at (D.content disk.old) l.shadow ≡ content.now
         → spec.GoesFrom D.Disk disk.old disk.new space space (Some l) (Some (record l { copied = true })) result }
     ensures ends { spec.PartEnds D.Disk disk.old disk.new result }
@@ -123,7 +104,7 @@ fn read_shadow<D: Disk>(disk: &mut D, shadow: BlockNo, into: &mut Block) -> Resu
 fn copy_read<D: Disk>(disk: &mut D, root: BlockNo, shadow: BlockNo) -> Result<(), Trouble>
     requires root_on_disk { root.0 < D.blocks disk.old }
     requires shadow_on_disk { shadow.0 < D.blocks disk.old }
-    ensures goes { (l : left.Left) (space : Kept) → l.copied ≡ false → l.root ≡ root.0 → l.shadow ≡ shadow.0
+    ensures goes { (l : left.LeftCommit) (space : Kept) → l.copied ≡ false → l.root ≡ root.0 → l.shadow ≡ shadow.0
         → spec.GoesFrom D.Disk disk.old disk.new space space (Some l) (Some (record l { copied = true })) result }
     ensures ends { spec.PartEnds D.Disk disk.old disk.new result }
     ensures calls { MakesAtMost D.Disk 3 2 disk.old disk.new }
@@ -138,7 +119,7 @@ fn copy_read<D: Disk>(disk: &mut D, root: BlockNo, shadow: BlockNo) -> Result<()
 /// Clears the commit bit.
 fn clear<D: Disk>(disk: &mut D, space: &mut Space, root: BlockNo) -> Result<(), Trouble>
     requires on_disk { root.0 < D.blocks disk.old }
-    ensures goes { (l : left.Left) → l.copied ≡ true → l.rest ≡ [] → l.root ≡ root.0
+    ensures goes { (l : left.LeftCommit) → l.copied ≡ true → l.rest ≡ [] → l.root ≡ root.0
         → spec.GoesFrom D.Disk disk.old disk.new space.old space.new (Some l) None result }
     ensures settled { Tells D.Disk disk.old → OnOk result (IsSettled D.Disk disk.new) }
     ensures kept { space.new ≡ space.old }
@@ -157,9 +138,10 @@ pub(crate) fn make<D: Disk>(
 ) -> Result<(), Trouble>
     requires size { D.blocks disk.old ≡ 64 * length space.old.free }
     requires near { left.IsPartNear (D.blocks disk.old) part }
-    ensures goes { (l : left.Left) → part ≡ left.part_of l → is_shadow ≡ left.is_first l.shadow l.rest
+    ensures goes { (l : left.LeftCommit) → part ≡ left.next_part_of l → is_shadow ≡ left.is_first l.shadow l.rest
         → spec.GoesFrom D.Disk disk.old disk.new space.old space.new (Some l) (left.after_part l) result }
-    ensures settled { (l : left.Left) → part ≡ left.part_of l → left.after_part l ≡ None → Tells D.Disk disk.old
+    ensures settled { (l : left.LeftCommit) → part ≡ left.next_part_of l → left.after_part l ≡ None
+        → Tells D.Disk disk.old
         → OnOk result (IsSettled D.Disk disk.new) }
     ensures kept { IsErr result → space.new ≡ space.old }
     ensures cylinders { length space.new.free ≡ length space.old.free }

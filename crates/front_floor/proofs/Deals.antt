@@ -12,12 +12,12 @@ use Rattle.atomic_table.proofs.Lists.{set_else, at_snoc, at_longer}
 use Rattle.front_floor.specs.declared.view.Heard.{Heard}
 use Rattle.front_floor.specs.declared.view.Stand.TheVariants as stands
 use Rattle.front_floor.specs.declared.view.View.{View}
-use Rattle.front_floor.specs.Knows.{Fits, Knows, fresh_from, nothing}
-use Rattle.front_floor.specs.Seats.{budget, parts_of, dealer, dealt, taken_in, idle, first_of, rest_of, Hand, Homes, IsIdle, IsKeeper, IsPass, FitsSeat, IsHome, IsServed}
+use Rattle.front_floor.specs.Knows.{Fits, PassKnows, fresh_from, nothing}
+use Rattle.front_floor.specs.Seats.{budget, parts_of, dealer, dealt, taken_in, idle, first_pass, rest_of, Hand, Homes, IsIdle, IsKeeper, IsPass, FitsSeat, IsHome, IsServed}
 use Rattle.front_floor.proofs.Logs.{fits_nothing}
 use Rattle.front_floor.proofs.Queue.{one_of, sum_set, each_place, home_else, idle_not}
 
-rest_sum : (plan : List ℕ) → sum (rest_of plan) + first_of plan ≡ sum plan
+rest_sum : (plan : List ℕ) → sum (rest_of plan) + first_pass plan ≡ sum plan
 rest_sum [] = refl
 rest_sum (x ∷ xs) = omega (arith, sum_by-cons (λ y. y) x xs)
 
@@ -78,7 +78,7 @@ module _ {M E : Type 0} (log_of : M → List E) where
         room = omega (arith, sum_set budget s.views id v l at, sum_by_push budget views r, rest_sum v.plan, k.room);
         bound = k.bound;
         parts = omega (arith, sum_set parts_of s.views id v l at, sum_by_push parts_of views r, k.parts, some);
-        seats = (λ j u at'. ⊎_elim (λ o. old j u o) (λ e. subst (FitsSeat log_of s.homes k.queue k.served k.log j) e (fresh_seat s.homes k.queue k.served k.log j 1 (first_of v.plan) [])) (at_snoc views r u j at'));
+        seats = (λ j u at'. ⊎_elim (λ o. old j u o) (λ e. subst (FitsSeat log_of s.homes k.queue k.served k.log j) e (fresh_seat s.homes k.queue k.served k.log j 1 (first_pass v.plan) [])) (at_snoc views r u j at'));
         home = home_longer k.log s.words s.homes views r (home_else log_of k.log s s.words id v l at (idle_not v.stand free) k.home);
       }
 
@@ -138,12 +138,12 @@ of_mapped f P (x ∷ xs) all = All-cons (λ x. P (f x)) x xs (All-head P (f x) (
 
 module _ {M E : Type 0} where
   -- a pass, the last of those that are out, was taken in
-  pub took : (keeper new seat : Hand M E) (left : ℕ) (pass : Knows E) (before after : List (Knows E)) (all : List (Heard E))
+  pub took : (keeper new seat : Hand M E) (left : ℕ) (pass : PassKnows E) (before after : List (PassKnows E)) (all : List (Heard E))
       → new ≡ (taken_in keeper.0 seat.0, keeper.1) → IsIdle keeper → IsPass left seat → seat.0.heard ≡ pass.heard → before ≡ after ++ pass ∷ []
-      → keeper.0.parts + length before ≡ 2 ^ 32 → map (λ (p : Knows E). p.heard) before ++ keeper.0.told ≡ all
-      → IsIdle new × (new.0.parts + length after ≡ 2 ^ 32) × (map (λ (p : Knows E). p.heard) after ++ new.0.told ≡ all)
+      → keeper.0.parts + length before ≡ 2 ^ 32 → map (λ (p : PassKnows E). p.heard) before ++ keeper.0.told ≡ all
+      → IsIdle new × (new.0.parts + length after ≡ 2 ^ 32) × (map (λ (p : PassKnows E). p.heard) after ++ new.0.told ≡ all)
   took keeper new seat left pass before after all taken idle' is heard items parts told =
-      let f : Knows E → Heard E = λ p. p.heard in
+      let f : PassKnows E → Heard E = λ p. p.heard in
       let view : new.0 ≡ taken_in keeper.0 seat.0 = ap (λ (x : Hand M E). x.0) taken in
       let more : new.0.told ≡ pass.heard ∷ keeper.0.told = ap (λ (x : View E). x.told) view ∙ ap (λ (h : Heard E). h ∷ keeper.0.told) heard in
       let sum : new.0.parts ≡ keeper.0.parts + 1 = ap (λ (x : View E). x.parts) view ∙ ap (λ n. keeper.0.parts + n) is.parts in
@@ -156,25 +156,25 @@ module _ {M E : Type 0} where
 
 module _ {E : Type 0} where
   -- once all are taken in, what each had heard is told
-  pub all_heard : (log : List E) (told : List (Heard E)) (out passes : List (Knows E)) → out ≡ [] → map (λ (p : Knows E). p.heard) out ++ told ≡ map (λ (p : Knows E). p.heard) passes
-      → All (Fits log) told → All (λ (p : Knows E). Fits log p.heard) passes
+  pub all_heard : (log : List E) (told : List (Heard E)) (out passes : List (PassKnows E)) → out ≡ [] → map (λ (p : PassKnows E). p.heard) out ++ told ≡ map (λ (p : PassKnows E). p.heard) passes
+      → All (Fits log) told → All (λ (p : PassKnows E). Fits log p.heard) passes
   all_heard log told out passes none same fits =
-      let is : told ≡ map (λ (p : Knows E). p.heard) passes = ap (λ (ps : List (Knows E)). map (λ (p : Knows E). p.heard) ps ++ told) (sym none) ∙ same in
-      of_mapped (λ (p : Knows E). p.heard) (Fits log) passes (subst (All (Fits log)) is fits)
+      let is : told ≡ map (λ (p : PassKnows E). p.heard) passes = ap (λ (ps : List (PassKnows E)). map (λ (p : PassKnows E). p.heard) ps ++ told) (sym none) ∙ same in
+      of_mapped (λ (p : PassKnows E). p.heard) (Fits log) passes (subst (All (Fits log)) is fits)
 
-  fresh_all : (table : TableId) (n : ℕ) (budgets : List ℕ) → All (λ (p : Knows E). p.table ≡ table) (fresh_from table n budgets)
-  fresh_all table n [] = All-nil (λ (p : Knows E). p.table ≡ table)
+  fresh_all : (table : TableId) (n : ℕ) (budgets : List ℕ) → All (λ (p : PassKnows E). p.table ≡ table) (fresh_from table n budgets)
+  fresh_all table n [] = All-nil (λ (p : PassKnows E). p.table ≡ table)
   fresh_all table n (left ∷ budgets) =
-      All-cons (λ (p : Knows E). p.table ≡ table) (record { table = table; number = n; left = left; heard = nothing }) (fresh_from table (suc n) budgets) refl (fresh_all table (suc n) budgets)
+      All-cons (λ (p : PassKnows E). p.table ≡ table) (record { table = table; number = n; left = left; heard = nothing }) (fresh_from table (suc n) budgets) refl (fresh_all table (suc n) budgets)
 
   -- fresh passes are of the table that they were dealt from
-  pub are_fresh : (table at : TableId) (budgets : List ℕ) (passes : List (Knows E)) → at ≡ table → passes ≡ fresh_from at 0 budgets → All (λ (p : Knows E). p.table ≡ table) passes
+  pub are_fresh : (table at : TableId) (budgets : List ℕ) (passes : List (PassKnows E)) → at ≡ table → passes ≡ fresh_from at 0 budgets → All (λ (p : PassKnows E). p.table ≡ table) passes
   are_fresh table at budgets passes same is =
-      subst (All (λ (p : Knows E). p.table ≡ table)) (sym (is ∙ ap (λ (t : TableId). fresh_from t 0 budgets) same)) (fresh_all table 0 budgets)
+      subst (All (λ (p : PassKnows E). p.table ≡ table)) (sym (is ∙ ap (λ (t : TableId). fresh_from t 0 budgets) same)) (fresh_all table 0 budgets)
 
 fresh_length : (E : Type 0) (table : TableId) (n : ℕ) (budgets : List ℕ) → length (fresh_from {E = E} table n budgets) ≡ length budgets
 fresh_length E table n [] = refl
 fresh_length E table n (left ∷ budgets) = ap (λ k. suc k) (fresh_length E table (suc n) budgets)
 
-pub keeps_all : {M E : Type 0} (at : TableId) (budgets : List ℕ) (passes : List (Knows E)) (me : Hand M E) → passes ≡ fresh_from at 0 budgets → IsKeeper (length budgets) me → IsKeeper (length passes) me
+pub keeps_all : {M E : Type 0} (at : TableId) (budgets : List ℕ) (passes : List (PassKnows E)) (me : Hand M E) → passes ≡ fresh_from at 0 budgets → IsKeeper (length budgets) me → IsKeeper (length passes) me
 keeps_all {M} {E} at budgets passes me is keeps = subst (λ n. IsKeeper n me) (sym (ap length is ∙ fresh_length E at 0 budgets)) keeps

@@ -4,13 +4,13 @@ use Rattle.std.proofs.lemmas.List.{append-nil}
 use Rattle.std.specs.Prelude.{if◌then◌else◌}
 use mathlib.Core.List.{IsPrefix}
 use Rattle.front_floor.specs.declared.view.Heard.{Heard}
-use Rattle.front_floor.specs.Knows.{Rise, Fits, Grows, nothing}
+use Rattle.front_floor.specs.Knows.{PlacesRise, Fits, Grows, nothing}
 
-pub rise_wider : (a : ℕ) (places : List ℕ) (b c : ℕ) → Rise a places b → b ≤ c → Rise a places c
+pub rise_wider : (a : ℕ) (places : List ℕ) (b c : ℕ) → PlacesRise a places b → b ≤ c → PlacesRise a places c
 rise_wider a [] b c r le = omega (arith, r)
 rise_wider a (p ∷ ps) b c r le = (r.0, rise_wider (suc p) ps b c r.1 le)
 
-pub rise_more : (a : ℕ) (places : List ℕ) (b c : ℕ) → Rise a places b → b ≤ c → Rise a (places ++ c ∷ []) (suc c)
+pub rise_more : (a : ℕ) (places : List ℕ) (b c : ℕ) → PlacesRise a places b → b ≤ c → PlacesRise a (places ++ c ∷ []) (suc c)
 rise_more a [] b c r le = (omega (arith, r), omega arith)
 rise_more a (p ∷ ps) b c r le = (r.0, rise_more (suc p) ps b c r.1 le)
 
@@ -49,7 +49,7 @@ module _ {E : Type 0} where
   prefix_length xs ys p = omega (arith, ap length p.1, length-append xs p.0)
 
   -- what is heard once the log was counted
-  pub heard_so : (before after : List E) (added : ℕ) (seen : List E) (mine : List ℕ) (n : ℕ) → n ≡ length before → Grows before after added → IsPrefix seen before → Rise 0 mine (length seen)
+  pub heard_so : (before after : List E) (added : ℕ) (seen : List E) (mine : List ℕ) (n : ℕ) → n ≡ length before → Grows before after added → IsPrefix seen before → PlacesRise 0 mine (length seen)
       → Fits after (record { seen = after; mine = mine ++ (if added == 1 then n ∷ [] else []); known = length after })
   heard_so before after added seen mine n at g begins rise =
       record { begins = prefix_self after; mine = by_kind g; told = omega arith; known = omega arith }
@@ -57,10 +57,10 @@ module _ {E : Type 0} where
       long : length after ≡ length before + added
       long = grown_by before after added g
 
-      by_kind : Grows before after added → Rise 0 (mine ++ (if added == 1 then n ∷ [] else [])) (length after)
+      by_kind : Grows before after added → PlacesRise 0 (mine ++ (if added == 1 then n ∷ [] else [])) (length after)
       by_kind (inl x) =
-          let R : ℕ → Type 0 = λ a. Rise 0 (mine ++ (if a == 1 then n ∷ [] else [])) (length after) in
-          subst R (sym x.1) (subst (λ (ps : List ℕ). Rise 0 ps (length after)) (sym (append-nil mine)) (rise_wider 0 mine (length seen) (length after) rise (omega (arith, prefix_length seen before begins, long))))
+          let R : ℕ → Type 0 = λ a. PlacesRise 0 (mine ++ (if a == 1 then n ∷ [] else [])) (length after) in
+          subst R (sym x.1) (subst (λ (ps : List ℕ). PlacesRise 0 ps (length after)) (sym (append-nil mine)) (rise_wider 0 mine (length seen) (length after) rise (omega (arith, prefix_length seen before begins, long))))
       by_kind (inr x) =
-          let R : ℕ → Type 0 = λ a. Rise 0 (mine ++ (if a == 1 then n ∷ [] else [])) (length after) in
-          subst R (sym x.2) (subst (Rise 0 (mine ++ n ∷ [])) (sym (omega (arith, long, at, x.2))) (rise_more 0 mine (length seen) n rise (omega (arith, prefix_length seen before begins, at))))
+          let R : ℕ → Type 0 = λ a. PlacesRise 0 (mine ++ (if a == 1 then n ∷ [] else [])) (length after) in
+          subst R (sym x.2) (subst (PlacesRise 0 (mine ++ n ∷ [])) (sym (omega (arith, long, at, x.2))) (rise_more 0 mine (length seen) n rise (omega (arith, prefix_length seen before begins, at))))

@@ -5,7 +5,7 @@ use Rattle.atomic_table.specs.Seated.{TableId}
 use Rattle.front_floor.specs.declared.view.Heard.{Heard}
 
 -- the table of its front, its number, its turns that are left, and what it was told of the log
-pub record Knows (E : Type 0) : Type 0 where
+pub record PassKnows (E : Type 0) : Type 0 where
   pub table : TableId
   pub number : ℕ
   pub left : ℕ
@@ -14,24 +14,24 @@ pub record Knows (E : Type 0) : Type 0 where
 -- the passes of a front
 pub record Dealt (E : Type 0) : Type 0 where
   pub table : TableId
-  pub passes : List (Knows E)
+  pub passes : List (PassKnows E)
 
 -- each is of the front with this table
 pub record AreOf {E : Type 0} (table : TableId) (dealt : Dealt E) : Type 0 where
   pub together : dealt.table ≡ table
-  pub all : All (λ (pass : Knows E). pass.table ≡ table) dealt.passes
+  pub all : All (λ (pass : PassKnows E). pass.table ≡ table) dealt.passes
 
 -- places from a on and below b, in increasing order
-abbrev pub Rise : ℕ → List ℕ → ℕ → Type 0
-Rise a [] b = a ≤ b
-Rise a (place ∷ places) b = (a ≤ place) × Rise (suc place) places b
+abbrev pub PlacesRise : ℕ → List ℕ → ℕ → Type 0
+PlacesRise a [] b = a ≤ b
+PlacesRise a (place ∷ places) b = (a ≤ place) × PlacesRise (suc place) places b
 
 module _ {E : Type 0} where
   abbrev pub nothing : Heard E
   nothing = record { seen = []; mine = []; known = 0 }
 
   -- the passes of these budgets, numbered from n
-  abbrev pub fresh_from : TableId → ℕ → List ℕ → List (Knows E)
+  abbrev pub fresh_from : TableId → ℕ → List ℕ → List (PassKnows E)
   fresh_from table n [] = []
   fresh_from table n (left ∷ budgets) =
       record { table = table; number = n; left = left; heard = nothing } ∷ fresh_from table (suc n) budgets
@@ -40,7 +40,7 @@ module _ {E : Type 0} where
   -- the length that was told is no less than it, and no more than the log's.
   pub record Fits (log : List E) (heard : Heard E) : Type 0 where
     pub begins : IsPrefix heard.seen log
-    pub mine : Rise 0 heard.mine (length heard.seen)
+    pub mine : PlacesRise 0 heard.mine (length heard.seen)
     pub told : length heard.seen ≤ heard.known
     pub known : heard.known ≤ length log
 
@@ -56,7 +56,7 @@ module _ {E : Type 0} where
       ⊎ ((entry : E) × (after ≡ before ++ entry ∷ []) × (new ≡ old ++ length before ∷ []))
 
   -- some turns were made, and the log was counted
-  pub record Ran (old new : Knows E) : Type 0 where
+  pub record Ran (old new : PassKnows E) : Type 0 where
     pub table : new.table ≡ old.table
     pub number : new.number ≡ old.number
     pub left : new.left ≤ old.left
@@ -73,7 +73,7 @@ pub record Turns {M : Type 0} (done : M → ℕ → Bool) (turned : M → ℕ �
 -- A turn of the worker was made, and it answered whether the worker is done. The log before it had all that was seen,
 -- and as much as was known of, at least. All that was seen is seen still, and at least as much as was known of. Where
 -- the turn added an entry, that is the last one seen, and its place is mine.
-pub record Enters {M E : Type 0} (done : M → ℕ → Bool) (turned : M → ℕ → M → Type 0) (log : M → List E) (worker : ℕ)
+pub record EntersLog {M E : Type 0} (done : M → ℕ → Bool) (turned : M → ℕ → M → Type 0) (log : M → List E) (worker : ℕ)
     (answer : Bool) (old new : Heard E) : Type 0 where
   pub before : M
   pub after : M

@@ -20,9 +20,9 @@ pub record SitsAt (table seat : TableId) : Type 0 where
   pub words : table.words ≡ 3
   pub slots : table.slots ≡ 1
 
-abbrev pub first_of : List ℕ → ℕ
-first_of [] = 0
-first_of (x ∷ xs) = x
+abbrev pub first_pass : List ℕ → ℕ
+first_pass [] = 0
+first_pass (x ∷ xs) = x
 
 abbrev pub rest_of : List ℕ → List ℕ
 rest_of [] = []
@@ -55,7 +55,7 @@ module _ {E : Type 0} where
   dealer v = record v { parts = v.parts - 1; plan = rest_of v.plan }
 
   abbrev pub dealt : View E → View E
-  dealt v = idle 1 (first_of v.plan) []
+  dealt v = idle 1 (first_pass v.plan) []
 
   -- the keeper once it has taken a pass in
   abbrev pub taken_in : View E → View E → View E

@@ -1,6 +1,6 @@
 //! Turns made in threads.
 ghost use Rattle.std.specs.Prelude.{◌≡◌, ℕ, ◌<◌, length, slice_index_or, All};
-ghost use Rattle.front_floor.specs.Knows.{AreOf, Knows, Ran};
+ghost use Rattle.front_floor.specs.Knows.{AreOf, PassKnows, Ran};
 
 use crate::front::Front;
 use crate::pass::{Pass, Passes};
@@ -21,7 +21,7 @@ pub fn run_desk<M: Logged + Send, G: Gate + Sync, R: Threads + Wait + Sync>(
     requires of { AreOf front.now passes.old }
     ensures of { AreOf front.now passes.new }
     ensures count { length passes.new.passes ≡ length passes.old.passes }
-    ensures ran { (i : ℕ) (pass : Knows M.Entry) → i < length passes.old.passes
+    ensures ran { (i : ℕ) (pass : PassKnows M.Entry) → i < length passes.old.passes
         → Ran (slice_index_or passes.old.passes i pass) (slice_index_or passes.new.passes i pass) }
 {
     run_passes(rt, front, gate, passes.passes.as_mut_slice());
@@ -34,9 +34,9 @@ fn run_passes<M: Logged + Send, G: Gate + Sync, R: Threads + Wait + Sync>(
     gate: &G,
     passes: &mut [Pass<M>],
 )
-    requires of { All (λ (pass : Knows M.Entry). pass.table ≡ front.now) passes.old }
+    requires of { All (λ (pass : PassKnows M.Entry). pass.table ≡ front.now) passes.old }
     ensures count { length passes.new ≡ length passes.old }
-    ensures ran { (i : ℕ) (pass : Knows M.Entry) → i < length passes.old
+    ensures ran { (i : ℕ) (pass : PassKnows M.Entry) → i < length passes.old
         → Ran (slice_index_or passes.old i pass) (slice_index_or passes.new i pass) }
 {
     let threads = passes.len();

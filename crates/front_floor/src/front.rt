@@ -1,7 +1,7 @@
 //! A machine behind tickets.
 ghost use Rattle.std.specs.Prelude.{◌≡◌, ℕ, ◌+◌, ◌-◌, ◌<◌, ◌≤◌, ◌^◌, [], length, sum, All, IfOk, IfErr};
 ghost use Rattle.std.specs.Prelude.{vec_capacity};
-ghost use Rattle.front_floor.specs.Knows.{AreOf, Enters, Fits, Knows, fresh_from};
+ghost use Rattle.front_floor.specs.Knows.{AreOf, EntersLog, Fits, PassKnows, fresh_from};
 ghost use Rattle.front_floor.specs.Seats.{IsIdle, IsKeeper, SitsAt, idle};
 
 use crate::pass::{Pass, Passes};
@@ -160,7 +160,7 @@ impl<M: Logged> Front<M> {
         requires left { 0 < pass.old.left }
         ensures same { (pass.new.table ≡ pass.old.table) × (pass.new.number ≡ pass.old.number) }
         ensures left { pass.new.left + 1 ≡ pass.old.left }
-        ensures turn { Enters M.done M.turned M.log pass.old.number result pass.old.heard pass.new.heard }
+        ensures turn { EntersLog M.done M.turned M.log pass.old.number result pass.old.heard pass.new.heard }
     {
         let done = make_turn(rt, &self.rows.shared, &mut pass.seat, pass.number);
         pass.left -= 1;
@@ -179,7 +179,7 @@ impl<M: Logged> Front<M> {
     /// The machine, once all passes of the front are handed in.
     pub fn close(self, passes: Passes<M>) -> M
         requires of { AreOf self passes }
-        ensures fits { All (λ (pass : Knows M.Entry). Fits (M.log result) pass.heard) passes.passes }
+        ensures fits { All (λ (pass : PassKnows M.Entry). Fits (M.log result) pass.heard) passes.passes }
     {
         let Front { rows } = self;
         let Passes {

@@ -3,7 +3,7 @@ ghost use Rattle.std.specs.Prelude.{◌≡◌, ℕ, ◌<◌, length, slice_index
 ghost use Rattle.std.specs.Borrow.{Lends, sem};
 ghost use Rattle.front_floor.specs.contracts.pass.Pass.{the_row as pass_row};
 ghost use Rattle.front_floor.specs.contracts.pass.Passes.{the_row as passes_row};
-ghost use Rattle.front_floor.specs.Knows.{Knows};
+ghost use Rattle.front_floor.specs.Knows.{PassKnows};
 ghost use Rattle.front_floor.specs.Seats.{IsPass};
 
 use crate::rule::Place;
@@ -18,10 +18,10 @@ pub struct Pass<M: Logged> {
 }
 
 impl<M: Logged> Model for Pass<M> {
-    ghost use Rattle.front_floor.specs.Knows.{Knows};
+    ghost use Rattle.front_floor.specs.Knows.{PassKnows};
     ghost use Rattle.front_floor.specs.Seats.{IsPass};
 
-    ghost Value = { Knows M.Entry };
+    ghost Value = { PassKnows M.Entry };
 
     ghost view = { λ p. record {
       table = p.seat.table_id;
@@ -94,7 +94,7 @@ impl<M: Logged> Passes<M> {
         ensures* writes_back { sem 𝓛 (Lends (passes_row M.row M.Entry.row (record { log = M.log }) M.Machine)
             (pass_row M.row M.Entry.row (record { log = M.log }) M.Machine) self.entry result
             (λ pass. record self.old { passes = slice_set self.old.passes number pass })) }
-        ensures value { (pass : Knows M.Entry) → result.now ≡ slice_index_or self.old.passes number pass }
+        ensures value { (pass : PassKnows M.Entry) → result.now ≡ slice_index_or self.old.passes number pass }
     {
         &mut self.passes[number as usize]
     }

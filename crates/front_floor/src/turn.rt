@@ -1,6 +1,6 @@
 //! One turn, step by step.
 ghost use Rattle.std.specs.Prelude.{◌≡◌, ℕ, ◌-◌, ◌<◌, ◌^◌, length};
-ghost use Rattle.front_floor.specs.Knows.{Enters, Grows, Turns};
+ghost use Rattle.front_floor.specs.Knows.{EntersLog, Grows, Turns};
 ghost use Rattle.front_floor.specs.Seats.{IsIdle, SitsAt};
 
 use crate::rule::{Place, Words};
@@ -36,7 +36,7 @@ pub fn make_turn<M: Logged, R: Wait>(
     ensures idle { IsIdle seat.new.me }
     ensures left { seat.new.me.0.left ≡ seat.old.me.0.left - 1 }
     ensures parts { seat.new.me.0.parts ≡ seat.old.me.0.parts }
-    ensures turn { Enters M.done M.turned M.log worker result seat.old.me.0.heard seat.new.me.0.heard }
+    ensures turn { EntersLog M.done M.turned M.log worker result seat.old.me.0.heard seat.new.me.0.heard }
 {
     let ticket = draw(words, seat);
     wait_for_turn(rt, words, seat, ticket);

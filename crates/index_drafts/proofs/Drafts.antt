@@ -1,9 +1,12 @@
 -- The draft of an index changed: a slot put, and an object made.
-use Rattle.index_drafts.proofs.Words.{◌≡◌, ◌⊎◌, inl, inr, ℕ, ◌+◌, ◌*◌, ◌/◌, ◌<◌, ◌≤◌, ◌||◌, Bool, true, false, cond, List, Option, Some, None, Ok, Err, refl, sym, ◌∙◌, ap, subst, arith, sum, AreClaimed, Becomes, ChangesOnly, Drafting, Ends, Ghosts, Goes, Graph, Holds, IfErr, Image, IsClaimed, IsLeastFree, IsRefusal, Kept, Leaves, MapEntry, Nothing, Object, OnlyReads, Opened, Puid, Refused, Result, StaysBut, StoreHas, Swap, View, block_there, both_ways, changes_then, changes_wider, ends_wider, false_from_ne_true, filled_draft, full_ends, has_block, is_damaged, is_full_refusal, is_some, leaf_claims, draft_takes, puid_at, object_at, object_at-with_object, of_draft, of_owner, or_left, or_right, root_spelling, same_puid, same_puid_is, stays_itself, store_reads, then, tree_in, wider, with_object, SameBeside, ends_as, ends_err, Need, IsOpenMap, ⊎_elim, makes_more, makes_then, reads_make, reads_within, reads_then, refusal_after_reads, under_floor, HasTried, after_try, ends_then_err, ends_then_ok, still_room, not_untried}
+use Rattle.index_drafts.proofs.Words.{◌≡◌, ◌⊎◌, inl, inr, ℕ, ◌+◌, ◌*◌, ◌/◌, ◌<◌, ◌≤◌, ◌||◌, Bool, true, false, cond, List, Option, Some, None, Ok, Err, refl, sym, ◌∙◌, ap, subst, arith, sum, AreClaimed, DraftBecomes, ChangesOnly, Drafting, EndsCall, Ghosts, GoesHolding, Graph, Holds, IfErr, Image, IsClaimed, IsLeastFree, IsDraftRefusal, Kept, Leaves, MapEntry, Nothing, Object, OnlyReads, Opened, Puid, Refused, Result, StaysBut, StoreHas, Swap, DraftView, block_there, both_ways, changes_then, changes_wider, ends_wider, false_from_ne_true, filled_draft, full_ends, has_block, has_met_damage, is_full_refusal, is_some, leaf_claims, draft_takes, puid_at, object_at, object_at-with_object, of_draft, of_owner, or_left, or_right, root_spelling, same_puid, same_puid_is, stays_itself, store_reads, then, tree_in, wider, with_object, SameBeside, ends_as, ends_err, Need, IsOpenMap, ⊎_elim, makes_more, makes_then, reads_make, reads_within, reads_then, refusal_after_reads, under_floor, HasTried, after_try, ends_then_err, ends_then_ok, still_room, not_untried}
 use Rattle.cfs_base.specs.declared.refusal.Refused.TheVariants as refusals
-use Rattle.index_drafts.specs.Creates.{CreateCall, CreateEnds, CreatesInDraft, MakesAlone, made_in, root_entry}
+use Rattle.index_drafts.specs.Creates.{CreateCall, CreateEnds, CreatesInDraft, MakesAlone, made_in, new_root_entry}
 use Rattle.index_drafts.specs.Puts.{IndexView, IsFullBelow, PutCall, PutsInDraft, slot_need}
 use Rattle.special_files.proofs.SlotNeed.{slot_need_is}
+use Rattle.special_files.proofs.Refusals.{refusal_as}
+use Rattle.special_files.specs.Refusal.{top_of}
+use Rattle.leaf_changes.specs.Tops.{still_top}
 
 -- ---- Full
 
@@ -30,7 +33,7 @@ need_is i slot inside = slot_need_is i.view slot inside
 -- ---- a slot put
 
 -- what `fill` answered, seen as the whole call
-pub put_done : {D : Type 0} {g : Ghosts D} {d0 d1 : D} {k0 k1 : Kept} {was now : Drafting} (i : IndexView g d0 k0 was) (slot : ℕ) (what : Option Puid) (put : Option Swap) → Becomes g i.view.graph i.view.ds i.view.id (filled_draft i.index slot what i.view.draft) d0 d1 k1 now
+pub put_done : {D : Type 0} {g : Ghosts D} {d0 d1 : D} {k0 k1 : Kept} {was now : Drafting} (i : IndexView g d0 k0 was) (slot : ℕ) (what : Option Puid) (put : Option Swap) → DraftBecomes g i.view.graph i.view.ds i.view.id (filled_draft i.index slot what i.view.draft) d0 d1 k1 now
     → (is_some put ≡ true → AreClaimed (leaf_claims was.at was.leaves was.nodes (slot / 64)) (g.content d0) (g.content d1)) → (put ≡ None → what ≡ None) → (put ≡ None → (now ≡ was) × (k1 ≡ k0) × OnlyReads g 2 d0 d1)
     → SameBeside (slot / 64) (tree_in (g.content d0) (root_spelling was.root)) (tree_in (g.content d1) (root_spelling now.root)) → PutsInDraft i slot what d1 k1 now
 put_done i slot what None becomes claims empty spared beside = record { becomes = becomes; order = inl (empty refl, (spared refl).2.content); beside = beside }
@@ -39,7 +42,7 @@ put_done i slot what (Some swap) becomes claims empty spared beside = record { b
 module _ {D : Type 0} (g : Ghosts D) (slot floor : ℕ) (d0 d1 : D) (k0 k1 : Kept) (was now : Drafting) where
   -- on any disk, where there was room
   module _ (room : draft_takes was (slot / 64) + floor ≤ sum k0.free) (stays : StaysBut was now) where
-    pub put_ok : (put : Option Swap) → Ends g was.at 0 8 4 (draft_takes was (slot / 64)) d0 d1 k0 k1 (Ok put) → PutCall g slot floor d0 d1 k0 k1 was now (Ok tt)
+    pub put_ok : (put : Option Swap) → EndsCall g (top_of was) 0 8 4 (draft_takes was (slot / 64)) d0 d1 k0 k1 (Ok put) → PutCall g slot floor d0 d1 k0 k1 was now (Ok tt)
     put_ok put ends = record {
       stays = stays;
       full = has_room {A = Unit {0}} (draft_takes was (slot / 64)) floor d0 d1 k0 k1 was now (Ok tt) room tt;
@@ -47,11 +50,11 @@ module _ {D : Type 0} (g : Ghosts D) (slot floor : ℕ) (d0 d1 : D) (k0 k1 : Kep
       kept = tt;
     }
 
-    pub put_err : (e : Refused) → Ends {A = Option Swap} g was.at 0 8 4 (draft_takes was (slot / 64)) d0 d1 k0 k1 (Err e) → is_full_refusal e ≡ false → (e ≡ refusals.Disk false → now ≡ was) → PutCall g slot floor d0 d1 k0 k1 was now (Err e)
+    pub put_err : (e : Refused) → EndsCall {A = Option Swap} g (top_of was) 0 8 4 (draft_takes was (slot / 64)) d0 d1 k0 k1 (Err e) → is_full_refusal e ≡ false → (e ≡ refusals.Disk false → now ≡ was) → PutCall g slot floor d0 d1 k0 k1 was now (Err e)
     put_err e ends spare kept = record {
       stays = stays;
       full = has_room {A = Unit {0}} (draft_takes was (slot / 64)) floor d0 d1 k0 k1 was now (Err e) room spare;
-      ends = ends_wider floor 8 4 (draft_takes was (slot / 64)) (ends_err {A = Option Swap} {B = Unit {0}} g was.at 0 8 4 (draft_takes was (slot / 64)) d0 d1 k0 k1 e ends) (omega arith) (omega arith) ends.takes;
+      ends = ends_wider floor 8 4 (draft_takes was (slot / 64)) (ends_err {A = Option Swap} {B = Unit {0}} g (top_of was) 0 8 4 (draft_takes was (slot / 64)) d0 d1 k0 k1 e ends) (omega arith) (omega arith) ends.takes;
       kept = kept;
     }
 
@@ -60,13 +63,13 @@ pub put_full : {D : Type 0} (g : Ghosts D) (slot floor : ℕ) (d : D) (k : Kept)
 put_full g slot floor d k was e is less = record {
   stays = stays_itself was;
   full = no_room (draft_takes was (slot / 64)) floor d k was e is less;
-  ends = subst (λ (x : Refused). Ends {A = Unit {0}} g was.at floor 8 4 (draft_takes was (slot / 64)) d d k k (Err x)) (sym is) (full_ends {A = Unit {0}} g was.at floor 8 4 (draft_takes was (slot / 64)) d k _ less);
+  ends = subst (λ (x : Refused). EndsCall {A = Unit {0}} g (top_of was) floor 8 4 (draft_takes was (slot / 64)) d d k k (Err x)) (sym is) (full_ends {A = Unit {0}} g (top_of was) floor 8 4 (draft_takes was (slot / 64)) d k (record { free = sum k.free; need = draft_takes was (slot / 64) }) refl less);
   kept = λ same. refl;
 }
 
 -- nothing was done
-pub goes_full : {D A : Type 0} (g : Ghosts D) (graph : Graph) (P : Type 0) (d : D) (e : Refused) (need : Need) → e ≡ refusals.Full need → Goes {A = A} g graph P d d (Err e)
-goes_full g graph P d e need is = record { done = tt; leaves = leaves_none g d; sound = ap is_damaged is }
+pub goes_full : {D A : Type 0} (g : Ghosts D) (graph : Graph) (P : Type 0) (d : D) (e : Refused) (need : Need) → e ≡ refusals.Full need → GoesHolding {A = A} g graph P d d (Err e)
+goes_full g graph P d e need is = record { done = tt; leaves = leaves_none g d; sound = ap has_met_damage is }
 
 -- ---- an object made, and the slot filled with it
 
@@ -87,12 +90,12 @@ module _ {D : Type 0} {g : Ghosts D} {d0 d1 : D} {k0 : Kept} {was : Drafting} (i
   P c = Holds c i.view.graph ⊎ ((b : ℕ) × IsLeastFree (g.content d0) b × Holds c (with_object i.view.graph (puid_at b new.word) made))
 
   -- the object isn't made
-  module _ (d2 : D) (k2 : Kept) (r : Result (Unit {0}) Refused) (makes : Goes g i.view.graph (MakesAlone g i.view.graph i.view.ds new made d1 d2 k2) d1 d2 r) where
+  module _ (d2 : D) (k2 : Kept) (r : Result (Unit {0}) Refused) (makes : GoesHolding g i.view.graph (MakesAlone g i.view.graph i.view.ds new made d1 d2 k2) d1 d2 r) where
     pub leaves2 : Leaves g d0 d2 (λ c. Holds c i.view.graph)
     leaves2 = then g d0 d1 d2 _ _ (wider g d0 d1 Nothing _ reads.images (λ c none. absurd none)) makes.leaves (λ c h. h)
 
   -- it is
-  module _ (d2 : D) (k2 : Kept) (makes : Goes g i.view.graph (MakesAlone g i.view.graph i.view.ds new made d1 d2 k2) d1 d2 (Ok (tt {0}))) where
+  module _ (d2 : D) (k2 : Kept) (makes : GoesHolding g i.view.graph (MakesAlone g i.view.graph i.view.ds new made d1 d2 k2) d1 d2 (Ok (tt {0}))) where
     abbrev is : MakesAlone g i.view.graph i.view.ds new made d1 d2 k2
     is = makes.done
 
@@ -103,20 +106,20 @@ module _ {D : Type 0} {g : Ghosts D} {d0 d1 : D} {k0 : Kept} {was : Drafting} (i
     at2 = object_at-with_object graph new made i.view.id ∙ ap (λ (b : Bool). cond b (Some made) (object_at graph i.view.id)) other ∙ i.view.at
 
     -- the draft stands beside it
-    abbrev pub then2 : View g d2 k2 was
+    abbrev pub then2 : DraftView g d2 k2 was
     then2 = record { graph = full; ds = i.view.ds; id = i.view.id; object = i.view.object; draft = i.view.draft; store = is.store; at = at2; opened = i.view.opened }
 
     module _ (d3 : D) (k3 : Kept) (now : Drafting) where
       pub leaves3 : Leaves g d2 d3 (λ c. Holds c full) → Leaves g d0 d3 P
       leaves3 fills = then g d0 d2 d3 P _ (wider g d0 d2 _ P (leaves2 d2 k2 (Ok tt) makes) (λ c h. inl h)) fills (λ c h. inr (new.block, least, h))
 
-      pub created : Becomes g full i.view.ds i.view.id (made_in i slot new) d2 d3 k3 now → AreClaimed (leaf_claims was.at was.leaves was.nodes (slot / 64)) (g.content d2) (g.content d3) → CreatesInDraft i slot made d3 k3 now new
+      pub created : DraftBecomes g full i.view.ds i.view.id (made_in i slot new) d2 d3 k3 now → AreClaimed (leaf_claims was.at was.leaves was.nodes (slot / 64)) (g.content d2) (g.content d3) → CreatesInDraft i slot made d3 k3 now new
       created becomes claims =
           let T = λ (e : Option MapEntry). of_owner new.block e || of_draft i.view.id.block e in
           record {
             store = becomes.steps.store;
             is_open = becomes.is_open;
-            order = (g.content d2, subst (λ (a : Image). IsClaimed (root_entry new.block) a (g.content d2)) reads.content is.claim, claims);
+            order = (g.content d2, subst (λ (a : Image). IsClaimed (new_root_entry new.block) a (g.content d2)) reads.content is.claim, claims);
             least = least;
             only = changes_then T (g.content d0) (g.content d2) (g.content d3)
                 (changes_wider (λ e. of_owner new.block e) T (g.content d0) (g.content d2) (λ e h. or_left (of_owner new.block e) (of_draft i.view.id.block e) h) (subst (λ (a : Image). ChangesOnly (λ e. of_owner new.block e) a (g.content d2)) reads.content is.only))
@@ -124,13 +127,13 @@ module _ {D : Type 0} {g : Ghosts D} {d0 d1 : D} {k0 : Kept} {was : Drafting} (i
           }
 
 -- the object as it was asked for
-pub as_asked : {D : Type 0} (g : Ghosts D) (graph : Graph) (ds : List Opened) (n word w : ℕ) (made o : Object) (d1 d2 : D) (k2 : Kept) (r : Result (Unit {0}) Refused) → w ≡ word → o ≡ made → Goes g graph (MakesAlone g graph ds (puid_at n w) o d1 d2 k2) d1 d2 r
-    → Goes g graph (MakesAlone g graph ds (puid_at n word) made d1 d2 k2) d1 d2 r
-as_asked g graph ds n word w made o d1 d2 k2 r words objects goes = subst (λ (x : Object). Goes g graph (MakesAlone g graph ds (puid_at n word) x d1 d2 k2) d1 d2 r) objects
-    (subst (λ (x : ℕ). Goes g graph (MakesAlone g graph ds (puid_at n x) o d1 d2 k2) d1 d2 r) words goes)
+pub as_asked : {D : Type 0} (g : Ghosts D) (graph : Graph) (ds : List Opened) (n word w : ℕ) (made o : Object) (d1 d2 : D) (k2 : Kept) (r : Result (Unit {0}) Refused) → w ≡ word → o ≡ made → GoesHolding g graph (MakesAlone g graph ds (puid_at n w) o d1 d2 k2) d1 d2 r
+    → GoesHolding g graph (MakesAlone g graph ds (puid_at n word) made d1 d2 k2) d1 d2 r
+as_asked g graph ds n word w made o d1 d2 k2 r words objects goes = subst (λ (x : Object). GoesHolding g graph (MakesAlone g graph ds (puid_at n word) x d1 d2 k2) d1 d2 r) objects
+    (subst (λ (x : ℕ). GoesHolding g graph (MakesAlone g graph ds (puid_at n x) o d1 d2 k2) d1 d2 r) words goes)
 
 -- refused, with all objects as they were
-pub create_stops : {D : Type 0} {g : Ghosts D} {d0 : D} {k0 : Kept} {was : Drafting} (i : IndexView g d0 k0 was) (slot : ℕ) (made : Object) (word : ℕ) (d : D) (k : Kept) (now : Drafting) (e : Refused) → Leaves g d0 d (λ c. Holds c i.view.graph) → is_damaged e ≡ false
+pub create_stops : {D : Type 0} {g : Ghosts D} {d0 : D} {k0 : Kept} {was : Drafting} (i : IndexView g d0 k0 was) (slot : ℕ) (made : Object) (word : ℕ) (d : D) (k : Kept) (now : Drafting) (e : Refused) → Leaves g d0 d (λ c. Holds c i.view.graph) → has_met_damage e ≡ false
     → CreateEnds i slot made word d k now (Err e)
 create_stops {g = g} {d0} i slot made word d k now e leaves sound = record { done = tt; leaves = wider g d0 d _ _ leaves (λ c h. inl h); sound = sound }
 
@@ -146,12 +149,12 @@ module _ {D : Type 0} (g : Ghosts D) (slot floor : ℕ) (d0 d1 : D) (k0 : Kept) 
   need = 1 + draft_takes was (slot / 64)
 
   -- no block was found
-  pub least_stops : (e : Refused) → (IsRefusal g was.at 0 d0 d1 k0 e × (is_full_refusal e ≡ false)) ⊎ IsOpenMap g d0 k0 e → CreateCall g slot floor d0 d1 k0 k0 was was (Err e)
+  pub least_stops : (e : Refused) → (IsDraftRefusal g (still_top was.at) 0 d0 d1 k0 e × (is_full_refusal e ≡ false)) ⊎ IsOpenMap g d0 k0 e → CreateCall g slot floor d0 d1 k0 k0 was was (Err e)
   least_stops e why = record {
     stays = stays_itself was;
     full = has_room {A = Puid} need floor d0 d1 k0 k0 was was (Err e) room (⊎_elim (λ r. r.1) (λ map. ap is_full_refusal map.is) why);
     told = tt;
-    refused = ⊎_elim (λ r. inl (under_floor g was.at floor d0 d1 k0 e r.0)) (λ map. inr map) why;
+    refused = ⊎_elim (λ r. inl (under_floor g (top_of was) floor d0 d1 k0 e (refusal_as g (still_top was.at) (top_of was) refl d0 d1 k0 (λ far. absurd far) 0 e r.0))) (λ map. inr map) why;
     untried = λ same. (refl, refl, reads_within g d0 d1 1 5 (omega arith) reads);
     cylinders = refl;
     left = refl;
@@ -161,10 +164,10 @@ module _ {D : Type 0} (g : Ghosts D) (slot floor : ℕ) (d0 d1 : D) (k0 : Kept) 
 
   -- where a block was found: what came of the rest
   module _ (d3 : D) (k3 : Kept) (now : Drafting) (stays : StaysBut was now) where
-    since : (e : Refused) → IsRefusal g was.at floor d1 d3 k3 e → IsRefusal g was.at floor d0 d3 k3 e
-    since e is = refusal_after_reads g was.at d0 d1 d3 k3 floor 1 e reads is
+    since : (e : Refused) → IsDraftRefusal g (top_of was) floor d1 d3 k3 e → IsDraftRefusal g (top_of was) floor d0 d3 k3 e
+    since e is = refusal_after_reads g (top_of was) d0 d1 d3 k3 floor 1 e reads is
 
-    after_reads : (r : Result Puid Refused) → Ends {A = Puid} g was.at floor 12 7 need d1 d3 k0 k3 r → IfErr r (λ e. is_full_refusal e ≡ false) → IfErr r (λ e. e ≡ refusals.Disk false → (now ≡ was) × OnlyReads g 4 d1 d3) → CreateCall g slot floor d0 d3 k0 k3 was now r
+    after_reads : (r : Result Puid Refused) → EndsCall {A = Puid} g (top_of was) floor 12 7 need d1 d3 k0 k3 r → IfErr r (λ e. is_full_refusal e ≡ false) → IfErr r (λ e. e ≡ refusals.Disk false → (now ≡ was) × OnlyReads g 4 d1 d3) → CreateCall g slot floor d0 d3 k0 k3 was now r
     after_reads (Ok id) ends spare kept = record {
       stays = stays;
       full = has_room need floor d0 d3 k0 k3 was now (Ok id) room tt;
@@ -189,20 +192,20 @@ module _ {D : Type 0} (g : Ghosts D) (slot floor : ℕ) (d0 d1 : D) (k0 : Kept) 
     }
 
   -- the object isn't made
-  pub make_stops : (d2 : D) (k2 : Kept) (e : Refused) → Ends {A = Unit {0}} g was.at 0 4 3 1 d1 d2 k0 k2 (Err e) → is_full_refusal e ≡ false → CreateCall g slot floor d0 d2 k0 k2 was was (Err e)
+  pub make_stops : (d2 : D) (k2 : Kept) (e : Refused) → EndsCall {A = Unit {0}} g (top_of was) 0 4 3 1 d1 d2 k0 k2 (Err e) → is_full_refusal e ≡ false → CreateCall g slot floor d0 d2 k0 k2 was was (Err e)
   make_stops d2 k2 e ends spare = after_reads d2 k2 was (stays_itself was) (Err e)
-      (ends_wider floor 12 7 need (ends_err {A = Unit {0}} {B = Puid} g was.at 0 4 3 1 d1 d2 k0 k2 e ends) (omega arith) (omega arith) (omega (arith, ends.takes))) spare (λ same. (refl, (ends.untried same).1))
+      (ends_wider floor 12 7 need (ends_err {A = Unit {0}} {B = Puid} g (top_of was) 0 4 3 1 d1 d2 k0 k2 e ends) (omega arith) (omega arith) (omega (arith, ends.takes))) spare (λ same. (refl, (ends.untried same).1))
 
   -- it is, and the slot is refused or put
-  module _ (d2 d3 : D) (k2 k3 : Kept) (now : Drafting) (stays : StaysBut was now) (made : Ends {A = Unit {0}} g was.at 0 4 3 1 d1 d2 k0 k2 (Ok tt)) where
-    pub fill_stops : HasTried g d1 d2 → (e : Refused) → Ends {A = Option Swap} g was.at 0 8 4 (draft_takes was (slot / 64)) d2 d3 k2 k3 (Err e) → (draft_takes was (slot / 64) ≤ sum k2.free → is_full_refusal e ≡ false) → CreateCall g slot floor d0 d3 k0 k3 was now (Err (after_try e))
+  module _ (d2 d3 : D) (k2 k3 : Kept) (now : Drafting) (stays : StaysBut was now) (made : EndsCall {A = Unit {0}} g (top_of was) 0 4 3 1 d1 d2 k0 k2 (Ok tt)) where
+    pub fill_stops : HasTried g d1 d2 → (e : Refused) → EndsCall {A = Option Swap} g (top_of was) 0 8 4 (draft_takes was (slot / 64)) d2 d3 k2 k3 (Err e) → (draft_takes was (slot / 64) ≤ sum k2.free → is_full_refusal e ≡ false) → CreateCall g slot floor d0 d3 k0 k3 was now (Err (after_try e))
     fill_stops tried e fills spare =
-        let both = ends_then_err {A = Unit {0}} {B = Puid} g was.at 0 d1 d2 d3 k0 k2 k3 tt e 4 3 1 8 4 (draft_takes was (slot / 64)) made tried
-        (ends_err {A = Option Swap} {B = Puid} g was.at 0 8 4 (draft_takes was (slot / 64)) d2 d3 k2 k3 e fills) 12 7 need (omega arith) (omega arith) (omega arith) in
+        let both = ends_then_err {A = Unit {0}} {B = Puid} g (top_of was) 0 d1 d2 d3 k0 k2 k3 tt e 4 3 1 8 4 (draft_takes was (slot / 64)) made tried
+        (ends_err {A = Option Swap} {B = Puid} g (top_of was) 0 8 4 (draft_takes was (slot / 64)) d2 d3 k2 k3 e fills) 12 7 need (omega arith) (omega arith) (omega arith) in
         after_reads d3 k3 now stays (Err (after_try e)) (ends_wider floor 12 7 need both (omega arith) (omega arith) both.takes)
         (still_room true e (spare (omega (arith, made.takes, room)))) (λ same. absurd (not_untried e same))
 
-    pub fill_done : (put : Option Swap) (id : Puid) → Ends {A = Option Swap} g was.at 0 8 4 (draft_takes was (slot / 64)) d2 d3 k2 k3 (Ok put) → CreateCall g slot floor d0 d3 k0 k3 was now (Ok id)
+    pub fill_done : (put : Option Swap) (id : Puid) → EndsCall {A = Option Swap} g (top_of was) 0 8 4 (draft_takes was (slot / 64)) d2 d3 k2 k3 (Ok put) → CreateCall g slot floor d0 d3 k0 k3 was now (Ok id)
     fill_done put id fills =
-        let both = ends_then_ok {A = Unit {0}} {B = Option Swap} g was.at 0 d1 d2 d3 k0 k2 k3 tt put 4 3 1 8 4 (draft_takes was (slot / 64)) made fills 12 7 need (omega arith) (omega arith) (omega arith) in
+        let both = ends_then_ok {A = Unit {0}} {B = Option Swap} g (top_of was) 0 d1 d2 d3 k0 k2 k3 tt put 4 3 1 8 4 (draft_takes was (slot / 64)) made fills 12 7 need (omega arith) (omega arith) (omega arith) in
         after_reads d3 k3 now stays (Ok id) (ends_wider floor 12 7 need (ends_as id both) (omega arith) (omega arith) both.takes) tt tt

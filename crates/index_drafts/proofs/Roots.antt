@@ -1,16 +1,16 @@
 -- The root of a new object, which is Allocated and written where the least Free block was.
-use Rattle.index_drafts.proofs.Words.{◌≡◌, ◌≢◌, ℕ, ◌%◌, ◌<◌, ◌^◌, List, [], length, set, true, false, Some, inl, inr, ⊎_elim, refl, sym, ◌∙◌, ap, subst, arith, eq-eqb, lt-ltb, Accounts, ChangesOnly, Frames, Free, Graph, HasItsBlocks, Image, IsBareRoot, IsClaimed, IsEntered, IsEntry, IsLeastFree, IsLoose, IsOpenTo, IsRootBlock, MapEntry, Opened, ReadsAs, StandsForNone, bare_has, bare_object, bare_reads, bare_unmeant, block_at, both_ways, changes_content, changes_entry, changes_then, created_of, entry_in, entry_in-set, entry_in-with_entry_other, entry_in-with_entry_same, false_from_ne_true, first_number, frames_begin, free_is, free_is_loose, get_or-set_same, has_block, has_number, ids_of, in_image, is_free_entry, is_had, is_of, is_taken, length-with_entry, loose_entry, made_not_free, puid_at, node_pointers, not_map, object_of_block, of_owner, of_taken, owns_nothing, part_of, pointers_of, rises, root_spelling, same_or_not, sight, with_entry, with_object}
+use Rattle.index_drafts.proofs.Words.{◌≡◌, ◌≢◌, ℕ, ◌%◌, ◌<◌, ◌^◌, List, [], length, set, true, false, Some, inl, inr, ⊎_elim, refl, sym, ◌∙◌, ap, subst, arith, eq-eqb, lt-ltb, Accounts, ChangesOnly, Frames, Free, Graph, HasItsBlocks, Image, IsBareRoot, IsClaimed, IsEntered, IsEntry, IsLeastFree, IsLoose, IsOpenTo, IsRootBlock, MapEntry, Opened, ReadsAs, StandsForNone, bare_has, bare_object, bare_reads, bare_unmeant, block_at, both_ways, changes_content, changes_entry, changes_then, created_of, entry_in, entry_in-set, entry_in-with_entry_other, entry_in-with_entry_same, false_from_ne_true, first_number, frames_begin, free_is, free_is_loose, get_or-set_same, has_block, has_number, ids_of, in_image, is_free_entry, is_had, is_owned_by, is_taken, length-with_entry, loose_entry, made_not_free, puid_at, node_pointers, not_map, object_of_block, of_owner, of_taken, owns_nothing, part_of, pointers_of, rises, root_spelling, same_or_not, sight, with_entry, with_object}
 use Rattle.block_tree.specs.declared.root.Root as roots
-use Rattle.index_drafts.specs.Creates.{root_entry}
+use Rattle.index_drafts.specs.Creates.{new_root_entry}
 use Rattle.index_ops.specs.Creates.{IsBare, Spells}
 use Rattle.index_drafts.proofs.Added.{object_added}
 
-pub root_is_entry : (n : ℕ) → n ≢ 0 → n < 2 ^ 32 → IsEntry (root_entry n)
+pub root_is_entry : (n : ℕ) → n ≢ 0 → n < 2 ^ 32 → IsEntry (new_root_entry n)
 root_is_entry n some small = record { in_table = rw (lt-ltb 0 n (omega (arith, some)), lt-ltb n (2 ^ 32) small) refl }
 
-module _ (a : Image) (graph : Graph) (ds : List Opened) (had : Accounts a graph ds) (c : ℕ) (least : IsLeastFree a c) (is_entry : IsEntry (root_entry c)) (root : roots.Root) where
+module _ (a : Image) (graph : Graph) (ds : List Opened) (had : Accounts a graph ds) (c : ℕ) (least : IsLeastFree a c) (is_entry : IsEntry (new_root_entry c)) (root : roots.Root) where
   abbrev pub entered : Image
-  entered = with_entry a c (root_entry c)
+  entered = with_entry a c (new_root_entry c)
 
   abbrev pub written : Image
   written = set entered c (root_spelling root)
@@ -31,28 +31,28 @@ module _ (a : Image) (graph : Graph) (ds : List Opened) (had : Accounts a graph 
   none_stands e x p found bit = absurd (both_ways _ (had.objects x p found).no_bit bit)
 
   pub entered_framed : Frames a graph entered
-  entered_framed = loose_entry a graph a c (root_entry c) was.0 had.holds (frames_begin a graph had.holds) loose was.1 is_entry (λ r. refl) (none_stands (root_entry c)) (none_stands was.0)
+  entered_framed = loose_entry a graph a c (new_root_entry c) was.0 had.holds (frames_begin a graph had.holds) loose was.1 is_entry (λ r. refl) (none_stands (new_root_entry c)) (none_stands was.0)
 
-  entry_here : entry_in written c ≡ Some (root_entry c)
-  entry_here = entry_in-set entered c (root_spelling root) c real ∙ entry_in-with_entry_same a c (root_entry c) was.0 was.1 is_entry
+  entry_here : entry_in written c ≡ Some (new_root_entry c)
+  entry_here = entry_in-set entered c (root_spelling root) c real ∙ entry_in-with_entry_same a c (new_root_entry c) was.0 was.1 is_entry
 
   entry_other : (n : ℕ) → n ≢ c → entry_in written n ≡ entry_in a n
-  entry_other n other = entry_in-set entered c (root_spelling root) n real ∙ entry_in-with_entry_other a c (root_entry c) was.0 n was.1 other
+  entry_other n other = entry_in-set entered c (root_spelling root) n real ∙ entry_in-with_entry_other a c (new_root_entry c) was.0 n was.1 other
 
   block_here : block_at written c ≡ root_spelling root
-  block_here = get_or-set_same entered c (root_spelling root) [] (omega (arith, below, length-with_entry a c (root_entry c)))
+  block_here = get_or-set_same entered c (root_spelling root) [] (omega (arith, below, length-with_entry a c (new_root_entry c)))
 
-  pub claim : IsClaimed (root_entry c) a written
+  pub claim : IsClaimed (new_root_entry c) a written
   claim = record { block = c; least = least; here = entry_here; others = entry_other }
 
-  opens : IsOpenTo (λ e. of_owner c e) (Some (root_entry c))
+  opens : IsOpenTo (λ e. of_owner c e) (Some (new_root_entry c))
   opens = inr (refl, first_number c [])
 
   pub only : ChangesOnly (λ e. of_owner c e) a written
   only =
-      let one = changes_entry (λ e. of_owner c e) a c (root_entry c) was.0 had.holds.maps had.holds.own loose.apart was.1 is_entry (λ r. refl) (inl (ap is_free_entry (sym was.1) ∙ least.free)) opens in
+      let one = changes_entry (λ e. of_owner c e) a c (new_root_entry c) was.0 had.holds.maps had.holds.own loose.apart was.1 is_entry (λ r. refl) (inl (ap is_free_entry (sym was.1) ∙ least.free)) opens in
       changes_then (λ e. of_owner c e) a entered written one
-      (changes_content (λ e. of_owner c e) entered c (root_spelling root) one.maps one.own loose.apart (subst (IsOpenTo (λ e. of_owner c e)) (sym (entry_in-with_entry_same a c (root_entry c) was.0 was.1 is_entry)) opens))
+      (changes_content (λ e. of_owner c e) entered c (root_spelling root) one.maps one.own loose.apart (subst (IsOpenTo (λ e. of_owner c e)) (sym (entry_in-with_entry_same a c (new_root_entry c) was.0 was.1 is_entry)) opens))
 
   pub fresh : rises (ids_of graph) ≡ true → has_block graph.objects c ≡ false
   fresh ordered = false_from_ne_true _ (λ there.
@@ -73,8 +73,8 @@ module _ (a : Image) (graph : Graph) (ds : List Opened) (had : Accounts a graph 
 
     alone : IsEntered written written c
     alone = record {
-      had = ap (is_of is_had c) entry_here ∙ eq-eqb c c refl;
-      alone = λ n of_c. ⊎_elim (λ is. is) (λ other. absurd (both_ways _ (owns_nothing a graph ds had c least.free n) (ap (is_of is_taken c) (sym (entry_other n other)) ∙ of_c))) (same_or_not n c);
+      had = ap (is_owned_by is_had c) entry_here ∙ eq-eqb c c refl;
+      alone = λ n of_c. ⊎_elim (λ is. is) (λ other. absurd (both_ways _ (owns_nothing a graph ds had c least.free n) (ap (is_owned_by is_taken c) (sym (entry_other n other)) ∙ of_c))) (same_or_not n c);
       same = record { part = refl; content = refl };
     }
 

@@ -41,18 +41,18 @@ pub use Rattle.special_files.proofs.Meant.{free_is}
 pub use Rattle.special_files.proofs.PutCall.{find_sound}
 pub use Rattle.special_files.proofs.Refusals.{refusal_after_reads}
 pub use Rattle.special_files.proofs.WriteLeaf.{ends_as}
-pub use Rattle.special_files.specs.Becomes.{Becomes}
-pub use Rattle.special_files.specs.Calls.{WritesBlock}
+pub use Rattle.special_files.specs.Becomes.{DraftBecomes}
+pub use Rattle.special_files.specs.Calls.{WritesDraftBlock}
 pub use Rattle.special_files.specs.Committing.{CommitEnds, Dropped, IsEntered, as_refused, puid_at}
 pub use Rattle.special_files.specs.Drafting.{Drafting, IsOpen, begun_at, fresh_of, draft_takes, opened_as}
-pub use Rattle.special_files.specs.Ends.{Ends}
+pub use Rattle.special_files.specs.Ends.{EndsCall}
 pub use Rattle.special_files.specs.Fills.{filled_draft}
-pub use Rattle.special_files.specs.Leaves.{SameBeside, leaves_of}
+pub use Rattle.special_files.specs.Leaves.{SameBeside, leaves_below}
 pub use Rattle.special_files.specs.Order.{leaf_claims}
 pub use Rattle.special_files.specs.Puts.{StaysBut}
-pub use Rattle.special_files.specs.Refusal.{IsRefusal, IsTrouble, is_damaged, is_full_refusal}
+pub use Rattle.special_files.specs.Refusal.{IsDraftRefusal, IsDraftTrouble, has_met_damage, is_full_refusal}
 pub use Rattle.special_files.specs.Store.{Steps}
-pub use Rattle.special_files.specs.View.{Goes, View}
+pub use Rattle.special_files.specs.View.{GoesHolding, DraftView}
 pub use Rattle.special_files.specs.declared.fill.Swap.{Swap}
 pub use Rattle.std.proofs.Common.{Bool, Err, IsTrue, List, None, Ok, Option, Some, [], ap, arith, cond, eq-eqb, false, get_or, inl, inr, length, lt-ltb, refl, set, subst, sym, true, ℕ, ⊎_elim, ◌%◌, ◌*◌, ◌+◌, ◌/◌, ◌<◌, ◌^◌, ◌∙◌, ◌∷◌, ◌≡◌, ◌≢◌, ◌≤◌, ◌⊎◌}
 pub use Rattle.std.proofs.lemmas.Bool.{and_from, and_parts, both_ways, cases_lt, eqb-true, false_from_ne_true, ne_eqb, or_cases, or_left, or_right}
@@ -89,4 +89,4 @@ pub use Rattle.vol_owners.proofs.Owners.{accounts_go_on, list_misses, object_goe
 pub use Rattle.vol_owners.proofs.Rooms.{owns_nothing}
 pub use Rattle.vol_owners.specs.Account.{Accounts, HasDrafts, HasItsBlocks, Opened, created_of, drafts_of, is_meant_for}
 pub use Rattle.vol_owners.specs.Change.{ChangesOnly, IsOpenTo, of_draft, of_owner}
-pub use Rattle.vol_owners.specs.Owner.{is_had, is_leaving, is_meant, is_of, is_placed, is_taken}
+pub use Rattle.vol_owners.specs.Owner.{is_had, is_leaving, is_meant, is_owned_by, is_placed, is_taken}

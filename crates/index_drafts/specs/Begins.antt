@@ -11,8 +11,9 @@ use Rattle.cfs_base.specs.declared.refusal.Refused.{Refused}
 use Rattle.cfs_base.specs.declared.refusal.Refused.TheVariants as refusals
 use Rattle.cyl_alloc.specs.Space.{IsLeastFree, Kept}
 use Rattle.intentions.specs.Store.{StoreHas}
+use Rattle.leaf_changes.specs.Tops.{still_top}
 use Rattle.special_files.specs.Drafting.{Drafting, IsOpen, begun_at, opened_as}
-use Rattle.special_files.specs.Refusal.{IsRefusal, is_damaged, is_full_refusal}
+use Rattle.special_files.specs.Refusal.{IsDraftRefusal, has_met_damage, is_full_refusal}
 use Rattle.special_files.specs.Store.{Steps}
 use Rattle.ufs_model.specs.Graph.{Graph, object_at}
 use Rattle.ufs_model.specs.declared.object.Draft.{Draft}
@@ -48,7 +49,7 @@ pub record BeginsDraft {D : Type 0} {g : Ghosts D} {old : D} {before : Kept} {at
     (new : D) (after : Kept) (result : Result Drafting Refused) : Type 0 where
   pub done : IfOk result (OpensDraft i new after)
   pub leaves : Leaves g old new (λ c. Holds c i.graph)
-  pub sound : IfErr result (λ e. is_damaged e ≡ false)
+  pub sound : IfErr result (λ e. has_met_damage e ≡ false)
 
 -- how it ends on any disk: Full where fewer blocks are Free than 1 and the floor, and nothing was done then
 pub record BeginCall {D : Type 0} (g : Ghosts D) (at floor : ℕ) (old new : D) (before after : Kept)
@@ -58,7 +59,7 @@ pub record BeginCall {D : Type 0} (g : Ghosts D) (at floor : ℕ) (old new : D) 
   pub room : IfOk result (λ draft. 1 + floor ≤ sum before.free)
   pub full : IfErr result (λ e. is_full_refusal e ≡ true
       → (e ≡ refusals.Full (record { free = sum before.free; need = 1 })) × (sum before.free < 1 + floor) × (new ≡ old))
-  pub refused : IfErr result (IsRefusal g at floor old new after)
+  pub refused : IfErr result (IsDraftRefusal g (still_top at) floor old new after)
   pub untried : IfErr result (λ e. had_tried e ≡ false → (after ≡ before) × OnlyReads g 2 old new)
   pub cylinders : length after.free ≡ length before.free
   pub left : after.left ≡ before.left

@@ -19,7 +19,7 @@ use Rattle.special_files.specs.Drafting.{Drafting, IsOpen, draft_takes, opened_a
 use Rattle.special_files.specs.Fills.{filled_draft}
 use Rattle.special_files.specs.Order.{leaf_claims}
 use Rattle.special_files.specs.Puts.{StaysBut}
-use Rattle.special_files.specs.Refusal.{IsRefusal, is_damaged}
+use Rattle.special_files.specs.Refusal.{IsDraftRefusal, has_met_damage, top_of}
 use Rattle.special_files.specs.Store.{replaced}
 use Rattle.ufs_model.specs.Graph.{Graph, has_block, with_object}
 use Rattle.ufs_model.specs.declared.object.Draft.{Draft}
@@ -29,8 +29,8 @@ use Rattle.vol_owners.specs.Account.{Opened}
 use Rattle.vol_owners.specs.Change.{ChangesOnly, of_draft, of_owner}
 
 -- the entry of the root of a new object
-abbrev pub root_entry : ℕ → MapEntry
-root_entry n = allocated places.Root n
+abbrev pub new_root_entry : ℕ → MapEntry
+new_root_entry n = allocated places.Root n
 
 -- ---- the object alone
 
@@ -40,7 +40,7 @@ pub record MakesAlone {D : Type 0} (g : Ghosts D) (graph : Graph) (ds : List Ope
     (old new : D) (after : Kept) : Type 0 where
   pub fresh : has_block graph.objects id.block ≡ false
   pub store : StoreHas g (with_object graph id made) ds new after
-  pub claim : IsClaimed (root_entry id.block) (g.content old) (g.content new)
+  pub claim : IsClaimed (new_root_entry id.block) (g.content old) (g.content new)
   pub only : ChangesOnly (λ entry. of_owner id.block entry) (g.content old) (g.content new)
 
 -- ---- with the slot
@@ -63,7 +63,7 @@ pub record CreatesInDraft {D : Type 0} {g : Ghosts D} {old : D} {before : Kept} 
     (id : Puid) : Type 0 where
   pub store : StoreHas g (with_object i.view.graph id made) (drafts_then i slot id now) new after
   pub is_open : IsOpen (drafts_then i slot id now) i.view.id now (made_in i slot id)
-  pub order : AreClaimed (root_entry id.block ∷ leaf_claims was.at was.leaves was.nodes (slot / 64)) (g.content old)
+  pub order : AreClaimed (new_root_entry id.block ∷ leaf_claims was.at was.leaves was.nodes (slot / 64)) (g.content old)
       (g.content new)
   pub least : IsLeastFree (g.content old) id.block
   pub only : ChangesOnly (λ entry. of_owner id.block entry || of_draft i.view.id.block entry) (g.content old)
@@ -76,7 +76,7 @@ pub record CreateEnds {D : Type 0} {g : Ghosts D} {old : D} {before : Kept} {was
   pub done : IfOk result (λ id. (id.word ≡ word) × CreatesInDraft i slot made new after now id)
   pub leaves : Leaves g old new (λ c. Holds c i.view.graph
       ⊎ ((b : ℕ) × IsLeastFree (g.content old) b × Holds c (with_object i.view.graph (puid_at b word) made)))
-  pub sound : IfErr result (λ e. is_damaged e ≡ false)
+  pub sound : IfErr result (λ e. has_met_damage e ≡ false)
 
 -- how it ends on any disk
 pub record CreateCall {D : Type 0} (g : Ghosts D) (slot floor : ℕ) (old new : D) (before after : Kept)
@@ -84,7 +84,7 @@ pub record CreateCall {D : Type 0} (g : Ghosts D) (slot floor : ℕ) (old new : 
   pub stays : StaysBut was now
   pub full : IsFullBelow (1 + draft_takes was (slot / 64)) floor old new before after was now result
   pub told : OnOk result ((b : ℕ) → IsTrue (g.told old b) → IsTrue (g.told new b))
-  pub refused : IfErr result (λ e. IsRefusal g was.at floor old new after e ⊎ IsOpenMap g old before e)
+  pub refused : IfErr result (λ e. IsDraftRefusal g (top_of was) floor old new after e ⊎ IsOpenMap g old before e)
   pub untried : IfErr result (λ e. e ≡ refusals.Disk false
       → (now ≡ was) × (after ≡ before) × OnlyReads g 5 old new)
   pub cylinders : length after.free ≡ length before.free

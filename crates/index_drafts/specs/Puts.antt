@@ -7,15 +7,15 @@ use Rattle.cfs_base.specs.declared.refusal.Refused.{Refused}
 use Rattle.cfs_base.specs.declared.refusal.Refused.TheVariants as refusals
 use Rattle.claims.specs.Claims.{AreClaimed}
 use Rattle.cyl_alloc.specs.Space.{Kept}
-use Rattle.special_files.specs.Becomes.{Becomes}
+use Rattle.special_files.specs.Becomes.{DraftBecomes}
 use Rattle.special_files.specs.Drafting.{Drafting, draft_takes}
-use Rattle.special_files.specs.Ends.{Ends}
+use Rattle.special_files.specs.Ends.{EndsCall}
 use Rattle.special_files.specs.Fills.{filled_draft}
 use Rattle.special_files.specs.Leaves.{SameBeside}
 use Rattle.special_files.specs.Order.{leaf_claims}
 use Rattle.special_files.specs.Puts.{StaysBut}
-use Rattle.special_files.specs.Refusal.{is_full_refusal}
-use Rattle.special_files.specs.View.{View}
+use Rattle.special_files.specs.Refusal.{is_full_refusal, top_of}
+use Rattle.special_files.specs.View.{DraftView}
 use Rattle.ufs_model.specs.Numbers.{missing}
 use Rattle.ufs_model.specs.Object.{written_anew}
 use Rattle.ufs_model.specs.declared.change.Change.TheVariants.{Fill}
@@ -26,7 +26,7 @@ use Rattle.vol_image.specs.Seen.{tree_in}
 
 -- The store has the draft, and what it is of the model is this index.
 pub record IndexView {D : Type 0} (g : Ghosts D) (disk : D) (space : Kept) (was : Drafting) : Type 0 where
-  pub view : View g disk space was
+  pub view : DraftView g disk space was
   pub index : Index
   pub is : view.draft.object ≡ objects.Index index
 
@@ -39,7 +39,8 @@ slot_need slot d = missing (written_anew (Fill slot None) d.object d.fresh) d.fr
 pub record PutsInDraft {D : Type 0} {g : Ghosts D} {old : D} {before : Kept} {was : Drafting}
     (i : IndexView g old before was) (slot : ℕ) (what : Option Puid) (new : D) (after : Kept)
     (now : Drafting) : Type 0 where
-  pub becomes : Becomes g i.view.graph i.view.ds i.view.id (filled_draft i.index slot what i.view.draft) old new after
+  pub becomes : DraftBecomes g i.view.graph i.view.ds i.view.id (filled_draft i.index slot what i.view.draft) old new
+      after
       now
   pub order : ((what ≡ None) × (g.content new ≡ g.content old))
       ⊎ AreClaimed (leaf_claims was.at was.leaves was.nodes (slot / 64)) (g.content old) (g.content new)
@@ -59,5 +60,5 @@ pub record PutCall {D : Type 0} (g : Ghosts D) (slot floor : ℕ) (old new : D) 
     (result : Result (Unit {0}) Refused) : Type 0 where
   pub stays : StaysBut was now
   pub full : IsFullBelow (draft_takes was (slot / 64)) floor old new before after was now result
-  pub ends : Ends g was.at floor 8 4 (draft_takes was (slot / 64)) old new before after result
+  pub ends : EndsCall g (top_of was) floor 8 4 (draft_takes was (slot / 64)) old new before after result
   pub kept : IfErr result (λ e. e ≡ refusals.Disk false → now ≡ was)

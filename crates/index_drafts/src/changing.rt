@@ -3,7 +3,7 @@ ghost use Rattle.std.specs.Prelude.{◌≡◌, ◌≢◌, ◌+◌, ◌*◌, ◌/
 ghost use Rattle.index_drafts.specs.Puts.{IndexView, PutCall, PutsInDraft, slot_need};
 ghost use Rattle.leaf_changes.specs.Bytes.{IsSlot};
 ghost use Rattle.special_files.specs.Drafting.{draft_takes};
-ghost use Rattle.special_files.specs.View.{Goes};
+ghost use Rattle.special_files.specs.View.{GoesHolding};
 
 use crate::draft::IndexDraft;
 use cfs_base::{Disk, Puid, Refused};
@@ -23,7 +23,7 @@ impl IndexDraft {
         requires size { D.blocks disk.old ≡ 64 * length space.old.free }
         requires within { 8 * slot + 8 ≤ self.old.root.size }
         requires slot { IsSlot what }
-        ensures puts { (i : IndexView D.Disk disk.old space.old self.old) → Goes D.Disk i.view.graph
+        ensures puts { (i : IndexView D.Disk disk.old space.old self.old) → GoesHolding D.Disk i.view.graph
             (PutsInDraft i slot what disk.new space.new self.new) disk.old disk.new result }
         ensures need { (i : IndexView D.Disk disk.old space.old self.old)
             → draft_takes self.old (slot / 64) ≡ slot_need slot i.view.draft }
@@ -51,7 +51,7 @@ impl IndexDraft {
         requires size { D.blocks disk.old ≡ 64 * length space.old.free }
         requires within { 8 * slot + 8 ≤ self.old.root.size }
         requires id { id.block ≢ 0 }
-        ensures puts { (i : IndexView D.Disk disk.old space.old self.old) → Goes D.Disk i.view.graph
+        ensures puts { (i : IndexView D.Disk disk.old space.old self.old) → GoesHolding D.Disk i.view.graph
             (PutsInDraft i slot (Some id) disk.new space.new self.new) disk.old disk.new result }
         ensures need { (i : IndexView D.Disk disk.old space.old self.old)
             → draft_takes self.old (slot / 64) ≡ slot_need slot i.view.draft }
@@ -71,7 +71,7 @@ impl IndexDraft {
         requires on_disk { self.old.at < D.blocks disk.old }
         requires size { D.blocks disk.old ≡ 64 * length space.old.free }
         requires within { 8 * slot + 8 ≤ self.old.root.size }
-        ensures puts { (i : IndexView D.Disk disk.old space.old self.old) → Goes D.Disk i.view.graph
+        ensures puts { (i : IndexView D.Disk disk.old space.old self.old) → GoesHolding D.Disk i.view.graph
             (PutsInDraft i slot None disk.new space.new self.new) disk.old disk.new result }
         ensures need { (i : IndexView D.Disk disk.old space.old self.old)
             → draft_takes self.old (slot / 64) ≡ slot_need slot i.view.draft }

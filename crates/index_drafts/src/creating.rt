@@ -6,11 +6,12 @@ ghost use Rattle.index_drafts.specs.Creates as spec;
 ghost use Rattle.index_drafts.specs.Puts.{IndexView, slot_need};
 ghost use Rattle.index_ops.specs.Creates.{IsBare, MayBeMade, made_of};
 ghost use Rattle.intentions.specs.Store.{StoreHas};
+ghost use Rattle.leaf_changes.specs.Tops.{still_top};
 ghost use Rattle.special_files.specs.Committing.{puid_at};
 ghost use Rattle.special_files.specs.Drafting.{draft_takes};
-ghost use Rattle.special_files.specs.Ends.{Ends};
+ghost use Rattle.special_files.specs.Ends.{EndsCall};
 ghost use Rattle.special_files.specs.Refusal.{is_full_refusal};
-ghost use Rattle.special_files.specs.View.{Goes};
+ghost use Rattle.special_files.specs.View.{GoesHolding};
 ghost use Rattle.ufs_model.specs.Graph.{Graph};
 ghost use Rattle.vol_image.specs.Reading.{bare_object};
 ghost use Rattle.vol_owners.specs.Account.{Opened};
@@ -36,11 +37,12 @@ fn make_at<D: Disk>(
     requires room { 1 ≤ sum space.old.free }
     ensures makes { (graph : Graph) (ds : List Opened) → StoreHas D.Disk graph ds disk.old space.old
         → IsLeastFree (D.content disk.old) block.0 → IsBare root.now
-        → Goes D.Disk graph (spec.MakesAlone D.Disk graph ds (puid_at block.0 root.now.word) (bare_object root.now)
+        → GoesHolding D.Disk graph
+        (spec.MakesAlone D.Disk graph ds (puid_at block.0 root.now.word) (bare_object root.now)
         disk.old disk.new space.new) disk.old disk.new result }
     ensures tried { OnOk result (HasTried D.Disk disk.old disk.new) }
     ensures spare { IfErr result (λ e. is_full_refusal e ≡ false) }
-    ensures ends { (at : ℕ) → Ends D.Disk at 0 4 3 1 disk.old disk.new space.old space.new result }
+    ensures ends { (at : ℕ) → EndsCall D.Disk (still_top at) 0 4 3 1 disk.old disk.new space.old space.new result }
 {
     space.claim(disk, Place::Root, block.0)?; // again the least, which is this one
     write_root(disk, block, root)?;

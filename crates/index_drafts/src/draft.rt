@@ -7,14 +7,14 @@ ghost use Rattle.cfs_base.specs.Disk.{Image};
 ghost use Rattle.cfs_base.specs.Refusals.{trouble_had_tried};
 ghost use Rattle.cfs_base.specs.declared.identifier.Puid.{Puid};
 ghost use Rattle.cfs_base.specs.declared.refusal.Trouble.TheVariants as troubles;
-ghost use Rattle.cyl_alloc.specs.Left.{Left};
+ghost use Rattle.cyl_alloc.specs.Left.{LeftCommit};
 ghost use Rattle.cyl_alloc.specs.Space.{Kept};
 ghost use Rattle.index_drafts.specs.Begins.{BeginCall, BeginsDraft, IsShut};
 ghost use Rattle.index_drafts.specs.Puts.{IndexView};
 ghost use Rattle.intentions.specs.Left.{StoreIs};
-ghost use Rattle.special_files.specs.Committing.{AbortEnds, CommitEnds, IsNoted};
+ghost use Rattle.special_files.specs.Committing.{AbortEnds, CommitEnds, IsNoted, draft_top};
 ghost use Rattle.special_files.specs.Drafting.{IsOpen, opened_as};
-ghost use Rattle.special_files.specs.Refusal.{IsTrouble};
+ghost use Rattle.special_files.specs.Refusal.{IsDraftTrouble, top_of};
 ghost use Rattle.ufs_model.specs.Graph.{Graph, object_at};
 ghost use Rattle.ufs_model.specs.Object.{slot_of};
 ghost use Rattle.ufs_model.specs.declared.object.Draft as drafts;
@@ -93,7 +93,8 @@ impl IndexDraft {
             (i : Index)
             → StoreIs D.Disk graph ds disk.old space → object_at graph id ≡ Some o → IsOpen ds id self.now d
             → d.object ≡ objects.Index i → IfOk result (λ what. what ≡ slot_of i slot) }
-        ensures refused { (kept : Kept) → IfErr result (IsTrouble D.Disk self.now.at disk.old disk.new kept) }
+        ensures refused { (kept : Kept)
+            → IfErr result (IsDraftTrouble D.Disk (top_of self.now) disk.old disk.new kept) }
         ensures untried { IfErr result (λ trouble. trouble_had_tried trouble ≡ false) }
         // No damage where the disk holds the index.
         ensures sound { (graph : Graph) (ds : List Opened) (space : Kept) (id : Puid) (o : Object) (d : drafts.Draft)
@@ -116,13 +117,13 @@ impl IndexDraft {
         ensures commits { (i : IndexView D.Disk disk.old space.old self)
             → CommitEnds D.Disk i.view.graph i.view.ds i.view.id (objects.Index i.index) None disk.old disk.new
             space.new result }
-        ensures refused { IfErr result (IsTrouble D.Disk self.at disk.old disk.new space.new) }
+        ensures refused { IfErr result (IsDraftTrouble D.Disk (draft_top self) disk.old disk.new space.new) }
         // Where a device call failed a write or a barrier was tried.
         ensures tried { IfErr result (λ trouble. trouble ≢ troubles.Disk false) }
         ensures made { OnOk result (HasTried D.Disk disk.old disk.new) }
         ensures cylinders { length space.new.free ≡ length space.old.free }
         // What is left of it is kept.
-        ensures left { OnOk result ((l : Left) × IsNoted self.at space.new.left l) }
+        ensures left { OnOk result ((l : LeftCommit) × IsNoted self.at space.new.left l) }
         ensures calls { MakesAtMost D.Disk 31207 15485 disk.old disk.new }
     {
         self.draft.commit(disk, space)
@@ -135,7 +136,7 @@ impl IndexDraft {
         requires size { D.blocks disk.old ≡ 64 * length space.old.free }
         ensures aborts { (i : IndexView D.Disk disk.old space.old self)
             → AbortEnds D.Disk i.view.graph i.view.ds i.view.id None disk.old disk.new space.new result }
-        ensures refused { IfErr result (IsTrouble D.Disk self.at disk.old disk.new space.new) }
+        ensures refused { IfErr result (IsDraftTrouble D.Disk (draft_top self) disk.old disk.new space.new) }
         ensures tried { IfErr result (λ trouble. trouble ≢ troubles.Disk false) }
         ensures made { OnOk result (HasTried D.Disk disk.old disk.new) }
         ensures cylinders { length space.new.free ≡ length space.old.free }

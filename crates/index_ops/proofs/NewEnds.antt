@@ -1,23 +1,24 @@
 -- How the making of an object ends, and the root of a new one.
-use Rattle.index_ops.proofs.Words.{◌≡◌, ◌⊎◌, inl, inr, ⊎_elim, ℕ, ◌+◌, ◌/◌, ◌≤◌, false, List, [], ◌∷◌, length, Option, Ok, Err, refl, sym, ◌∙◌, ap, subst, arith, Result, replicate, HasTried, MakesAtMost, OnlyReads, Image, Nothing, after_try, refused_by, trouble_after_try, Leaves, Ghosts, Puid, Kind, Refused, Trouble, makes_then, reads_make, reads_then, reads_within, tells_on, tried_then, then_tried, then, wider, IsLeastFree, Kept, intended, puid_at, Ends, IsRefusal, IsTrouble, is_damaged, is_full_refusal, Swap, makes_more, ends_then_err, ends_then_ok, trouble_after_tried, refusal_after_reads, refusal_of, Graph, Index, Object, bare_object, Holds, bare_index, bare_normal, bare_special, Opened, ChangesOnly, of_owners}
+use Rattle.index_ops.proofs.Words.{◌≡◌, ◌⊎◌, inl, inr, ⊎_elim, ℕ, ◌+◌, ◌/◌, ◌≤◌, false, List, [], ◌∷◌, length, Option, Ok, Err, refl, sym, ◌∙◌, ap, subst, arith, Result, replicate, HasTried, MakesAtMost, OnlyReads, Image, Nothing, after_try, refused_by, trouble_after_try, Leaves, Ghosts, Puid, Kind, Refused, Trouble, makes_then, reads_make, reads_then, reads_within, tells_on, tried_then, then_tried, then, wider, IsLeastFree, Kept, intended, puid_at, EndsCall, IsDraftRefusal, IsDraftTrouble, has_met_damage, is_full_refusal, Swap, makes_more, ends_then_err, ends_then_ok, trouble_after_tried, refusal_after_reads, refusal_of, Graph, Index, Object, bare_object, Holds, bare_index, bare_normal, bare_special, Opened, ChangesOnly, of_owners}
 use Rattle.cfs_base.specs.declared.kind.Place.TheVariants.{Root}
-use Rattle.index_ops.specs.Changes.{HasSlot, IsIndexRefusal, IsOneLeaf, Takes, leaf_and_node}
+use Rattle.index_ops.specs.Changes.{HasSlot, IsIndexRefusal, IsOneLeaf, TakesEntries, leaf_and_node}
 use Rattle.index_ops.specs.Creates.{Creates, IsBare, IsOpenMap, MakeEnds, MayBeMade, PutsObject, made_of, with_made}
 use Rattle.index_ops.proofs.Putting.{from_refusal}
-use Rattle.cyl_alloc.specs.Left.{Left}
-use Rattle.intentions.specs.Left.{end_of}
+use Rattle.cyl_alloc.specs.Left.{LeftCommit}
+use Rattle.intentions.specs.Left.{final_image}
 use Rattle.special_files.specs.Committing.{IsAtBit, IsNoted}
 use Rattle.index_ops.proofs.NewObjects.{not_full}
 use Rattle.cfs_base.specs.declared.kind.Kind.TheVariants as kinds
 use Rattle.cfs_base.specs.declared.refusal.Refused.TheVariants as refused
 use Rattle.block_tree.specs.declared.root.Root as roots
+use Rattle.leaf_changes.specs.Tops.{Top, disk_top}
 
 -- ---- how the call ends
 
 module _ {D : Type 0} (g : Ghosts D) (at slot : ℕ) (d0 : D) (k0 : Kept) where
   -- refused when only reads were made
   pub err_reads : (made : Object) (word : ℕ) (d1 : D) (k1 : Kept) (n : ℕ) (e : Refused) → n ≤ 9 → OnlyReads g n d0 d1 → k1 ≡ k0 → IsIndexRefusal g at slot d0 d1 k1 e ⊎ IsOpenMap g d0 k0 e
-      → ((graph : Graph) (ds : List Opened) (id : Puid) (i : Index) → HasSlot g graph ds d0 k0 at id i slot → is_damaged e ≡ false) → PutsObject g at slot made word d0 d1 k0 k1 (Err e)
+      → ((graph : Graph) (ds : List Opened) (id : Puid) (i : Index) → HasSlot g graph ds d0 k0 at id i slot → has_met_damage e ≡ false) → PutsObject g at slot made word d0 d1 k0 k1 (Err e)
   err_reads made word d1 k1 n e few reads kept why sound = record {
     done = λ graph ds id i has. tt;
     leaves = λ graph ds id i has. wider g d0 d1 Nothing _ reads.images (λ c none. absurd none);
@@ -44,7 +45,7 @@ module _ {D : Type 0} (g : Ghosts D) (at slot : ℕ) (d0 : D) (k0 : Kept) where
     all : MakesAtMost g 24 13 d0 d3
     all = makes_then g d0 d2 d3 2 22 24 0 13 13 (reads_make g d0 d2 2 reads) made (omega arith) (omega arith)
 
-    pub made_done : (p : Puid) → ((l : Left) × IsNoted at k3.left l) → IsAtBit g d2 d3 k3.left → p ≡ puid_at c root.word → Ends3 (Ok p) → PutsObject g at slot (bare_object root) root.word d0 d3 k0 k3 (Ok p)
+    pub made_done : (p : Puid) → ((l : LeftCommit) × IsNoted at k3.left l) → IsAtBit g d2 d3 k3.left → p ≡ puid_at c root.word → Ends3 (Ok p) → PutsObject g at slot (bare_object root) root.word d0 d3 k0 k3 (Ok p)
     made_done p left bit is ends = record {
       done = λ graph ds id i has.
           let done = (ends graph ds id i has).done in (
@@ -53,9 +54,9 @@ module _ {D : Type 0} (g : Ghosts D) (at slot : ℕ) (d0 : D) (k0 : Kept) where
               least = least graph ds id i has;
               store = done.store;
               settled = done.settled;
-              only = subst (λ (x : Image). ChangesOnly (λ entry. of_owners (id.block ∷ c ∷ []) entry) x (end_of g d3 k3)) reads.content done.only;
-              beside = subst (λ (x : Image). IsOneLeaf (slot / 64) id.block x (end_of g d3 k3)) reads.content done.beside;
-              takes = subst (λ (x : Image). Takes (intended Root c ∷ leaf_and_node (slot / 64) id.block) id.block (c ∷ []) x (end_of g d3 k3)) reads.content done.takes;
+              only = subst (λ (x : Image). ChangesOnly (λ entry. of_owners (id.block ∷ c ∷ []) entry) x (final_image g d3 k3)) reads.content done.only;
+              beside = subst (λ (x : Image). IsOneLeaf (slot / 64) id.block x (final_image g d3 k3)) reads.content done.beside;
+              takes = subst (λ (x : Image). TakesEntries (intended Root c ∷ leaf_and_node (slot / 64) id.block) id.block (c ∷ []) x (final_image g d3 k3)) reads.content done.takes;
             }),
           );
       leaves = images (Ok p) ends;
@@ -68,12 +69,12 @@ module _ {D : Type 0} (g : Ghosts D) (at slot : ℕ) (d0 : D) (k0 : Kept) where
       calls = all;
     }
 
-    pub made_err : (e : Refused) → IsRefusal g at 0 d2 d3 k3 e × (is_full_refusal e ≡ false) → (e ≡ refused.Disk false → (k3 ≡ k1) × OnlyReads g 3 d2 d3) → Ends3 (Err e) → PutsObject g at slot (bare_object root) root.word d0 d3 k0 k3 (Err e)
+    pub made_err : (e : Refused) → IsDraftRefusal g (disk_top g at d0) 0 d2 d3 k3 e × (is_full_refusal e ≡ false) → (e ≡ refused.Disk false → (k3 ≡ k1) × OnlyReads g 3 d2 d3) → Ends3 (Err e) → PutsObject g at slot (bare_object root) root.word d0 d3 k0 k3 (Err e)
     made_err e why untried ends = record {
       done = λ graph ds id i has. tt;
       leaves = images (Err e) ends;
       sound = λ graph ds id i has. (ends graph ds id i has).sound;
-      refused = inl (from_refusal g at slot d0 d3 k3 e (refusal_after_reads g at d0 d2 d3 k3 0 2 e reads why.0) why.1);
+      refused = inl (from_refusal g at slot d0 d3 k3 e (refusal_after_reads g (disk_top g at d0) d0 d2 d3 k3 0 2 e reads why.0) why.1);
       untried = λ same. let two = untried same in (two.0 ∙ kept, reads_then g d0 d2 d3 2 3 9 reads two.1 (omega arith));
       cylinders = cylinders ∙ ap (λ (k : Kept). length k.free) kept;
       left = tt;
@@ -89,17 +90,17 @@ full_stays (refused.Disk tried) is = refl
 full_stays (refused.Damaged damage) is = refl
 full_stays refused.Memory is = refl
 
-module _ {D : Type 0} (g : Ghosts D) (at : ℕ) (d0 d1 d2 : D) (k0 k1 k2 : Kept) (j : ℕ) (first : Ends {A = Unit {0}} g at 0 3 2 1 d0 d1 k0 k1 (Ok tt)) (tried : HasTried g d0 d1) where
-  pub fill_refused : (e : Refused) → Ends {A = Option Swap} g at 0 8 4 j d1 d2 k1 k2 (Err e) → is_full_refusal e ≡ false → IsRefusal g at 0 d0 d2 k2 (after_try e) × (is_full_refusal (after_try e) ≡ false)
+module _ {D : Type 0} (g : Ghosts D) (at : Top) (d0 d1 d2 : D) (k0 k1 k2 : Kept) (j : ℕ) (first : EndsCall {A = Unit {0}} g at 0 3 2 1 d0 d1 k0 k1 (Ok tt)) (tried : HasTried g d0 d1) where
+  pub fill_refused : (e : Refused) → EndsCall {A = Option Swap} g at 0 8 4 j d1 d2 k1 k2 (Err e) → is_full_refusal e ≡ false → IsDraftRefusal g at 0 d0 d2 k2 (after_try e) × (is_full_refusal (after_try e) ≡ false)
   fill_refused e ended spare =
-      let both : Ends {A = Option Swap} g at 0 11 6 (1 + j) d0 d2 k0 k2 (Err (after_try e)) = ends_then_err {A = Unit {0}} {B = Option Swap} g at 0 d0 d1 d2 k0 k1 k2 tt e 3 2 1 8 4 j first tried ended 11 6 (1 + j) (omega arith) (omega arith) (omega arith) in
+      let both : EndsCall {A = Option Swap} g at 0 11 6 (1 + j) d0 d2 k0 k2 (Err (after_try e)) = ends_then_err {A = Unit {0}} {B = Option Swap} g at 0 d0 d1 d2 k0 k1 k2 tt e 3 2 1 8 4 j first tried ended 11 6 (1 + j) (omega arith) (omega arith) (omega arith) in
       (both.refused, full_stays e spare)
 
-  module _ (put : Option Swap) (second : Ends {A = Option Swap} g at 0 8 4 j d1 d2 k1 k2 (Ok put)) (d3 : D) (k3 : Kept) where
-    both : Ends {A = Option Swap} g at 0 11 6 (1 + j) d0 d2 k0 k2 (Ok put)
+  module _ (put : Option Swap) (second : EndsCall {A = Option Swap} g at 0 8 4 j d1 d2 k1 k2 (Ok put)) (d3 : D) (k3 : Kept) where
+    both : EndsCall {A = Option Swap} g at 0 11 6 (1 + j) d0 d2 k0 k2 (Ok put)
     both = ends_then_ok {A = Unit {0}} {B = Option Swap} g at 0 d0 d1 d2 k0 k1 k2 tt put 3 2 1 8 4 j first second 11 6 (1 + j) (omega arith) (omega arith) (omega arith)
 
-    pub commit_refused : (t : Trouble) → IsTrouble g at d2 d3 k3 t → IsRefusal g at 0 d0 d3 k3 (refused_by (trouble_after_try t)) × (is_full_refusal (refused_by (trouble_after_try t)) ≡ false)
+    pub commit_refused : (t : Trouble) → IsDraftTrouble g at d2 d3 k3 t → IsDraftRefusal g at 0 d0 d3 k3 (refused_by (trouble_after_try t)) × (is_full_refusal (refused_by (trouble_after_try t)) ≡ false)
     commit_refused t why = (
       refusal_of g at 0 d0 d3 k3 (trouble_after_try t) (trouble_after_tried g at 0 d0 d2 d3 k3 11 6 both.calls (tried_then g d0 d1 d2 8 4 tried second.calls) both.told t why),
       not_full (trouble_after_try t),

@@ -1,6 +1,6 @@
 -- An object made, with the index that its identifier is put into.
-use Rattle.intentions.specs.Left.{StoreIs, end_of}
-use Rattle.index_ops.proofs.Words.{◌≡◌, ◌≢◌, inl, ⊎_elim, ℕ, zero, suc, ◌+◌, ◌-◌, ◌/◌, ◌%◌, ◌<◌, ◌≤◌, ◌^◌, Bool, true, false, List, [], ◌∷◌, ◌++◌, length, get_or, set, Option, Some, None, Ok, Err, refl, sym, ◌∙◌, ap, subst, eq-eqb, lt-ltb, arith, ◌==◌, not, sum, OnOk, IfErr, Result, option_to_list, and_from, and_parts, both_ways, false_from_ne_true, ne_eqb, get_or-set_other, get_or-set_same, sum_by-cons, HasTried, OnlyReads, Image, block_at, after_try, refused_by, trouble_after_try, trouble_had_tried, Leaves, Ghosts, Puid, Refused, Trouble, reads_within, then, wider, node_pointers, pointers_of, IsRootBlock, root_spelling, IsFindRefusal, IsMapTrouble, AreCounts, IsBadMap, IsLeastFree, Kept, after_taking, intended, counts_taken, IsEntry, entry_in, is_free_entry, is_free_in, map_of, with_entry, MapEntry, Free, block_at-with_entry, entry_in-set, entry_in-with_entry_other, entry_in-with_entry_same, length-with_entry, same_or_not, AreClaimed, ChangesEntry, Frame, MayPut, StoreHas, Claim, keeps_frame, on_entry, may_claim, Becomes, WritesBlock, Committed, Makes, puid_at, Drafting, IsOpen, begun_at, fresh_of, opened_as, Ends, filled_draft, SameBeside, leaf_claims, IsRefusal, NoMap, OtherCount, is_damage, is_damaged, is_full_refusal, replaced, framed_carries, framed_holds, written_framed, begun_fresh, first_number, more_numbers, no_damage, owners_change, length-none, first_here, first_others, bare_kept, content_kept, made_kept, counts_content, free_is, meant_open, the_draft, taken_not_free, makes_more, ends_then_err, ends_then_ok, write_ends, Graph, has_block, object_at, has_number, Index, Object, Frames, IsLoose, StandsForNone, is_fixed, part_of, reserved, bare_object, tree_in, Holds, IsBareRoot, loose_stays, free_is_loose, in_image, taken_apart, tree_placed, frames_begin, frames_content, not_map, same_tree, HasDraft, HasDrafts, HasItsBlocks, IsMade, Opened, created_of, drafts_of, numbers_differ, ChangesOnly, IsOpenTo, SameBut, SameOthers, of_draft, of_drafts, is_had, is_made, is_meant, is_of, is_placed, is_taken, owner_of, changes_content, changes_entry, changes_then, changes_wider, made_not_free, of_taken, block_there, object_of_block, draft_kept, drafts_miss, list_misses, owns_nothing, making_goes_on}
+use Rattle.intentions.specs.Left.{StoreIs, final_image}
+use Rattle.index_ops.proofs.Words.{◌≡◌, ◌≢◌, inl, ⊎_elim, ℕ, zero, suc, ◌+◌, ◌-◌, ◌/◌, ◌%◌, ◌<◌, ◌≤◌, ◌^◌, Bool, true, false, List, [], ◌∷◌, ◌++◌, length, get_or, set, Option, Some, None, Ok, Err, refl, sym, ◌∙◌, ap, subst, eq-eqb, lt-ltb, arith, ◌==◌, not, sum, OnOk, IfErr, Result, option_to_list, and_from, and_parts, both_ways, false_from_ne_true, ne_eqb, get_or-set_other, get_or-set_same, sum_by-cons, HasTried, OnlyReads, Image, block_at, after_try, refused_by, trouble_after_try, trouble_had_tried, Leaves, Ghosts, Puid, Refused, Trouble, reads_within, then, wider, node_pointers, pointers_of, IsRootBlock, root_spelling, IsFindRefusal, IsMapTrouble, AreCounts, IsBadMap, IsLeastFree, Kept, after_taking, intended, counts_taken, IsEntry, entry_in, is_free_entry, is_free_in, map_of, with_entry, MapEntry, Free, block_at-with_entry, entry_in-set, entry_in-with_entry_other, entry_in-with_entry_same, length-with_entry, same_or_not, AreClaimed, ChangesEntry, Frame, MayPut, StoreHas, Claim, keeps_frame, on_entry, may_claim, DraftBecomes, WritesDraftBlock, Committed, Makes, puid_at, Drafting, IsOpen, begun_at, fresh_of, opened_as, EndsCall, filled_draft, SameBeside, leaf_claims, IsDraftRefusal, NoMap, OtherCount, is_damage, has_met_damage, is_full_refusal, replaced, framed_carries, framed_holds, written_framed, begun_fresh, first_number, more_numbers, no_damage, owners_change, length-none, first_here, first_others, bare_kept, content_kept, made_kept, counts_content, free_is, meant_open, the_draft, taken_not_free, makes_more, ends_then_err, ends_then_ok, write_ends, Graph, has_block, object_at, has_number, Index, Object, Frames, IsLoose, StandsForNone, is_fixed, part_of, reserved, bare_object, tree_in, Holds, IsBareRoot, loose_stays, free_is_loose, in_image, taken_apart, tree_placed, frames_begin, frames_content, not_map, same_tree, HasDraft, HasDrafts, HasItsBlocks, IsMadeRoot, Opened, created_of, drafts_of, numbers_differ, ChangesOnly, IsOpenTo, SameBut, SameOthers, of_draft, of_drafts, is_had, is_made, is_meant, is_owned_by, is_placed, is_taken, owner_of, changes_content, changes_entry, changes_then, changes_wider, made_not_free, of_taken, block_there, object_of_block, draft_kept, drafts_miss, list_misses, owns_nothing, making_goes_on}
 use Rattle.cfs_base.specs.declared.kind.Place.TheVariants.{Root}
 use Rattle.index_ops.specs.Changes.{index_with, leaf_and_node}
 use Rattle.index_ops.specs.Creates.{Creates, HasImage, IsBare, RootEnds, Spells, begun_of, with_made, with_root}
@@ -9,11 +9,13 @@ use Rattle.cfs_base.specs.declared.refusal.Refused.TheVariants as refused
 use Rattle.cfs_base.specs.declared.refusal.Trouble.TheVariants as trouble
 use Rattle.block_tree.specs.declared.root.Root as roots
 use Rattle.ufs_model.specs.declared.object.Object.TheVariants as objects
+use Rattle.cyl_alloc.proofs.Miscounts.{miscounted_as}
+use Rattle.leaf_changes.specs.Tops.{Top, still_top}
 
 -- ---- why no block is found
 
 module _ {D : Type 0} (g : Ghosts D) (old new : D) (space : Kept) where
-  pub find_why : (e : Refused) → IsFindRefusal g old new space e → OnlyReads g 1 old new → 1 ≤ sum space.free → (at : ℕ) → IsRefusal g at 0 old new space e × (is_full_refusal e ≡ false)
+  pub find_why : (e : Refused) → IsFindRefusal g old new space e → OnlyReads g 1 old new → 1 ≤ sum space.free → (at : ℕ) → IsDraftRefusal g (still_top at) 0 old new space e × (is_full_refusal e ≡ false)
   find_why (refused.Full need) is reads some at = absurd (none is.2)
     where
       none : sum space.free ≡ 0 → ⊥
@@ -21,8 +23,8 @@ module _ {D : Type 0} (g : Ghosts D) (old new : D) (space : Kept) where
   find_why (refused.Disk tried) is reads some at = (is, refl)
   find_why (refused.Damaged damage) is reads some at = (
     ⊎_elim
-        (λ no_map. NoMap no_map.0 (omega (arith, is.on_disk, reads.same.size)) (λ tells. subst (λ (c : Image). IsBadMap c damage.block) (sym reads.content) (no_map.1 tells)))
-        (λ other. OtherCount other.0 (λ tells. subst (λ (c : Image). ¬ AreCounts c space) (sym reads.content) (other.1 tells))) is.why,
+        (λ no_map. NoMap no_map.0 is.block (omega (arith, is.on_disk, reads.same.size)) (λ tells. subst (λ (c : Image). IsBadMap c damage.block) (sym reads.content) (no_map.1 tells)))
+        (λ other. OtherCount other.0 (miscounted_as (λ tells. tells) reads.content refl other.1)) is.why,
     refl,
   )
   find_why refused.Memory is reads some at = absurd is
@@ -47,7 +49,7 @@ one_less [] i = omega arith
 one_less (x ∷ xs) zero = omega (arith, sum_by-cons itself x xs, sum_by-cons itself (x - 1) xs)
 one_less (x ∷ xs) (suc i) = omega (arith, sum_by-cons itself x xs, sum_by-cons itself x (set xs i (get_or xs i 0 - 1)), one_less xs i)
 
-trouble_sound : (t : Trouble) → is_damage (trouble_after_try t) ≡ false → is_damaged (refused_by t) ≡ false
+trouble_sound : (t : Trouble) → is_damage (trouble_after_try t) ≡ false → has_met_damage (refused_by t) ≡ false
 trouble_sound (trouble.Disk tried) is = refl
 trouble_sound (trouble.Damaged damage) is = is
 
@@ -57,7 +59,7 @@ not_full (trouble.Damaged damage) = refl
 
 module _ {D : Type 0} (g : Ghosts D) (n : ℕ) (d0 d1 : D) (k0 : Kept) where
   -- on any disk
-  pub claim_done : {A : Type 0} (x : A) → ChangesEntry g n (λ e. intended Root n) d0 d1 (Ok x) → (k1 : Kept) → k1 ≡ after_taking k0 n → length k1.free ≡ length k0.free → (at : ℕ) → Ends {A = Unit {0}} g at 0 2 1 1 d0 d1 k0 k1 (Ok tt)
+  pub claim_done : {A : Type 0} (x : A) → ChangesEntry g n (λ e. intended Root n) d0 d1 (Ok x) → (k1 : Kept) → k1 ≡ after_taking k0 n → length k1.free ≡ length k0.free → (at : ℕ) → EndsCall {A = Unit {0}} g (still_top at) 0 2 1 1 d0 d1 k0 k1 (Ok tt)
   claim_done x is k1 taken cylinders at = record {
     told = is.told;
     refused = tt;
@@ -68,7 +70,7 @@ module _ {D : Type 0} (g : Ghosts D) (n : ℕ) (d0 d1 : D) (k0 : Kept) where
     calls = is.calls;
   }
 
-  pub claim_failed : (A : Type 0) → n < g.blocks d0 → (t : Trouble) → ChangesEntry {A = A} g n (λ e. intended Root n) d0 d1 (Err t) → (at : ℕ) → Ends {A = Unit {0}} g at 0 2 1 1 d0 d1 k0 k0 (Err (refused_by t))
+  pub claim_failed : (A : Type 0) → n < g.blocks d0 → (t : Trouble) → ChangesEntry {A = A} g n (λ e. intended Root n) d0 d1 (Err t) → (at : ℕ) → EndsCall {A = Unit {0}} g (still_top at) 0 2 1 1 d0 d1 k0 k0 (Err (refused_by t))
   claim_failed A below t is at = record {
     told = tt;
     refused = why t is.refused is.unless_tried;
@@ -89,9 +91,9 @@ module _ {D : Type 0} (g : Ghosts D) (n : ℕ) (d0 d1 : D) (k0 : Kept) where
           had refused.Memory = false
       untried (trouble.Damaged damage) same = refl
 
-      why : (t : Trouble) → IsMapTrouble g d0 d1 n t → (trouble_had_tried t ≡ false → OnlyReads g 1 d0 d1) → IsRefusal g at 0 d0 d1 k0 (refused_by t)
+      why : (t : Trouble) → IsMapTrouble g d0 d1 n t → (trouble_had_tried t ≡ false → OnlyReads g 1 d0 d1) → IsDraftRefusal g (still_top at) 0 d0 d1 k0 (refused_by t)
       why (trouble.Disk tried) is only = is
-      why (trouble.Damaged damage) is only = NoMap is.code (omega (arith, is.block, below, (only refl).same.size))
+      why (trouble.Damaged damage) is only = NoMap is.code (omega (arith, is.block)) (omega (arith, is.block, below, (only refl).same.size))
           (λ tells. subst (λ (m : ℕ). IsBadMap (g.content d1) m) (sym is.block) (subst (λ (i : Image). IsBadMap i (map_of n)) (sym (only refl).content) (bad (is.bad tells))))
         where
           bad : IsBadMap (g.content d0) n → IsBadMap (g.content d0) (map_of n)
@@ -155,7 +157,7 @@ module _ {D : Type 0} (g : Ghosts D) (n : ℕ) (d0 d1 : D) (k0 : Kept) where
       written : Frames (g.content d1) graph (set (g.content d1) n (root_spelling root))
       written = frames_content (g.content d1) graph (g.content d1) n (root_spelling root) (frames_begin (g.content d1) graph has.carries.holds) loose_now
 
-      pub root_written : (r : Result (Unit {0}) Refused) → WritesBlock g n (root_spelling root) d1 d2 r → RootEnds g graph d0 d2 k1 (with_root a n root) r
+      pub root_written : (r : Result (Unit {0}) Refused) → WritesDraftBlock g n (root_spelling root) d1 d2 r → RootEnds g graph d0 d2 k1 (with_root a n root) r
       root_written r is = record {
         done = done r is;
         leaves = then g d0 d1 d2 (λ c. Holds c graph) (λ c. Holds c graph) first (framed_holds g graph d1 d2 has.carries images) (λ c h. h);
@@ -165,7 +167,7 @@ module _ {D : Type 0} (g : Ghosts D) (n : ℕ) (d0 d1 : D) (k0 : Kept) where
           images : Leaves g d1 d2 (Frames (g.content d1) graph)
           images = wider g d1 d2 _ _ is.images (written_framed g graph d1 d2 has.carries n (root_spelling root) below written)
 
-          done : (r : Result (Unit {0}) Refused) → WritesBlock g n (root_spelling root) d1 d2 r → OnOk r (HasImage g graph d2 k1 (with_root a n root))
+          done : (r : Result (Unit {0}) Refused) → WritesDraftBlock g n (root_spelling root) d1 d2 r → OnOk r (HasImage g graph d2 k1 (with_root a n root))
           done (Ok u) w = record {
             carries = framed_carries g graph d1 d2 has.carries images (subst (Frames (g.content d1) graph) (sym w.written) written) w.told w.calls.same;
             counts = subst (λ (i : Image). AreCounts i k1) (sym w.written) (counts_content (g.content d1) k1 n (root_spelling root) (not_map n loose_now.apart) has.counts);
@@ -173,24 +175,24 @@ module _ {D : Type 0} (g : Ghosts D) (n : ℕ) (d0 d1 : D) (k0 : Kept) where
           }
           done (Err e) w = tt
 
-          sound : (r : Result (Unit {0}) Refused) → WritesBlock g n (root_spelling root) d1 d2 r → IfErr r (λ e. is_damaged e ≡ false)
+          sound : (r : Result (Unit {0}) Refused) → WritesDraftBlock g n (root_spelling root) d1 d2 r → IfErr r (λ e. has_met_damage e ≡ false)
           sound (Ok u) w = tt
-          sound (Err e) w = ap is_damaged w.refused
+          sound (Err e) w = ap has_met_damage w.refused
 
     -- the same of what the claim gave
-    pub root_made : (d2 : D) (k1 : Kept) (root : roots.Root) → RootEnds g graph d0 d1 k1 b (Ok (tt {0})) → (r : Result (Unit {0}) Refused) → WritesBlock g n (root_spelling root) d1 d2 r → RootEnds g graph d0 d2 k1 (with_root a n root) r
+    pub root_made : (d2 : D) (k1 : Kept) (root : roots.Root) → RootEnds g graph d0 d1 k1 b (Ok (tt {0})) → (r : Result (Unit {0}) Refused) → WritesDraftBlock g n (root_spelling root) d1 d2 r → RootEnds g graph d0 d2 k1 (with_root a n root) r
     root_made d2 k1 root first r is = root_written d2 k1 root first.done first.leaves r is
 
 -- on any disk
-module _ {D : Type 0} (g : Ghosts D) (at : ℕ) where
-  pub make_ends : (n : ℕ) (d0 d1 d2 : D) (k0 k1 : Kept) (root : roots.Root) → Ends {A = Unit {0}} g at 0 2 1 1 d0 d1 k0 k1 (Ok tt) → HasTried g d0 d1 → (r : Result (Unit {0}) Refused) → WritesBlock g n (root_spelling root) d1 d2 r → Ends g at 0 3 2 1 d0 d2 k0 k1 r
+module _ {D : Type 0} (g : Ghosts D) (at : Top) where
+  pub make_ends : (n : ℕ) (d0 d1 d2 : D) (k0 k1 : Kept) (root : roots.Root) → EndsCall {A = Unit {0}} g at 0 2 1 1 d0 d1 k0 k1 (Ok tt) → HasTried g d0 d1 → (r : Result (Unit {0}) Refused) → WritesDraftBlock g n (root_spelling root) d1 d2 r → EndsCall g at 0 3 2 1 d0 d2 k0 k1 r
   make_ends n d0 d1 d2 k0 k1 root first tried (Ok u) is =
       ends_then_ok {A = Unit {0}} {B = Unit {0}} g at 0 d0 d1 d2 k0 k1 k1 tt u 2 1 1 1 1 0 first (write_ends g at 0 d1 d2 k1 n (root_spelling root) (Ok u) is) 3 2 1 (omega arith) (omega arith) (omega arith)
   make_ends n d0 d1 d2 k0 k1 root first tried (Err e) is =
-      subst (λ (x : Refused). Ends {A = Unit {0}} g at 0 3 2 1 d0 d2 k0 k1 (Err x)) (ap after_try is.refused ∙ sym is.refused)
+      subst (λ (x : Refused). EndsCall {A = Unit {0}} g at 0 3 2 1 d0 d2 k0 k1 (Err x)) (ap after_try is.refused ∙ sym is.refused)
       (ends_then_err {A = Unit {0}} {B = Unit {0}} g at 0 d0 d1 d2 k0 k1 k1 tt e 2 1 1 1 1 0 first tried (write_ends g at 0 d1 d2 k1 n (root_spelling root) (Err e) is) 3 2 1 (omega arith) (omega arith) (omega arith))
 
-  pub make_stops : (d0 d1 : D) (k0 k1 : Kept) (e : Refused) → Ends {A = Unit {0}} g at 0 2 1 1 d0 d1 k0 k1 (Err e) → Ends {A = Unit {0}} g at 0 3 2 1 d0 d1 k0 k1 (Err e)
+  pub make_stops : (d0 d1 : D) (k0 k1 : Kept) (e : Refused) → EndsCall {A = Unit {0}} g at 0 2 1 1 d0 d1 k0 k1 (Err e) → EndsCall {A = Unit {0}} g at 0 3 2 1 d0 d1 k0 k1 (Err e)
   make_stops d0 d1 k0 k1 e is = record {
     told = tt;
     refused = is.refused;
@@ -272,13 +274,13 @@ module _ {D : Type 0} (g : Ghosts D) (graph : Graph) (ds : List Opened) (id : Pu
       subst (ChangesOnly (λ e. of_draft c e) before) (sym has.content) (changes_then (λ e. of_draft c e) before mid (with_root before c root) entry
       (changes_content (λ e. of_draft c e) mid c (root_spelling root) entry.maps entry.own apart_maps (subst (IsOpenTo (λ e. of_draft c e)) (sym (entry_in-with_entry_same before c (intended Root c) free.0 free.1 is_entry)) opens)))
 
-  nothing : (n : ℕ) → is_of is_taken c (entry_in before n) ≡ false
+  nothing : (n : ℕ) → is_owned_by is_taken c (entry_in before n) ≡ false
   nothing n = owns_nothing before graph es store.account c least.free n
 
-  pub made : IsMade (g.content d2) c
+  pub made : IsMadeRoot (g.content d2) c
   made = record {
     entered = ap is_made entry_here;
-    alone = λ n of_c. ⊎_elim (λ is. is) (λ other. absurd (both_ways _ (nothing n) (ap (is_of is_taken c) (sym (entry_other n other)) ∙ of_c))) (same_or_not n c);
+    alone = λ n of_c. ⊎_elim (λ is. is) (λ other. absurd (both_ways _ (nothing n) (ap (is_owned_by is_taken c) (sym (entry_other n other)) ∙ of_c))) (same_or_not n c);
   }
 
   fresh : has_block graph.objects c ≡ false
@@ -342,7 +344,7 @@ module _ {D : Type 0} (g : Ghosts D) (graph : Graph) (ds : List Opened) (id : Pu
 
   -- ---- the slot is filled, and both are committed
 
-  module _ (slot : ℕ) (d3 d4 : D) (k3 k4 : Kept) (then3 : Drafting) (becomes : Becomes g graph fs id (filled_draft i slot (Some (puid_at c root.word)) (begun_of i)) d2 d3 k3 then3) (stays : then3.created ≡ Some c) where
+  module _ (slot : ℕ) (d3 d4 : D) (k3 k4 : Kept) (then3 : Drafting) (becomes : DraftBecomes g graph fs id (filled_draft i slot (Some (puid_at c root.word)) (begun_of i)) d2 d3 k3 then3) (stays : then3.created ≡ Some c) where
     abbrev e : Opened
     e = opened_as id then3 (filled_draft i slot (Some (puid_at c root.word)) (begun_of i))
 
@@ -381,9 +383,9 @@ module _ {D : Type 0} (g : Ghosts D) (graph : Graph) (ds : List Opened) (id : Pu
           least = least;
           store = subst (λ (xs : List Opened). StoreIs g (with_made graph id i slot new (bare_object root)) xs d4 k4) (without_begun e (opened_as id now (begun_of i)) ds refl shut) ch.store;
           settled = ch.settled;
-          only = changes_then _ before (g.content d3) (end_of g d4 k4) (changes_then _ before after (g.content d3) (owners_change c rs before after (more_numbers id.block c (c ∷ []) (first_number c [])) only_root)
+          only = changes_then _ before (g.content d3) (final_image g d4 k4) (changes_then _ before after (g.content d3) (owners_change c rs before after (more_numbers id.block c (c ∷ []) (first_number c [])) only_root)
               (owners_change id.block rs after (g.content d3) (first_number id.block (c ∷ [])) becomes.steps.only)) ch.only;
-          beside = leaf_alone (slot / 64) id.block before (end_of g d4 k4) (tree_in after (root_spelling was.root)) (tree_in (g.content d3) (root_spelling then3.root))
+          beside = leaf_alone (slot / 64) id.block before (final_image g d4 k4) (tree_in after (root_spelling was.root)) (tree_in (g.content d3) (root_spelling then3.root))
               (own_tree ∙ ap (tree_in before) (ap (λ (x : Drafting). root_spelling x.root) begun ∙ sym draft_was.own.spelled)) beside (ch.tree e becomes.is_open.alone);
           takes = record {
             mid = g.content d3;

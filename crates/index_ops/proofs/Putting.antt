@@ -1,11 +1,11 @@
 -- An index changed by a draft that is begun, filled and committed.
-use Rattle.index_ops.proofs.Words.{◌≡◌, ◌≢◌, inl, inr, ℕ, ◌+◌, ◌*◌, ◌/◌, ◌<◌, ◌≤◌, Bool, true, false, cond, not, List, [], ◌∷◌, length, get_or, Option, Some, None, Ok, Err, refl, sym, ◌∙◌, ap, subst, arith, Result, and_from, and_parts, HasTried, MakesAtMost, OnlyReads, Image, Nothing, block_at, refused_by, trouble_after_try, IsSettled, Leaves, Tells, Ghosts, Puid, Refused, Trouble, makes_then, reads_make, reads_then, reads_within, stopped_after_reads, then_tried, then, wider, IsRootBlock, root_spelling, MapEntry, AreClaimed, Leaf, Node, AreCounts, Kept, intended, StoreHas, Becomes, Committed, IsOldOrNew, Drafting, IsOpen, begun_at, fresh_of, is_fresh_leaf, is_fresh_node, draft_takes, one_unless, opened_as, Ends, filled_draft, SameBeside, leaves_of, leaf_claims, IsRefusal, IsTrouble, is_damage, is_damaged, is_full_refusal, TakesShadow, replaced, without_draft, begun_fresh, store_reads, Swap, makes_more, trouble_after_tried, length-none, none_is, first_here, the_draft, refusal_after_reads, Graph, ids_of, object_at, with_object, rises, same_puid, Draft, Index, Object, object_at-with_object, rises-with_object, same_entries, object_with, Tree, tree_in, Holds, one_root_block, carries_on, same_puid_is, same_puid_itself, Accounts, Opened, drafts_of, ChangesOnly, of_draft, of_owner, of_owners, is_meant, is_placed, is_taken, changes_begin, changes_then, changes_wider, placed_taken, tried_then}
+use Rattle.index_ops.proofs.Words.{◌≡◌, ◌≢◌, inl, inr, ℕ, ◌+◌, ◌*◌, ◌/◌, ◌<◌, ◌≤◌, Bool, true, false, cond, not, List, [], ◌∷◌, length, get_or, Option, Some, None, Ok, Err, refl, sym, ◌∙◌, ap, subst, arith, Result, and_from, and_parts, HasTried, MakesAtMost, OnlyReads, Image, Nothing, block_at, refused_by, trouble_after_try, IsSettled, Leaves, Tells, Ghosts, Puid, Refused, Trouble, makes_then, reads_make, reads_then, reads_within, stopped_after_reads, then_tried, then, wider, IsRootBlock, root_spelling, MapEntry, AreClaimed, Leaf, Node, AreCounts, Kept, intended, StoreHas, DraftBecomes, Committed, IsOldOrNew, Drafting, IsOpen, begun_at, fresh_of, is_fresh_leaf, is_fresh_node, draft_takes, one_unless, opened_as, EndsCall, filled_draft, SameBeside, leaves_below, leaf_claims, IsDraftRefusal, IsDraftTrouble, is_damage, has_met_damage, is_full_refusal, TakesShadow, replaced, without_draft, begun_fresh, store_reads, Swap, makes_more, trouble_after_tried, length-none, none_is, first_here, the_draft, refusal_after_reads, Graph, ids_of, object_at, with_object, rises, same_puid, Draft, Index, Object, object_at-with_object, rises-with_object, same_entries, object_with, Tree, tree_in, Holds, one_root_block, carries_on, same_puid_is, same_puid_itself, Accounts, Opened, drafts_of, ChangesOnly, of_draft, of_owner, of_owners, is_meant, is_placed, is_taken, changes_begin, changes_then, changes_wider, placed_taken, tried_then}
 use Rattle.block_tree.specs.declared.root.Root.{Root}
-use Rattle.index_ops.specs.Changes.{ChangesIndex, ChangesLeaf, HasSlot, IsIndexRefusal, IsOneLeaf, PutsSlot, Settles, index_with, leaf_and_node, short_at}
+use Rattle.index_ops.specs.Changes.{ChangesIndex, ChangesLeaf, HasSlot, IsIndexRefusal, IsOneLeaf, PutsSlot, SettlesDisk, index_with, leaf_and_node, short_at}
 use Rattle.cfs_base.proofs.Calls.{tells_on}
 use Rattle.cfs_base.proofs.Runs.{still_tells}
-use Rattle.cyl_alloc.specs.Left.{Left}
-use Rattle.intentions.specs.Left.{StoreIs, StoreWith, coming, end_of}
+use Rattle.cyl_alloc.specs.Left.{LeftCommit}
+use Rattle.intentions.specs.Left.{StoreIs, StoreWith, coming, final_image}
 use Rattle.special_files.specs.Committing.{IsNoted}
 use Rattle.special_files.proofs.CommitLeft.{none_unfinished}
 use Rattle.index_ops.proofs.Indices.{slots_are}
@@ -13,6 +13,10 @@ use Rattle.intentions.proofs.Shown.{root_tree, shown_has}
 use Rattle.cfs_base.specs.declared.refusal.Refused.TheVariants as refused
 use Rattle.cfs_base.specs.declared.refusal.Trouble.TheVariants as trouble
 use Rattle.ufs_model.specs.declared.object.Object.TheVariants as objects
+use Rattle.leaf_changes.proofs.Tops.{far_block}
+use Rattle.leaf_changes.specs.Tops.{IsFarRoot, disk_top, still_top}
+use Rattle.special_files.proofs.Refusals.{refusal_as}
+use Rattle.special_files.specs.Refusal.{top_of}
 
 -- ---- lists of drafts
 
@@ -91,7 +95,7 @@ module _ {D : Type 0} (g : Ghosts D) (graph : Graph) (ds : List Opened) (id : Pu
   }
 
   -- filled, and committed
-  module _ (d2 d3 : D) (k2 k3 : Kept) (now : Drafting) (becomes : Becomes g graph es id (filled_draft i slot what d) d1 d2 k2 now) where
+  module _ (d2 d3 : D) (k2 k3 : Kept) (now : Drafting) (becomes : DraftBecomes g graph es id (filled_draft i slot what d) d1 d2 k2 now) where
     abbrev e : Opened
     e = opened_as id now (filled_draft i slot what d)
 
@@ -99,7 +103,7 @@ module _ {D : Type 0} (g : Ghosts D) (graph : Graph) (ds : List Opened) (id : Pu
     commit_done ch = record {
       store = subst (λ (fs : List Opened). StoreIs g (with_object graph id (index_with i slot what)) fs d3 k3) (without_begun e (opened_as id was d) ds refl has.shut) ch.store;
       settled = ch.settled;
-      only = changes_then _ (g.content d0) (g.content d2) (end_of g d3 k3)
+      only = changes_then _ (g.content d0) (g.content d2) (final_image g d3 k3)
           (changes_wider (λ entry. of_draft id.block entry) (λ entry. of_owner id.block entry) (g.content d0) (g.content d2) (draft_owned id.block)
           (subst (λ (a : Image). ChangesOnly (λ entry. of_draft id.block entry) a (g.content d2)) reads.content becomes.steps.only)) ch.only;
     }
@@ -109,35 +113,35 @@ module _ {D : Type 0} (g : Ghosts D) (graph : Graph) (ds : List Opened) (id : Pu
         → SameBeside (slot / 64) (tree_in (g.content d1) (root_spelling was.root)) (tree_in (g.content d2) (root_spelling now.root))
         → now.shadow ≡ None → Committed g graph (replaced e es) id (index_with i slot what) None d2 d3 k3 → ChangesLeaf g (slot / 64) at what d0 d3 k3
     commit_leaf own claims beside bare ch = record {
-      beside = subst (λ (n : ℕ). IsOneLeaf (slot / 64) n (g.content d0) (end_of g d3 k3)) has.root (leaf_alone (slot / 64) id.block (g.content d0) (end_of g d3 k3)
+      beside = subst (λ (n : ℕ). IsOneLeaf (slot / 64) n (g.content d0) (final_image g d3 k3)) has.root (leaf_alone (slot / 64) id.block (g.content d0) (final_image g d3 k3)
           (tree_in (g.content d1) (root_spelling was.root)) (tree_in (g.content d2) (root_spelling now.root))
           ((λ j. tree_in (reads.content j) (root_spelling (begun j).root)) ∙ ap (tree_in (g.content d0)) (sym own.spelled ∙ ap (block_at (g.content d0)) (sym has.root))) beside (ch.tree e becomes.is_open.alone));
       takes = inr (record {
         mid = g.content d2;
         in_order = subst (λ (a : Image). AreClaimed (leaf_and_node (slot / 64) at) a (g.content d2)) reads.content
             (subst (λ (es : List MapEntry). AreClaimed es (g.content d1) (g.content d2)) (begun_claims at None was.own (slot / 64) was begun) claims);
-        only = subst (λ (n : ℕ). ChangesOnly (λ entry. of_owners (n ∷ []) entry) (g.content d2) (end_of g d3 k3)) has.root ch.only;
-        shadow = subst (λ (n : ℕ). TakesShadow n (g.content d2) (end_of g d3 k3)) has.root (ch.order e becomes.is_open.alone bare);
+        only = subst (λ (n : ℕ). ChangesOnly (λ entry. of_owners (n ∷ []) entry) (g.content d2) (final_image g d3 k3)) has.root ch.only;
+        shadow = subst (λ (n : ℕ). TakesShadow n (g.content d2) (final_image g d3 k3)) has.root (ch.order e becomes.is_open.alone bare);
       });
     }
 
   -- nothing was to be done
-  module _ (d2 d3 : D) (k1 k2 : Kept) (now : Drafting) (same_draft : now ≡ was) (filled : Becomes g graph es id (filled_draft i slot what d) d1 d2 k2 now) (store1 : StoreHas g graph es d1 k1) (after : k2 ≡ k0) (more : OnlyReads g 2 d1 d2) where
-    becomes : Becomes g graph es id (filled_draft i slot what d) d1 d2 k2 was
-    becomes = subst (Becomes g graph es id (filled_draft i slot what d) d1 d2 k2) same_draft filled
+  module _ (d2 d3 : D) (k1 k2 : Kept) (now : Drafting) (same_draft : now ≡ was) (filled : DraftBecomes g graph es id (filled_draft i slot what d) d1 d2 k2 now) (store1 : StoreHas g graph es d1 k1) (after : k2 ≡ k0) (more : OnlyReads g 2 d1 d2) where
+    becomes : DraftBecomes g graph es id (filled_draft i slot what d) d1 d2 k2 was
+    becomes = subst (DraftBecomes g graph es id (filled_draft i slot what d) d1 d2 k2) same_draft filled
 
     same_object : index_with i slot what ≡ o
     same_object =
         let old = the_draft (g.content d1) es id was d begun_open (store1.account.drafts id o has.there) in
         let new = the_draft (g.content d2) (replaced (opened_as id was (filled_draft i slot what d)) es) id was (filled_draft i slot what d) becomes.is_open (becomes.steps.store.account.drafts id o has.there) in
-        sym new.tree.object ∙ ap (λ (a : Image). object_with was.root (leaves_of a was.root)) more.content ∙ old.tree.object
+        sym new.tree.object ∙ ap (λ (a : Image). object_with was.root (leaves_below a was.root)) more.content ∙ old.tree.object
 
     graph_same : with_object graph id (index_with i slot what) ≡ graph
     graph_same = ap (with_object graph id) same_object ∙ same_graph graph id o has.store.ordered has.there
 
     pub settle_done : k2.left ≡ None → IsSettled g d3 → g.content d3 ≡ g.content d2 → StoreHas g graph ds d3 k0 → ChangesIndex g graph ds id (index_with i slot what) d0 d3 k2
     settle_done finished settled content store = record {
-      store = subst (λ (w : Option Left). StoreWith g (with_object graph id (index_with i slot what)) ds d3 k2 w) (sym finished) (subst (λ (h : Graph). StoreHas g h ds d3 k2) (sym graph_same) (subst (StoreHas g graph ds d3) (sym after) store));
+      store = subst (λ (w : Option LeftCommit). StoreWith g (with_object graph id (index_with i slot what)) ds d3 k2 w) (sym finished) (subst (λ (h : Graph). StoreHas g h ds d3 k2) (sym graph_same) (subst (StoreHas g graph ds d3) (sym after) store));
       settled = settled;
       only = subst (ChangesOnly (λ entry. of_owner id.block entry) (g.content d0)) (sym (ap (coming (g.content d3)) finished ∙ content ∙ more.content ∙ reads.content)) (changes_begin _ (g.content d0) graph has.store.carries.holds);
     }
@@ -153,13 +157,13 @@ takes_two was leaf = by (is_fresh_leaf was leaf) (is_fresh_node was (leaf / 128)
     by false false = omega arith
 
 module _ {D : Type 0} (g : Ghosts D) (at slot : ℕ) (d0 d1 : D) (kept : Kept) where
-  pub from_refusal : (e : Refused) → IsRefusal g at 0 d0 d1 kept e → is_full_refusal e ≡ false → IsIndexRefusal g at slot d0 d1 kept e
+  pub from_refusal : (e : Refused) → IsDraftRefusal g (disk_top g at d0) 0 d0 d1 kept e → is_full_refusal e ≡ false → IsIndexRefusal g at slot d0 d1 kept e
   from_refusal (refused.Full need) is spare = cc
   from_refusal (refused.Disk tried) is spare = is
   from_refusal (refused.Damaged damage) is spare = inl is
   from_refusal refused.Memory is spare = absurd is
 
-  pub from_trouble : (t : Trouble) → IsTrouble g at d0 d1 kept t → IsIndexRefusal g at slot d0 d1 kept (refused_by t)
+  pub from_trouble : (t : Trouble) → IsDraftTrouble g (disk_top g at d0) d0 d1 kept t → IsIndexRefusal g at slot d0 d1 kept (refused_by t)
   from_trouble (trouble.Disk tried) is = is
   from_trouble (trouble.Damaged damage) is = inl is
 
@@ -167,16 +171,30 @@ pub tried_disk : (t : Trouble) → refused_by (trouble_after_try t) ≢ refused.
 tried_disk (trouble.Disk tried) same = cc
 tried_disk (trouble.Damaged damage) same = cc
 
-pub sound_by : (t : Trouble) → is_damage t ≡ false → is_damaged (refused_by (trouble_after_try t)) ≡ false
+pub sound_by : (t : Trouble) → is_damage t ≡ false → has_met_damage (refused_by (trouble_after_try t)) ≡ false
 sound_by (trouble.Disk tried) is = refl
 sound_by (trouble.Damaged damage) is = is
+
+-- ---- the root, as the disk had it
+
+-- of a root that was read, and of the draft that was begun with it
+module _ {D : Type 0} (g : Ghosts D) (at : ℕ) (start : D) (own : Root) (there : Tells g start → IsRootBlock (block_at (g.content start) at) own) where
+  pub far_there : (size : ℕ) → IsFarRoot size own → (disk_top g at start).IsFar size
+  far_there size far tells = far_block size at (g.content start) own (there tells) far
+
+  pub far_begun : (was : Drafting) → was ≡ begun_at at None own → (size : ℕ) → (top_of was).IsFar size → (disk_top g at start).IsFar size
+  far_begun was begun size far = far_there size (subst (λ (x : Drafting). IsFarRoot size x.root) begun far)
+
+-- of one of which no pointer was followed
+pub still_there : {D : Type 0} (g : Ghosts D) (at : ℕ) (start old new : D) (kept : Kept) (e : Refused) → IsDraftRefusal g (still_top at) 0 old new kept e → IsDraftRefusal g (disk_top g at start) 0 old new kept e
+still_there g at start old new kept e is = refusal_as g (still_top at) (disk_top g at start) refl old new kept (λ far. absurd far) 0 e is
 
 -- ---- each end of it
 
 module _ {D : Type 0} (g : Ghosts D) (at slot : ℕ) (what : Option Puid) (d0 : D) (k0 : Kept) where
   -- refused when only reads were made
   pub err_read : (d1 : D) (k1 : Kept) (n : ℕ) (e : Refused) → n ≤ 9 → OnlyReads g n d0 d1 → k1 ≡ k0 → IsIndexRefusal g at slot d0 d1 k1 e
-      → ((graph : Graph) (ds : List Opened) (id : Puid) (i : Index) → HasSlot g graph ds d0 k0 at id i slot → is_damaged e ≡ false) → PutsSlot g at slot what d0 d1 k0 k1 (Err e)
+      → ((graph : Graph) (ds : List Opened) (id : Puid) (i : Index) → HasSlot g graph ds d0 k0 at id i slot → has_met_damage e ≡ false) → PutsSlot g at slot what d0 d1 k0 k1 (Err e)
   err_read d1 k1 n e few reads kept why sound = record {
     done = λ graph ds id i has. tt;
     leaf = λ graph ds id i has. tt;
@@ -201,12 +219,12 @@ module _ {D : Type 0} (g : Ghosts D) (at slot : ℕ) (what : Option Puid) (d0 : 
 
   -- refused while it was filled
   module _ (d1 d2 : D) (k1 k2 : Kept) (kept : k1 ≡ k0) (was : Drafting) (reads : OnlyReads g 1 d0 d1) where
-    begun_with : (r : Result (Option Swap) Refused) → Ends g was.at 0 8 4 (draft_takes was (slot / 64)) d1 d2 k1 k2 r → Ends g was.at 0 8 4 (draft_takes was (slot / 64)) d1 d2 k0 k2 r
-    begun_with r = subst (λ (k : Kept). Ends g was.at 0 8 4 (draft_takes was (slot / 64)) d1 d2 k k2 r) kept
+    begun_with : (r : Result (Option Swap) Refused) → EndsCall g (disk_top g at d0) 0 8 4 (draft_takes was (slot / 64)) d1 d2 k1 k2 r → EndsCall g (disk_top g at d0) 0 8 4 (draft_takes was (slot / 64)) d1 d2 k0 k2 r
+    begun_with r = subst (λ (k : Kept). EndsCall g (disk_top g at d0) 0 8 4 (draft_takes was (slot / 64)) d1 d2 k k2 r) kept
 
-    pub err_fill : (e : Refused) → was.at ≡ at → Ends {A = Option Swap} g was.at 0 8 4 (draft_takes was (slot / 64)) d1 d2 k1 k2 (Err e) → is_full_refusal e ≡ false
-        → ((graph : Graph) (ds : List Opened) (id : Puid) (i : Index) → HasSlot g graph ds d0 k0 at id i slot → Leaves g d1 d2 (λ c. Holds c graph) × (is_damaged e ≡ false)) → PutsSlot g at slot what d0 d2 k0 k2 (Err e)
-    err_fill e here told spare on = record {
+    pub err_fill : (e : Refused) → EndsCall {A = Option Swap} g (disk_top g at d0) 0 8 4 (draft_takes was (slot / 64)) d1 d2 k1 k2 (Err e) → is_full_refusal e ≡ false
+        → ((graph : Graph) (ds : List Opened) (id : Puid) (i : Index) → HasSlot g graph ds d0 k0 at id i slot → Leaves g d1 d2 (λ c. Holds c graph) × (has_met_damage e ≡ false)) → PutsSlot g at slot what d0 d2 k0 k2 (Err e)
+    err_fill e told spare on = record {
       done = λ graph ds id i has. tt;
       leaf = λ graph ds id i has. tt;
       leaves = λ graph ds id i has. then g d0 d1 d2 _ (λ c. Holds c graph) (wider g d0 d1 Nothing _ reads.images (λ c none. absurd none)) (on graph ds id i has).0 (λ c h. inl h);
@@ -219,17 +237,17 @@ module _ {D : Type 0} (g : Ghosts D) (at slot : ℕ) (what : Option Puid) (d0 : 
       calls = makes_then g d0 d1 d2 1 8 20 0 4 11 (reads_make g d0 d1 1 reads) ends.calls (omega arith) (omega arith);
     }
       where
-        ends : Ends {A = Option Swap} g was.at 0 8 4 (draft_takes was (slot / 64)) d1 d2 k0 k2 (Err e)
+        ends : EndsCall {A = Option Swap} g (disk_top g at d0) 0 8 4 (draft_takes was (slot / 64)) d1 d2 k0 k2 (Err e)
         ends = begun_with (Err e) told
 
-        why : IsRefusal g at 0 d0 d2 k2 e
-        why = refusal_after_reads g at d0 d1 d2 k2 0 1 e reads (subst (λ (n : ℕ). IsRefusal g n 0 d1 d2 k2 e) here ends.refused)
+        why : IsDraftRefusal g (disk_top g at d0) 0 d0 d2 k2 e
+        why = refusal_after_reads g (disk_top g at d0) d0 d1 d2 k2 0 1 e reads ends.refused
 
     -- filled, and committed or not
-    module _ (d3 : D) (k3 : Kept) (put : Option Swap) (ended : Ends {A = Option Swap} g was.at 0 8 4 (draft_takes was (slot / 64)) d1 d2 k1 k2 (Ok put)) (tried : HasTried g d1 d2) (cylinders : length k3.free ≡ length k2.free)
+    module _ (d3 : D) (k3 : Kept) (put : Option Swap) (ended : EndsCall {A = Option Swap} g (disk_top g at d0) 0 8 4 (draft_takes was (slot / 64)) d1 d2 k1 k2 (Ok put)) (tried : HasTried g d1 d2) (cylinders : length k3.free ≡ length k2.free)
         (commit : MakesAtMost g 11 7 d2 d3)
         (leaves : (graph : Graph) (ds : List Opened) (id : Puid) (i : Index) → HasSlot g graph ds d0 k0 at id i slot → Leaves g d1 d2 (λ c. Holds c graph) × Leaves g d2 d3 (IsOldOrNew graph graph id (index_with i slot what))) where
-      ends : Ends {A = Option Swap} g was.at 0 8 4 (draft_takes was (slot / 64)) d1 d2 k0 k2 (Ok put)
+      ends : EndsCall {A = Option Swap} g (disk_top g at d0) 0 8 4 (draft_takes was (slot / 64)) d1 d2 k0 k2 (Ok put)
       ends = begun_with (Ok put) ended
 
       first : MakesAtMost g 9 4 d0 d2
@@ -244,7 +262,7 @@ module _ {D : Type 0} (g : Ghosts D) (at slot : ℕ) (what : Option Puid) (d0 : 
           let two = leaves graph ds id i has in
           then g d0 d2 d3 P P (then g d0 d1 d2 P (λ c. Holds c graph) (wider g d0 d1 Nothing P reads.images (λ c none. absurd none)) two.0 (λ c h. inl h)) two.1 (λ c h. h)
 
-      pub ok_commit : ((l : Left) × IsNoted at k3.left l) → (Tells g d2 → IsSettled g d3) → ((graph : Graph) (ds : List Opened) (id : Puid) (i : Index) → HasSlot g graph ds d0 k0 at id i slot → ChangesIndex g graph ds id (index_with i slot what) d0 d3 k3)
+      pub ok_commit : ((l : LeftCommit) × IsNoted at k3.left l) → (Tells g d2 → IsSettled g d3) → ((graph : Graph) (ds : List Opened) (id : Puid) (i : Index) → HasSlot g graph ds d0 k0 at id i slot → ChangesIndex g graph ds id (index_with i slot what) d0 d3 k3)
           → ((graph : Graph) (ds : List Opened) (id : Puid) (i : Index) → HasSlot g graph ds d0 k0 at id i slot → ChangesLeaf g (slot / 64) at what d0 d3 k3) → PutsSlot g at slot what d0 d3 k0 k3 (Ok tt)
       ok_commit left settled done leaf = record {
         done = done;
@@ -262,7 +280,7 @@ module _ {D : Type 0} (g : Ghosts D) (at slot : ℕ) (what : Option Puid) (d0 : 
         calls = all;
       }
 
-      pub err_commit : (t : Trouble) → IsTrouble g at d2 d3 k3 t → ((graph : Graph) (ds : List Opened) (id : Puid) (i : Index) → HasSlot g graph ds d0 k0 at id i slot → is_damage t ≡ false)
+      pub err_commit : (t : Trouble) → IsDraftTrouble g (disk_top g at d0) d2 d3 k3 t → ((graph : Graph) (ds : List Opened) (id : Puid) (i : Index) → HasSlot g graph ds d0 k0 at id i slot → is_damage t ≡ false)
           → PutsSlot g at slot what d0 d3 k0 k3 (Err (refused_by (trouble_after_try t)))
       err_commit t why sound = record {
         done = λ graph ds id i has. tt;
@@ -270,7 +288,7 @@ module _ {D : Type 0} (g : Ghosts D) (at slot : ℕ) (what : Option Puid) (d0 : 
         leaves = images;
         sound = λ graph ds id i has. sound_by t (sound graph ds id i has);
         refused = from_trouble g at slot d0 d3 k3 (trouble_after_try t)
-            (trouble_after_tried g at 0 d0 d2 d3 k3 9 4 first (then_tried g d0 d1 d2 1 0 (reads_make g d0 d1 1 reads) tried) (λ b was. ends.told b (reads.told b was)) t why);
+            (trouble_after_tried g (disk_top g at d0) 0 d0 d2 d3 k3 9 4 first (then_tried g d0 d1 d2 1 0 (reads_make g d0 d1 1 reads) tried) (λ b was. ends.told b (reads.told b was)) t why);
         untried = λ same. absurd (tried_disk t same);
         cylinders = cylinders ∙ ends.cylinders;
         left = tt;
@@ -283,7 +301,7 @@ module _ {D : Type 0} (g : Ghosts D) (at slot : ℕ) (what : Option Puid) (d0 : 
     both : OnlyReads g 3 d0 d2
     both = reads_then g d0 d1 d2 1 2 3 reads more (omega arith)
 
-    pub ends_settled : (result : Result (Unit {0}) Refused) → Settles g d2 d3 result
+    pub ends_settled : (result : Result (Unit {0}) Refused) → SettlesDisk g d2 d3 result
         → ((graph : Graph) (ds : List Opened) (id : Puid) (i : Index) → HasSlot g graph ds d0 k0 at id i slot → IsSettled g d3 → StoreHas g graph ds d3 k0 → ChangesIndex g graph ds id (index_with i slot what) d0 d3 k2)
         → PutsSlot g at slot what d0 d3 k0 k2 result
     ends_settled result settles done = by result settles
@@ -294,7 +312,7 @@ module _ {D : Type 0} (g : Ghosts D) (at slot : ℕ) (what : Option Puid) (d0 : 
         images : (P : Image → Type 0) → Leaves g d2 d3 Nothing → Leaves g d0 d3 P
         images P left = then g d0 d2 d3 P Nothing (wider g d0 d2 Nothing P both.images (λ c none. absurd none)) left (λ c none. absurd none)
 
-        by : (r : Result (Unit {0}) Refused) → Settles g d2 d3 r → PutsSlot g at slot what d0 d3 k0 k2 r
+        by : (r : Result (Unit {0}) Refused) → SettlesDisk g d2 d3 r → PutsSlot g at slot what d0 d3 k0 k2 r
         by (Ok tt) is = record {
           done = λ graph ds id i has.
               let store = store_reads g graph ds d0 d2 k0 3 has.store both in
@@ -320,7 +338,7 @@ module _ {D : Type 0} (g : Ghosts D) (at slot : ℕ) (what : Option Puid) (d0 : 
           done = λ graph ds id i has. tt;
           leaf = λ graph ds id i has. tt;
           leaves = λ graph ds id i has. images _ is.images;
-          sound = λ graph ds id i has. ap is_damaged is.refused;
+          sound = λ graph ds id i has. ap has_met_damage is.refused;
           refused = subst (IsIndexRefusal g at slot d0 d3 k2) (sym is.refused) (stopped_after_reads g d0 d2 d3 3 true both is.stopped);
           untried = λ same. (let no : refused.Disk true ≡ refused.Disk false = sym is.refused ∙ same in cc);
           cylinders = ap (λ (k : Kept). length k.free) kept;

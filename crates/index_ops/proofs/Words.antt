@@ -51,15 +51,15 @@ pub use Rattle.special_files.proofs.PutCall.{find_sound}
 pub use Rattle.special_files.proofs.PutStore.{the_draft}
 pub use Rattle.special_files.proofs.Puts.{taken_not_free}
 pub use Rattle.special_files.proofs.Refusals.{refusal_after_reads, refusal_of}
-pub use Rattle.special_files.specs.Becomes.{Becomes}
-pub use Rattle.special_files.specs.Calls.{WritesBlock}
+pub use Rattle.special_files.specs.Becomes.{DraftBecomes}
+pub use Rattle.special_files.specs.Calls.{WritesDraftBlock}
 pub use Rattle.special_files.specs.Committing.{Committed, IsOldOrNew, Makes, Making, TakesShadow, puid_at}
-pub use Rattle.special_files.specs.Drafting.{Drafting, IsOpen, begun_at, fresh_of, is_fresh_leaf, is_fresh_node, draft_takes, node_of, one_unless, opened_as}
-pub use Rattle.special_files.specs.Ends.{Ends}
+pub use Rattle.special_files.specs.Drafting.{Drafting, IsOpen, begun_at, fresh_of, is_fresh_leaf, is_fresh_node, draft_takes, pointer_to_node, one_unless, opened_as}
+pub use Rattle.special_files.specs.Ends.{EndsCall}
 pub use Rattle.special_files.specs.Fills.{filled_draft}
-pub use Rattle.special_files.specs.Leaves.{SameBeside, leaves_of}
+pub use Rattle.special_files.specs.Leaves.{SameBeside, leaves_below}
 pub use Rattle.special_files.specs.Order.{leaf_claims}
-pub use Rattle.special_files.specs.Refusal.{IsRefusal, IsTrouble, NoMap, OtherCount, is_damaged, is_full_refusal}
+pub use Rattle.special_files.specs.Refusal.{IsDraftRefusal, IsDraftTrouble, NoMap, OtherCount, has_met_damage, is_full_refusal}
 pub use Rattle.special_files.specs.Store.{replaced, without_draft}
 pub use Rattle.special_files.specs.declared.fill.Swap.{Swap}
 pub use Rattle.std.proofs.Common.{Bool, Err, List, None, Ok, Option, Some, [], ap, arith, cond, eq-eqb, false, get_or, inl, inr, length, lt-ltb, not, refl, replicate, set, subst, suc, sym, true, zero, ℕ, ⊎_elim, ◌%◌, ◌*◌, ◌++◌, ◌+◌, ◌-◌, ◌/◌, ◌<◌, ◌^◌, ◌∙◌, ◌∷◌, ◌≡◌, ◌≢◌, ◌≤◌, ◌⊎◌}
@@ -96,6 +96,6 @@ pub use Rattle.vol_owners.proofs.Keys.{block_there, object_of_block}
 pub use Rattle.vol_owners.proofs.Owners.{drafts_miss, list_misses}
 pub use Rattle.vol_owners.proofs.Rooms.{owns_nothing}
 pub use Rattle.vol_owners.proofs.Steps.{making_goes_on}
-pub use Rattle.vol_owners.specs.Account.{Accounts, HasDraft, HasDrafts, HasItsBlocks, IsMade, Opened, created_of, drafts_of, numbers_differ}
+pub use Rattle.vol_owners.specs.Account.{Accounts, HasDraft, HasDrafts, HasItsBlocks, IsMadeRoot, Opened, created_of, drafts_of, numbers_differ}
 pub use Rattle.vol_owners.specs.Change.{ChangesOnly, IsOpenTo, SameBut, SameOthers, of_draft, of_drafts, of_owner, of_owners}
-pub use Rattle.vol_owners.specs.Owner.{is_had, is_made, is_meant, is_of, is_placed, is_taken, owner_of}
+pub use Rattle.vol_owners.specs.Owner.{is_had, is_made, is_meant, is_owned_by, is_placed, is_taken, owner_of}

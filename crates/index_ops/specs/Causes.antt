@@ -13,7 +13,7 @@ use Rattle.block_tree.specs.Reads.{IsPast}
 use Rattle.block_tree.specs.Root.{IsRootBlock, root_spelling}
 use Rattle.block_tree.specs.Tree.{PastAbove, leaf_block}
 use Rattle.block_tree.specs.declared.root.Root.{Root}
-use Rattle.special_files.specs.Drafting.{node_of}
+use Rattle.special_files.specs.Drafting.{pointer_to_node}
 
 -- a pointer of this block leads past the disk
 abbrev pub far_from : ℕ → Trouble
@@ -25,7 +25,7 @@ far_from holder = trouble.Damaged (record { block = holder; code = past_disk })
 pub data IsFarLeaf (image : Image) (size at : ℕ) (root : Root) (leaf : ℕ) (damage : Damage) : Type 0 where
   FarNode : damage.code ≡ past_disk → damage.block ≡ at → (block : ℕ)
       → PastAbove image size (root_spelling root) leaf block → IsFarLeaf image size at root leaf damage
-  FarLeaf : damage.code ≡ past_disk → damage.block ≡ node_of root (leaf / leaf_pointers.count)
+  FarLeaf : damage.code ≡ past_disk → damage.block ≡ pointer_to_node root (leaf / leaf_pointers.count)
       → IsPast size (leaf_block image (root_spelling root) leaf) → IsFarLeaf image size at root leaf damage
 
 -- that for a slot of the index at this block; or the block is no root

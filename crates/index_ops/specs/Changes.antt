@@ -14,14 +14,15 @@ use Rattle.cfs_base.specs.declared.refusal.Refused.TheVariants as refusals
 use Rattle.block_tree.specs.Root.{IsRootBlock}
 use Rattle.block_tree.specs.declared.root.Root.{Root}
 use Rattle.claims.specs.Claims.{AreClaimed}
-use Rattle.cyl_alloc.specs.Left.{Left}
+use Rattle.cyl_alloc.specs.Left.{LeftCommit}
 use Rattle.cyl_alloc.specs.Space.{Kept, intended}
 use Rattle.cyl_map.specs.declared.entry.MapEntry.{MapEntry}
-use Rattle.intentions.specs.Left.{StoreIs, end_of}
+use Rattle.intentions.specs.Left.{StoreIs, final_image}
 use Rattle.intentions.specs.Store.{StoreHas}
 use Rattle.special_files.specs.Committing.{IsAtBit, IsNoted, IsOldOrNew, TakesShadow}
+use Rattle.leaf_changes.specs.Tops.{disk_top}
 use Rattle.special_files.specs.Leaves.{SameBeside}
-use Rattle.special_files.specs.Refusal.{IsDamage, is_damaged}
+use Rattle.special_files.specs.Refusal.{IsDraftDamage, has_met_damage}
 use Rattle.ufs_model.specs.Graph.{Graph, object_at, with_object}
 use Rattle.ufs_model.specs.Object.{filled}
 use Rattle.ufs_model.specs.declared.object.Index.{Index}
@@ -50,7 +51,7 @@ pub record ChangesIndex {D : Type 0} (g : Ghosts D) (graph : Graph) (ds : List O
     (space : Kept) : Type 0 where
   pub store : StoreIs g (with_object graph id o) ds new space
   pub settled : IsSettled g new
-  pub only : ChangesOnly (λ entry. of_owner id.block entry) (g.content old) (end_of g new space)
+  pub only : ChangesOnly (λ entry. of_owner id.block entry) (g.content old) (final_image g new space)
 
 -- of the tree below a root block only one leaf and its node are others than they were
 abbrev pub IsOneLeaf : (leaf at : ℕ) → Image → Image → Type 0
@@ -59,7 +60,7 @@ IsOneLeaf leaf at a b = SameBeside leaf (tree_in a (block_at a at)) (tree_in b (
 -- Blocks were claimed for these entries, one after another, each the least-numbered Free one, and last for the shadow
 -- root of the object with this root block. After the entries nothing changed but blocks of this owner and of those that
 -- are made with it, or such as were Free.
-pub record Takes (claims : List MapEntry) (at : ℕ) (made : List ℕ) (a b : Image) : Type 0 where
+pub record TakesEntries (claims : List MapEntry) (at : ℕ) (made : List ℕ) (a b : Image) : Type 0 where
   pub mid : Image
   pub in_order : AreClaimed claims a mid
   pub only : ChangesOnly (λ entry. of_owners (at ∷ made) entry) mid b
@@ -73,12 +74,12 @@ leaf_and_node leaf at = intended (Leaf leaf) at ∷ intended (Node (leaf / 128))
 -- that is empty was to be, and nothing did.
 pub record ChangesLeaf {D : Type 0} (g : Ghosts D) (leaf at : ℕ) (what : Option Puid) (old new : D)
     (space : Kept) : Type 0 where
-  pub beside : IsOneLeaf leaf at (g.content old) (end_of g new space)
-  pub takes : ((what ≡ None) × (end_of g new space ≡ g.content old))
-      ⊎ Takes (leaf_and_node leaf at) at [] (g.content old) (end_of g new space)
+  pub beside : IsOneLeaf leaf at (g.content old) (final_image g new space)
+  pub takes : ((what ≡ None) × (final_image g new space ≡ g.content old))
+      ⊎ TakesEntries (leaf_and_node leaf at) at [] (g.content old) (final_image g new space)
 
 -- what waited is durable now, and the content is as it was
-pub record Settles {D : Type 0} (g : Ghosts D) (old new : D) (result : Result (Unit {0}) Refused) : Type 0 where
+pub record SettlesDisk {D : Type 0} (g : Ghosts D) (old new : D) (result : Result (Unit {0}) Refused) : Type 0 where
   pub content : g.content new ≡ g.content old
   pub told : (n : ℕ) → IsTrue (g.told old n) → IsTrue (g.told new n)
   pub settled : Tells g old → OnOk result (IsSettled g new)
@@ -104,12 +105,12 @@ abbrev pub IsIndexRefusal : {D : Type 0} → Ghosts D → (at slot : ℕ) → D 
 IsIndexRefusal g at slot old new kept (refusals.Full need) = ⊥
 IsIndexRefusal g at slot old new kept (refusals.Disk tried) = HasStopped g tried old new
 IsIndexRefusal g at slot old new kept (refusals.Damaged damage) =
-    IsDamage g at old new kept damage ⊎ IsShort g at slot old damage
+    IsDraftDamage g (disk_top g at old) old new kept damage ⊎ IsShort g at slot old damage
 IsIndexRefusal g at slot old new kept refusals.Memory = ⊥
 
 -- One commit is unfinished then, of the index at this block; or a slot that is empty was to be, and none is.
-abbrev pub LeavesCommit : ℕ → Option Puid → Option Left → Type 0
-LeavesCommit at what left = ((what ≡ None) × (left ≡ None)) ⊎ (l : Left) × IsNoted at left l
+abbrev pub LeavesCommit : ℕ → Option Puid → Option LeftCommit → Type 0
+LeavesCommit at what left = ((what ≡ None) × (left ≡ None)) ⊎ (l : LeftCommit) × IsNoted at left l
 
 -- A slot of the index at a block gets this, as one commit.
 pub record PutsSlot {D : Type 0} (g : Ghosts D) (at slot : ℕ) (what : Option Puid) (old new : D) (before after : Kept)
@@ -123,7 +124,7 @@ pub record PutsSlot {D : Type 0} (g : Ghosts D) (at slot : ℕ) (what : Option P
       → Leaves g old new (IsOldOrNew graph graph id (index_with i slot what))
   -- no damage where the disk holds the index
   pub sound : (graph : Graph) (ds : List Opened) (id : Puid) (i : Index) → HasSlot g graph ds old before at id i slot
-      → IfErr result (λ e. is_damaged e ≡ false)
+      → IfErr result (λ e. has_met_damage e ≡ false)
   pub refused : IfErr result (IsIndexRefusal g at slot old new after)
   -- before a write or barrier is tried all is as it was
   pub untried : IfErr result (λ e. e ≡ refusals.Disk false → (after ≡ before) × OnlyReads g 9 old new)

@@ -17,12 +17,12 @@ use Rattle.block_tree.specs.Pointers.{node_pointers, pointers_of}
 use Rattle.block_tree.specs.Root.{IsRoot, IsRootBlock, root_spelling}
 use Rattle.block_tree.specs.declared.root.Root.{Root}
 use Rattle.cyl_map.specs.Volume.{is_free_in, with_entry}
-use Rattle.cyl_alloc.specs.Left.{Left}
+use Rattle.cyl_alloc.specs.Left.{LeftCommit}
 use Rattle.cyl_alloc.specs.Space.{AreCounts, IsLeastFree, Kept, intended}
-use Rattle.index_ops.specs.Changes.{HasSlot, IsIndexRefusal, IsOneLeaf, Takes, index_with, leaf_and_node}
-use Rattle.intentions.specs.Left.{StoreIs, end_of}
+use Rattle.index_ops.specs.Changes.{HasSlot, IsIndexRefusal, IsOneLeaf, TakesEntries, index_with, leaf_and_node}
+use Rattle.intentions.specs.Left.{StoreIs, final_image}
 use Rattle.special_files.specs.Committing.{IsAtBit, IsNoted, puid_at}
-use Rattle.special_files.specs.Refusal.{is_damaged}
+use Rattle.special_files.specs.Refusal.{has_met_damage}
 use Rattle.ufs_model.specs.Graph.{Graph, with_object}
 use Rattle.ufs_model.specs.Object.{new_file, new_index}
 use Rattle.ufs_model.specs.declared.object.Draft.{Draft}
@@ -57,11 +57,13 @@ pub record Creates {D : Type 0} (g : Ghosts D) (graph : Graph) (ds : List Opened
   pub least : IsLeastFree (g.content old) new.block
   pub store : StoreIs g (with_made graph id i slot new made) ds now space
   pub settled : IsSettled g now
-  pub only : ChangesOnly (λ entry. of_owners (id.block ∷ new.block ∷ []) entry) (g.content old) (end_of g now space)
+  pub only : ChangesOnly (λ entry. of_owners (id.block ∷ new.block ∷ []) entry) (g.content old)
+      (final_image g now space)
   -- of the index the slot's leaf alone changed, and its node; both take blocks after the root, and then the commit one
-  pub beside : IsOneLeaf (slot / 64) id.block (g.content old) (end_of g now space)
-  pub takes : Takes (intended places.Root new.block ∷ leaf_and_node (slot / 64) id.block) id.block (new.block ∷ [])
-      (g.content old) (end_of g now space)
+  pub beside : IsOneLeaf (slot / 64) id.block (g.content old) (final_image g now space)
+  pub takes : TakesEntries (intended places.Root new.block ∷ leaf_and_node (slot / 64) id.block) id.block
+      (new.block ∷ [])
+      (g.content old) (final_image g now space)
 
 -- ---- its steps
 
@@ -95,14 +97,14 @@ pub record RootEnds {D : Type 0} (g : Ghosts D) (graph : Graph) (old now : D) (s
     (result : Result (Unit {0}) Refused) : Type 0 where
   pub done : OnOk result (HasImage g graph now space image)
   pub leaves : Leaves g old now (λ c. Holds c graph)
-  pub sound : IfErr result (λ e. is_damaged e ≡ false)
+  pub sound : IfErr result (λ e. has_met_damage e ≡ false)
 
 -- how a new object and its index are committed together, where the store has the draft of the index
 pub record MakeEnds {D : Type 0} (g : Ghosts D) (graph : Graph) (ds : List Opened) (id : Puid) (i : Index) (slot : ℕ)
     (new : Puid) (made : Object) (old now : D) (space : Kept) (result : Result Puid Refused) : Type 0 where
   pub done : OnOk result (Creates g graph ds id i slot new made old now space)
   pub leaves : Leaves g old now (λ c. Holds c graph ⊎ Holds c (with_made graph id i slot new made))
-  pub sound : IfErr result (λ e. is_damaged e ≡ false)
+  pub sound : IfErr result (λ e. has_met_damage e ≡ false)
 
 -- the draft of an index, as the model has it when it was begun
 abbrev pub begun_of : Index → Draft
@@ -121,12 +123,12 @@ pub record PutsObject {D : Type 0} (g : Ghosts D) (at slot : ℕ) (made : Object
       × Holds c (with_made graph id i slot (puid_at b word) made)))
   -- no damage where the disk holds the index
   pub sound : (graph : Graph) (ds : List Opened) (id : Puid) (i : Index) → HasSlot g graph ds old before at id i slot
-      → IfErr result (λ e. is_damaged e ≡ false)
+      → IfErr result (λ e. has_met_damage e ≡ false)
   pub refused : IfErr result (λ e. IsIndexRefusal g at slot old new after e ⊎ IsOpenMap g old before e)
   -- before a write or barrier is tried all is as it was
   pub untried : IfErr result (λ e. e ≡ refusals.Disk false → (after ≡ before) × OnlyReads g 9 old new)
   pub cylinders : length after.free ≡ length before.free
   -- the commit is unfinished then
-  pub left : OnOk result ((l : Left) × IsNoted at after.left l)
+  pub left : OnOk result ((l : LeftCommit) × IsNoted at after.left l)
   pub bit : OnOk result (IsAtBit g old new after.left)
   pub calls : MakesAtMost g 24 13 old new

@@ -59,7 +59,7 @@ fn put<D: Disk>(
 
 /// Makes durable what is there.
 fn settle<D: Disk>(disk: &mut D) -> Result<(), Refused>
-    ensures { spec.Settles D.Disk disk.old disk.new result }
+    ensures { spec.SettlesDisk D.Disk disk.old disk.new result }
 {
     match barrier(disk) {
         Ok(()) => Ok(()),

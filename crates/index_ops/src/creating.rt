@@ -7,16 +7,17 @@ ghost use Rattle.cfs_base.specs.Run.{Tells};
 ghost use Rattle.cfs_base.specs.declared.identifier.Puid.{Puid};
 ghost use Rattle.cfs_base.specs.declared.kind.Place.TheVariants as places;
 ghost use Rattle.cfs_base.specs.declared.refusal.Refused.TheVariants as refusals;
-ghost use Rattle.cyl_alloc.specs.Left.{Left};
+ghost use Rattle.cyl_alloc.specs.Left.{LeftCommit};
 ghost use Rattle.cyl_alloc.specs.Space.{AreCounts, IsLeastFree, intended};
 ghost use Rattle.cyl_map.specs.Volume.{with_entry};
 ghost use Rattle.index_ops.specs.Creates as spec;
 ghost use Rattle.intentions.specs.Store.{StoreHas};
-ghost use Rattle.special_files.specs.Calls.{WritesBlock};
+ghost use Rattle.leaf_changes.specs.Tops.{still_top};
+ghost use Rattle.special_files.specs.Calls.{WritesDraftBlock};
 ghost use Rattle.special_files.specs.Committing.{IsAtBit, IsNoted, puid_at};
 ghost use Rattle.special_files.specs.Drafting.{begun_at, opened_as};
-ghost use Rattle.special_files.specs.Ends.{Ends};
-ghost use Rattle.special_files.specs.Refusal.{IsRefusal, is_damaged, is_full_refusal};
+ghost use Rattle.special_files.specs.Ends.{EndsCall};
+ghost use Rattle.special_files.specs.Refusal.{IsDraftRefusal, has_met_damage, is_full_refusal, top_of};
 ghost use Rattle.ufs_model.specs.Graph.{Graph, object_at};
 ghost use Rattle.ufs_model.specs.declared.object.Index.{Index};
 ghost use Rattle.ufs_model.specs.declared.object.Object.TheVariants as objects;
@@ -38,10 +39,10 @@ pub fn least<D: Disk>(disk: &mut D, space: &Space) -> Result<BlockNo, Refused>
         → IfOk result (λ block. IsLeastFree (D.content disk.old) block.0) }
     ensures some { IfOk result (λ block. (block.0 ≢ 0) × (block.0 < D.blocks disk.old)) }
     ensures refused { (at : ℕ)
-        → IfErr result (λ e. (IsRefusal D.Disk at 0 disk.old disk.new space.now e × (is_full_refusal e ≡ false))
+        → IfErr result (λ e. (IsDraftRefusal D.Disk (still_top at) 0 disk.old disk.new space.now e × (is_full_refusal e ≡ false))
         ⊎ spec.IsOpenMap D.Disk disk.old space.now e) }
     ensures sound { (graph : Graph) (ds : List Opened) → StoreHas D.Disk graph ds disk.old space.now
-        → IfErr result (λ e. is_damaged e ≡ false) }
+        → IfErr result (λ e. has_met_damage e ≡ false) }
     ensures reads { OnlyReads D.Disk 1 disk.old disk.new }
 {
     let block = match space.find(disk) {
@@ -67,7 +68,7 @@ fn claim_root<D: Disk>(disk: &mut D, space: &mut Space, block: BlockNo) -> Resul
         (with_entry (D.content disk.old) block.0 (intended places.Root block.0)) result }
     ensures tried { OnOk result (HasTried D.Disk disk.old disk.new) }
     ensures spare { IfErr result (λ e. is_full_refusal e ≡ false) }
-    ensures ends { (at : ℕ) → Ends D.Disk at 0 2 1 1 disk.old disk.new space.old space.new result }
+    ensures ends { (at : ℕ) → EndsCall D.Disk (still_top at) 0 2 1 1 disk.old disk.new space.old space.new result }
 {
     match intend_claim(disk, block, Place::Root, block.0) {
         Ok(()) => {
@@ -81,7 +82,7 @@ fn claim_root<D: Disk>(disk: &mut D, space: &mut Space, block: BlockNo) -> Resul
 /// Writes the root of a new object.
 pub fn write_root<D: Disk>(disk: &mut D, block: BlockNo, root: &Root) -> Result<(), Refused>
     requires { block.0 < D.blocks disk.old }
-    ensures writes { WritesBlock D.Disk block.0 (root_spelling root.now) disk.old disk.new result }
+    ensures writes { WritesDraftBlock D.Disk block.0 (root_spelling root.now) disk.old disk.new result }
     ensures spelled { spec.Spells root.now }
 {
     match disk.write(block, &root.encode()) {
@@ -106,7 +107,7 @@ fn make_root<D: Disk>(
     ensures spelled { OnOk result (spec.Spells root.now) }
     ensures tried { OnOk result (HasTried D.Disk disk.old disk.new) }
     ensures spare { IfErr result (λ e. is_full_refusal e ≡ false) }
-    ensures ends { (at : ℕ) → Ends D.Disk at 0 3 2 1 disk.old disk.new space.old space.new result }
+    ensures ends { (at : ℕ) → EndsCall D.Disk (still_top at) 0 3 2 1 disk.old disk.new space.old space.new result }
 {
     match claim_root(disk, space, block) {
         Ok(()) => write_root(disk, block, root),
@@ -143,12 +144,12 @@ fn make_at<D: Disk>(
         → spec.MakeEnds D.Disk graph ds id i slot (puid_at block.0 root.now.word)
         (bare_object root.now) disk.old disk.new space.new result }
     ensures value { IfOk result (λ p. p ≡ puid_at block.0 root.now.word) }
-    ensures refused { IfErr result (λ e. IsRefusal D.Disk draft.at 0 disk.old disk.new space.new e
+    ensures refused { IfErr result (λ e. IsDraftRefusal D.Disk (top_of draft) 0 disk.old disk.new space.new e
         × (is_full_refusal e ≡ false)) }
     ensures untried { IfErr result (λ e. e ≡ refusals.Disk false → (space.new ≡ space.old)
         × OnlyReads D.Disk 3 disk.old disk.new) }
     ensures cylinders { length space.new.free ≡ length space.old.free }
-    ensures left { OnOk result ((l : Left) × IsNoted draft.at space.new.left l) }
+    ensures left { OnOk result ((l : LeftCommit) × IsNoted draft.at space.new.left l) }
     ensures bit { OnOk result (IsAtBit D.Disk disk.old disk.new space.new.left) }
     ensures calls { MakesAtMost D.Disk 22 13 disk.old disk.new }
 {

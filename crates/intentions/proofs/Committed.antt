@@ -1,6 +1,6 @@
 -- The images of a commit: with the bit, and with the root copied.
 use Rattle.std.proofs.Common.{◌≡◌, ◌≢◌, inl, inr, ℕ, List, [], length, length-set, set, Bool, cond, Result, Some, refl, sym, ◌∙◌, ap, subst}
-use Rattle.intentions.proofs.Words.{Carries, ChangesBit, Commits, Copies, Ghosts, Graph, Held, Holds, Image, IsCommitted, IsDraft, IsPlaced, IsSettled, IsToFinish, IsTree, Leaves, MapEntry, Object, OnOk, Puid, ReadsAs, Root, SameAt, Settles, Tree, Trouble, Written, below_apart, block_at, committed, committed_holds, copied_holds, entry_in, entry_in-set, entry_in-with_entry_other, entry_in_table, first_or, get_or-set_other, get_or-set_same, hold_fewer, in_image, left_now, not_map, object_at, object_at-with_object, part_of, read_by, root_placed, same_Some, same_or_not, same_puid_itself, same_shadows, same_tree, settles_begins, shadow_taken, sight, source, stands_for, taken_apart, tree_in, wider, with_bit, with_bit_at, with_entry, with_object}
+use Rattle.intentions.proofs.Words.{Carries, ChangesBit, Commits, Copies, Ghosts, Graph, Held, Holds, Image, IsCommitted, IsDraft, IsPlaced, IsSettled, IsToFinish, IsTree, Leaves, MapEntry, Object, OnOk, Puid, ReadsAs, Root, SameAt, Settles, Tree, Trouble, Written, below_apart, block_at, with_commit_bit, committed_holds, copied_holds, entry_in, entry_in-set, entry_in-with_entry_other, entry_in_table, first_or, get_or-set_other, get_or-set_same, hold_fewer, in_image, left_now, not_map, object_at, object_at-with_object, part_of, read_by, root_placed, same_Some, same_or_not, same_puid_itself, same_shadows, same_tree, settles_begins, shadow_taken, sight, source, stands_for, taken_apart, tree_in, wider, with_bit, with_bit_at, with_entry, with_object}
 use Rattle.intentions.proofs.Changes.{on_ok}
 use Rattle.intentions.proofs.Courses.{put_again}
 use Rattle.intentions.proofs.Valid.{bit_valid}
@@ -17,7 +17,7 @@ module _ (a : Image) (g : Graph) (id : Puid) (was o : Object) (e : MapEntry) (s 
   place_is : e.place ≡ Some Root
   place_is = ap (λ (x : MapEntry). x.place) (same_Some _ _ (sym here ∙ root_is.taken.here)) ∙ root_is.place_is
 
-  with_bit_is : with_bit e ≡ committed e
+  with_bit_is : with_bit e ≡ with_commit_bit e
   with_bit_is = ap (λ p. with_bit_at p e) place_is
 
   pub commits : Commits a (with_entry a id.block (with_bit e)) g id o s
@@ -34,7 +34,7 @@ module _ (a : Image) (g : Graph) (id : Puid) (was o : Object) (e : MapEntry) (s 
           stands = reads.stands s ∙ draft.stands;
         };
         tree = reads.tree;
-        entries = λ n other. entry_in-with_entry_other a id.block (committed e) e n here other;
+        entries = λ n other. entry_in-with_entry_other a id.block (with_commit_bit e) e n here other;
       })
 
 -- ---- the copy

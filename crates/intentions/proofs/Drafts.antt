@@ -1,7 +1,7 @@
 -- What is left of a commit is of its object and of one that is made with it: the drafts of all others are on the disk.
 use Rattle.std.proofs.Common.{◌≡◌, inl, inr, ⊎_elim, ℕ, Bool, true, false, List, [], ◌∷◌, length, length-set, set, Option, Some, None, sym, ◌∙◌, ap, subst}
 use Rattle.std.proofs.lemmas.Bool.{and_from, and_parts, cases_Bool}
-use Rattle.cyl_alloc.specs.Left.{Left}
+use Rattle.cyl_alloc.specs.Left.{LeftCommit}
 use Rattle.cyl_alloc.specs.Space.{Kept}
 use Rattle.cyl_map.proofs.Volumes.{entry_in-with_entry_same}
 use Rattle.cyl_map.specs.Volume.{AreMaps}
@@ -9,7 +9,7 @@ use Rattle.intentions.proofs.Committed.{copies}
 use Rattle.intentions.proofs.Courses.{on_holds}
 use Rattle.intentions.proofs.Flips.{flip_block, flip_is, flip_other, length-flip}
 use Rattle.intentions.proofs.Words.{Ghosts, Graph, Holds, Image, IsEntry, MapEntry, Object, Puid, Settling, block_at, entry_in, entry_in-set, get_or-set_other, is_fixed, not_map, object_at, root_placed, same_or_not, taken_apart}
-use Rattle.intentions.specs.Entries.{changed}
+use Rattle.intentions.specs.Entries.{changed_entry}
 use Rattle.intentions.specs.Flips.{Flip, MayFlip, flip, flipped}
 use Rattle.intentions.specs.Left.{AreOpen, GoesOn, StoreIs, StoreWith, coming, copied_if, plan}
 use Rattle.ufs_model.specs.Numbers.{has_number}
@@ -21,10 +21,10 @@ use Rattle.vol_owners.proofs.Kept.{draft_kept}
 use Rattle.vol_owners.proofs.Owners.{list_misses}
 use Rattle.vol_owners.specs.Account.{HasDraft, HasDrafts, Opened, drafts_of}
 use Rattle.vol_owners.specs.Change.{ChangesOnly, IsOpenTo, of_owners}
-use Rattle.vol_owners.specs.Owner.{is_had, is_meant, is_of, is_placed, is_taken}
+use Rattle.vol_owners.specs.Owner.{is_had, is_meant, is_owned_by, is_placed, is_taken}
 
 -- a block of one of these owners is open to changes of them
-pub owners_open : (r : ℕ) (rs : List ℕ) (entry : Option MapEntry) → has_number r rs ≡ true → is_of is_taken r entry ≡ true → IsOpenTo (λ e. of_owners rs e) entry
+pub owners_open : (r : ℕ) (rs : List ℕ) (entry : Option MapEntry) → has_number r rs ≡ true → is_owned_by is_taken r entry ≡ true → IsOpenTo (λ e. of_owners rs e) entry
 owners_open r rs entry among is =
     let two = and_parts (is_placed is_taken entry) _ is in
     inr (two.0, and_from _ _ two.0 (subst (λ (n : ℕ). has_number n rs ≡ true) (owner_is is_taken r entry is) among))
@@ -32,7 +32,7 @@ owners_open r rs entry among is =
 -- ---- changes, seen from their end
 
 module _ (T : Option MapEntry → Bool) where
-  one_back : (image : Image) (x : Flip) (e : MapEntry) → AreMaps image → RootsOwnThemselves image → entry_in image x.block ≡ Some e → is_fixed x.block ≡ false → IsEntry (changed x.how e) → IsOpenTo T (Some e) → IsOpenTo T (Some (changed x.how e)) → ChangesOnly T (flip image x) image
+  one_back : (image : Image) (x : Flip) (e : MapEntry) → AreMaps image → RootsOwnThemselves image → entry_in image x.block ≡ Some e → is_fixed x.block ≡ false → IsEntry (changed_entry x.how e) → IsOpenTo T (Some e) → IsOpenTo T (Some (changed_entry x.how e)) → ChangesOnly T (flip image x) image
   one_back image x e maps own here apart valid before after = record {
     size = sym (length-flip image x);
     maps = maps;
@@ -46,8 +46,8 @@ module _ (T : Option MapEntry → Bool) where
     contents = λ n is. inl (sym (flip_block image x n (not_map n is)));
   }
     where
-      now : entry_in (flip image x) x.block ≡ Some (changed x.how e)
-      now = ap (λ (i : Image). entry_in i x.block) (flip_is image x e here) ∙ entry_in-with_entry_same image x.block (changed x.how e) e here valid
+      now : entry_in (flip image x) x.block ≡ Some (changed_entry x.how e)
+      now = ap (λ (i : Image). entry_in i x.block) (flip_is image x e here) ∙ entry_in-with_entry_same image x.block (changed_entry x.how e) e here valid
 
   flips_back : (c : Image) (graph : Graph) (id : Puid) (o : Object) (s : ℕ) (xs : List Flip) (image : Image) → ChangesOnly T image image → MayFlip (Settling c graph id o s) image xs → AreOpen T image xs → ChangesOnly T (flipped image xs) image
   flips_back c graph id o s [] image same may opens = same
@@ -57,9 +57,9 @@ module _ (T : Option MapEntry → Bool) where
       let put = may.0.2 in
       let one : opens.0.0 ≡ e = cc in
       let before = subst (λ (f : MapEntry). IsOpenTo T (Some f)) one opens.0.2 in
-      let after = subst (λ (f : MapEntry). IsOpenTo T (Some (changed x.how f))) one opens.0.3 in
+      let after = subst (λ (f : MapEntry). IsOpenTo T (Some (changed_entry x.how f))) one opens.0.3 in
       let back = one_back image x e same.maps same.own here put.apart put.entry before after in
-      let there : ChangesOnly T image (flip image x) = subst (ChangesOnly T image) (sym (flip_is image x e here)) (changes_entry T image x.block (changed x.how e) e same.maps same.own put.apart here put.entry put.itself before after) in
+      let there : ChangesOnly T image (flip image x) = subst (ChangesOnly T image) (sym (flip_is image x e here)) (changes_entry T image x.block (changed_entry x.how e) e same.maps same.own put.apart here put.entry put.itself before after) in
       let mid : ChangesOnly T (flip image x) (flip image x) = changes_then T (flip image x) image (flip image x) back there in
       changes_then T (flipped (flip image x) xs) (flip image x) image (flips_back c graph id o s xs (flip image x) mid may.1 opens.1) back
 
@@ -80,7 +80,7 @@ module _ (T : Option MapEntry → Bool) where
 
 -- ---- what is left
 
-module _ {D : Type 0} (g : Ghosts D) (graph : Graph) (d : D) (l : Left) (id : Puid) (o : Object) (root : id.block ≡ l.root) (owners : List ℕ) (own : has_number id.block owners ≡ true) where
+module _ {D : Type 0} (g : Ghosts D) (graph : Graph) (d : D) (l : LeftCommit) (id : Puid) (o : Object) (root : id.block ≡ l.root) (owners : List ℕ) (own : has_number id.block owners ≡ true) where
   abbrev image : Image
   image = g.content d
 
@@ -108,7 +108,7 @@ module _ {D : Type 0} (g : Ghosts D) (graph : Graph) (d : D) (l : Left) (id : Pu
 pub draft_there : {D : Type 0} (g : Ghosts D) (graph : Graph) (ds : List Opened) (d : D) (k : Kept) → StoreIs g graph ds d k → (x : Puid) (o : Object) (e : Opened) → object_at graph x ≡ Some o → drafts_of ds x ≡ e ∷ [] → HasDraft (g.content d) x e
 draft_there g graph ds d k is x o e at alone = with_left k.left is
   where
-    with_left : (w : Option Left) → StoreWith g graph ds d k w → HasDraft (g.content d) x e
+    with_left : (w : Option LeftCommit) → StoreWith g graph ds d k w → HasDraft (g.content d) x e
     with_left None store = subst (HasDrafts (g.content d) x) alone (store.account.drafts x o at)
     with_left (Some l) has =
         let go = has.going in

@@ -8,7 +8,7 @@ use Rattle.cfs_base.specs.declared.refusal.Trouble.TheVariants as trouble
 use Rattle.cyl_map.proofs.Volumes.{block_at-with_entry, entry_in-with_entry_same, length-with_entry}
 use Rattle.intentions.proofs.Words.{Course, Frame, Ghosts, Image, IsCourse, IsEntry, IsMapTrouble, IsOn, Keeps, MapEntry, MayPut, Settling, Trouble, block_at, entry_in, entry_in-with_entry_other, map_in_image, map_of, with_entry}
 use Rattle.intentions.proofs.Courses.{on_entry, on_holds}
-use Rattle.intentions.specs.Entries.{changed}
+use Rattle.intentions.specs.Entries.{changed_entry}
 use Rattle.intentions.specs.Flips.{Flip, MayFlip, flip, flip_in, flipped, flips}
 use Rattle.intentions.specs.declared.change.Change.{Change}
 use Rattle.ufs_model.specs.Numbers.{has_number}
@@ -16,7 +16,7 @@ use Rattle.vol_owners.specs.Account.{numbers_differ}
 
 -- ---- one
 
-pub flip_is : (a : Image) (x : Flip) (e : MapEntry) → entry_in a x.block ≡ Some e → flip a x ≡ with_entry a x.block (changed x.how e)
+pub flip_is : (a : Image) (x : Flip) (e : MapEntry) → entry_in a x.block ≡ Some e → flip a x ≡ with_entry a x.block (changed_entry x.how e)
 flip_is a x e here = ap (flip_in a x) here
 
 pub put_valid : (w : Course) (n : ℕ) (old e : MapEntry) → MayPut w n old e → IsEntry e
@@ -27,7 +27,7 @@ put_valid (Settling c graph id o s) n old e may = may.entry
 abbrev pub if_at : Bool → Change → Option MapEntry → Option MapEntry
 if_at false how entry = entry
 if_at true how None = None
-if_at true how (Some e) = Some (changed how e)
+if_at true how (Some e) = Some (changed_entry how e)
 
 module _ (a : Image) (x : Flip) where
   pub flip_other : (m : ℕ) → m ≢ x.block → entry_in (flip a x) m ≡ entry_in a m
@@ -35,32 +35,32 @@ module _ (a : Image) (x : Flip) where
     where
       by : (entry : Option MapEntry) → entry_in a x.block ≡ entry → entry_in (flip_in a x entry) m ≡ entry_in a m
       by None is = refl
-      by (Some e) is = entry_in-with_entry_other a x.block (changed x.how e) e m is apart
+      by (Some e) is = entry_in-with_entry_other a x.block (changed_entry x.how e) e m is apart
 
   pub flip_block : (m : ℕ) → m % 64 ≢ 0 → block_at (flip a x) m ≡ block_at a m
   flip_block m real = by (entry_in a x.block)
     where
       by : (entry : Option MapEntry) → block_at (flip_in a x entry) m ≡ block_at a m
       by None = refl
-      by (Some e) = block_at-with_entry a x.block (changed x.how e) m (λ same. real (omega (arith, same)))
+      by (Some e) = block_at-with_entry a x.block (changed_entry x.how e) m (λ same. real (omega (arith, same)))
 
   pub length-flip : length (flip a x) ≡ length a
   length-flip = by (entry_in a x.block)
     where
       by : (entry : Option MapEntry) → length (flip_in a x entry) ≡ length a
       by None = refl
-      by (Some e) = length-with_entry a x.block (changed x.how e)
+      by (Some e) = length-with_entry a x.block (changed_entry x.how e)
 
-  module _ (w : Course) (e : MapEntry) (here : entry_in a x.block ≡ Some e) (may : MayPut w x.block e (changed x.how e)) where
+  module _ (w : Course) (e : MapEntry) (here : entry_in a x.block ≡ Some e) (may : MayPut w x.block e (changed_entry x.how e)) where
     pub flip_entry : (m : ℕ) → entry_in (flip a x) m ≡ if_at (x.block == m) x.how (entry_in a m)
     flip_entry m = elim (x.block == m) as (λ b. (x.block == m) ≡ b → entry_in (flip a x) m ≡ if_at b x.how (entry_in a m)) [
       | true ↦ λ same. subst (λ (k : ℕ). entry_in (flip a x) k ≡ if_at true x.how (entry_in a k)) (eqb-true x.block m same)
-          (ap (λ (i : Image). entry_in i x.block) (flip_is a x e here) ∙ entry_in-with_entry_same a x.block (changed x.how e) e here (put_valid w x.block e (changed x.how e) may) ∙ sym (ap (if_at true x.how) here))
+          (ap (λ (i : Image). entry_in i x.block) (flip_is a x e here) ∙ entry_in-with_entry_same a x.block (changed_entry x.how e) e here (put_valid w x.block e (changed_entry x.how e) may) ∙ sym (ap (if_at true x.how) here))
       | false ↦ λ apart. flip_other m (λ same. eqb-false x.block m apart (sym same))
     ] refl
 
     pub flip_on : IsCourse w → IsOn w a → IsOn w (flip a x)
-    flip_on is on = subst (IsOn w) (sym (flip_is a x e here)) (on_entry w a x.block e (changed x.how e) is on here may)
+    flip_on is on = subst (IsOn w) (sym (flip_is a x e here)) (on_entry w a x.block e (changed_entry x.how e) is on here may)
 
 -- ---- many
 
@@ -119,7 +119,7 @@ option_once (Some m) = refl
 
 module _ (w : Course) (how : Change) where
   abbrev May : Image → ℕ → Type 0
-  May a n = (e : MapEntry) × (entry_in a n ≡ Some e) × MayPut w n e (changed how e)
+  May a n = (e : MapEntry) × (entry_in a n ≡ Some e) × MayPut w n e (changed_entry how e)
 
   pub may_flips : (ns : List ℕ) (a : Image) → numbers_differ ns ≡ true → ((n : ℕ) → has_number n ns ≡ true → May a n) → MayFlip w a (flips how ns)
   may_flips [] a differ each = tt

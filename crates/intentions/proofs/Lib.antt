@@ -9,3 +9,4 @@ pub mod Shown
 pub mod Drafts
 mod Words
 pub mod Loaded
+pub mod Runs

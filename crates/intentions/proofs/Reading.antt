@@ -16,7 +16,7 @@ use Rattle.ufs_model.specs.declared.object.Object.{Object}
 use Rattle.ufs_model.specs.Graph.{Graph}
 use Rattle.vol_image.proofs.Carries.{carries_on}
 use Rattle.vol_owners.specs.Account.{Accounts, Opened}
-use Rattle.cyl_alloc.specs.Left.{Left}
+use Rattle.cyl_alloc.specs.Left.{LeftCommit}
 use Rattle.vol_owners.specs.Change.{of_owners}
 use Rattle.intentions.specs.Left.{AreOpen, GoesOn, GoesWith, HasLeft, IsGoing, StoreWith, coming, copied_if, plan}
 
@@ -27,7 +27,7 @@ module _ {D : Type 0} (g : Ghosts D) (graph : Graph) (d0 d1 : D) (k : Kept) (n :
     only = λ c h. ⊎_elim (λ was. s.only c was) (λ none. absurd none) (only.images.now c h) ∙ sym only.content;
   }
 
-  goes_still : (b : Bool) (id : Puid) (o : Object) (l : Left) → GoesOn g b graph id o l d0 → GoesOn g b graph id o l d1
+  goes_still : (b : Bool) (id : Puid) (o : Object) (l : LeftCommit) → GoesOn g b graph id o l d0 → GoesOn g b graph id o l d1
   goes_still false id o l goes = (
     settled_still goes.0,
     subst (λ (i : Image). IsCommitted i graph id o l.shadow) (sym only.content) goes.1,
@@ -40,7 +40,7 @@ module _ {D : Type 0} (g : Ghosts D) (graph : Graph) (d0 d1 : D) (k : Kept) (n :
     subst (λ (i : Image). MayFlip (Settling goes.0 graph id o l.shadow) i (plan l)) (sym only.content) goes.3,
   )
 
-  abbrev left_goes : (l : Left) → IsGoing g graph d0 k l → IsGoing g graph d1 k l
+  abbrev left_goes : (l : LeftCommit) → IsGoing g graph d0 k l → IsGoing g graph d1 k l
   left_goes l has = record {
     id = has.id;
     object = has.object;
@@ -49,11 +49,11 @@ module _ {D : Type 0} (g : Ghosts D) (graph : Graph) (d0 d1 : D) (k : Kept) (n :
     counts = subst (λ (i : Image). AreCounts i k) (sym only.content) has.counts;
   }
 
-  pub going_reads : (w : Option Left) → GoesWith g graph d0 k w → GoesWith g graph d1 k w
+  pub going_reads : (w : Option LeftCommit) → GoesWith g graph d0 k w → GoesWith g graph d1 k w
   going_reads None has = (carries_on g graph d0 d1 has.0 only.content only.told only.images only.same, subst (λ (i : Image). AreCounts i k) (sym only.content) has.1)
   going_reads (Some l) has = left_goes l has
 
-  pub left_reads : (ds : List Opened) (l : Left) → HasLeft g graph ds d0 k l → HasLeft g graph ds d1 k l
+  pub left_reads : (ds : List Opened) (l : LeftCommit) → HasLeft g graph ds d0 k l → HasLeft g graph ds d1 k l
   left_reads ds l has = record {
     going = left_goes l has.going;
     owners = has.owners;
@@ -64,7 +64,7 @@ module _ {D : Type 0} (g : Ghosts D) (graph : Graph) (d0 d1 : D) (k : Kept) (n :
     ordered = has.ordered;
   }
 
-  pub store_reads : (ds : List Opened) (w : Option Left) → StoreWith g graph ds d0 k w → StoreWith g graph ds d1 k w
+  pub store_reads : (ds : List Opened) (w : Option LeftCommit) → StoreWith g graph ds d0 k w → StoreWith g graph ds d1 k w
   store_reads ds None store = record {
     carries = carries_on g graph d0 d1 store.carries only.content only.told only.images only.same;
     account = subst (λ (i : Image). Accounts i graph ds) (sym only.content) store.account;
@@ -75,14 +75,14 @@ module _ {D : Type 0} (g : Ghosts D) (graph : Graph) (d0 d1 : D) (k : Kept) (n :
 
 -- ---- every image has all objects
 
-pub image_holds : {D : Type 0} (g : Ghosts D) (graph : Graph) (d : D) (k : Kept) (l : Left) → IsGoing g graph d k l → Holds (g.content d) graph
+pub image_holds : {D : Type 0} (g : Ghosts D) (graph : Graph) (d : D) (k : Kept) (l : LeftCommit) → IsGoing g graph d k l → Holds (g.content d) graph
 image_holds g graph d k l has = at l.copied has.goes
   where
     at : (b : Bool) → GoesOn g b graph has.id has.object l d → Holds (g.content d) graph
     at false goes = goes.1.holds
     at true goes = on_holds (Settling goes.0 graph has.id has.object l.shadow) (g.content d) goes.1 goes.2.content
 
-pub left_hold : {D : Type 0} (g : Ghosts D) (graph : Graph) (d : D) (k : Kept) (l : Left) → IsGoing g graph d k l → (c : Image) → left_now g d c → Holds c graph
+pub left_hold : {D : Type 0} (g : Ghosts D) (graph : Graph) (d : D) (k : Kept) (l : LeftCommit) → IsGoing g graph d k l → (c : Image) → left_now g d c → Holds c graph
 left_hold g graph d k l has c here = at l.copied has.goes
   where
     at : (b : Bool) → GoesOn g b graph has.id has.object l d → Holds c graph

@@ -8,14 +8,14 @@ use Rattle.block_tree.specs.Root.{IsRootBlock, root_spelling}
 use Rattle.block_tree.specs.declared.root.Root as roots
 use Rattle.cfs_base.specs.Calls.{OnlyReads}
 use Rattle.cfs_base.specs.Run.{Tells}
-use Rattle.cyl_alloc.specs.Left.{Left, shown_in}
+use Rattle.cyl_alloc.specs.Left.{LeftCommit, block_shown}
 use Rattle.cyl_alloc.specs.Space.{Kept}
 use Rattle.intentions.proofs.Committed.{copied_settles, copies}
 use Rattle.intentions.proofs.Flips.{flipped_block, flipped_on}
 use Rattle.intentions.proofs.Reading.{image_holds, store_reads}
 use Rattle.intentions.proofs.Words.{get_or-set_other, get_or-set_same, Ghosts, in_image, IsPlaced, not_map, Root, root_placed, taken_apart, Graph, Holds, Image, IsCopied, IsTree, Object, Puid, Settles, Settling, block_at, entry_in, first_or, object_at, part_of, same_puid, same_puid_is, source, stands_for, tree_in, without}
 use Rattle.intentions.specs.Flips.{flipped}
-use Rattle.intentions.specs.Left.{GoesOn, IsShownAt, StoreIs, StoreWith, coming, copied_if, end_of, plan}
+use Rattle.intentions.specs.Left.{GoesOn, IsShownAt, StoreIs, StoreWith, coming, copied_if, final_image, plan}
 use Rattle.intentions.specs.Store.{StoreHas}
 use Rattle.ufs_model.specs.Identifier.{is_among}
 use Rattle.vol_image.proofs.AtRoot.{no_shadows}
@@ -62,7 +62,7 @@ others_part c b graph id s is x p at other =
 
 -- ---- of what is left
 
-module _ {D : Type 0} (g : Ghosts D) (graph : Graph) (d : D) (l : Left) (id : Puid) (o : Object) (root : id.block ≡ l.root) where
+module _ {D : Type 0} (g : Ghosts D) (graph : Graph) (d : D) (l : LeftCommit) (id : Puid) (o : Object) (root : id.block ≡ l.root) where
   abbrev image : Image
   image = g.content d
 
@@ -90,18 +90,18 @@ module _ {D : Type 0} (g : Ghosts D) (graph : Graph) (ds : List Opened) (d : D) 
   pub store_tells : StoreIs g graph ds d space → Tells g d
   store_tells = with_left space.left
     where
-      at : (b : Bool) (l : Left) (id : Puid) (o : Object) → GoesOn g b graph id o l d → Tells g d
+      at : (b : Bool) (l : LeftCommit) (id : Puid) (o : Object) → GoesOn g b graph id o l d → Tells g d
       at false l id o goes = goes.0.tells
       at true l id o goes = goes.2.tells
 
-      with_left : (w : Option Left) → StoreWith g graph ds d space w → Tells g d
+      with_left : (w : Option LeftCommit) → StoreWith g graph ds d space w → Tells g d
       with_left None store = store.carries.tells
       with_left (Some l) has = at l.copied l has.going.id has.going.object has.going.goes
 
   pub store_holds : StoreIs g graph ds d space → Holds (g.content d) graph
   store_holds = with_left space.left
     where
-      with_left : (w : Option Left) → StoreWith g graph ds d space w → Holds (g.content d) graph
+      with_left : (w : Option LeftCommit) → StoreWith g graph ds d space w → Holds (g.content d) graph
       with_left None store = store.carries.holds
       with_left (Some l) has = image_holds g graph d space l has.going
 
@@ -113,7 +113,7 @@ module _ {D : Type 0} (g : Ghosts D) (graph : Graph) (ds : List Opened) (d : D) 
   shown_whole id o at none store there root = record {
     store = store_whole none store;
     there = there;
-    shown = sym root ∙ ap (λ (w : Option Left). shown_in w id.block) (sym none);
+    shown = sym root ∙ ap (λ (w : Option LeftCommit). block_shown w id.block) (sym none);
   }
 
   -- whatever else is noted, where the store has all by itself
@@ -124,7 +124,7 @@ module _ {D : Type 0} (g : Ghosts D) (graph : Graph) (ds : List Opened) (d : D) 
     shown = refl;
   }
 
-  shows_with : (id : Puid) (o : Object) → object_at graph id ≡ Some o → (w : Option Left) → StoreWith g graph ds d space w → ShowsAt (g.content d) id.block (shown_in w id.block)
+  shows_with : (id : Puid) (o : Object) → object_at graph id ≡ Some o → (w : Option LeftCommit) → StoreWith g graph ds d space w → ShowsAt (g.content d) id.block (block_shown w id.block)
   shows_with id o there None store = bitless_shown (g.content d) id.block (store.account.objects id o there).no_bit
   shows_with id o there (Some l) has = elim (cases_Bool (l.root == id.block)) [
     | inl same ↦ (
@@ -142,7 +142,7 @@ module _ {D : Type 0} (g : Ghosts D) (graph : Graph) (ds : List Opened) (d : D) 
   ]
 
   -- what is read there is what the root has once nothing is left
-  pub end_root : (id : Puid) (o : Object) → StoreIs g graph ds d space → object_at graph id ≡ Some o → block_at (end_of g d space) id.block ≡ block_at (g.content d) (shown_in space.left id.block)
+  pub end_root : (id : Puid) (o : Object) → StoreIs g graph ds d space → object_at graph id ≡ Some o → block_at (final_image g d space) id.block ≡ block_at (g.content d) (block_shown space.left id.block)
   end_root id o store there = with_left space.left
     where
       a : Image
@@ -154,7 +154,7 @@ module _ {D : Type 0} (g : Ghosts D) (graph : Graph) (ds : List Opened) (d : D) 
       root : IsPlaced a id.block id.block Root
       root = root_placed a (length a) id o (holds.objects id o there)
 
-      copied : (b : Bool) (l : Left) → block_at (copied_if b l a) id.block ≡ block_at a (cond ((l.root == id.block) && not b) l.shadow id.block)
+      copied : (b : Bool) (l : LeftCommit) → block_at (copied_if b l a) id.block ≡ block_at a (cond ((l.root == id.block) && not b) l.shadow id.block)
       copied true l = elim (l.root == id.block) as (λ t. block_at a id.block ≡ block_at a (cond (t && false) l.shadow id.block)) [ true ↦ refl | false ↦ refl ]
       copied false l = elim (cases_Bool (l.root == id.block)) [
         | inl same ↦ (
@@ -166,7 +166,7 @@ module _ {D : Type 0} (g : Ghosts D) (graph : Graph) (ds : List Opened) (d : D) 
             ∙ sym (ap (λ (t : Bool). block_at a (cond (t && true) l.shadow id.block)) other))
       ]
 
-      with_left : (w : Option Left) → block_at (coming a w) id.block ≡ block_at a (shown_in w id.block)
+      with_left : (w : Option LeftCommit) → block_at (coming a w) id.block ≡ block_at a (block_shown w id.block)
       with_left None = refl
       with_left (Some l) = flipped_block (plan l) (copied_if l.copied l a) id.block (not_map id.block (taken_apart a graph holds id.block id.block root.taken)) ∙ copied l.copied l
 

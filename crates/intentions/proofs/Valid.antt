@@ -1,6 +1,6 @@
 -- What intentions write are entries, and what stays of an entry.
 use Rattle.std.proofs.Common.{◌≡◌, ◌≢◌, ◌⊎◌, inl, inr, ℕ, Bool, true, false, Some, None, Option, IsTrue, refl, sym, ◌∙◌, subst}
-use Rattle.intentions.proofs.Words.{Allocated, BlockState, Free, IntendAllocate, IntendDeallocate, IsEntry, Leaf, MapEntry, Node, Place, Root, ShadowRoot, committed, false≢true, finished, finished_in, is_entry, part_in, part_of, released, released_at, shadow_entry, stands_for, undone, undone_in, without_bit}
+use Rattle.intentions.proofs.Words.{Allocated, BlockState, Free, IntendAllocate, IntendDeallocate, IsEntry, Leaf, MapEntry, Node, Place, Root, ShadowRoot, with_commit_bit, false≢true, finished, finished_in, is_entry, part_in, part_of, released, released_at, shadow_entry, stands_for, undone, undone_in, without_bit}
 
 abbrev Is : BlockState → Bool → Option Place → ℕ → Type 0
 Is t bit p n = IsTrue (is_entry (record { state = t; committed = bit; place = p; owner = n }))
@@ -14,7 +14,7 @@ bit_in Allocated false n is = is
 bit_in IntendAllocate false n is = is
 bit_in IntendDeallocate false n is = absurd (false≢true is)
 
-pub bit_valid : (e : MapEntry) → e.place ≡ Some Root → IsEntry e → IsEntry (committed e)
+pub bit_valid : (e : MapEntry) → e.place ≡ Some Root → IsEntry e → IsEntry (with_commit_bit e)
 bit_valid e place is = record {
   in_table = subst (λ (p : Option Place). Is e.state true p e.owner) (sym place) (bit_in e.state e.committed e.owner (subst (λ (p : Option Place). Is e.state e.committed p e.owner) place is.in_table));
 }

@@ -46,7 +46,7 @@ pub use Rattle.vol_image.proofs.Runs.{both_ok}
 pub use Rattle.vol_image.proofs.Settles.{settled_holds, settles_begins, settles_on, settles_write}
 pub use Rattle.vol_image.proofs.Steps.{frames_back, frames_begin, frames_entry, frames_then, frames_write, not_map}
 pub use Rattle.vol_image.proofs.Views.{same_tree}
-pub use Rattle.vol_image.specs.Commit.{IsDraft, MaySettle, Settles, committed}
+pub use Rattle.vol_image.specs.Commit.{IsDraft, MaySettle, Settles, with_commit_bit}
 pub use Rattle.vol_image.specs.Frame.{Frames, IsLoose, StandsForNone}
 pub use Rattle.vol_image.specs.Part.{IsTaken, OwnsItself, SameAt, is_fixed, part_in, part_of, stands_for}
 pub use Rattle.vol_image.specs.Reading.{IsTree}

@@ -6,7 +6,7 @@ use Rattle.cyl_map.specs.declared.state.BlockState.{BlockState}
 use Rattle.cyl_map.specs.declared.state.BlockState.TheVariants.{Free, Allocated, IntendAllocate, IntendDeallocate}
 use Rattle.cyl_map.specs.declared.entry.MapEntry.{MapEntry}
 use Rattle.cyl_map.specs.Entry.{IsEntry}
-use Rattle.cyl_alloc.specs.Space.{free_entry, intended}
+use Rattle.cyl_alloc.specs.Space.{unheld_entry, intended}
 use Rattle.intentions.specs.declared.change.Change.{Change}
 use Rattle.intentions.specs.declared.change.Change.TheVariants.{Claim, Release, SetBit, ClearBit, Finish, Undo}
 
@@ -50,7 +50,7 @@ abbrev pub finished_in : BlockState → MapEntry → MapEntry
 finished_in Free e = e
 finished_in Allocated e = e
 finished_in IntendAllocate e = restated Allocated e
-finished_in IntendDeallocate e = free_entry
+finished_in IntendDeallocate e = unheld_entry
 
 abbrev pub finished : MapEntry → MapEntry
 finished e = finished_in e.state e
@@ -59,26 +59,26 @@ finished e = finished_in e.state e
 abbrev pub undone_in : BlockState → MapEntry → MapEntry
 undone_in Free e = e
 undone_in Allocated e = e
-undone_in IntendAllocate e = free_entry
+undone_in IntendAllocate e = unheld_entry
 undone_in IntendDeallocate e = restated Allocated e
 
 abbrev pub undone : MapEntry → MapEntry
 undone e = undone_in e.state e
 
 -- the entry after a change
-abbrev pub changed : Change → MapEntry → MapEntry
-changed (Claim place owner) e = intended place owner
-changed Release e = released e
-changed SetBit e = with_bit e
-changed ClearBit e = without_bit e
-changed Finish e = finished e
-changed Undo e = undone e
+abbrev pub changed_entry : Change → MapEntry → MapEntry
+changed_entry (Claim place owner) e = intended place owner
+changed_entry Release e = released e
+changed_entry SetBit e = with_bit e
+changed_entry ClearBit e = without_bit e
+changed_entry Finish e = finished e
+changed_entry Undo e = undone e
 
 -- what is claimed makes an entry
-abbrev pub Fits : Change → Type 0
-Fits (Claim place owner) = IsEntry (intended place owner)
-Fits Release = Unit {0}
-Fits SetBit = Unit {0}
-Fits ClearBit = Unit {0}
-Fits Finish = Unit {0}
-Fits Undo = Unit {0}
+abbrev pub FitsEntry : Change → Type 0
+FitsEntry (Claim place owner) = IsEntry (intended place owner)
+FitsEntry Release = Unit {0}
+FitsEntry SetBit = Unit {0}
+FitsEntry ClearBit = Unit {0}
+FitsEntry Finish = Unit {0}
+FitsEntry Undo = Unit {0}

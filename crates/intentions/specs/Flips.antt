@@ -4,7 +4,7 @@ use Rattle.cfs_base.specs.Disk.{Image}
 use Rattle.cyl_map.specs.declared.entry.MapEntry.{MapEntry}
 use Rattle.cyl_map.specs.Volume.{entry_in, with_entry}
 use Rattle.intentions.specs.Course.{Course, MayPut}
-use Rattle.intentions.specs.Entries.{changed}
+use Rattle.intentions.specs.Entries.{changed_entry}
 use Rattle.intentions.specs.declared.change.Change.{Change}
 
 -- the entry of this block, changed so
@@ -18,7 +18,7 @@ flips how (n ∷ ns) = record { block = n; how = how } ∷ flips how ns
 
 abbrev pub flip_in : Image → Flip → Option MapEntry → Image
 flip_in image x None = image
-flip_in image x (Some e) = with_entry image x.block (changed x.how e)
+flip_in image x (Some e) = with_entry image x.block (changed_entry x.how e)
 
 -- an image with one entry changed, and with these one after another
 abbrev pub flip : Image → Flip → Image
@@ -32,4 +32,4 @@ flipped image (x ∷ xs) = flipped (flip image x) xs
 abbrev pub MayFlip : Course → Image → List Flip → Type 0
 MayFlip course image [] = Unit {0}
 MayFlip course image (x ∷ xs) = ((e : MapEntry) × (entry_in image x.block ≡ Some e)
-    × MayPut course x.block e (changed x.how e)) × MayFlip course (flip image x) xs
+    × MayPut course x.block e (changed_entry x.how e)) × MayFlip course (flip image x) xs

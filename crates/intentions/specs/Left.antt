@@ -4,13 +4,13 @@ use Rattle.cfs_base.specs.Disk.{Image, block_at}
 use Rattle.cfs_base.specs.Run.{IsSettled}
 use Rattle.cfs_base.specs.declared.disk.Disk.{Ghosts}
 use Rattle.cfs_base.specs.declared.identifier.Puid.{Puid}
-use Rattle.cyl_alloc.specs.Left.{Left, shown_in}
+use Rattle.cyl_alloc.specs.Left.{LeftCommit, block_shown}
 use Rattle.cyl_alloc.specs.Space.{AreCounts, Kept}
 use Rattle.cyl_map.specs.Volume.{entry_in}
 use Rattle.cyl_map.specs.declared.entry.MapEntry.{MapEntry}
 use Rattle.intentions.specs.Commit.{IsCommitted}
 use Rattle.intentions.specs.Course.{IsCopied, Keeps, Settling}
-use Rattle.intentions.specs.Entries.{changed}
+use Rattle.intentions.specs.Entries.{changed_entry}
 use Rattle.intentions.specs.Flips.{Flip, MayFlip, flip, flipped, flips}
 use Rattle.intentions.specs.Store.{StoreHas}
 use Rattle.intentions.specs.declared.change.Change.{Change}
@@ -35,15 +35,15 @@ to_flip s [] = []
 to_flip s (n ∷ ns) = record { block = n; how = how_for (n == s) } ∷ to_flip s ns
 
 -- the entries that are still to be changed, the root's as the last
-abbrev pub plan : Left → List Flip
+abbrev pub plan : LeftCommit → List Flip
 plan l = to_flip l.shadow l.rest ++ flips ClearBit (l.root ∷ [])
 
-abbrev pub copied_if : Bool → Left → Image → Image
+abbrev pub copied_if : Bool → LeftCommit → Image → Image
 copied_if true l image = image
 copied_if false l image = set image l.root (block_at image l.shadow)
 
 -- what the image is once nothing is left
-abbrev pub coming : Image → Option Left → Image
+abbrev pub coming : Image → Option LeftCommit → Image
 coming image None = image
 coming image (Some l) = flipped (copied_if l.copied l image) (plan l)
 
@@ -53,11 +53,11 @@ coming image (Some l) = flipped (copied_if l.copied l image) (plan l)
 abbrev pub AreOpen : (Option MapEntry → Bool) → Image → List Flip → Type 0
 AreOpen T image [] = Unit {0}
 AreOpen T image (x ∷ xs) = ((e : MapEntry) × (entry_in image x.block ≡ Some e) × IsOpenTo T (Some e)
-    × IsOpenTo T (Some (changed x.how e))) × AreOpen T (flip image x) xs
+    × IsOpenTo T (Some (changed_entry x.how e))) × AreOpen T (flip image x) xs
 
 -- The object's commit bit stands, it is read by its shadow root, and nothing waits for a barrier. Or its root is
 -- copied, and each image that a crash leaves is one in which it settles. What is left may be done.
-abbrev pub GoesOn : {D : Type 0} → Ghosts D → Bool → Graph → Puid → Object → Left → D → Type 0
+abbrev pub GoesOn : {D : Type 0} → Ghosts D → Bool → Graph → Puid → Object → LeftCommit → D → Type 0
 GoesOn g false graph id o l d = IsSettled g d × IsCommitted (g.content d) graph id o l.shadow
     × MayFlip (Settling (copied_if false l (g.content d)) graph id o l.shadow) (copied_if false l (g.content d))
     (plan l)
@@ -66,14 +66,14 @@ GoesOn g true graph id o l d = (c : Image) × IsCopied c graph id o l.shadow
 
 -- These objects are carried on: one of them, whose commit is past its bit, goes on as far as it is. The Free blocks of
 -- the disk as it is are counted.
-pub record IsGoing {D : Type 0} (g : Ghosts D) (graph : Graph) (disk : D) (space : Kept) (l : Left) : Type 0 where
+pub record IsGoing {D : Type 0} (g : Ghosts D) (graph : Graph) (disk : D) (space : Kept) (l : LeftCommit) : Type 0 where
   pub id : Puid
   pub object : Object
   pub root_is : id.block ≡ l.root
   pub goes : GoesOn g l.copied graph id object l disk
   pub counts : AreCounts (g.content disk) space
 
-abbrev pub GoesWith : {D : Type 0} → Ghosts D → Graph → D → Kept → Option Left → Type 0
+abbrev pub GoesWith : {D : Type 0} → Ghosts D → Graph → D → Kept → Option LeftCommit → Type 0
 GoesWith g graph disk space None = Carries g graph disk × AreCounts (g.content disk) space
 GoesWith g graph disk space (Some l) = IsGoing g graph disk space l
 
@@ -81,7 +81,7 @@ GoesWith g graph disk space (Some l) = IsGoing g graph disk space l
 
 -- The store has these objects and drafts. Each block of the image that is to come has its use.
 pub record HasLeft {D : Type 0} (g : Ghosts D) (graph : Graph) (drafts : List Opened) (disk : D) (space : Kept)
-    (l : Left) : Type 0 where
+    (l : LeftCommit) : Type 0 where
   pub going : IsGoing g graph disk space l
   -- Of this object, and one that is made with it, are all entries that are still to be changed, and no draft is theirs.
   pub owners : List ℕ
@@ -92,7 +92,7 @@ pub record HasLeft {D : Type 0} (g : Ghosts D) (graph : Graph) (drafts : List Op
   pub ordered : rises (ids_of graph) ≡ true
 
 -- what stands between two calls, with what is left of one commit or with none
-abbrev pub StoreWith : {D : Type 0} → Ghosts D → Graph → List Opened → D → Kept → Option Left → Type 0
+abbrev pub StoreWith : {D : Type 0} → Ghosts D → Graph → List Opened → D → Kept → Option LeftCommit → Type 0
 StoreWith g graph drafts disk space None = StoreHas g graph drafts disk space
 StoreWith g graph drafts disk space (Some l) = HasLeft g graph drafts disk space l
 
@@ -100,8 +100,8 @@ abbrev pub StoreIs : {D : Type 0} → Ghosts D → Graph → List Opened → D �
 StoreIs g graph drafts disk space = StoreWith g graph drafts disk space space.left
 
 -- the image to which it comes
-abbrev pub end_of : {D : Type 0} → Ghosts D → D → Kept → Image
-end_of g disk space = coming (g.content disk) space.left
+abbrev pub final_image : {D : Type 0} → Ghosts D → D → Kept → Image
+final_image g disk space = coming (g.content disk) space.left
 
 -- ---- reads
 
@@ -111,4 +111,4 @@ pub record IsShownAt {D : Type 0} (g : Ghosts D) (graph : Graph) (drafts : List 
     (id : Puid) (o : Object) (at : ℕ) : Type 0 where
   pub store : StoreIs g graph drafts disk space
   pub there : object_at graph id ≡ Some o
-  pub shown : at ≡ shown_in space.left id.block
+  pub shown : at ≡ block_shown space.left id.block

@@ -5,3 +5,4 @@ pub mod Calls
 pub mod Store
 pub mod Flips
 pub mod Left
+pub mod Runs

@@ -76,8 +76,8 @@ fn change_bit<D: Disk>(
     how: Change,
 ) -> Result<(), Trouble>
     requires on_disk { root.0 < D.blocks disk.old }
-    requires fits { entries.Fits how }
-    ensures changes { spec.ChangesBit D.Disk root.0 (λ e. entries.changed how e) disk.old disk.new result }
+    requires fits { entries.FitsEntry how }
+    ensures changes { spec.ChangesBit D.Disk root.0 (λ e. entries.changed_entry how e) disk.old disk.new result }
 {
     let mut map = Block::zero();
     let entry = read_entry(disk, known, root, &mut map)?;

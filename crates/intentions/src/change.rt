@@ -107,8 +107,8 @@ impl Change {
     /// The entry after the change.
     pub fn of(self, entry: MapEntry) -> MapEntry
         requires entry { IsEntry entry }
-        requires fits { spec.Fits self }
-        ensures value { result ≡ spec.changed self entry }
+        requires fits { spec.FitsEntry self }
+        ensures value { result ≡ spec.changed_entry self entry }
         ensures entry { IsEntry result }
     {
         match self {

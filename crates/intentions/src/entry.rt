@@ -78,11 +78,11 @@ pub fn change_entry<D: Disk>(
     how: Change,
 ) -> Result<MapEntry, Trouble>
     requires on_disk { block.0 < D.blocks disk.old }
-    requires fits { entries.Fits how }
+    requires fits { entries.FitsEntry how }
     ensures entry { Tells D.Disk disk.old → IfOk result (λ was.
         entry_in (D.content disk.old) block.0 ≡ Some was) }
     ensures valid { IfOk result IsEntry }
-    ensures changes { spec.ChangesEntry D.Disk block.0 (λ e. entries.changed how e) disk.old disk.new result }
+    ensures changes { spec.ChangesEntry D.Disk block.0 (λ e. entries.changed_entry how e) disk.old disk.new result }
 {
     let mut map = Block::zero();
     let entry = read_entry(disk, known, block, &mut map)?;
@@ -96,7 +96,7 @@ pub fn change_entry<D: Disk>(
 /// Changes the entry of a block in its map, which is in memory, and gives the one that it had.
 pub fn change_in(map: &mut Block, block: BlockNo, how: Change) -> MapEntry
     requires spells { SpellsMap map.old }
-    requires fits { entries.Fits how }
+    requires fits { entries.FitsEntry how }
     ensures valid { IsEntry result }
     ensures spells { SpellsMap map.new }
     ensures was { (image : Image) → block_at image (map_of block.0) ≡ map.old → entry_in image block.0 ≡ Some result }

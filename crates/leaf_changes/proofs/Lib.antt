@@ -10,4 +10,5 @@ pub mod Resized
 pub mod Slotted
 pub mod ReadParts
 pub mod Between
+pub mod Tops
 mod Words

@@ -1,12 +1,12 @@
 -- A part of a file, read leaf by leaf.
 use Rattle.std.proofs.Common.{◌≡◌, inl, inr, ℕ, ◌+◌, ◌-◌, ◌*◌, ◌/◌, ◌%◌, ◌<◌, ◌≤◌, List, length, get_or, take, drop, slice_range, Option, sym, ◌∙◌, arith}
-use Rattle.leaf_changes.proofs.Words.{File, GivesFile, Held, IsReadTo, Root, cases_lt, ext_get_or, get_or-drop, get_or-take, leaf_content, leaves_in, length-drop, length-take, with_leaf}
+use Rattle.leaf_changes.proofs.Words.{File, GivesFile, Held, IsReadTo, Root, cases_lt, ext_get_or, get_or-drop, get_or-take, leaf_content, leaves_in, length-drop, length-take, with_leaf_copied}
 use Rattle.leaf_changes.proofs.Overlays.{length-overlaid, laid, before}
 use Rattle.leaf_changes.proofs.Contents.{length-leaf_content}
 
 module _ (fill : ℕ) (leaf : ℕ → Option Held) (offset : ℕ) (part : List ℕ) where
   -- the bytes of one leaf more
-  pub read_more : (n : ℕ) → IsReadTo n fill leaf offset part → IsReadTo (n + 1) fill leaf offset (with_leaf n (leaf_content fill (leaf n)) offset part)
+  pub read_more : (n : ℕ) → IsReadTo n fill leaf offset part → IsReadTo (n + 1) fill leaf offset (with_leaf_copied n (leaf_content fill (leaf n)) offset part)
   read_more n read k inside early = elim (cases_lt (offset + k) (512 * n)) [
     | inl had ↦ before offset part (512 * n) content k within had ∙ read k within had
     | inr here ↦

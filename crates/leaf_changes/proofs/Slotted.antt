@@ -1,6 +1,6 @@
 -- A slot filled or emptied: its 8 bytes are written into its leaf, and give the index with this in the slot.
 use Rattle.std.proofs.Common.{◌≡◌, ◌≢◌, ◌⊎◌, inl, inr, ℕ, ◌+◌, ◌-◌, ◌*◌, ◌/◌, ◌%◌, ◌<◌, ◌≤◌, List, [], ◌∷◌, length, get_or, set, Option, Some, None, Bool, true, false, refl, sym, ◌∙◌, ap, subst, arith, length-set, if◌then◌else◌}
-use Rattle.leaf_changes.proofs.Words.{Fill, FillsSlot, GivesIndex, Held, Index, IsSlot, LeavesFit, Puid, Root, Writes, bytes_held, cases_eq, cases_lt, changed_object, filled, from_be_bytes-to_be_bytes_4, get_or-set_other, get_or-set_same, held_in, in_with, is_some, leaf_content, leaves_in, nat_tests, number_at, object_with, patched, range_with_len, same_numbers, set-get_or, slot_in, slot_spelling, touched, with_number, with_number-rises, with_numbers, with_others, with_slot}
+use Rattle.leaf_changes.proofs.Words.{Fill, FillsSlot, GivesIndex, Held, Index, IsSlot, LeavesFit, Puid, Root, WritesLeaves, bytes_held, cases_eq, cases_lt, changed_object, filled, from_be_bytes-to_be_bytes_4, get_or-set_other, get_or-set_same, held_in, in_with, is_some, leaf_content, leaves_in, nat_tests, number_at, object_with, patched, range_with_len, same_numbers, set-get_or, slot_in, slot_spelling, touched, with_number, with_number-rises, with_numbers, with_others, with_slot}
 use Rattle.cfs_base.specs.declared.kind.Kind.TheVariants as kinds
 use Rattle.ufs_model.specs.declared.object.Object.TheVariants as objects
 use Rattle.leaf_changes.proofs.SlotBytes.{same_slot}
@@ -27,7 +27,7 @@ spelled_slot (Some id) good =
 -- ---- the index
 
 module _ (root : Root) (old new : ℕ → Option Held) (slot : ℕ) (what : Option Puid) (fit : LeavesFit root old) (fills : FillsSlot root.fill slot what old new) (inside : slot < root.size / 8) where
-  as_written : Writes root.fill (8 * slot) (slot_spelling what) old new
+  as_written : WritesLeaves root.fill (8 * slot) (slot_spelling what) old new
   unfolding with_slot
   as_written = record {
     before = λ n early. fills.others n (omega arith);

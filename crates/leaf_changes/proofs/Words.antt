@@ -4,11 +4,11 @@ pub use Rattle.block_tree.specs.declared.root.Root.{Root}
 pub use Rattle.cfs_base.specs.declared.identifier.Puid.{Puid}
 pub use Rattle.cfs_base.specs.declared.kind.FileKind.{FileKind}
 pub use Rattle.cfs_base.specs.declared.kind.Kind.{Kind}
-pub use Rattle.leaf_changes.specs.Bytes.{IsSlot, patched, slot_spelling, with_leaf}
+pub use Rattle.leaf_changes.specs.Bytes.{IsSlot, patched, slot_spelling, with_leaf_copied}
 unfoldable pub use Rattle.leaf_changes.specs.Bytes.{cut, overlaid, with_slot}
 pub use Rattle.leaf_changes.specs.Changes.{SetsSize}
 pub use Rattle.leaf_changes.specs.Gives.{GivesFile, GivesIndex, kind_of}
-pub use Rattle.leaf_changes.specs.Leaves.{FillsSlot, IsReadTo, LeavesFit, Shrinks, Writes, WritesTo, bytes_held, cut_held, leaf_byte}
+pub use Rattle.leaf_changes.specs.Leaves.{FillsSlot, IsReadTo, LeavesFit, Shrinks, WritesLeaves, WritesTo, bytes_held, cut_held, leaf_byte}
 pub use Rattle.std.proofs.lemmas.Bool.{and_parts, cases_eq, cases_lt, eqb-true, false_from_ne_true, lt-ltb, ltb-true}
 pub use Rattle.std.proofs.lemmas.Bool.Decides.{nat_tests}
 pub use Rattle.std.proofs.lemmas.List.{drop-drop, drop-take, ext_get_or, get_or-append_right, get_or-drop, get_or-replicate, get_or-set_other, get_or-set_same, get_or-take, get_or_append_left, length-append, length-drop, length-replicate, length-take, places, same_lists, set-get_or, take-take, take_all, take_at}

@@ -1,6 +1,6 @@
 -- Bytes written at an offset: leaf by leaf, and in the file.
 use Rattle.std.proofs.Common.{◌≡◌, ◌≢◌, ◌⊎◌, inl, inr, ℕ, ◌+◌, ◌*◌, ◌/◌, ◌%◌, ◌<◌, ◌≤◌, List, length, get_or, Option, Some, true, refl, sym, ◌∙◌, ap, subst, arith}
-use Rattle.leaf_changes.proofs.Words.{File, GivesFile, Held, LeavesFit, Overwrite, Root, Writes, WritesTo, bytes_held, cases_eq, cases_lt, changed_object, held_in, is_some, leaf_byte, leaf_content, leaves_in, object_with, patched, touched, with_numbers, written}
+use Rattle.leaf_changes.proofs.Words.{File, GivesFile, Held, LeavesFit, Overwrite, Root, WritesLeaves, WritesTo, bytes_held, cases_eq, cases_lt, changed_object, held_in, is_some, leaf_byte, leaf_content, leaves_in, object_with, patched, touched, with_numbers, written}
 use Rattle.cfs_base.specs.declared.kind.Kind.TheVariants as kinds
 use Rattle.leaf_changes.proofs.Overlays.{length-overlaid, over, over_early, over_past, over_byte, laid_within, laid_outside}
 use Rattle.leaf_changes.proofs.Contents.{length-leaf_content, same_content, same_held, held_is, content_is, past_size}
@@ -29,7 +29,7 @@ module _ (fill offset : ℕ) (bytes : List ℕ) (old : ℕ → Option Held) wher
 
 -- ---- the whole write
 
-module _ (root : Root) (old new : ℕ → Option Held) (offset : ℕ) (bytes : List ℕ) (fit : LeavesFit root old) (writes : Writes root.fill offset bytes old new) (inside : offset + length bytes ≤ root.size) where
+module _ (root : Root) (old new : ℕ → Option Held) (offset : ℕ) (bytes : List ℕ) (fit : LeavesFit root old) (writes : WritesLeaves root.fill offset bytes old new) (inside : offset + length bytes ≤ root.size) where
   -- a leaf is touched, or stays and meets none of the bytes
   place_of : (n : ℕ) → ((offset / 512 ≤ n) × (n < leaves_in (offset + length bytes))) ⊎ ((bytes_held (new n) ≡ bytes_held (old n)) × ((512 * n + 512 ≤ offset) ⊎ (offset + length bytes ≤ 512 * n)))
   place_of n = elim (cases_lt n (offset / 512)) [

@@ -15,8 +15,8 @@ abbrev pub patched : ℕ → ℕ → List ℕ → List ℕ → List ℕ
 patched leaf offset bytes content = overlaid (512 * leaf) content offset bytes
 
 -- a part of a file from an offset on, once the bytes of this leaf are copied into it
-abbrev pub with_leaf : ℕ → List ℕ → ℕ → List ℕ → List ℕ
-with_leaf leaf content offset part = overlaid offset part (512 * leaf) content
+abbrev pub with_leaf_copied : ℕ → List ℕ → ℕ → List ℕ → List ℕ
+with_leaf_copied leaf content offset part = overlaid offset part (512 * leaf) content
 
 -- the bytes of the leaf in which a file of this size ends: fill bytes from its end on
 unfoldable pub cut : ℕ → ℕ → List ℕ → List ℕ

@@ -32,8 +32,8 @@ pub record WritesTo (upto fill offset : ℕ) (bytes : List ℕ) (old new : ℕ �
   pub after : (n : ℕ) → upto ≤ n → bytes_held (new n) ≡ bytes_held (old n)
 
 -- into all that they touch
-abbrev pub Writes : (fill offset : ℕ) (bytes : List ℕ) (old new : ℕ → Option Held) → Type 0
-Writes fill offset bytes old new = WritesTo (leaves_in (offset + length bytes)) fill offset bytes old new
+abbrev pub WritesLeaves : (fill offset : ℕ) (bytes : List ℕ) (old new : ℕ → Option Held) → Type 0
+WritesLeaves fill offset bytes old new = WritesTo (leaves_in (offset + length bytes)) fill offset bytes old new
 
 -- the bytes of a leaf that is cut, where it is held
 abbrev pub cut_held : ℕ → ℕ → Option Held → Option (List ℕ)

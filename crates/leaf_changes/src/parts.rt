@@ -2,7 +2,7 @@
 ghost use Rattle.std.specs.Prelude.{◌≡◌, ◌*◌, ◌≤◌, length};
 ghost use Rattle.block_tree.specs.Pointers.{size_limit};
 ghost use Rattle.ufs_model.specs.Object.{leaves_in as leaves_of};
-ghost use Rattle.leaf_changes.specs.Bytes.{overlaid, patched, with_leaf, cut};
+ghost use Rattle.leaf_changes.specs.Bytes.{overlaid, patched, with_leaf_copied, cut};
 
 use cfs_base::Block;
 
@@ -41,7 +41,7 @@ pub fn patch_leaf(block: &mut Block, leaf: u32, offset: u64, bytes: &[u8])
 
 /// Copies the bytes of a leaf into a part of its file that begins at an offset, as far as they lie in it.
 pub fn read_part(block: &Block, leaf: u32, offset: u64, part: &mut [u8])
-    ensures { part.new ≡ with_leaf leaf block.now offset part.old }
+    ensures { part.new ≡ with_leaf_copied leaf block.now offset part.old }
 {
     lay_over(part, offset, block.bytes(), 512 * leaf as u64);
 }

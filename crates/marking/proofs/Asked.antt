@@ -1,6 +1,6 @@
 -- Whatever is asked and answered is such a change.
 use Rattle.std.proofs.Common.{◌≡◌, ◌⊎◌, inl, inr, ℕ, zero, suc, ◌+◌, ◌≤◌, ◌==◌, List, [], ◌∷◌, refl, sym, ◌∙◌, ap, subst, arith, Bool, true, false, cond, ◌||◌, ◌&&◌, not, Option, Some, None, drop}
-use Rattle.marking.proofs.Words.{Change, Changes, Collection, Colours, Direct, Draft, Fill, Grant, Graph, Mode, Object, Overwrite, Puid, Ref, Reply, Request, Rescue, SetSize, State, Through, Tuid, Waits, after_leave, allowed_if, and_from, and_parts, block_named, by_outcome, changed, changed_draft, changed_object, conditions, creates, draft_of, eqb-true, filter, filter_map, find, first_of, grant_of, has_block, has_block-there, has_no_grant, has_no_object, has_pair, if◌then◌else◌, in_leaf, is_among, is_done, is_free_root, is_grant, is_index_there, is_marking, is_none, is_outcome, is_remembered, is_some, is_there, joined_has_new, kind_of, list_any-append, map, map-append, named, new_file, new_index, next, object_at, object_at-with_object, object_there, open_ids, or_cases, or_left, or_right, outcome_of, put, read_in, refusal_of, replicate, rescues_of, same_Some, same_puid, same_puid_is, same_puid_itself, same_reply, seen, stopped_at, with_edge, with_object, with_start, word}
+use Rattle.marking.proofs.Words.{Change, Changes, Collection, Colours, Direct, Draft, Fill, Grant, Graph, Mode, Object, Overwrite, Puid, Ref, Reply, Request, Rescue, SetSize, State, Through, Tuid, Waits, after_leave, allowed_if, and_from, and_parts, block_named, by_outcome, changed, changed_draft, changed_object, conditions, creates, draft_of, eqb-true, filter, filter_map, find, first_of, grant_of, has_block, has_block-there, has_no_grant, has_no_object, has_pair, if◌then◌else◌, in_leaf, is_among, is_carried_out, is_free_root, is_grant, is_index_there, is_marking, is_none, is_outcome, is_remembered, is_some, is_there, joined_has_new, kind_standing, list_any-append, map, map-append, named, new_file, new_index, next, object_at, object_at-with_object, object_there, open_ids, or_cases, or_left, or_right, outcome_of, put, read_in, refusal_of, replicate, rescues_of, same_Some, same_puid, same_puid_is, same_puid_itself, same_reply, seen, stopped_at, with_edge, with_object, with_start, word}
 use Rattle.ufs_model.specs.declared.asked.Request.TheVariants as asks
 use Rattle.ufs_model.specs.declared.asked.Reply.TheVariants as replies
 use Rattle.ufs_model.specs.declared.asked.Event.TheVariants as events
@@ -85,7 +85,7 @@ is_put s who (Through t) d id is = at (grant_of s who t) refl
 
 -- ---- what is seen there, changed
 
-keeps_kind : (c : Change) (o : Object) → kind_of (Some (changed_object c o)) ≡ kind_of (Some o)
+keeps_kind : (c : Change) (o : Object) → kind_standing (Some (changed_object c o)) ≡ kind_standing (Some o)
 keeps_kind (Fill slot what) (objects.Index i) = refl
 keeps_kind (Fill slot what) (objects.File f) = refl
 keeps_kind (Overwrite offset bytes) (objects.Index i) = refl
@@ -140,7 +140,7 @@ module _ (m t : State) (who : ℕ) (ref : Ref) (c : Change) (d : Draft) (to : Go
           let there : is_there (with_object m.graph to.id o) to.id ≡ true = ap is_some (object_at-with_object m.graph to.id o to.id) ∙ rw (same_puid_itself to.id) refl in
           with_one m t more (index_there (with_object m.graph to.id o) there graph_is) memory (still_open (opened ∙ ids)) to.id o graph_is
           (λ old at_old. let same : to.object ≡ old = same_Some to.object old (sym to.there ∙ at_old) in
-          subst (λ (w : Object). (kind_of (Some o) ≡ kind_of (Some w)) × ((k : Colours) → read_in k (to.id, w) ≤ read_in k (to.id, o))) same (keeps_kind c to.object, keeps_read c to.object to.id))
+          subst (λ (w : Object). (kind_standing (Some o) ≡ kind_standing (Some w)) × ((k : Colours) → read_in k (to.id, w) ≤ read_in k (to.id, o))) same (keeps_kind c to.object, keeps_read c to.object to.id))
           (λ leaf x h. elim (adds c to.object leaf x h) [
             | inl was ↦ inl (subst (λ (here : Option Object). in_leaf here leaf x ≡ true) (sym to.there) was)
             | inr new ↦ inr (rescued x new)
@@ -308,17 +308,17 @@ closed_changes seed s who t true b well = at (grant_of s who t) refl
             let graph : after.graph ≡ with_object s.graph g.id d.object = rw (found, draft) refl in
             let f = well.drafts who t g d found draft in
             with_one s after [] (λ index x w. absurd w) (λ index x h. h) (λ x h. inl (opened x h)) g.id (objects.File f.0) (graph ∙ ap (with_object s.graph g.id) f.1)
-            (λ old there. let was = file_there old f.0.kind (sym (ap kind_of there) ∙ f.2) in (sym f.2 ∙ ap kind_of there, λ c. rw was.1 (omega arith)))
+            (λ old there. let was = file_there old f.0.kind (sym (ap kind_standing there) ∙ f.2) in (sym f.2 ∙ ap kind_standing there, λ c. rw was.1 (omega arith)))
             (λ leaf x h. cc)
 
 -- ---- an answer
 
 -- a done reply is of its request
-done_now : (reply : Reply) → same_reply replies.Done reply ≡ true → is_done reply ≡ true
+done_now : (reply : Reply) → same_reply replies.Done reply ≡ true → is_carried_out reply ≡ true
 done_now replies.Done h = refl
 done_now reply h = cc
 
-granted_now : (t : Tuid) (reply : Reply) → same_reply (replies.Grant t) reply ≡ true → is_done reply ≡ true
+granted_now : (t : Tuid) (reply : Reply) → same_reply (replies.Grant t) reply ≡ true → is_carried_out reply ≡ true
 granted_now t (replies.Grant u) h = refl
 granted_now t reply h = cc
 
@@ -347,8 +347,8 @@ module _ (seed : ℕ) (s : State) (well : IsWell s) (marking : is_marking s.coll
   goes request ref grant object none = goes_to s well who ref (sym grant ∙ (unrefused s who request none).0) object
 
   -- a request that adds no rescue
-  plain : (t : State) (reply : Reply) → Changes s t [] → Changes s t (either (is_done reply))
-  plain t reply change = elim (is_done reply) as (λ b. Changes s t (either b)) [ true ↦ change | false ↦ change ]
+  plain : (t : State) (reply : Reply) → Changes s t [] → Changes s t (either (is_carried_out reply))
+  plain t reply change = elim (is_carried_out reply) as (λ b. Changes s t (either b)) [ true ↦ change | false ↦ change ]
 
   outcome_changes : (request : Request) (reply : Reply) → refusal_of s who request ≡ None → (not (creates request) || is_free_root s.graph (block_named reply)) ≡ true → same_reply (outcome_of seed s who request (block_named reply)).0 reply ≡ true
       → Changes s (outcome_of seed s who request (block_named reply)).1 (rescues_of s who request reply)

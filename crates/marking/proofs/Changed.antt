@@ -1,6 +1,6 @@
 -- What may happen between two steps keeps what holds of a collection that marks.
 use Rattle.std.proofs.Common.{◌≡◌, ◌⊎◌, inl, inr, arith, List, [], ◌∷◌, ◌++◌, refl, sym, ◌∙◌, subst, true, Option, Some, None}
-use Rattle.marking.proofs.Words.{Changes, Colours, IsColoured, IsLeft, IsMarked, IsMarking, IsWaiting, Nothing, Puid, Rescue, State, Waits, is_index_there, is_remembered, is_there, object_at}
+use Rattle.marking.proofs.Words.{Changes, Colours, IsColoured, IsLeft, IsMarked, IsMarking, IsWaiting, OwesNothing, Puid, Rescue, State, Waits, is_index_there, is_remembered, is_there, object_at}
 use Rattle.cfs_base.specs.declared.kind.Kind.TheVariants as kinds
 use Rattle.marking.proofs.Leaves.{kind_there, there_kind}
 use Rattle.marking.proofs.Reaches.{reach_more}
@@ -28,14 +28,14 @@ module _ (s t : State) (more : List Rescue) (change : Changes s t more) where
   index_still None h = refl
   index_still (Some i) h = there_still i h
 
-  module _ (c : Colours) (waiting : List Rescue) (is : IsColoured s Nothing c waiting) where
+  module _ (c : Colours) (waiting : List Rescue) (is : IsColoured s OwesNothing c waiting) where
     rescued : (index : Option Puid) (x : Puid) → Waits (waiting ++ more) index x → (is_remembered t.collection index x ≡ true) × (is_index_there t.graph index ≡ true)
     rescued index x w = elim (waits_either waiting more index x w) [
       | inl old ↦ let was = is.rescues index x old in (change.memory index x was.0, index_still index was.1)
       | inr new ↦ change.rescues index x new
     ]
 
-    change_coloured : IsColoured t Nothing c (waiting ++ more)
+    change_coloured : IsColoured t OwesNothing c (waiting ++ more)
     change_coloured = record {
       covered = λ from leaf x found live. elim (change.found from leaf x found) [
         | inl old ↦ elim (is.covered from leaf x old live) [

@@ -1,22 +1,22 @@
 -- What an index refers to stands in its leaves, and what stands in them it refers to.
 use Rattle.std.proofs.Common.{◌≡◌, ◌⊎◌, inl, inr, ℕ, zero, suc, ◌+◌, ◌*◌, ◌≤◌, List, [], ◌∷◌, ◌++◌, length, take, drop, refl, sym, ◌∙◌, ap, subst, arith, true, Option, Some, None}
-use Rattle.marking.proofs.Words.{File, FileKind, Graph, Index, Kind, Object, Puid, drop-drop, file_kind, filter_map, filter_map-append, graph_pairs, has_pair, has_pair-refers, ids_of, in_leaf, is_among, is_some, kind_of, length-drop, list_any-append, object_at, or_cases, or_left, or_right, refers, rises, same_puid, take-append-drop}
+use Rattle.marking.proofs.Words.{File, FileKind, Graph, Index, Kind, Object, Puid, drop-drop, file_kind, filter_map, filter_map-append, graph_pairs, has_pair, has_pair-refers, ids_of, in_leaf, is_among, is_some, kind_standing, length-drop, list_any-append, object_at, or_cases, or_left, or_right, refers, rises, same_puid, take-append-drop}
 use Rattle.cfs_base.specs.declared.kind.Kind.TheVariants as kinds
 use Rattle.cfs_base.specs.declared.kind.FileKind.TheVariants as file_kinds
 use Rattle.ufs_model.specs.declared.object.Object.TheVariants as objects
 
 -- ---- what stands at an identifier
 
-pub leaf_kind : (here : Option Object) (leaf : ℕ) (x : Puid) → in_leaf here leaf x ≡ true → kind_of here ≡ Some kinds.Index
+pub leaf_kind : (here : Option Object) (leaf : ℕ) (x : Puid) → in_leaf here leaf x ≡ true → kind_standing here ≡ Some kinds.Index
 leaf_kind None leaf x h = cc
 leaf_kind (Some (objects.File f)) leaf x h = cc
 leaf_kind (Some (objects.Index i)) leaf x h = refl
 
-pub kind_there : (here : Option Object) (kind : Kind) → kind_of here ≡ Some kind → is_some here ≡ true
+pub kind_there : (here : Option Object) (kind : Kind) → kind_standing here ≡ Some kind → is_some here ≡ true
 kind_there None kind h = cc
 kind_there (Some o) kind h = refl
 
-pub there_kind : (here : Option Object) → is_some here ≡ true → (kind : Kind) × (kind_of here ≡ Some kind)
+pub there_kind : (here : Option Object) → is_some here ≡ true → (kind : Kind) × (kind_standing here ≡ Some kind)
 there_kind None h = cc
 there_kind (Some (objects.File f)) h = (_, refl)
 there_kind (Some (objects.Index i)) h = (kinds.Index, refl)
@@ -26,11 +26,11 @@ no_file file_kinds.Normal h = cc
 no_file file_kinds.Special h = cc
 
 -- what has the kind of a file is one
-pub file_there : (o : Object) (k : FileKind) → kind_of (Some o) ≡ Some (file_kind k) → (f : File) × (o ≡ objects.File f)
+pub file_there : (o : Object) (k : FileKind) → kind_standing (Some o) ≡ Some (file_kind k) → (f : File) × (o ≡ objects.File f)
 file_there (objects.File f) k h = (f, refl)
 file_there (objects.Index i) k h = absurd (no_file k (sym h))
 
-pub index_there : (here : Option Object) → kind_of here ≡ Some kinds.Index → (i : Index) × (here ≡ Some (objects.Index i))
+pub index_there : (here : Option Object) → kind_standing here ≡ Some kinds.Index → (i : Index) × (here ≡ Some (objects.Index i))
 index_there None h = cc
 index_there (Some (objects.File f)) h = absurd (no_file f.kind h)
 index_there (Some (objects.Index i)) h = (i, refl)

@@ -1,6 +1,6 @@
 -- Each scan raises the number of leaves read, no other step lowers it, and it is at most the number of blocks.
 use Rattle.std.proofs.Common.{◌≡◌, ◌⊎◌, inl, inr, ℕ, ◌+◌, ◌<◌, ◌≤◌, ◌==◌, List, [], ◌∷◌, ◌++◌, ◌-◌, ◌^◌, length, length-append, count_by, refl, sym, ◌∙◌, ap, subst, arith, Bool, true, false, cond, Option, Some, None}
-use Rattle.marking.proofs.Words.{AreOnce, Colours, Graph, Grey, Index, IsGrey, IsPaced, Kind, Object, Puid, Rescue, all_shaded, blocks_of, count_after, cursor_after, cursor_of, eqb-true, first_grey, has_number, is_at, is_index, is_live, is_some, kind_in, leaf_ids, lookup, moved, moved_first, nat_lt, nat_tests, next_held, object_at, or_cases, parents, puid_cmp, read, read_in, read_of, read_so_far, rescued, same_Some, same_puid, same_puid_is, same_puid_itself, scanned, shaded_as, shaded_in, sum_by, sum_by-cons}
+use Rattle.marking.proofs.Words.{AreOnce, Colours, Graph, Grey, Index, IsGrey, IsPaced, Kind, Object, Puid, Rescue, all_shaded, blocks_of, count_after, cursor_after, cursor_of, eqb-true, first_grey, has_number, is_at, is_index, is_live, is_some, kind_among, leaf_ids, lookup, moved, moved_first, nat_lt, nat_tests, next_held, object_at, or_cases, parents, puid_cmp, read, read_in, read_of, read_so_far, rescued, same_Some, same_puid, same_puid_is, same_puid_itself, scanned, shaded_as, shaded_in, sum_by, sum_by-cons}
 use Rattle.ufs_model.specs.declared.object.Object.TheVariants as objects
 use Rattle.marking.proofs.Shades.{coloured, colour_more}
 use Rattle.marking.proofs.Steps.{find_on, first_is}
@@ -92,11 +92,11 @@ shade_keeps : (kind : Option Kind) (x : Puid) (c : Colours) → Keeps c (shaded_
 shade_keeps None x c = keeps_itself c
 shade_keeps (Some kind) x c = elim (c.marked x.block) as (λ t. c.marked x.block ≡ t → Keeps c (cond t c (coloured x kind c))) [ true ↦ λ is. keeps_itself c | false ↦ λ is. colour_keeps x kind c is ] refl
 
-all_keep : (names : List (Puid × Kind)) (ids : List Puid) (c : Colours) → Keeps c (all_shaded names ids c)
-all_keep names [] c = keeps_itself c
-all_keep names (x ∷ xs) c =
-    let one = shade_keeps (kind_in names x) x c in
-    let two = all_keep names xs (shaded_in names x c) in
+all_keep : (directory : List (Puid × Kind)) (ids : List Puid) (c : Colours) → Keeps c (all_shaded directory ids c)
+all_keep directory [] c = keeps_itself c
+all_keep directory (x ∷ xs) c =
+    let one = shade_keeps (kind_among directory x) x c in
+    let two = all_keep directory xs (shaded_in directory x c) in
     record { marks = λ b h. two.marks b (one.marks b h); cursors = λ id h. two.cursors id (one.marks id.block h) ∙ one.cursors id h }
 
 kept_entry : (c d : Colours) → Keeps c d → (e : Puid × Object) → read_in c e ≤ read_in d e
@@ -109,8 +109,8 @@ kept_entry c d keeps (id, objects.Index i) = elim (c.marked id.block) as (λ t. 
 keeps_read : (g : Graph) (c d : Colours) → Keeps c d → read_so_far g c ≤ read_so_far g d
 keeps_read g c d keeps = sum_more (read_in c) (read_in d) (kept_entry c d keeps) g.objects
 
-rescued_keeps : (names : List (Puid × Kind)) (r : Rescue) (c : Colours) → Keeps c (rescued names r c)
-rescued_keeps names r c = elim (is_live r.index c) as (λ t. Keeps c (cond t (shaded_in names r.id c) c)) [ true ↦ shade_keeps _ r.id c | false ↦ keeps_itself c ]
+rescued_keeps : (directory : List (Puid × Kind)) (r : Rescue) (c : Colours) → Keeps c (rescued directory r c)
+rescued_keeps directory r c = elim (is_live r.index c) as (λ t. Keeps c (cond t (shaded_in directory r.id c) c)) [ true ↦ shade_keeps _ r.id c | false ↦ keeps_itself c ]
 
 -- ---- a scan
 
@@ -151,12 +151,12 @@ module _ (marked : ℕ → Bool) (e : Grey) (rest : List Grey) (once : AreOnce (
   move_raises g at next le raised =
       sum_raised (read_in before) (read_in (moved next before)) (each next le) (e.id, objects.Index i) (omega (arith, its_read next, was_read, raised)) g.objects (found_in e.id (objects.Index i) g.objects at)
 
-  raises : (g : Graph) → object_at g e.id ≡ Some (objects.Index i) → (names : List (Puid × Kind)) (o : Option ℕ) → next_held e.cursor i ≡ o → read_so_far g before + 1 ≤ read_so_far g (read names i o before)
-  raises g at names None none = move_raises g at None (λ held. read_few (Some e.cursor) held) (omega (arith, below_most e.cursor i.held))
-  raises g at names (Some leaf) next =
+  raises : (g : Graph) → object_at g e.id ≡ Some (objects.Index i) → (directory : List (Puid × Kind)) (o : Option ℕ) → next_held e.cursor i ≡ o → read_so_far g before + 1 ≤ read_so_far g (read directory i o before)
+  raises g at directory None none = move_raises g at None (λ held. read_few (Some e.cursor) held) (omega (arith, below_most e.cursor i.held))
+  raises g at directory (Some leaf) next =
       let here = find_on e.cursor leaf i.held next in
       let up : read_so_far g before + 1 ≤ read_so_far g (moved (cursor_after leaf i) before) = moves (next_held (leaf + 1) i) here.0 here.1 in
-      omega (arith, up, keeps_read g (moved (cursor_after leaf i) before) _ (all_keep names (leaf_ids i leaf) (moved (cursor_after leaf i) before)))
+      omega (arith, up, keeps_read g (moved (cursor_after leaf i) before) _ (all_keep directory (leaf_ids i leaf) (moved (cursor_after leaf i) before)))
     where
       moves : (o : Option ℕ) → e.cursor ≤ leaf → has_number leaf i.held ≡ true → read_so_far g before + 1 ≤ read_so_far g (moved (cond (is_some o) (Some (leaf + 1)) None) before)
       moves None on held = move_raises g at None (λ h. read_few (Some e.cursor) h) (omega (arith, below_most e.cursor i.held))
@@ -164,12 +164,12 @@ module _ (marked : ℕ → Bool) (e : Grey) (rest : List Grey) (once : AreOnce (
           move_raises g at (Some (leaf + 1)) (sum_more (λ n. cond (nat_lt n e.cursor) 1 0) (λ n. cond (nat_lt n (leaf + 1)) 1 0) (below_less e.cursor (leaf + 1) (omega (arith, on))))
           (sum_raised (λ n. cond (nat_lt n e.cursor) 1 0) (λ n. cond (nat_lt n (leaf + 1)) 1 0) (below_less e.cursor (leaf + 1) (omega (arith, on))) leaf (below_raised e.cursor (leaf + 1) leaf on (omega arith)) i.held (number_in leaf i.held held))
 
-pub scan_raises : (g : Graph) (c : Colours) (e : Grey) (i : Index) (names : List (Puid × Kind)) → first_grey c ≡ Some e → AreOnce c.grey → c.marked e.id.block ≡ true → object_at g e.id ≡ Some (objects.Index i)
-    → read_so_far g c + 1 ≤ read_so_far g (scanned names i e.cursor c)
-scan_raises g c e i names first once marked at =
+pub scan_raises : (g : Graph) (c : Colours) (e : Grey) (i : Index) (directory : List (Puid × Kind)) → first_grey c ≡ Some e → AreOnce c.grey → c.marked e.id.block ≡ true → object_at g e.id ≡ Some (objects.Index i)
+    → read_so_far g c + 1 ≤ read_so_far g (scanned directory i e.cursor c)
+scan_raises g c e i directory first once marked at =
     let f = first_is c e first in
-    subst (λ (grey : List Grey). read_so_far g (record c { grey = grey }) + 1 ≤ read_so_far g (scanned names i e.cursor (record c { grey = grey }))) (sym f.1)
-    (raises c.marked e f.0 (subst AreOnce f.1 once) marked i g at names (next_held e.cursor i) refl)
+    subst (λ (grey : List Grey). read_so_far g (record c { grey = grey }) + 1 ≤ read_so_far g (scanned directory i e.cursor (record c { grey = grey }))) (sym f.1)
+    (raises c.marked e f.0 (subst AreOnce f.1 once) marked i g at directory (next_held e.cursor i) refl)
 
 -- ---- the steps
 
@@ -179,8 +179,8 @@ counted n = omega arith
 pub pace_begin : (g : Graph) (c : Colours) → IsPaced g c [] 1 0
 pace_begin g c less = omega arith
 
-pub pace_take : (g : Graph) (c : Colours) (names : List (Puid × Kind)) (r : Rescue) (rest : List Rescue) (steps added : ℕ) → IsPaced g c (r ∷ rest) steps added → IsPaced g (rescued names r c) rest (count_after steps) added
-pace_take g c names r rest steps added pace less = omega (arith, pace less, counted steps, keeps_read g c (rescued names r c) (rescued_keeps names r c))
+pub pace_take : (g : Graph) (c : Colours) (directory : List (Puid × Kind)) (r : Rescue) (rest : List Rescue) (steps added : ℕ) → IsPaced g c (r ∷ rest) steps added → IsPaced g (rescued directory r c) rest (count_after steps) added
+pace_take g c directory r rest steps added pace less = omega (arith, pace less, counted steps, keeps_read g c (rescued directory r c) (rescued_keeps directory r c))
 
 pub pace_scan : (g : Graph) (c d : Colours) (waiting : List Rescue) (steps added : ℕ) → read_so_far g c + 1 ≤ read_so_far g d → IsPaced g c waiting steps added → IsPaced g d waiting (count_after steps) added
 pace_scan g c d waiting steps added more pace less = omega (arith, pace less, counted steps, more)

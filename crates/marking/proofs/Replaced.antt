@@ -1,6 +1,6 @@
 -- One object of the graph is replaced by one of its kind, or an object is made, or what is open changes.
 use Rattle.std.proofs.Common.{◌≡◌, ◌⊎◌, inl, inr, ℕ, zero, suc, ◌*◌, ◌≤◌, ◌==◌, List, [], ◌∷◌, take, drop, set, length, refl, sym, ◌∙◌, ap, subst, arith, true, false, cond, ◌||◌, Option, Some, None}
-use Rattle.marking.proofs.Words.{Changes, Colours, Equal, Graph, Greater, Index, Kind, Less, Object, Puid, Rescue, State, Waits, cursor_of, filled, filter_map, in_leaf, insert_entry, is_among, is_at, is_eq, is_found, is_index_there, is_remembered, joined_has, joined_has_new, joined_within, kind_at, kind_of, leaf_of_slot, lookup, match_ordering, nat_lt, object_at, object_at-with_object, open_ids, or_cases, or_left, or_right, puid_cmp, read_in, read_of, read_so_far, same_puid, same_puid_is, same_puid_itself, starts_now, sum_by, sum_by-cons, with_number, with_object}
+use Rattle.marking.proofs.Words.{Changes, Colours, Equal, Graph, Greater, Index, Kind, Less, Object, Puid, Rescue, State, Waits, cursor_of, filled, filter_map, in_leaf, insert_entry, is_among, is_at, is_eq, is_found, is_index_there, is_remembered, joined_has, joined_has_new, joined_within, kind_at, kind_standing, leaf_of_slot, lookup, match_ordering, nat_lt, object_at, object_at-with_object, open_ids, or_cases, or_left, or_right, puid_cmp, read_in, read_of, read_so_far, same_puid, same_puid_is, same_puid_itself, starts_now, sum_by, sum_by-cons, with_number, with_object}
 use Rattle.ufs_model.specs.declared.object.Object.TheVariants as objects
 
 -- ---- a slot that is filled
@@ -135,11 +135,11 @@ module _ (s t : State) (more : List Rescue)
 
   -- an object becomes one of its kind, or is made; what it refers to now stood there, or has its rescue
   pub with_one : (k : Puid) (o : Object) → t.graph ≡ with_object s.graph k o
-      → ((old : Object) → object_at s.graph k ≡ Some old → (kind_of (Some o) ≡ kind_of (Some old)) × ((c : Colours) → read_in c (k, old) ≤ read_in c (k, o)))
+      → ((old : Object) → object_at s.graph k ≡ Some old → (kind_standing (Some o) ≡ kind_standing (Some old)) × ((c : Colours) → read_in c (k, old) ≤ read_in c (k, o)))
       → ((leaf : ℕ) (x : Puid) → in_leaf (Some o) leaf x ≡ true → (in_leaf (object_at s.graph k) leaf x ≡ true) ⊎ Waits more (Some k) x) → Changes s t more
   with_one k o is old_is adds = record {
     root = ap (λ (g : Graph). g.root) is;
-    kinds = λ x kind h. ap (λ (g : Graph). kind_at g x) is ∙ ap kind_of (object_at-with_object s.graph k o x) ∙ elim (same_puid x k) as (λ b. same_puid x k ≡ b → kind_of (cond b (Some o) (object_at s.graph x)) ≡ Some kind) [
+    kinds = λ x kind h. ap (λ (g : Graph). kind_at g x) is ∙ ap kind_standing (object_at-with_object s.graph k o x) ∙ elim (same_puid x k) as (λ b. same_puid x k ≡ b → kind_standing (cond b (Some o) (object_at s.graph x)) ≡ Some kind) [
       | true ↦ λ same. at_k (object_at s.graph k) refl kind (subst (λ (y : Puid). kind_at s.graph y ≡ Some kind) (same_puid_is x k same) h)
       | false ↦ λ other. h
     ] refl;
@@ -149,7 +149,7 @@ module _ (s t : State) (more : List Rescue)
     leaves = λ c. subst (λ (g : Graph). read_so_far s.graph c ≤ read_so_far g c) (sym is) (entry_reads (read_in c) k o s.graph.objects (λ old at. (old_is old at).1 c));
   }
     where
-      at_k : (here : Option Object) → object_at s.graph k ≡ here → (kind : Kind) → kind_of here ≡ Some kind → kind_of (Some o) ≡ Some kind
+      at_k : (here : Option Object) → object_at s.graph k ≡ here → (kind : Kind) → kind_standing here ≡ Some kind → kind_standing (Some o) ≡ Some kind
       at_k None here kind h = cc
       at_k (Some old) here kind h = (old_is old here).0 ∙ h
 

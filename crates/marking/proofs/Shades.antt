@@ -1,6 +1,6 @@
 -- Shading keeps what holds of a collection that marks, where what is shaded was reached.
 use Rattle.std.proofs.Common.{◌≡◌, ◌⊎◌, inl, inr, ℕ, ◌==◌, List, [], ◌∷◌, refl, sym, ◌∙◌, ap, subst, arith, true, false, cond, ◌||◌, Option, Some, None}
-use Rattle.marking.proofs.Words.{AreNames, AreOnce, Colours, IsColoured, IsCovered, IsGrey, IsLeft, IsMarked, IsToRead, IsWaiting, Kind, Owed, Puid, Rescue, State, all_shaded, eq-eqb, eqb-true, is_among, is_found, is_index, is_live, is_there, kind_at, kind_in, object_at, or_cases, or_left, or_right, same_Some, same_puid, same_puid_is, same_puid_itself, shaded, shaded_as, shaded_in}
+use Rattle.marking.proofs.Words.{IsDirectoryOf, AreOnce, Colours, IsColoured, IsCovered, IsGrey, IsLeft, IsMarked, IsToRead, IsWaiting, Kind, Owed, Puid, Rescue, State, all_shaded, eq-eqb, eqb-true, is_among, is_found, is_index, is_live, is_there, kind_at, kind_among, object_at, or_cases, or_left, or_right, same_Some, same_puid, same_puid_is, same_puid_itself, shaded, shaded_as, shaded_in}
 use Rattle.cfs_base.specs.declared.kind.Kind.TheVariants as kinds
 use Rattle.marking.proofs.Wells.{IsWell}
 use Rattle.marking.proofs.Reaches.{WasReached}
@@ -104,34 +104,34 @@ pub shade_more : (kind : Option Kind) (id : Puid) (c : Colours) → IsMore c (sh
 shade_more None id c = more_itself c
 shade_more (Some kind) id c = elim (c.marked id.block) as (λ t. IsMore c (cond t c (coloured id kind c))) [ true ↦ more_itself c | false ↦ colour_more id kind c ]
 
-pub all_more : (names : List (Puid × Kind)) (ids : List Puid) (c : Colours) → IsMore c (all_shaded names ids c)
-all_more names [] c = more_itself c
-all_more names (id ∷ ids) c = more_then c (shaded_in names id c) (all_shaded names ids (shaded_in names id c)) (shade_more (kind_in names id) id c) (all_more names ids (shaded_in names id c))
+pub all_more : (directory : List (Puid × Kind)) (ids : List Puid) (c : Colours) → IsMore c (all_shaded directory ids c)
+all_more directory [] c = more_itself c
+all_more directory (id ∷ ids) c = more_then c (shaded_in directory id c) (all_shaded directory ids (shaded_in directory id c)) (shade_more (kind_among directory id) id c) (all_more directory ids (shaded_in directory id c))
 
-module _ (s : State) (names : List (Puid × Kind)) (are : AreNames names s.graph) where
+module _ (s : State) (directory : List (Puid × Kind)) (are : IsDirectoryOf directory s.graph) where
   -- what is there and is shaded is marked
-  pub one_marked : (id : Puid) (c : Colours) → is_there s.graph id ≡ true → (shaded_in names id c).marked id.block ≡ true
+  pub one_marked : (id : Puid) (c : Colours) → is_there s.graph id ≡ true → (shaded_in directory id c).marked id.block ≡ true
   one_marked id c there =
       let kind = there_kind (object_at s.graph id) there in
       rw (are id, kind.1) (elim (c.marked id.block) as (λ t. c.marked id.block ≡ t → (cond t c (coloured id kind.0 c)).marked id.block ≡ true) [ true ↦ λ is. is | false ↦ λ is. marked_itself id kind.0 c ] refl)
 
-  pub all_marked : (ids : List Puid) (c : Colours) (x : Puid) → is_among x ids ≡ true → is_there s.graph x ≡ true → (all_shaded names ids c).marked x.block ≡ true
+  pub all_marked : (ids : List Puid) (c : Colours) (x : Puid) → is_among x ids ≡ true → is_there s.graph x ≡ true → (all_shaded directory ids c).marked x.block ≡ true
   all_marked [] c x h there = cc
   all_marked (id ∷ ids) c x h there = elim (or_cases (same_puid x id) (is_among x ids) h) [
     | inl here ↦
         let same = same_puid_is x id here in
-        (all_more names ids (shaded_in names id c)).marks x.block (subst (λ (y : Puid). (shaded_in names y c).marked x.block ≡ true) same (one_marked x c there))
-    | inr later ↦ all_marked ids (shaded_in names id c) x later there
+        (all_more directory ids (shaded_in directory id c)).marks x.block (subst (λ (y : Puid). (shaded_in directory y c).marked x.block ≡ true) same (one_marked x c there))
+    | inr later ↦ all_marked ids (shaded_in directory id c) x later there
   ]
 
   module _ (well : IsWell s) (owed : Owed) (waiting : List Rescue) where
-    pub one_keeps : (id : Puid) (c : Colours) → WasReached s.collection id → IsColoured s owed c waiting → IsColoured s owed (shaded_in names id c) waiting
-    one_keeps id c reached is = elim (kind_in names id) as (λ k. kind_in names id ≡ k → IsColoured s owed (shaded_as k id c) waiting) [
+    pub one_keeps : (id : Puid) (c : Colours) → WasReached s.collection id → IsColoured s owed c waiting → IsColoured s owed (shaded_in directory id c) waiting
+    one_keeps id c reached is = elim (kind_among directory id) as (λ k. kind_among directory id ≡ k → IsColoured s owed (shaded_as k id c) waiting) [
       | None ↦ λ none. is
       | Some kind ↦ λ found. shade_keeps s well owed waiting id kind c (sym (are id) ∙ found) reached is
     ] refl
 
-    pub all_keep : (ids : List Puid) (c : Colours) → ((x : Puid) → is_among x ids ≡ true → WasReached s.collection x) → IsColoured s owed c waiting → IsColoured s owed (all_shaded names ids c) waiting
+    pub all_keep : (ids : List Puid) (c : Colours) → ((x : Puid) → is_among x ids ≡ true → WasReached s.collection x) → IsColoured s owed c waiting → IsColoured s owed (all_shaded directory ids c) waiting
     all_keep [] c reached is = is
     all_keep (id ∷ ids) c reached is =
-        all_keep ids (shaded_in names id c) (λ x h. reached x (or_right (same_puid x id) (is_among x ids) h)) (one_keeps id c (reached id (or_left (same_puid id id) (is_among id ids) (same_puid_itself id))) is)
+        all_keep ids (shaded_in directory id c) (λ x h. reached x (or_right (same_puid x id) (is_among x ids) h)) (one_keeps id c (reached id (or_left (same_puid id id) (is_among id ids) (same_puid_itself id))) is)

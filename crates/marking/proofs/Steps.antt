@@ -1,6 +1,6 @@
 -- Each step of a collection keeps what holds of one that marks.
 use Rattle.std.proofs.Common.{◌≡◌, ◌⊎◌, inl, inr, ℕ, ◌+◌, ◌<◌, ◌≤◌, ◌==◌, List, [], ◌∷◌, refl, sym, ◌∙◌, ap, subst, arith, Bool, true, false, cond, Option, Some, None}
-use Rattle.marking.proofs.Words.{AreNames, AreOnce, Colours, Grey, Index, IsColoured, IsCovered, IsGrey, IsLeft, IsMarked, IsMarking, IsToRead, IsWaiting, Kind, Nothing, Object, Owed, Puid, Rescue, Start, State, all_shaded, among_itself, and_parts, cases_eq, cursor_after, eq-eqb, eqb-true, find, first_grey, has_number, in_leaf, is_among, is_found, is_live, is_remembered, is_some, is_there, joined_has, le-leb, leaf_ids, leb-true, list_all, ltb-true, moved, moved_first, nat_le, nat_lt, next_held, none_marked, numbers_rise, object_at, open_ids, or_cases, or_left, or_right, pairs_of, read, rescued, same_Some, scanned, shaded_in, starts_now}
+use Rattle.marking.proofs.Words.{IsDirectoryOf, AreOnce, Colours, Grey, Index, IsColoured, IsCovered, IsGrey, IsLeft, IsMarked, IsMarking, IsToRead, IsWaiting, Kind, OwesNothing, Object, Owed, Puid, Rescue, Start, State, all_shaded, among_itself, and_parts, cases_eq, cursor_after, eq-eqb, eqb-true, find, first_grey, has_number, in_leaf, is_among, is_found, is_live, is_remembered, is_some, is_there, joined_has, le-leb, leaf_ids, leb-true, list_all, ltb-true, moved, moved_first, nat_le, nat_lt, next_held, none_marked, numbers_rise, object_at, open_ids, or_cases, or_left, or_right, pairs_of, read, rescued, same_Some, scanned, shaded_in, starts_now}
 use Rattle.ufs_model.specs.declared.collection.Collection.TheVariants as collections
 use Rattle.ufs_model.specs.declared.object.Object.TheVariants as objects
 use Rattle.marking.proofs.Wells.{IsWell}
@@ -10,7 +10,7 @@ use Rattle.marking.proofs.Reaches.{WasReached, live_reached}
 
 -- what was owed is covered
 pay : (s : State) (owed : Owed) (c : Colours) (waiting : List Rescue) → IsColoured s owed c waiting
-    → ((from : Option Puid) (leaf : ℕ) (x : Puid) → is_found s from leaf x ≡ true → is_live from c ≡ true → owed from leaf x → c.marked x.block ≡ true) → IsColoured s Nothing c waiting
+    → ((from : Option Puid) (leaf : ℕ) (x : Puid) → is_found s from leaf x ≡ true → is_live from c ≡ true → owed from leaf x → c.marked x.block ≡ true) → IsColoured s OwesNothing c waiting
 pay s owed c waiting is settle = record {
   covered = λ from leaf x found live. elim (is.covered from leaf x found live) [ inl covered ↦ inl covered | inr due ↦ inl (IsMarked (settle from leaf x found live due)) ];
   known = is.known;
@@ -32,7 +32,7 @@ begun_well s well = record { ordered = well.ordered; alone = well.alone; closed 
     found None leaf x h = well.closed None leaf x h
     found (Some i) leaf x h = well.closed (Some i) leaf x h
 
-module _ (s : State) (well : IsWell s) (names : List (Puid × Kind)) (are : AreNames names s.graph) (roots : List Puid) (all : (x : Puid) → is_among x roots ≡ is_among x (starts_now s)) where
+module _ (s : State) (well : IsWell s) (directory : List (Puid × Kind)) (are : IsDirectoryOf directory s.graph) (roots : List Puid) (all : (x : Puid) → is_among x roots ≡ is_among x (starts_now s)) where
   abbrev first : Owed
   first from leaf x = from ≡ None
 
@@ -47,19 +47,19 @@ module _ (s : State) (well : IsWell s) (names : List (Puid × Kind)) (are : AreN
       stands None leaf x found = found
       stands (Some i) leaf x found = leaf_pair s.graph well.ordered i x leaf found
 
-  pub begin_keeps : IsMarking (begun s) (all_shaded names roots none_marked) []
+  pub begin_keeps : IsMarking (begun s) (all_shaded directory roots none_marked) []
   begin_keeps = record {
     root_marked = marked s.graph.root (joined_has (open_ids s) (s.graph.root ∷ []) s.graph.root (among_itself s.graph.root []));
-    coloured = pay (begun s) first (all_shaded names roots none_marked) [] shaded settle;
+    coloured = pay (begun s) first (all_shaded directory roots none_marked) [] shaded settle;
   }
     where
-      marked : (x : Puid) → is_among x (starts_now s) ≡ true → (all_shaded names roots none_marked).marked x.block ≡ true
-      marked x h = all_marked s names are roots none_marked x (all x ∙ h) (well.closed None 0 x h)
+      marked : (x : Puid) → is_among x (starts_now s) ≡ true → (all_shaded directory roots none_marked).marked x.block ≡ true
+      marked x h = all_marked s directory are roots none_marked x (all x ∙ h) (well.closed None 0 x h)
 
-      shaded : IsColoured (begun s) first (all_shaded names roots none_marked) []
-      shaded = all_keep (begun s) names are (begun_well s well) first [] roots none_marked (λ x h. Start (sym (all x) ∙ h)) nothing_yet
+      shaded : IsColoured (begun s) first (all_shaded directory roots none_marked) []
+      shaded = all_keep (begun s) directory are (begun_well s well) first [] roots none_marked (λ x h. Start (sym (all x) ∙ h)) nothing_yet
 
-      settle : (from : Option Puid) (leaf : ℕ) (x : Puid) → is_found (begun s) from leaf x ≡ true → is_live from (all_shaded names roots none_marked) ≡ true → from ≡ None → (all_shaded names roots none_marked).marked x.block ≡ true
+      settle : (from : Option Puid) (leaf : ℕ) (x : Puid) → is_found (begun s) from leaf x ≡ true → is_live from (all_shaded directory roots none_marked) ≡ true → from ≡ None → (all_shaded directory roots none_marked).marked x.block ≡ true
       settle None leaf x found live due = marked x found
       settle (Some i) leaf x found live due = cc
 
@@ -68,8 +68,8 @@ module _ (s : State) (well : IsWell s) (names : List (Puid × Kind)) (are : AreN
 abbrev of_rescue : Rescue → Owed
 of_rescue r from leaf x = (r.index ≡ from) × (r.id ≡ x)
 
-module _ (s : State) (well : IsWell s) (names : List (Puid × Kind)) (are : AreNames names s.graph) (r : Rescue) (rest : List Rescue) (c : Colours) where
-  dropped : IsColoured s Nothing c (r ∷ rest) → IsColoured s (of_rescue r) c rest
+module _ (s : State) (well : IsWell s) (directory : List (Puid × Kind)) (are : IsDirectoryOf directory s.graph) (r : Rescue) (rest : List Rescue) (c : Colours) where
+  dropped : IsColoured s OwesNothing c (r ∷ rest) → IsColoured s (of_rescue r) c rest
   dropped is = record {
     covered = λ from leaf x found live. elim (is.covered from leaf x found live) [
       | inl (IsMarked m) ↦ inl (IsMarked m)
@@ -85,21 +85,21 @@ module _ (s : State) (well : IsWell s) (names : List (Puid × Kind)) (are : AreN
     stands = is.stands;
   }
 
-  rescued_more : IsMore c (rescued names r c)
-  rescued_more = elim (is_live r.index c) as (λ t. IsMore c (cond t (shaded_in names r.id c) c)) [ true ↦ shade_more _ r.id c | false ↦ more_itself c ]
+  rescued_more : IsMore c (rescued directory r c)
+  rescued_more = elim (is_live r.index c) as (λ t. IsMore c (cond t (shaded_in directory r.id c) c)) [ true ↦ shade_more _ r.id c | false ↦ more_itself c ]
 
-  take_coloured : IsColoured s Nothing c (r ∷ rest) → IsColoured s Nothing (rescued names r c) rest
+  take_coloured : IsColoured s OwesNothing c (r ∷ rest) → IsColoured s OwesNothing (rescued directory r c) rest
   take_coloured is =
-      elim (is_live r.index c) as (λ t. is_live r.index c ≡ t → IsColoured s Nothing (cond t (shaded_in names r.id c) c) rest) [
+      elim (is_live r.index c) as (λ t. is_live r.index c ≡ t → IsColoured s OwesNothing (cond t (shaded_in directory r.id c) c) rest) [
         | true ↦ λ live.
             let two = is.rescues r.index r.id (inl (refl, refl)) in
-            let reached = live_reached s Nothing c (r ∷ rest) well is r.index r.id live two.0 two.1 in
-            pay s (of_rescue r) (shaded_in names r.id c) rest (one_keeps s names are well (of_rescue r) rest r.id c reached (dropped is))
-            (λ from leaf x found now due. subst (λ (y : Puid). (shaded_in names y c).marked x.block ≡ true) (sym due.1) (one_marked s names are x c (well.closed from leaf x found)))
+            let reached = live_reached s OwesNothing c (r ∷ rest) well is r.index r.id live two.0 two.1 in
+            pay s (of_rescue r) (shaded_in directory r.id c) rest (one_keeps s directory are well (of_rescue r) rest r.id c reached (dropped is))
+            (λ from leaf x found now due. subst (λ (y : Puid). (shaded_in directory y c).marked x.block ≡ true) (sym due.1) (one_marked s directory are x c (well.closed from leaf x found)))
         | false ↦ λ dead. pay s (of_rescue r) c rest (dropped is) (λ from leaf x found live due. let now : is_live r.index c ≡ true = subst (λ (f : Option Puid). is_live f c ≡ true) (sym due.0) live in cc)
       ] refl
 
-  pub take_keeps : IsMarking s c (r ∷ rest) → IsMarking s (rescued names r c) rest
+  pub take_keeps : IsMarking s c (r ∷ rest) → IsMarking s (rescued directory r c) rest
   take_keeps is = record { root_marked = rescued_more.marks s.graph.root.block is.root_marked; coloured = take_coloured is.coloured }
 
 -- ---- the next held leaf of an index
@@ -145,7 +145,7 @@ find_none from (n ∷ ns) h l at on = elim (nat_le from n) as (λ t. nat_le from
 abbrev of_leaf : Puid → ℕ → Owed
 of_leaf i leaf from l x = (Some i ≡ from) × (l ≡ leaf)
 
-module _ (s : State) (well : IsWell s) (waiting : List Rescue) (marked : ℕ → Bool) (e : Grey) (rest : List Grey) (i : Index) (at : object_at s.graph e.id ≡ Some (objects.Index i)) (is : IsColoured s Nothing (record { marked = marked; grey = e ∷ rest }) waiting) where
+module _ (s : State) (well : IsWell s) (waiting : List Rescue) (marked : ℕ → Bool) (e : Grey) (rest : List Grey) (i : Index) (at : object_at s.graph e.id ≡ Some (objects.Index i)) (is : IsColoured s OwesNothing (record { marked = marked; grey = e ∷ rest }) waiting) where
   abbrev before : Colours
   before = record { marked = marked; grey = e ∷ rest }
 
@@ -191,8 +191,8 @@ module _ (s : State) (well : IsWell s) (waiting : List Rescue) (marked : ℕ →
       once (Some to) = is.once
 
   -- it has no further leaf
-  ended : next_held e.cursor i ≡ None → IsColoured s Nothing (moved None before) waiting
-  ended none = moves None Nothing (λ leaf x found on. absurd (find_none e.cursor i.held none leaf (its_leaf leaf x found) on))
+  ended : next_held e.cursor i ≡ None → IsColoured s OwesNothing (moved None before) waiting
+  ended none = moves None OwesNothing (λ leaf x found on. absurd (find_none e.cursor i.held none leaf (its_leaf leaf x found) on))
 
   -- the next leaf is owed
   owes : (leaf : ℕ) → next_held e.cursor i ≡ Some leaf → IsColoured s (of_leaf e.id leaf) (moved (cursor_after leaf i) before) waiting
@@ -209,26 +209,26 @@ module _ (s : State) (well : IsWell s) (waiting : List Rescue) (marked : ℕ →
       after (Some n) some l held more = inl (refl, more)
 
   -- each object in it was reached, and is then marked
-  read_coloured : (names : List (Puid × Kind)) → AreNames names s.graph → (leaf : ℕ) → next_held e.cursor i ≡ Some leaf
-      → IsColoured s Nothing (all_shaded names (leaf_ids i leaf) (moved (cursor_after leaf i) before)) waiting
-  read_coloured names are leaf next =
+  read_coloured : (directory : List (Puid × Kind)) → IsDirectoryOf directory s.graph → (leaf : ℕ) → next_held e.cursor i ≡ Some leaf
+      → IsColoured s OwesNothing (all_shaded directory (leaf_ids i leaf) (moved (cursor_after leaf i) before)) waiting
+  read_coloured directory are leaf next =
       let to = moved (cursor_after leaf i) before in
       let ids = leaf_ids i leaf in
       let stands : (x : Puid) → is_among x ids ≡ true → is_found s (Some e.id) leaf x ≡ true = λ x h. subst (λ (here : Option Object). in_leaf here leaf x ≡ true) (sym at) h in
       let reached : (x : Puid) → is_among x ids ≡ true → WasReached s.collection x = λ x h.
-      live_reached s Nothing before waiting well is (Some e.id) x (is.grey e.id (inl refl)).0 (is.stands (Some e.id) leaf x (stands x h)) (ap is_some at) in
-      pay s (of_leaf e.id leaf) (all_shaded names ids to) waiting (all_keep s names are well (of_leaf e.id leaf) waiting ids to reached (owes leaf next))
+      live_reached s OwesNothing before waiting well is (Some e.id) x (is.grey e.id (inl refl)).0 (is.stands (Some e.id) leaf x (stands x h)) (ap is_some at) in
+      pay s (of_leaf e.id leaf) (all_shaded directory ids to) waiting (all_keep s directory are well (of_leaf e.id leaf) waiting ids to reached (owes leaf next))
       (λ from l x found live due.
       let here : is_among x ids ≡ true = subst (λ (o : Option Object). in_leaf o leaf x ≡ true) at (subst (λ (n : ℕ). is_found s (Some e.id) n x ≡ true) due.1 (subst (λ (f : Option Puid). is_found s f l x ≡ true) (sym due.0) found)) in
-      all_marked s names are ids to x here (well.closed from l x found))
+      all_marked s directory are ids to x here (well.closed from l x found))
 
-scan_at : (s : State) → IsWell s → (names : List (Puid × Kind)) → AreNames names s.graph → (waiting : List Rescue) (c : Colours) (e : Grey) (rest : List Grey) (i : Index) → c.grey ≡ e ∷ rest
-    → object_at s.graph e.id ≡ Some (objects.Index i) → IsMarking s (record c { grey = e ∷ rest }) waiting → (next : Option ℕ) → next_held e.cursor i ≡ next → IsMarking s (read names i next (record c { grey = e ∷ rest })) waiting
-scan_at s well names are waiting c e rest i top at is None none =
+scan_at : (s : State) → IsWell s → (directory : List (Puid × Kind)) → IsDirectoryOf directory s.graph → (waiting : List Rescue) (c : Colours) (e : Grey) (rest : List Grey) (i : Index) → c.grey ≡ e ∷ rest
+    → object_at s.graph e.id ≡ Some (objects.Index i) → IsMarking s (record c { grey = e ∷ rest }) waiting → (next : Option ℕ) → next_held e.cursor i ≡ next → IsMarking s (read directory i next (record c { grey = e ∷ rest })) waiting
+scan_at s well directory are waiting c e rest i top at is None none =
     record { root_marked = is.root_marked; coloured = ended s well waiting c.marked e rest i at is.coloured none }
-scan_at s well names are waiting c e rest i top at is (Some leaf) next = record {
-  root_marked = (all_more names (leaf_ids i leaf) (moved (cursor_after leaf i) (record c { grey = e ∷ rest }))).marks s.graph.root.block is.root_marked;
-  coloured = read_coloured s well waiting c.marked e rest i at is.coloured names are leaf next;
+scan_at s well directory are waiting c e rest i top at is (Some leaf) next = record {
+  root_marked = (all_more directory (leaf_ids i leaf) (moved (cursor_after leaf i) (record c { grey = e ∷ rest }))).marks s.graph.root.block is.root_marked;
+  coloured = read_coloured s well waiting c.marked e rest i at is.coloured directory are leaf next;
 }
 
 pub first_is : (c : Colours) (e : Grey) → first_grey c ≡ Some e → (rest : List Grey) × (c.grey ≡ e ∷ rest)
@@ -238,13 +238,13 @@ first_is c e h = go c.grey refl h
     go [] is h = cc
     go (d ∷ ds) is h = (ds, is ∙ ap (λ (k : Grey). k ∷ ds) (same_Some _ _ h))
 
-pub scan_keeps : (s : State) → IsWell s → (names : List (Puid × Kind)) → AreNames names s.graph → (waiting : List Rescue) (c : Colours) (e : Grey) (i : Index) → first_grey c ≡ Some e
-    → object_at s.graph e.id ≡ Some (objects.Index i) → IsMarking s c waiting → IsMarking s (scanned names i e.cursor c) waiting
-scan_keeps s well names are waiting c e i first at is =
+pub scan_keeps : (s : State) → IsWell s → (directory : List (Puid × Kind)) → IsDirectoryOf directory s.graph → (waiting : List Rescue) (c : Colours) (e : Grey) (i : Index) → first_grey c ≡ Some e
+    → object_at s.graph e.id ≡ Some (objects.Index i) → IsMarking s c waiting → IsMarking s (scanned directory i e.cursor c) waiting
+scan_keeps s well directory are waiting c e i first at is =
     let f = first_is c e first in
-    subst (λ (grey : List Grey). IsMarking s (scanned names i e.cursor (record c { grey = grey })) waiting) (sym f.1)
-    (scan_at s well names are waiting c e f.0 i f.1 at (subst (λ (grey : List Grey). IsMarking s (record c { grey = grey }) waiting) f.1 is) (next_held e.cursor i) refl)
+    subst (λ (grey : List Grey). IsMarking s (scanned directory i e.cursor (record c { grey = grey })) waiting) (sym f.1)
+    (scan_at s well directory are waiting c e f.0 i f.1 at (subst (λ (grey : List Grey). IsMarking s (record c { grey = grey }) waiting) f.1 is) (next_held e.cursor i) refl)
 
 -- the first grey index is marked
-pub first_marked : (s : State) (c : Colours) (waiting : List Rescue) (e : Grey) → first_grey c ≡ Some e → IsColoured s Nothing c waiting → c.marked e.id.block ≡ true
+pub first_marked : (s : State) (c : Colours) (waiting : List Rescue) (e : Grey) → first_grey c ≡ Some e → IsColoured s OwesNothing c waiting → c.marked e.id.block ≡ true
 first_marked s c waiting e first is = let f = first_is c e first in (is.grey e.id (subst (λ (grey : List Grey). IsGrey grey e.id) (sym f.1) (inl refl))).0

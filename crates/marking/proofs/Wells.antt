@@ -1,6 +1,6 @@
 -- What the laws of marking use of a well-formed state.
 use Rattle.std.proofs.Common.{◌≡◌, inl, inr, ℕ, ◌+◌, ◌*◌, ◌/◌, ◌≤◌, List, [], ◌∷◌, length, take, drop, refl, sym, ◌∙◌, ap, subst, arith, true, Option, Some, None}
-use Rattle.marking.proofs.Words.{Draft, File, FileKind, Grant, Graph, Index, IsState, Object, Puid, State, Tuid, all_found, and_parts, closed_graph, each_drop, each_from, each_take, file_kind, filter_map, grant_of, graph_refers, has_number, ids_of, is_among, is_found, is_grant, is_grant_in, is_object, is_open_so, is_some, is_there, joined_within, kind_at, kind_of, leaf_ids, length-take, list_all, map, numbers_rise, object_at, object_whole, one_block, open_ids, or_cases, rises, same_kind, same_puid, same_puid_is, slot_may_stand, within_one}
+use Rattle.marking.proofs.Words.{Draft, File, FileKind, Grant, Graph, Index, IsState, Object, Puid, State, Tuid, all_found, and_parts, closed_graph, each_drop, each_from, each_take, file_kind, filter_map, grant_of, graph_refers, has_number, ids_of, is_among, is_found, is_grant, is_grant_in, is_object, is_open_so, is_some, is_there, joined_within, kind_at, kind_standing, leaf_ids, length-take, list_all, map, numbers_rise, object_at, object_whole, one_block, open_ids, or_cases, rises, same_kind, same_puid, same_puid_is, slot_may_stand, within_one}
 use Rattle.cfs_base.specs.declared.kind.FileKind.TheVariants as file_kinds
 use Rattle.ufs_model.specs.declared.object.Object.TheVariants as objects
 use Rattle.marking.proofs.Leaves.{leaf_refers}
@@ -43,7 +43,7 @@ kinds_same file_kinds.Normal file_kinds.Special h = cc
 kinds_same file_kinds.Special file_kinds.Normal h = cc
 kinds_same file_kinds.Special file_kinds.Special h = refl
 
-draft_file : (o : Option Object) (d : Object) (draft : Draft) → draft.object ≡ d → is_open_so o (Some (record draft { object = d })) ≡ true → (f : File) × (draft.object ≡ objects.File f) × (kind_of o ≡ Some (file_kind f.kind))
+draft_file : (o : Option Object) (d : Object) (draft : Draft) → draft.object ≡ d → is_open_so o (Some (record draft { object = d })) ≡ true → (f : File) × (draft.object ≡ objects.File f) × (kind_standing o ≡ Some (file_kind f.kind))
 draft_file None d draft is h = cc
 draft_file (Some (objects.Index i)) d draft is h = cc
 draft_file (Some (objects.File f)) (objects.Index i) draft is h = cc

@@ -5,12 +5,12 @@ pub use Rattle.cfs_base.specs.declared.identifier.Tuid.{Tuid}
 pub use Rattle.cfs_base.specs.declared.kind.FileKind.{FileKind}
 pub use Rattle.cfs_base.specs.declared.kind.Kind.{Kind}
 pub use Rattle.cfs_base.specs.declared.kind.Mode.{Mode}
-pub use Rattle.marking.specs.Colours.{Colours, all_shaded, first_grey, is_index, kind_in, moved, moved_first, none_marked, shaded, shaded_as, shaded_in}
-pub use Rattle.marking.specs.Leaves.{file_kind, in_leaf, is_found, kind_at, kind_of, leaf_ids}
-pub use Rattle.marking.specs.Marking.{AreOnce, IsColoured, IsCovered, IsGrey, IsLeft, IsMarked, IsMarking, IsToRead, IsWaiting, Nothing, Owed, Waits, is_index_there, is_remembered}
-pub use Rattle.marking.specs.Meanwhile.{Changes, is_done, rescues_of}
+pub use Rattle.marking.specs.Colours.{Colours, all_shaded, first_grey, is_index, kind_among, moved, moved_first, none_marked, shaded, shaded_as, shaded_in}
+pub use Rattle.marking.specs.Leaves.{file_kind, in_leaf, is_found, kind_at, kind_standing, leaf_ids}
+pub use Rattle.marking.specs.Marking.{AreOnce, IsColoured, IsCovered, IsGrey, IsLeft, IsMarked, IsMarking, IsToRead, IsWaiting, OwesNothing, Owed, Waits, is_index_there, is_remembered}
+pub use Rattle.marking.specs.Meanwhile.{Changes, is_carried_out, rescues_of}
 pub use Rattle.marking.specs.Pace.{IsPaced, cursor_of, read_in, read_of, read_so_far}
-pub use Rattle.marking.specs.Steps.{AreNames, cursor_after, is_live, next_held, read, rescued, scanned, unmarked}
+pub use Rattle.marking.specs.Steps.{IsDirectoryOf, cursor_after, is_live, next_held, read, rescued, scanned, unmarked}
 pub use Rattle.marking.specs.declared.memory.Grey.{Grey}
 pub use Rattle.marking.specs.declared.memory.Rescue.{Rescue}
 pub use Rattle.std.proofs.lemmas.Bool.{and_from, and_parts, cases_eq, eq-eqb, eqb-true, le-leb, leb-true, or_cases, or_left, or_right}

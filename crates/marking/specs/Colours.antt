@@ -33,9 +33,9 @@ shaded id kind c =
       grey = if is_index kind then record { id = id; cursor = 0 } ∷ c.grey else c.grey;
     }
 
--- the kind that a list of identifiers has for one
-abbrev pub kind_in : List (Puid × Kind) → Puid → Option Kind
-kind_in names id = lookup (is_at (puid_cmp id)) names
+-- the kind that a directory has for an identifier
+abbrev pub kind_among : List (Puid × Kind) → Puid → Option Kind
+kind_among directory id = lookup (is_at (puid_cmp id)) directory
 
 -- an identifier that isn't in the list is not shaded
 abbrev pub shaded_as : Option Kind → Puid → Colours → Colours
@@ -43,11 +43,11 @@ shaded_as None id c = c
 shaded_as (Some kind) id c = shaded id kind c
 
 abbrev pub shaded_in : List (Puid × Kind) → Puid → Colours → Colours
-shaded_in names id c = shaded_as (kind_in names id) id c
+shaded_in directory id c = shaded_as (kind_among directory id) id c
 
 abbrev pub all_shaded : List (Puid × Kind) → List Puid → Colours → Colours
-all_shaded names [] c = c
-all_shaded names (id ∷ ids) c = all_shaded names ids (shaded_in names id c)
+all_shaded directory [] c = c
+all_shaded directory (id ∷ ids) c = all_shaded directory ids (shaded_in directory id c)
 
 -- ---- the first grey index
 

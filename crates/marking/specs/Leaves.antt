@@ -37,10 +37,10 @@ file_kind file_kinds.Normal = kinds.Normal
 file_kind file_kinds.Special = kinds.Special
 
 -- the kind of what stands here
-abbrev pub kind_of : Option Object → Option Kind
-kind_of None = None
-kind_of (Some (objects.File f)) = Some (file_kind f.kind)
-kind_of (Some (objects.Index i)) = Some kinds.Index
+abbrev pub kind_standing : Option Object → Option Kind
+kind_standing None = None
+kind_standing (Some (objects.File f)) = Some (file_kind f.kind)
+kind_standing (Some (objects.Index i)) = Some kinds.Index
 
 abbrev pub kind_at : Graph → Puid → Option Kind
-kind_at g x = kind_of (object_at g x)
+kind_at g x = kind_standing (object_at g x)

@@ -58,8 +58,8 @@ is_index_there g (Some i) = is_there g i
 abbrev pub Owed : Type 1
 Owed = Option Puid → ℕ → Puid → Type 0
 
-abbrev pub Nothing : Owed
-Nothing from leaf x = ⊥
+abbrev pub OwesNothing : Owed
+OwesNothing from leaf x = ⊥
 
 -- All but what is owed is covered, and what is marked was reached at some time since the collection began.
 pub record IsColoured (s : State) (owed : Owed) (c : Colours) (waiting : List Rescue) : Type 0 where
@@ -82,4 +82,4 @@ pub record IsColoured (s : State) (owed : Owed) (c : Colours) (waiting : List Re
 -- Between two calls nothing is owed, and the root is marked.
 pub record IsMarking (s : State) (c : Colours) (waiting : List Rescue) : Type 0 where
   pub root_marked : c.marked s.graph.root.block ≡ true
-  pub coloured : IsColoured s Nothing c waiting
+  pub coloured : IsColoured s OwesNothing c waiting

@@ -31,11 +31,11 @@ pub record Changes (s t : State) (more : List Rescue) : Type 0 where
 -- ---- what is asked
 
 -- the request was done, and all that it does is its outcome's
-abbrev pub is_done : Reply → Bool
-is_done replies.Done = true
-is_done (replies.Id id) = true
-is_done (replies.Grant t) = true
-is_done reply = false
+abbrev pub is_carried_out : Reply → Bool
+is_carried_out replies.Done = true
+is_carried_out (replies.Id id) = true
+is_carried_out (replies.Grant t) = true
+is_carried_out reply = false
 
 abbrev pub id_named : Reply → List Puid
 id_named (replies.Id id) = id ∷ []
@@ -55,4 +55,4 @@ put_by s who request reply = []
 
 -- the rescue that an answer adds, if any
 abbrev pub rescues_of : State → ℕ → Request → Reply → List Rescue
-rescues_of s who request reply = if is_done reply then put_by s who request reply else []
+rescues_of s who request reply = if is_carried_out reply then put_by s who request reply else []

@@ -7,11 +7,11 @@ use Rattle.ufs_model.specs.declared.object.Index.{Index}
 use Rattle.ufs_model.specs.Graph.{Graph}
 use Rattle.marking.specs.declared.memory.Rescue.{Rescue}
 use Rattle.marking.specs.Leaves.{leaf_ids, kind_at}
-use Rattle.marking.specs.Colours.{Colours, kind_in, shaded_in, all_shaded, moved}
+use Rattle.marking.specs.Colours.{Colours, kind_among, shaded_in, all_shaded, moved}
 
--- these are the graph's identifiers, with their kinds
-abbrev pub AreNames : List (Puid × Kind) → Graph → Type 0
-AreNames names g = (id : Puid) → kind_in names id ≡ kind_at g id
+-- the directory has the graph's identifiers, with their kinds
+abbrev pub IsDirectoryOf : List (Puid × Kind) → Graph → Type 0
+IsDirectoryOf directory g = (id : Puid) → kind_among directory id ≡ kind_at g id
 
 -- ---- a rescue is taken
 
@@ -21,7 +21,7 @@ is_live None c = true
 is_live (Some i) c = c.marked i.block
 
 abbrev pub rescued : List (Puid × Kind) → Rescue → Colours → Colours
-rescued names r c = if is_live r.index c then shaded_in names r.id c else c
+rescued directory r c = if is_live r.index c then shaded_in directory r.id c else c
 
 -- ---- the next held leaf of an index is read
 
@@ -35,12 +35,12 @@ cursor_after leaf i = if is_some (next_held (leaf + 1) i) then Some (leaf + 1) e
 
 -- each object in the leaf is shaded; where no leaf follows the index is grey no more
 abbrev pub read : List (Puid × Kind) → Index → Option ℕ → Colours → Colours
-read names i None c = moved None c
-read names i (Some leaf) c = all_shaded names (leaf_ids i leaf) (moved (cursor_after leaf i) c)
+read directory i None c = moved None c
+read directory i (Some leaf) c = all_shaded directory (leaf_ids i leaf) (moved (cursor_after leaf i) c)
 
 -- the first grey index, which is this one, is read on from a leaf
 abbrev pub scanned : List (Puid × Kind) → Index → ℕ → Colours → Colours
-scanned names i cursor c = read names i (next_held cursor i) c
+scanned directory i cursor c = read directory i (next_held cursor i) c
 
 -- ---- what isn't marked goes
 

@@ -23,21 +23,22 @@ ghost use Rattle.marking.specs.Colours.{Colours, all_shaded, first_grey, none_ma
 ghost use Rattle.marking.specs.Marking.{IsMarking};
 ghost use Rattle.marking.specs.Meanwhile.{Changes, rescues_of};
 ghost use Rattle.marking.specs.Pace.{IsPaced, read_so_far};
-ghost use Rattle.marking.specs.Steps.{AreNames, rescued, scanned, unmarked};
+ghost use Rattle.marking.specs.Steps.{IsDirectoryOf, rescued, scanned, unmarked};
 
 /// A collection begins, and each of its steps keeps what holds of one that marks.
 pub fn steps_keep_marking()
-    ensures begin { (seed : ℕ) (s t : State) (names : List (Puid × Kind)) (roots : List Puid)
+    ensures begin { (seed : ℕ) (s t : State) (directory : List (Puid × Kind)) (roots : List Puid)
         → next seed s events.Began ≡ Some t → IsState s
-        → AreNames names s.graph → ((x : Puid) → is_among x roots ≡ is_among x (starts_now s))
-        → IsMarking t (all_shaded names roots none_marked) [] }
-    ensures take { (s : State) (names : List (Puid × Kind)) (r : rescue.Rescue) (rest : List rescue.Rescue)
+        → IsDirectoryOf directory s.graph → ((x : Puid) → is_among x roots ≡ is_among x (starts_now s))
+        → IsMarking t (all_shaded directory roots none_marked) [] }
+    ensures take { (s : State) (directory : List (Puid × Kind)) (r : rescue.Rescue) (rest : List rescue.Rescue)
         (c : Colours) → IsState s
-        → AreNames names s.graph → IsMarking s c (r ∷ rest) → IsMarking s (rescued names r c) rest }
-    ensures scan { (s : State) (names : List (Puid × Kind)) (waiting : List rescue.Rescue) (c : Colours)
+        → IsDirectoryOf directory s.graph → IsMarking s c (r ∷ rest) → IsMarking s (rescued directory r c) rest }
+    ensures scan { (s : State) (directory : List (Puid × Kind)) (waiting : List rescue.Rescue) (c : Colours)
         (e : grey.Grey) (i : index.Index)
-        → IsState s → AreNames names s.graph → first_grey c ≡ Some e → object_at s.graph e.id ≡ Some (objects.Index i)
-        → IsMarking s c waiting → IsMarking s (scanned names i e.cursor c) waiting }
+        → IsState s → IsDirectoryOf directory s.graph → first_grey c ≡ Some e
+        → object_at s.graph e.id ≡ Some (objects.Index i)
+        → IsMarking s c waiting → IsMarking s (scanned directory i e.cursor c) waiting }
 {}
 
 /// Whatever is asked and answered meanwhile keeps it, where each object that is put into an index or opened is a rescue
@@ -64,15 +65,15 @@ pub fn unmarked_may_vanish()
 /// each block of the graph.
 pub fn steps_are_bounded()
     ensures begin { (g : Graph) (c : Colours) → IsPaced g c [] 1 0 }
-    ensures take { (g : Graph) (names : List (Puid × Kind)) (r : rescue.Rescue) (rest : List rescue.Rescue)
+    ensures take { (g : Graph) (directory : List (Puid × Kind)) (r : rescue.Rescue) (rest : List rescue.Rescue)
         (c : Colours) (steps added : ℕ)
-        → IsPaced g c (r ∷ rest) steps added → IsPaced g (rescued names r c) rest (count_after steps) added }
-    ensures scan { (s : State) (names : List (Puid × Kind)) (waiting : List rescue.Rescue) (c : Colours)
+        → IsPaced g c (r ∷ rest) steps added → IsPaced g (rescued directory r c) rest (count_after steps) added }
+    ensures scan { (s : State) (directory : List (Puid × Kind)) (waiting : List rescue.Rescue) (c : Colours)
         (e : grey.Grey) (i : index.Index)
         (steps added : ℕ) → first_grey c ≡ Some e → object_at s.graph e.id ≡ Some (objects.Index i)
         → IsMarking s c waiting
         → IsPaced s.graph c waiting steps added
-        → IsPaced s.graph (scanned names i e.cursor c) waiting (count_after steps) added }
+        → IsPaced s.graph (scanned directory i e.cursor c) waiting (count_after steps) added }
     ensures rescue { (g : Graph) (r : rescue.Rescue) (waiting : List rescue.Rescue) (c : Colours) (steps added : ℕ)
         → IsPaced g c waiting steps added → IsPaced g c (waiting ++ r ∷ []) steps (count_after added) }
     // A request adds no step, and neither does any change that keeps what was read.

@@ -1,7 +1,7 @@
 -- Images that a change of a file in place may leave.
 use Rattle.normal_files.proofs.Words.{◌≡◌, ◌≢◌, ◌⊎◌, inl, inr, ℕ, ◌+◌, ◌*◌, ◌%◌, ◌<◌, List, [], get_or, set, Some, None, refl, sym, ◌∙◌, ap, subst, get_or-set_other, get_or-set_same, arith, cases_eq, same_Some, Image, block_at, Puid, Place, Leaf, Node, Root, IsRootBlock, root_spelling, entry_in-set, LeavesFit, Graph, with_object, Frames, IsBlockOf, IsLoose, BelongsTo, is_committed, part_at, part_of, held_at, sight, Holds, ReadsAs, object_put, other_is, others, owned_is_loose, placed, taken_apart, held_there, entry_mixed, frames_content, frames_fewer, frames_mix, not_map, held, File, leaf_pointers, leaves_at}
 use Rattle.normal_files.specs.Among.{IsAmong}
-use Rattle.normal_files.specs.Laid.{IsAt, IsRooted, leaf_of, leaves_of, node_of, object_of}
+use Rattle.normal_files.specs.Laid.{IsAt, IsRooted, leaf_of, leaves_of, node_of, object_laid}
 use Rattle.normal_files.proofs.Laid.{rooted_reads}
 use Rattle.normal_files.proofs.Owned.{node_block as owned_node, leaf_block as owned_leaf}
 use Rattle.normal_files.proofs.Trees.{each_leaf, leaf_stands, same_leaves, stands_at}
@@ -163,5 +163,5 @@ module _ {a : Image} {graph : Graph} {id : Puid} {f : File} {root : roots.Root} 
         word = s.rooted.word;
       }
 
-      pub among_holds : LeavesFit root (leaves_of c root) → Holds c (with_object graph id (object_of c root))
-      among_holds fit = object_put a c graph id (object_of c root) s.holds among.frames (subst (λ (n : ℕ). ReadsAs n id (sight c id.block) (object_of c root)) among.frames.size (rooted_reads c id root (among_rooted fit)))
+      pub among_holds : LeavesFit root (leaves_of c root) → Holds c (with_object graph id (object_laid c root))
+      among_holds fit = object_put a c graph id (object_laid c root) s.holds among.frames (subst (λ (n : ℕ). ReadsAs n id (sight c id.block) (object_laid c root)) among.frames.size (rooted_reads c id root (among_rooted fit)))

@@ -1,6 +1,6 @@
 -- The end of a file as it was read, and the images that its trimming leaves.
 use Rattle.normal_files.proofs.Words.{◌≡◌, ◌≢◌, ◌⊎◌, inl, inr, ℕ, ◌+◌, ◌*◌, ◌/◌, ◌%◌, ◌<◌, ◌≤◌, List, [], length, set, get_or, refl, sym, ◌∙◌, ap, subst, get_or-set_other, get_or-set_same, arith, length-set, cases_eq, cases_lt, ne_eqb, get_or_past, Image, block_at, left_now, Ghosts, Puid, Place, Leaf, Node, Root, IsNode, node_spelling, leaf_pointers, pointers_of, IsGoodRoot, node_leaves, Kept, cut, leaves_in, BelongsTo, part_at, frames_begin, node_pointers, leaves_at, leaves_there, zeros}
-use Rattle.normal_files.specs.Cuts.{IsCutRoot, IsEnd, IsReadEnd, MayPut, MayTrim, cut_block, first_gone, last_node, put_at, trimmed}
+use Rattle.normal_files.specs.Cuts.{IsCutRoot, IsEnd, IsReadEnd, MayPutBlock, MayTrim, cut_block, first_gone, last_node, put_at, trimmed}
 use Rattle.normal_files.specs.Laid.{leaf_of, node_of}
 use Rattle.normal_files.specs.declared.cut.End.{End}
 use Rattle.normal_files.proofs.Among.{places_differ}
@@ -9,7 +9,7 @@ use Rattle.normal_files.proofs.Trees.{same_leaves}
 use Rattle.normal_files.proofs.Trimmed.{IsEitherWay, IsTrimmed, either_begin, either_put}
 use Rattle.normal_files.proofs.Places.{leaf_no_node, leaf_no_root, node_no_root, one_leaf, one_node}
 use Rattle.normal_files.proofs.LeafReads.{block_read}
-use Rattle.normal_files.specs.View.{View, id_at}
+use Rattle.normal_files.specs.View.{FileView, id_at}
 use Rattle.block_tree.specs.declared.root.Root as roots
 
 -- ---- a block that may be none
@@ -33,7 +33,7 @@ put_here : (c : Image) (m : ℕ) (v : List ℕ) → m ≢ 0 → m < length c →
 put_here c m v some below = ap (λ (i : Image). block_at i m) (put_some c m v some) ∙ get_or-set_same c m v [] below
 
 -- the file is to be set to less: how it is to end was read, and this is its next root
-pub record IsCut {D : Type 0} {g : Ghosts D} {block : ℕ} {root : roots.Root} {disk : D} {kept : Kept} (v : View g block root disk kept) (size : ℕ) (end : End) (next : roots.Root) : Type 0 where
+pub record IsCut {D : Type 0} {g : Ghosts D} {block : ℕ} {root : roots.Root} {disk : D} {kept : Kept} (v : FileView g block root disk kept) (size : ℕ) (end : End) (next : roots.Root) : Type 0 where
   pub less : size < length v.file.bytes
   pub blocks : ℕ
   pub read : IsReadEnd blocks root size end
@@ -42,7 +42,7 @@ pub record IsCut {D : Type 0} {g : Ghosts D} {block : ℕ} {root : roots.Root} {
   pub good : IsGoodRoot next
   pub cut_is : IsCutRoot root size (first_gone size end.kept) next
 
-module _ {D : Type 0} {g : Ghosts D} {r : ℕ} {root : roots.Root} {start : D} {kept : Kept} {v : View g r root start kept} {size : ℕ} {end : End} {next : roots.Root} (z : IsCut v size end next) where
+module _ {D : Type 0} {g : Ghosts D} {r : ℕ} {root : roots.Root} {start : D} {kept : Kept} {v : FileView g r root start kept} {size : ℕ} {end : End} {next : roots.Root} (z : IsCut v size end next) where
   abbrev a : Image
   a = g.content start
 
@@ -289,9 +289,9 @@ module _ {D : Type 0} {g : Ghosts D} {r : ℕ} {root : roots.Root} {start : D} {
   pub either_e : Either e
   either_e = either_put_at mid y (node_spelling end.node) known_y (either_put_at a x end.content known_x (either_begin v.has e a (frames_begin a v.graph v.has.holds)))
 
-  may_put : (images : Image → Type 0) (m : ℕ) (s : List ℕ) → (m ≢ 0 → IsOwn a id root m × (m < length a) × (s ≡ block_at e m)) → ((c : Image) → images c → Either c) → (c : Image) → MayPut images m s c → Either c
+  may_put : (images : Image → Type 0) (m : ℕ) (s : List ℕ) → (m ≢ 0 → IsOwn a id root m × (m < length a) × (s ≡ block_at e m)) → ((c : Image) → images c → Either c) → (c : Image) → MayPutBlock images m s c → Either c
   may_put images m s known each c (inl was) = each c was
   may_put images m s known each c (inr (some, w)) = let three = known some in subst Either (sym w.2) (either_put v.has e w.0 m s (each w.0 w.1) three.0 three.1 three.2)
 
   pub either_left : (c : Image) → MayTrim (left_now g start) end c → Either c
-  either_left = may_put (MayPut (left_now g start) x end.content) y (node_spelling end.node) known_y (may_put (left_now g start) x end.content known_x (λ c left. either_begin v.has e c (v.store.carries.here c left)))
+  either_left = may_put (MayPutBlock (left_now g start) x end.content) y (node_spelling end.node) known_y (may_put (left_now g start) x end.content known_x (λ c left. either_begin v.has e c (v.store.carries.here c left)))

@@ -4,6 +4,8 @@ use Rattle.normal_files.specs.Ends.{HasGone, IsNoSpace, IsStop, is_damaged, refu
 use Rattle.normal_files.specs.Steps.{WritesBlock, HasCome, told_after, Stops}
 use Rattle.normal_files.specs.Takes.{GetsNode, leaf_takes, Claims, Had}
 use Rattle.normal_files.proofs.Come.{makes_within, come_none, come_then, come_within, come_wrote, write_stopped}
+use Rattle.cyl_alloc.proofs.Miscounts.{miscounted_as, no_miscount}
+use Rattle.cyl_alloc.specs.Space.{IsMiscounted}
 use Rattle.cfs_base.specs.declared.refusal.Refused.TheVariants as refusals
 use Rattle.cfs_base.specs.declared.refusal.Trouble.TheVariants as trouble
 
@@ -34,8 +36,8 @@ pub stop_after : {D : Type 0} {g : Ghosts D} {n t : ℕ} {start mid : D} (new : 
 stop_after {g = g} {n = n} {t = t} {start = start} {mid = mid} new kept b e come stop = by b e come stop
   where
     on : (damage : Damage) → IsNoSpace g mid new kept damage → IsNoSpace g start new kept damage
-    on damage (NoMap code on_disk bad) = NoMap code on_disk (λ tells. bad (still_tells g tells come.told come.makes.same))
-    on damage (OtherCount code other) = OtherCount code (λ tells. other (still_tells g tells come.told come.makes.same))
+    on damage (NoMap code map on_disk bad) = NoMap code map on_disk (λ tells. bad (still_tells g tells come.told come.makes.same))
+    on damage (OtherCount code other) = OtherCount code (miscounted_as (λ tells. still_tells g tells come.told come.makes.same) refl refl other)
 
     by : (x : Bool) (f : Refused) → HasCome g n t x start mid → IsStop g mid new kept f → IsStop g start new kept (refused_after x f)
     by true (refusals.Full need) was is = is
@@ -152,9 +154,9 @@ module _ {D : Type 0} {g : Ghosts D} {e : MapEntry} {old new : D} {before after 
           content : g.content new ≡ g.content old
           content = (only refl).content
 
-          by : ((damage.code ≡ 2) × (Tells g old → IsBadMap (g.content old) damage.block)) ⊎ ((damage.code ≡ 12) × (Tells g old → ¬ AreCounts (g.content old) before)) → IsNoSpace g old new after damage
-          by (inl (code, bad)) = NoMap code (omega (arith, find.on_disk, (only refl).same.size)) (λ tells. subst (λ (c : Image). IsBadMap c damage.block) (sym content) (bad tells))
-          by (inr (code, other)) = OtherCount code (λ tells. subst (λ (k : Kept). ¬ AreCounts (g.content new) k) (sym (is.kept refl)) (subst (λ (c : Image). ¬ AreCounts c before) (sym content) (other tells)))
+          by : ((damage.code ≡ 2) × (Tells g old → IsBadMap (g.content old) damage.block)) ⊎ ((damage.code ≡ 12) × IsMiscounted (Tells g old) (g.content old) before damage.block) → IsNoSpace g old new after damage
+          by (inl (code, bad)) = NoMap code find.block (omega (arith, find.on_disk, (only refl).same.size)) (λ tells. subst (λ (c : Image). IsBadMap c damage.block) (sym content) (bad tells))
+          by (inr (code, other)) = OtherCount code (miscounted_as (λ tells. tells) content (is.kept refl) other)
       why refusals.Memory find only room = absurd find
 
   -- where the maps are whole and counted a Free block is found, or a device call failed
@@ -170,9 +172,9 @@ module _ {D : Type 0} {g : Ghosts D} {e : MapEntry} {old new : D} {before after 
       why (refusals.Disk tried) find = refl
       why (refusals.Damaged damage) find = absurd (by find.why)
         where
-          by : ((damage.code ≡ 2) × (Tells g old → IsBadMap (g.content old) damage.block)) ⊎ ((damage.code ≡ 12) × (Tells g old → ¬ AreCounts (g.content old) before)) → ⊥
+          by : ((damage.code ≡ 2) × (Tells g old → IsBadMap (g.content old) damage.block)) ⊎ ((damage.code ≡ 12) × IsMiscounted (Tells g old) (g.content old) before damage.block) → ⊥
           by (inl (code, bad)) = let b = bad tells in some (entry_in (g.content old) (map_of damage.block + b.0)) b.2 (maps (map_of damage.block + b.0) (omega (arith, b.1, counts.size, find.first.0)))
-          by (inr (code, other)) = other tells counts
+          by (inr (code, other)) = absurd (no_miscount (g.content old) before damage.block tells counts other)
       why refusals.Memory find = refl
 
 -- ---- one leaf

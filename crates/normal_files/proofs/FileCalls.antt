@@ -3,7 +3,7 @@ use Rattle.normal_files.proofs.Words.{◌≡◌, inl, inr, ℕ, ◌+◌, ◌<◌
 use Rattle.normal_files.specs.Calls.{Handed}
 use Rattle.normal_files.specs.Ends.{is_damaged, IsStop}
 use Rattle.normal_files.specs.Cuts.{IsCutRoot, IsEnd, IsReadEnd, MayTrim, first_gone, last_node, trimmed}
-use Rattle.normal_files.specs.Laid.{IsRooted, leaves_of, node_of, object_of}
+use Rattle.normal_files.specs.Laid.{IsRooted, leaves_of, node_of, object_laid}
 use Rattle.normal_files.specs.Parts.{IsPart}
 use Rattle.normal_files.specs.Refusal.{IsTrouble}
 use Rattle.normal_files.specs.Standing.{BecomesFile, IsFileAt, IsPartly, Becomes}
@@ -14,17 +14,20 @@ use Rattle.normal_files.proofs.Trees.{near}
 use Rattle.normal_files.specs.Frees.{FreesTo, GivesEnd, IsDropTrouble, IsFreeing, IsResizeRefusal, IsShrinkTrouble, TakesNone, NoMap, OfFile}
 use Rattle.normal_files.specs.declared.cut.End.{End}
 use Rattle.normal_files.proofs.Partly.{no_index}
-use Rattle.normal_files.proofs.Refusals.{tells_after, trouble_after_reads}
+use Rattle.normal_files.proofs.Refusals.{tells_after, trouble_after_reads, damage_as}
 use Rattle.normal_files.proofs.Shrunk.{drops, framed_partly, freeing, left_partly, root_partly, shrunk_entries, shrunk_stores}
-use Rattle.normal_files.specs.View.{HasFile, View, id_at}
+use Rattle.normal_files.specs.View.{HasFile, FileView, id_at}
 use Rattle.normal_files.proofs.Ended.{IsCut}
-use Rattle.normal_files.specs.Writes.{IsWritable, Wrote}
+use Rattle.normal_files.specs.Writes.{IsWritable, WroteFile}
 use Rattle.normal_files.specs.Order.{claims_of}
 use Rattle.cfs_base.specs.declared.refusal.Refused.TheVariants as refusals
 use Rattle.cfs_base.specs.declared.refusal.Trouble.TheVariants as trouble
 use Rattle.block_tree.specs.declared.root.Root as roots
 use Rattle.ufs_model.specs.declared.object.Object.TheVariants as objects
 use Rattle.cfs_base.specs.declared.kind.Kind.TheVariants as kinds
+use Rattle.leaf_changes.specs.Tops.{disk_top, Top, IsFarRoot, root_top}
+use Rattle.leaf_changes.proofs.Tops.{far_block}
+use Rattle.cfs_base.specs.Run.{Tells}
 
 -- a node of a file, after calls that only read
 pub near_after : {D : Type 0} {n : ℕ} (g : Ghosts D) (old mid : D) (at : ℕ) (root : roots.Root) (f : File) → length (g.content old) ≡ g.blocks old → at < g.blocks old → OnlyReads g n old mid → IsRootBlock (block_at (g.content old) at) root → IsFileAt (g.content old) at f
@@ -46,14 +49,14 @@ pub has_file : (a : Image) (graph : Graph) (ds : List Opened) (id : Puid) (f : F
 has_file a graph ds id f root account there blocks is =
     let r = rooted_is a id (objects.File f) (account.objects id (objects.File f) there).no_bit (account.holds.objects id (objects.File f) there) in
     let same : r.0 ≡ root = one_root r.0 root r.1.laid.good is.good (sym r.1.here ∙ is.spelled) in
-    record { holds = account.holds; at = there; rooted = subst (IsRooted a id) same r.1; same = ap (object_of a) (sym same) ∙ r.2; blocks = blocks }
+    record { holds = account.holds; at = there; rooted = subst (IsRooted a id) same r.1; same = ap (object_laid a) (sym same) ∙ r.2; blocks = blocks }
 
-pub file_size : {D : Type 0} {g : Ghosts D} {r : ℕ} {root : roots.Root} {disk : D} {kept : Kept} (v : View g r root disk kept) → length v.file.bytes ≡ root.size
+pub file_size : {D : Type 0} {g : Ghosts D} {r : ℕ} {root : roots.Root} {disk : D} {kept : Kept} (v : FileView g r root disk kept) → length v.file.bytes ≡ root.size
 file_size {g = g} {root = root} {disk = disk} v = (file_to_leaves root (leaves_of (g.content disk) root) v.file v.has.same).size
 
 module _ {D : Type 0} {n : ℕ} {g : Ghosts D} {old mid : D} (reads : OnlyReads g n old mid) where
   -- what was known of a file is known after calls that only read
-  abbrev pub view_on : {r : ℕ} {root : roots.Root} {kept : Kept} → View g r root old kept → View g r root mid kept
+  abbrev pub view_on : {r : ℕ} {root : roots.Root} {kept : Kept} → FileView g r root old kept → FileView g r root mid kept
   view_on {r} {root} {kept} v = record {
     graph = v.graph;
     drafts = v.drafts;
@@ -69,7 +72,7 @@ module _ {D : Type 0} {n : ℕ} {g : Ghosts D} {old mid : D} (reads : OnlyReads 
     no_draft = v.no_draft;
   }
 
-  pub becomes_on : {E : Type 0} {r : ℕ} {root : roots.Root} {kept after : Kept} {to : File} {new : D} {result : Result (Unit {0}) E} (v : View g r root old kept) → Becomes (view_on v) to new after result → Becomes v to new after result
+  pub becomes_on : {E : Type 0} {r : ℕ} {root : roots.Root} {kept after : Kept} {to : File} {new : D} {result : Result (Unit {0}) E} (v : FileView g r root old kept) → Becomes (view_on v) to new after result → Becomes v to new after result
   becomes_on {E} {r = r} {after = after} {to = to} {new = new} {result = result} v is = record {
     done = done result is.done;
     images = (then) g old mid new _ _ (images_read reads _) is.images (λ c h. h);
@@ -83,11 +86,11 @@ module _ {D : Type 0} {n : ℕ} {g : Ghosts D} {old mid : D} (reads : OnlyReads 
   none_on new (Ok x) is = subst (λ (i : Image). TakesNone i (g.content new)) reads.content is
   none_on new (Err e) is = tt
 
-  pub wrote_on : {r : ℕ} {root : roots.Root} {kept after : Kept} {offset : ℕ} {bytes : List ℕ} {new : D} {result : Result (Unit {0}) Refused} (v : View g r root old kept) → Wrote (view_on v) offset bytes new after result → Wrote v offset bytes new after result
+  pub wrote_on : {r : ℕ} {root : roots.Root} {kept after : Kept} {offset : ℕ} {bytes : List ℕ} {new : D} {result : Result (Unit {0}) Refused} (v : FileView g r root old kept) → WroteFile (view_on v) offset bytes new after result → WroteFile v offset bytes new after result
   wrote_on {r = r} {offset = offset} {bytes = bytes} {new = new} {result = result} v is =
       record { file = becomes_on v is.file; settled = is.settled; order = subst (λ (i : Image). OnOk result (AreClaimed (claims_of r v.file offset (length bytes)) i (g.content new))) reads.content is.order; sound = is.sound }
 
-  pub writable_on : {r : ℕ} {root : roots.Root} {kept : Kept} {offset : ℕ} {bytes : List ℕ} {low high : Part} (v : View g r root old kept) → offset + length bytes ≤ length v.file.bytes → IsPart (g.content old) root low → IsPart (g.content old) root high → IsWritable (view_on v) offset bytes low high
+  pub writable_on : {r : ℕ} {root : roots.Root} {kept : Kept} {offset : ℕ} {bytes : List ℕ} {low high : Part} (v : FileView g r root old kept) → offset + length bytes ≤ length v.file.bytes → IsPart (g.content old) root low → IsPart (g.content old) root high → IsWritable (view_on v) offset bytes low high
   writable_on {root = root} {low = low} {high = high} v inside low_is high_is =
       record { inside = inside; low_is = subst (λ (i : Image). IsPart i root low) (sym reads.content) low_is; high_is = subst (λ (i : Image). IsPart i root high) (sym reads.content) high_is }
 
@@ -104,7 +107,7 @@ file_of image graph ds id f at account there here =
 
 module _ {D : Type 0} {g : Ghosts D} {at : ℕ} {disk : D} {kept : Kept} (h : Handed g at disk kept) where
   -- the file that was handed, and its root was read
-  abbrev pub view : {root : roots.Root} → AreBlocks (g.content disk) → IsRootBlock (block_at (g.content disk) at) root → View g at root disk kept
+  abbrev pub view : {root : roots.Root} → AreBlocks (g.content disk) → IsRootBlock (block_at (g.content disk) at) root → FileView g at root disk kept
   view {root} blocks is = record {
     graph = h.graph;
     drafts = h.drafts;
@@ -131,17 +134,17 @@ pub damage_same : (t : Trouble) → is_damaged (refused_by t) ≡ is_damage t
 damage_same (trouble.Disk tried) = refl
 damage_same (trouble.Damaged damage) = refl
 
-pub read_refused : {D : Type 0} (g : Ghosts D) (at floor : ℕ) (old new : D) (before after : Kept) (t : Trouble) → IsTrouble g at old new t → IsWriteRefusal g at floor old new before after (refused_by t)
+pub read_refused : {D : Type 0} (g : Ghosts D) (at : Top) (floor : ℕ) (old new : D) (before after : Kept) (t : Trouble) → IsTrouble g at old new t → IsWriteRefusal g at floor old new before after (refused_by t)
 read_refused g at floor old new before after (trouble.Disk tried) is = is
 read_refused g at floor old new before after (trouble.Damaged damage) is = inl is
 
-pub parts_refused : {D : Type 0} (g : Ghosts D) (at floor : ℕ) (old new : D) (before after : Kept) (e : Refused) → IsStop g old new after e → IsWriteRefusal g at floor old new before after e
+pub parts_refused : {D : Type 0} (g : Ghosts D) (at : Top) (floor : ℕ) (old new : D) (before after : Kept) (e : Refused) → IsStop g old new after e → IsWriteRefusal g at floor old new before after e
 parts_refused g at floor old new before after (refusals.Full need) is = absurd is
 parts_refused g at floor old new before after (refusals.Disk tried) is = is
 parts_refused g at floor old new before after (refusals.Damaged damage) is = inr is
 parts_refused g at floor old new before after refusals.Memory is = is
 
-pub room_refused : {D : Type 0} (g : Ghosts D) (at floor need : ℕ) (old new : D) (before after : Kept) (e : Refused) → e ≡ refusals.Full (record { free = sum before.free; need = need }) → sum before.free < need + floor → IsWriteRefusal g at floor old new before after e
+pub room_refused : {D : Type 0} (g : Ghosts D) (at : Top) (floor need : ℕ) (old new : D) (before after : Kept) (e : Refused) → e ≡ refusals.Full (record { free = sum before.free; need = need }) → sum before.free < need + floor → IsWriteRefusal g at floor old new before after e
 room_refused g at floor need old new before after e is few = subst (IsWriteRefusal g at floor old new before after) (sym is) (refl, few)
 
 pub parts_untried : {D : Type 0} {P : Type 0} (g : Ghosts D) (mid new : D) (kept : Kept) (e : Refused) → IsStop g mid new kept e → (e ≡ refusals.Disk false → P) → is_untried e ≡ true → P
@@ -177,7 +180,7 @@ parts_tell g n mid new kept refusals.Memory is = tt
 pub near_of : {a : Image} {graph : Graph} {id : Puid} {f : File} {root : roots.Root} → HasFile a graph id f root → (blocks : ℕ) → length a ≡ blocks → (n : ℕ) → IsNear blocks a (node_of root n)
 near_of {a} {graph} {id} {f} {root} s blocks sized n =
     let is_root : IsRootBlock (root_spelling root) root = record { good = s.rooted.laid.good; spelled = refl } in
-    subst (λ (m : ℕ). IsNear m a (node_of root n)) sized (near a (root_spelling root) root is_root (length a) id.block root (object_of a root) (tree_of_laid a (root_spelling root) root is_root id.block refl s.rooted.laid)
+    subst (λ (m : ℕ). IsNear m a (node_of root n)) sized (near a (root_spelling root) root is_root (length a) id.block root (object_laid a root) (tree_of_laid a (root_spelling root) root is_root id.block refl s.rooted.laid)
     (omega (arith, s.holds.label.size_is, s.holds.label.is_label.some)) n)
 
 -- the next root is one
@@ -187,12 +190,12 @@ next_root {a} {graph} {id} {f} {root} s {size} {from} {next} small cut =
     record { fill = λ index. absurd (file index); size = record { limit = omega (arith, small, cut.head.size); slots = λ index. absurd (file index) } }
 
 -- how it is to end was read, and its next root is made
-pub cut_of : {D : Type 0} {n : ℕ} {g : Ghosts D} {old mid : D} (reads : OnlyReads g n old mid) {r : ℕ} {root : roots.Root} {kept : Kept} (v : View g r root old kept) {size blocks from : ℕ} {end : End} {next : roots.Root} → size < length v.file.bytes → IsReadEnd blocks root size end → IsEnd (g.content old) root size end → IsNode end.node
+pub cut_of : {D : Type 0} {n : ℕ} {g : Ghosts D} {old mid : D} (reads : OnlyReads g n old mid) {r : ℕ} {root : roots.Root} {kept : Kept} (v : FileView g r root old kept) {size blocks from : ℕ} {end : End} {next : roots.Root} → size < length v.file.bytes → IsReadEnd blocks root size end → IsEnd (g.content old) root size end → IsNode end.node
     → IsGoodRoot next → IsCutRoot root size from next → from ≡ first_gone size end.kept → IsCut (view_on reads v) size end next
 cut_of reads {root = root} v {size = size} {blocks = blocks} {end = end} {next = next} less read ended spelled good cut same =
     record { less = less; blocks = blocks; read = read; ended = subst (λ (i : Image). IsEnd i root size end) (sym reads.content) ended; spelled = spelled; good = good; cut_is = subst (λ (m : ℕ). IsCutRoot root size m next) same cut }
 
-module _ {D : Type 0} {g : Ghosts D} {r : ℕ} {root : roots.Root} {start : D} {kept : Kept} {v : View g r root start kept} {size : ℕ} {end : End} {next : roots.Root} (z : IsCut v size end next) where
+module _ {D : Type 0} {g : Ghosts D} {r : ℕ} {root : roots.Root} {start : D} {kept : Kept} {v : FileView g r root start kept} {size : ℕ} {end : End} {next : roots.Root} (z : IsCut v size end next) where
   abbrev Partly : Image → Type 0
   Partly c = IsPartly c v.graph (id_at r v.word) v.file (resized v.file size)
 
@@ -232,22 +235,33 @@ module _ {D : Type 0} {g : Ghosts D} {r : ℕ} {root : roots.Root} {start : D} {
 
 -- ---- why it is refused
 
-pub read_troubled : {D : Type 0} (g : Ghosts D) (at : ℕ) (old new : D) (t : Trouble) → IsTrouble g at old new t → IsShrinkTrouble g at old new t
+pub read_troubled : {D : Type 0} (g : Ghosts D) (at : Top) (old new : D) (t : Trouble) → IsTrouble g at old new t → IsShrinkTrouble g at old new t
 read_troubled g at old new (trouble.Disk tried) is = is
 read_troubled g at old new (trouble.Damaged damage) is = inl is
 
-pub stop_troubled : {D : Type 0} (g : Ghosts D) (at : ℕ) (old new : D) (t : Trouble) → HasStoppedBy g old new t → IsShrinkTrouble g at old new t
+pub stop_troubled : {D : Type 0} (g : Ghosts D) (at : Top) (old new : D) (t : Trouble) → HasStoppedBy g old new t → IsShrinkTrouble g at old new t
 stop_troubled g at old new (trouble.Disk tried) is = is
 stop_troubled g at old new (trouble.Damaged damage) is = absurd is
 
-pub drop_troubled : {D : Type 0} (g : Ghosts D) (at : ℕ) (old new : D) (result : Result (Unit {0}) Trouble) → IfErr result (IsDropTrouble g at old new) → IfErr result (IsShrinkTrouble g at old new)
+pub drop_troubled : {D : Type 0} (g : Ghosts D) (at : Top) (old new : D) (result : Result (Unit {0}) Trouble) → IfErr result (IsDropTrouble g at old new) → IfErr result (IsShrinkTrouble g at old new)
 drop_troubled g at old new (Ok v) is = tt
 drop_troubled g at old new (Err (trouble.Disk tried)) is = is
 drop_troubled g at old new (Err (trouble.Damaged damage)) is = inr is
 
 -- of a call that follows calls that only read
-pub shrink_refused : {D : Type 0} {n : ℕ} (g : Ghosts D) (at floor : ℕ) (old mid new : D) → OnlyReads g n old mid → (kept : Kept) (t : Trouble) → IsShrinkTrouble g at mid new t → IsResizeRefusal g at floor old new kept (refused_by t)
+pub shrink_refused : {D : Type 0} {n : ℕ} (g : Ghosts D) (at : Top) (floor : ℕ) (old mid new : D) → OnlyReads g n old mid → (kept : Kept) (t : Trouble) → IsShrinkTrouble g at mid new t → IsResizeRefusal g at floor old new kept (refused_by t)
 shrink_refused {n = n} g at floor old mid new reads kept (trouble.Disk tried) is = stopped_after_reads g old mid new n tried reads is
 shrink_refused {n = n} g at floor old mid new reads kept (trouble.Damaged damage) (inl is) = inl (trouble_after_reads g at old mid new n (trouble.Damaged damage) reads is)
-shrink_refused g at floor old mid new reads kept (trouble.Damaged damage) (inr (NoMap code bad)) = inr (NoMap code (λ tells. bad (tells_after g old mid reads tells)))
-shrink_refused g at floor old mid new reads kept (trouble.Damaged damage) (inr (OfFile by on same is)) = inr (OfFile by (λ tells. on (tells_after g old mid reads tells)) same is)
+shrink_refused g at floor old mid new reads kept (trouble.Damaged damage) (inr (NoMap code map bad)) = inr (NoMap code map (λ tells. bad (tells_after g old mid reads tells)))
+shrink_refused g at floor old mid new reads kept (trouble.Damaged damage) (inr (OfFile by on same size is)) = inr (OfFile by (λ tells. on (tells_after g old mid reads tells)) same size is)
+
+-- of a root that was read before
+module _ {D : Type 0} (g : Ghosts D) (at : ℕ) (root : roots.Root) (start old new : D) (there : Tells g start → IsRootBlock (block_at (g.content start) at) root) where
+  on_disk : (size : ℕ) → IsFarRoot size root → (disk_top g at start).IsFar size
+  on_disk size far tells = far_block size at (g.content start) root (there tells) far
+
+  pub shrink_on_disk : (t : Trouble) → IsShrinkTrouble g (root_top at root) old new t → IsShrinkTrouble g (disk_top g at start) old new t
+  shrink_on_disk (trouble.Disk tried) is = is
+  shrink_on_disk (trouble.Damaged damage) (inl is) = inl (damage_as g {at = root_top at root} {now = disk_top g at start} refl old (on_disk (g.blocks old)) damage is)
+  shrink_on_disk (trouble.Damaged damage) (inr (NoMap code map bad)) = inr (NoMap code map bad)
+  shrink_on_disk (trouble.Damaged damage) (inr (OfFile mid on same size is)) = inr (OfFile mid on same size (damage_as g {at = root_top at root} {now = disk_top g at start} refl mid (on_disk (g.blocks mid)) damage is))

@@ -1,12 +1,16 @@
 -- Blocks given back, one after another.
-use Rattle.normal_files.proofs.Words.{◌≡◌, ◌≢◌, ◌⊎◌, inl, inr, ℕ, ◌+◌, ◌*◌, ◌<◌, ◌≤◌, false, IsTrue, Ok, Err, List, length, set, Some, refl, sym, ◌∙◌, ap, subst, arith, OnOk, Result, both_ways, cases_eq, false_from_ne_true, same_Some, MakesAtMost, OnlyReads, Image, IsSameDisk, Written, block_at, trouble_after_try, Leaves, left_now, Ghosts, Puid, Place, Leaf, Node, Root, ShadowRoot, Trouble, makes_then, tried_then, AreCounts, Kept, free_entry, IsEntry, entry_in, is_free_entry, is_free_in, map_of, map_with, with_entry, MapEntry, block_at-with_entry, entry_in-with_entry_other, entry_in-with_entry_same, map_in_image, same_or_not, Graph, Frames, IsTaken, part_at, stands_for, IsPlaced, placed, shadow_entry, stays, tried, wrote, frames_entry, ChangesOnly, IsOpenTo, of_owner, is_taken, changes_entry, changes_then, free_unowned, taken_of, leaf_pointers}
-use Rattle.normal_files.specs.Frees.{Drops, Follows, FreesBlock, HasBegun, IsDropped, IsFreed, IsFreeing, FreedLeaf, FreedNode}
+use Rattle.normal_files.proofs.Words.{◌≡◌, ◌≢◌, ◌⊎◌, inl, inr, ℕ, ◌+◌, ◌*◌, ◌<◌, ◌≤◌, false, IsTrue, Ok, Err, List, length, set, Some, refl, sym, ◌∙◌, ap, subst, arith, OnOk, Result, both_ways, cases_eq, false_from_ne_true, same_Some, MakesAtMost, OnlyReads, Image, IsSameDisk, Written, block_at, trouble_after_try, Leaves, left_now, Ghosts, Puid, Place, Leaf, Node, Root, ShadowRoot, Trouble, makes_then, tried_then, AreCounts, Kept, unheld_entry, IsEntry, entry_in, is_free_entry, is_free_in, map_of, map_with, with_entry, MapEntry, block_at-with_entry, entry_in-with_entry_other, entry_in-with_entry_same, map_in_image, same_or_not, Graph, Frames, IsTaken, part_at, stands_for, IsPlaced, placed, shadow_entry, stays, tried, wrote, frames_entry, ChangesOnly, IsOpenTo, of_owner, is_taken, changes_entry, changes_then, free_unowned, taken_of, leaf_pointers}
+use Rattle.normal_files.specs.Frees.{Drops, FollowsStart, FreesBlock, HasBegun, IsDropped, IsFreed, IsFreeing, FreedLeaf, FreedNode, IsDropTrouble, NoMap, OfFile}
 use Rattle.normal_files.specs.Laid.{leaf_of, node_of}
 use Rattle.normal_files.proofs.Amid.{taken_open}
 use Rattle.normal_files.proofs.Among.{places_differ}
 use Rattle.normal_files.proofs.Places.{leaf_no_node, leaf_no_shadow, node_no_shadow, one_leaf, one_node}
 use Rattle.cfs_base.specs.declared.refusal.Trouble.TheVariants as trouble
 use Rattle.block_tree.specs.declared.root.Root as roots
+use Rattle.leaf_changes.specs.Tops.{Top}
+use Rattle.normal_files.proofs.Refusals.{damage_as}
+use Rattle.normal_files.proofs.Come.{makes_within}
+use Rattle.std.specs.Prelude.{IfErr}
 
 -- ---- on any disk
 
@@ -20,7 +24,7 @@ begun_on g start mid new n t begun told makes = record {
 }
 
 -- two calls, one after the other
-pub follows_on : {D : Type 0} (g : Ghosts D) (at n t m s k r : ℕ) (old mid new : D) (k0 k1 k2 : Kept) (result : Result (Unit {0}) Trouble) → n + m ≤ k → t + s ≤ r → Follows g at n t old mid k0 k1 (Ok tt) → Follows g at m s mid new k1 k2 result → Follows g at k r old new k0 k2 result
+pub follows_on : {D : Type 0} (g : Ghosts D) (at : Top) (n t m s k r : ℕ) {first : Top} (old mid new : D) (k0 k1 k2 : Kept) (result : Result (Unit {0}) Trouble) → n + m ≤ k → t + s ≤ r → FollowsStart g first n t old mid k0 k1 (Ok tt) → FollowsStart g at m s mid new k1 k2 result → FollowsStart g at k r old new k0 k2 result
 follows_on g at n t m s k r old mid new k0 k1 k2 result few fewer one two = record {
   told = by result two.told;
   stopped = λ start begun. two.stopped start (begun_on g start old mid n t begun one.told one.calls);
@@ -33,6 +37,23 @@ follows_on g at n t m s k r old mid new k0 k1 k2 result few fewer one two = reco
     by : (x : Result (Unit {0}) Trouble) → OnOk x ((b : ℕ) → IsTrue (g.told mid b) → IsTrue (g.told new b)) → OnOk x ((b : ℕ) → IsTrue (g.told old b) → IsTrue (g.told new b))
     by (Ok x) told = λ b was. told b (one.told b was)
     by (Err e) told = tt
+
+-- of another root at the block, which leads past the disk where this one does, with more calls
+pub follows_as : {D : Type 0} (g : Ghosts D) {at now : Top} {n t : ℕ} (most tries : ℕ) (old new : D) (k0 k1 : Kept) (result : Result (Unit {0}) Trouble) → at.block ≡ now.block → ((size : ℕ) → at.IsFar size → now.IsFar size) → n ≤ most → t ≤ tries → FollowsStart g at n t old new k0 k1 result → FollowsStart g now most tries old new k0 k1 result
+follows_as g {at} {now} {n} {t} most tries old new k0 k1 result same on few fewer is = record {
+  told = is.told;
+  stopped = λ start begun. by start result (is.stopped start begun);
+  tried = is.tried;
+  cylinders = is.cylinders;
+  left = is.left;
+  calls = makes_within g old new n t most tries few fewer is.calls;
+}
+  where
+    by : (start : _) (x : Result (Unit {0}) Trouble) → IfErr x (IsDropTrouble g at start new) → IfErr x (IsDropTrouble g now start new)
+    by start (Ok y) why = tt
+    by start (Err (trouble.Disk tried)) why = why
+    by start (Err (trouble.Damaged damage)) (NoMap code map bad) = NoMap code map bad
+    by start (Err (trouble.Damaged damage)) (OfFile mid tells content size why) = OfFile mid tells content size (damage_as g same mid (on (g.blocks mid)) damage why)
 
 pub not_untried : (t : Trouble) → trouble_after_try t ≢ trouble.Disk false
 not_untried (trouble.Disk tried) same = cc
@@ -101,23 +122,23 @@ module _ {D : Type 0} (g : Ghosts D) (a b : Image) (graph : Graph) (id : Puid) (
     no_shadow : (r : ℕ) → stands_for r (Some e) ≡ false
     no_shadow r = false_from_ne_true _ (λ shadow. is.inner (same_Some _ _ (sym taken_b.place_is ∙ (shadow_entry r e shadow).1)))
 
-    good : IsEntry free_entry
+    good : IsEntry unheld_entry
     good = record { in_table = refl }
 
     abbrev c : Image
-    c = with_entry (g.content old) block free_entry
+    c = with_entry (g.content old) block unheld_entry
 
-    not_root : free_entry.place ≢ Some Root
+    not_root : unheld_entry.place ≢ Some Root
     not_root root = cc
 
     framed : Frames b graph c
-    framed = frames_entry b graph (g.content old) block free_entry e drops.holds was.within.content is.dropped.loose.apart (λ held. absurd (is.dropped.loose.unheld held)) was_e good (λ root. absurd (not_root root)) (λ x o at bit. sym (no_shadow x.block))
+    framed = frames_entry b graph (g.content old) block unheld_entry e drops.holds was.within.content is.dropped.loose.apart (λ held. absurd (is.dropped.loose.unheld held)) was_e good (λ root. absurd (not_root root)) (λ x o at bit. sym (no_shadow x.block))
 
     below : map_of block < length b
     below = omega (arith, map_in_image (g.content old) block e was_e, was.within.content.size)
 
     abbrev v : List ℕ
-    v = map_with (g.content old) block free_entry
+    v = map_with (g.content old) block unheld_entry
 
     as_set : c ≡ set (g.content old) (map_of block) v
     unfolding with_entry
@@ -129,11 +150,11 @@ module _ {D : Type 0} (g : Ghosts D) (a b : Image) (graph : Graph) (id : Puid) (
     pub step_leaves : Leaves g old new (Written (left_now g old) (map_of block) v) → Leaves g start new (Frames b graph)
     step_leaves images = tried g b graph start old new (map_of block) v was.within below set_framed images
 
-    here_free : entry_in c block ≡ Some free_entry
-    here_free = entry_in-with_entry_same (g.content old) block free_entry e was_e good
+    here_free : entry_in c block ≡ Some unheld_entry
+    here_free = entry_in-with_entry_same (g.content old) block unheld_entry e was_e good
 
     other : (m : ℕ) → m ≢ block → entry_in c m ≡ entry_in (g.content old) m
-    other m apart = entry_in-with_entry_other (g.content old) block free_entry e m was_e apart
+    other m apart = entry_in-with_entry_other (g.content old) block unheld_entry e m was_e apart
 
     pub step_on : FreesBlock g block old new k0 k1 (Ok tt) → ((n : ℕ) → IsTrue (g.told old n) → IsTrue (g.told new n)) → IsSameDisk g.blocks g.honest g.tells_images old new → Freeing to_leaf to_node new k1
     step_on frees told same =
@@ -149,9 +170,9 @@ module _ {D : Type 0} (g : Ghosts D) (a b : Image) (graph : Graph) (id : Puid) (
             | inl at ↦ ap is_free_entry (now m ∙ ap (entry_in c) at ∙ here_free)
             | inr apart ↦ elim (is.grows m freed) [ inl before ↦ ap is_free_entry (now m ∙ other m apart) ∙ was.free m before | inr at ↦ absurd (apart at) ]
           ];
-          contents = λ m no. ap (λ (i : Image). block_at i m) content ∙ block_at-with_entry (g.content old) block free_entry m (λ at. no (omega (arith, at))) ∙ was.contents m no;
+          contents = λ m no. ap (λ (i : Image). block_at i m) content ∙ block_at-with_entry (g.content old) block unheld_entry m (λ at. no (omega (arith, at))) ∙ was.contents m no;
           only = changes_then _ b (g.content old) (g.content new) was.only (subst (ChangesOnly (λ x. of_owner id.block x) (g.content old)) (sym content)
-              (changes_entry _ (g.content old) block free_entry e was.within.content.maps was.within.content.own is.dropped.loose.apart was_e good (λ root. absurd (not_root root))
+              (changes_entry _ (g.content old) block unheld_entry e was.within.content.maps was.within.content.own is.dropped.loose.apart was_e good (λ root. absurd (not_root root))
               (subst (IsOpenTo (λ x. of_owner id.block x)) was_e (taken_open (g.content old) block id.block taken_now)) (inl refl)));
           counts = frees.counts some was.within.tells was.counts not_free;
         }
@@ -165,7 +186,7 @@ module _ {D : Type 0} (g : Ghosts D) (a b : Image) (graph : Graph) (id : Puid) (
       | inr some ↦ step_leaves leaf node to_leaf to_node block old new k0 k1 was some (next_is some) (frees.images some was.within.tells)
     ]
 
-    pub any_on : (at n t : ℕ) → FreesBlock g block old new k0 k1 (Ok tt) → Follows g at n t old new k0 k1 (Ok tt) → Freeing to_leaf to_node new k1
+    pub any_on : (at : Top) (n t : ℕ) → FreesBlock g block old new k0 k1 (Ok tt) → FollowsStart g at n t old new k0 k1 (Ok tt) → Freeing to_leaf to_node new k1
     any_on at n t frees follows = elim (cases_eq block 0) [
       | inl none ↦
           let two = none_is none in

@@ -1,6 +1,6 @@
 -- Blocks given back by calls in a row.
 use Rattle.normal_files.proofs.Words.{◌≡◌, ◌≢◌, inl, inr, ℕ, ◌+◌, ◌-◌, ◌*◌, ◌<◌, ◌≤◌, false, IsTrue, Ok, Err, List, length, get_or, refl, sym, ◌∙◌, ap, subst, arith, ◌==◌, if◌then◌else◌, OnOk, Result, cases_eq, ne_eqb, OnlyReads, Image, trouble_after_try, trouble_had_tried, Tells, Ghosts, Puid, Trouble, reads_make, stopped_after_try, Kept, Graph, tried, not_map, leaves_in, leaf_pointers, node_pointers, leaf_limit, size_limit, IsNear, leaves_at, is_damage}
-use Rattle.normal_files.specs.Frees.{Drops, Follows, FreesBlock, FreesTo, GivesEnd, GivesLeaves, GivesNode, GivesNodes, HasBegun, IsDropTrouble, IsFreed, IsFreeing, OfFile}
+use Rattle.normal_files.specs.Frees.{Drops, FollowsStart, FreesBlock, FreesTo, GivesEnd, GivesLeaves, GivesNode, GivesNodes, HasBegun, IsDropTrouble, IsFreed, IsFreeing, OfFile}
 use Rattle.normal_files.specs.Cuts.{first_gone, last_node}
 use Rattle.normal_files.specs.Laid.{leaf_of, node_of}
 use Rattle.normal_files.specs.Refusal.{IsTrouble}
@@ -10,6 +10,7 @@ use Rattle.normal_files.proofs.Trees.{same_leaves}
 use Rattle.normal_files.proofs.Freed.{follows_on, not_untried, freeing_on, IsNext, any_leaves, any_on, next_leaf, none_leaf, next_node, none_node}
 use Rattle.cfs_base.specs.declared.refusal.Trouble.TheVariants as trouble
 use Rattle.block_tree.specs.declared.root.Root as roots
+use Rattle.leaf_changes.specs.Tops.{Top}
 
 -- ---- calls in a row
 
@@ -31,10 +32,10 @@ frees_given g root Given More leaf node to_leaf to_node old new k0 k1 result mor
 }
 
 -- one block, which may be none
-frees_one : {D : Type 0} (g : Ghosts D) (root : roots.Root) (Given : Image → roots.Root → ℕ → Type 0) (leaf node to_leaf to_node block : ℕ) (old new : D) (k0 k1 : Kept) (at n t : ℕ) (result : Result (Unit {0}) Trouble)
+frees_one : {D : Type 0} (g : Ghosts D) (root : roots.Root) (Given : Image → roots.Root → ℕ → Type 0) (leaf node to_leaf to_node block : ℕ) (old new : D) (k0 k1 : Kept) (at : Top) (n t : ℕ) (result : Result (Unit {0}) Trouble)
     → ((a b : Image) (graph : Graph) (id : Puid) (next : roots.Root) (keep : ℕ) (start : D) (drops : Drops a b graph id root next keep) → Given a next keep → (block ≢ 0 → IsNext g a b graph id root next keep start drops leaf node to_leaf to_node block)
     × (block ≡ 0 → ((m : ℕ) → IsFreed a root next keep leaf node m → IsFreed a root next keep to_leaf to_node m) × ((m : ℕ) → IsFreed a root next keep to_leaf to_node m → IsFreed a root next keep leaf node m)))
-    → FreesBlock g block old new k0 k1 result → Follows g at n t old new k0 k1 result → FreesTo g root Given leaf node to_leaf to_node old new k0 k1 result
+    → FreesBlock g block old new k0 k1 result → FollowsStart g at n t old new k0 k1 result → FreesTo g root Given leaf node to_leaf to_node old new k0 k1 result
 frees_one g root Given leaf node to_leaf to_node block old new k0 k1 at n t result is frees follows = record {
   on = λ a b graph id next keep start drops given was. by result frees follows a b graph id next keep start drops given was;
   leaves = λ a b graph id next keep start drops given was.
@@ -43,7 +44,7 @@ frees_one g root Given leaf node to_leaf to_node block old new k0 k1 at n t resu
   sound = λ a b graph id next keep start drops given was. frees.sound was.within.tells was.within.content.maps;
 }
   where
-    by : (x : Result (Unit {0}) Trouble) → FreesBlock g block old new k0 k1 x → Follows g at n t old new k0 k1 x → (a b : Image) (graph : Graph) (id : Puid) (next : roots.Root) (keep : ℕ) (start : _) → (drops : Drops a b graph id root next keep) → Given a next keep
+    by : (x : Result (Unit {0}) Trouble) → FreesBlock g block old new k0 k1 x → FollowsStart g at n t old new k0 k1 x → (a b : Image) (graph : Graph) (id : Puid) (next : roots.Root) (keep : ℕ) (start : _) → (drops : Drops a b graph id root next keep) → Given a next keep
         → IsFreeing g a b graph id root next keep leaf node start old k0 → OnOk x (IsFreeing g a b graph id root next keep to_leaf to_node start new k1)
     by (Ok tt) f w a b graph id next keep start drops given was =
         let two = is a b graph id next keep start drops given in
@@ -51,16 +52,16 @@ frees_one g root Given leaf node to_leaf to_node block old new k0 k1 at n t resu
     by (Err e) f w a b graph id next keep start drops given was = tt
 
 -- one leaf of a node
-pub frees_leaf : {D : Type 0} (g : Ghosts D) (root : roots.Root) (Given : Image → roots.Root → ℕ → Type 0) (q k node block : ℕ) (old new : D) (k0 k1 : Kept) (at n t : ℕ) (result : Result (Unit {0}) Trouble) → k < leaf_pointers.count
-    → ((a : Image) (next : roots.Root) (keep : ℕ) → Given a next keep → (block ≡ leaf_of a root q k) × (keep ≤ leaf_pointers.count * q + k)) → FreesBlock g block old new k0 k1 result → Follows g at n t old new k0 k1 result
+pub frees_leaf : {D : Type 0} (g : Ghosts D) (root : roots.Root) (Given : Image → roots.Root → ℕ → Type 0) (q k node block : ℕ) (old new : D) (k0 k1 : Kept) (at : Top) (n t : ℕ) (result : Result (Unit {0}) Trouble) → k < leaf_pointers.count
+    → ((a : Image) (next : roots.Root) (keep : ℕ) → Given a next keep → (block ≡ leaf_of a root q k) × (keep ≤ leaf_pointers.count * q + k)) → FreesBlock g block old new k0 k1 result → FollowsStart g at n t old new k0 k1 result
     → FreesTo g root Given (leaf_pointers.count * q + k) node (leaf_pointers.count * q + (k + 1)) node old new k0 k1 result
 frees_leaf g root Given q k node block old new k0 k1 at n t result small is = frees_one g root Given (leaf_pointers.count * q + k) node (leaf_pointers.count * q + (k + 1)) node block old new k0 k1 at n t result (λ a b graph id next keep start drops given.
     let two = is a next keep given in
     (next_leaf g a b graph id root next keep start drops q k node block small two.1 two.0, none_leaf g a b graph id root next keep start drops q k node block small two.0))
 
 -- a node
-pub frees_node : {D : Type 0} (g : Ghosts D) (root : roots.Root) (Given : Image → roots.Root → ℕ → Type 0) (q leaf block : ℕ) (old new : D) (k0 k1 : Kept) (at n t : ℕ) (result : Result (Unit {0}) Trouble)
-    → ((a : Image) (next : roots.Root) (keep : ℕ) → Given a next keep → (block ≢ 0 → (block ≡ node_of root q) × (node_of next q ≡ 0)) × (block ≡ 0 → node_of root q ≢ 0 → node_of next q ≢ 0)) → FreesBlock g block old new k0 k1 result → Follows g at n t old new k0 k1 result
+pub frees_node : {D : Type 0} (g : Ghosts D) (root : roots.Root) (Given : Image → roots.Root → ℕ → Type 0) (q leaf block : ℕ) (old new : D) (k0 k1 : Kept) (at : Top) (n t : ℕ) (result : Result (Unit {0}) Trouble)
+    → ((a : Image) (next : roots.Root) (keep : ℕ) → Given a next keep → (block ≢ 0 → (block ≡ node_of root q) × (node_of next q ≡ 0)) × (block ≡ 0 → node_of root q ≢ 0 → node_of next q ≢ 0)) → FreesBlock g block old new k0 k1 result → FollowsStart g at n t old new k0 k1 result
     → FreesTo g root Given leaf q leaf (q + 1) old new k0 k1 result
 frees_node g root Given q leaf block old new k0 k1 at n t result is = frees_one g root Given leaf q leaf (q + 1) block old new k0 k1 at n t result (λ a b graph id next keep start drops given.
     let two = is a next keep given in
@@ -71,14 +72,14 @@ pub frees_err : {D : Type 0} (g : Ghosts D) (root : roots.Root) (Given : Image �
 frees_err g root Given leaf node l n to_leaf to_node old new k0 k1 e is = record { on = λ a b graph id next keep start drops given was. tt; leaves = is.leaves; sound = is.sound }
 
 -- the leaves of a node, one after another
-pub leaves_on : {D : Type 0} (g : Ghosts D) (root : roots.Root) (leaves : List ℕ) (n from k at : ℕ) (old mid new : D) (k0 k1 k2 : Kept) (result : Result (Unit {0}) Trouble) → k < leaf_pointers.count → from ≤ k → FreesTo g root (GivesLeaves root leaves n from) (leaf_pointers.count * n + from) n (leaf_pointers.count * n + k) n old mid k0 k1 (Ok tt)
-    → FreesBlock g (get_or leaves k 0) mid new k1 k2 result → Follows g at 2 1 mid new k1 k2 result → FreesTo g root (GivesLeaves root leaves n from) (leaf_pointers.count * n + from) n (leaf_pointers.count * n + (k + 1)) n old new k0 k2 result
+pub leaves_on : {D : Type 0} (g : Ghosts D) (root : roots.Root) (leaves : List ℕ) (n from k : ℕ) (at : Top) (old mid new : D) (k0 k1 k2 : Kept) (result : Result (Unit {0}) Trouble) → k < leaf_pointers.count → from ≤ k → FreesTo g root (GivesLeaves root leaves n from) (leaf_pointers.count * n + from) n (leaf_pointers.count * n + k) n old mid k0 k1 (Ok tt)
+    → FreesBlock g (get_or leaves k 0) mid new k1 k2 result → FollowsStart g at 2 1 mid new k1 k2 result → FreesTo g root (GivesLeaves root leaves n from) (leaf_pointers.count * n + from) n (leaf_pointers.count * n + (k + 1)) n old new k0 k2 result
 leaves_on g root leaves n from k at old mid new k0 k1 k2 result small late done frees follows =
     frees_on g root (GivesLeaves root leaves n from) (GivesLeaves root leaves n from) (leaf_pointers.count * n + from) n (leaf_pointers.count * n + k) n (leaf_pointers.count * n + (k + 1)) n old mid new k0 k1 k2 result (λ a next keep given. given) done
     (frees_leaf g root (GivesLeaves root leaves n from) n k n (get_or leaves k 0) mid new k1 k2 at 2 1 result small (λ a next keep given. (ap (λ (ls : List ℕ). get_or ls k 0) given.0, omega (arith, given.1, late))) frees follows)
 
-pub leaves_follow : {D : Type 0} (g : Ghosts D) (from k at : ℕ) (old mid new : D) (k0 k1 k2 : Kept) (result : Result (Unit {0}) Trouble) → from ≤ k → (most tries : ℕ) → 2 * (k + 1 - from) ≤ most → k + 1 - from ≤ tries → Follows g at (2 * (k - from)) (k - from) old mid k0 k1 (Ok tt) → Follows g at 2 1 mid new k1 k2 result
-    → Follows g at most tries old new k0 k2 result
+pub leaves_follow : {D : Type 0} (g : Ghosts D) (from k : ℕ) (at : Top) (old mid new : D) (k0 k1 k2 : Kept) (result : Result (Unit {0}) Trouble) → from ≤ k → (most tries : ℕ) → 2 * (k + 1 - from) ≤ most → k + 1 - from ≤ tries → FollowsStart g at (2 * (k - from)) (k - from) old mid k0 k1 (Ok tt) → FollowsStart g at 2 1 mid new k1 k2 result
+    → FollowsStart g at most tries old new k0 k2 result
 leaves_follow g from k at old mid new k0 k1 k2 result late most tries few fewer done follows = follows_on g at (2 * (k - from)) (k - from) 2 1 most tries old mid new k0 k1 k2 result (omega (arith, few, late)) (omega (arith, fewer, late)) done follows
 
 -- ---- a node that was read
@@ -124,11 +125,11 @@ module _ {D : Type 0} (g : Ghosts D) (root : roots.Root) (n : ℕ) (old mid : D)
       more : (a b : Image) (graph : Graph) (id : Puid) (next : roots.Root) (keep : ℕ) (start : D) → Drops a b graph id root next keep → GivesNode n a next keep → IsFreeing g a b graph id root next keep leaf node start old k0 → GivesLeaves root leaves n 0 a next keep × (node_of next n ≡ 0)
       more a b graph id next keep start drops given was = ((is was.within.tells ∙ node_now a b graph id next keep start drops given leaf node was, omega (arith, given.1)), given.0)
 
-  pub read_follows : (at m t most tries : ℕ) (new : D) (k1 : Kept) (result : Result (Unit {0}) Trouble) → m + 1 ≤ most → t ≤ tries → Follows g at m t mid new k0 k1 result → Follows g at most tries old new k0 k1 result
-  read_follows at m t most tries new k1 result few fewer follows = follows_on g at 1 0 m t most tries old mid new k0 k0 k1 result (omega (arith, few)) (omega (arith, fewer))
+  pub read_follows : (at : Top) (m t most tries : ℕ) (new : D) (k1 : Kept) (result : Result (Unit {0}) Trouble) → m + 1 ≤ most → t ≤ tries → FollowsStart g at m t mid new k0 k1 result → FollowsStart g at most tries old new k0 k1 result
+  read_follows at m t most tries new k1 result few fewer follows = follows_on g at 1 0 m t most tries {first = at} old mid new k0 k0 k1 result (omega (arith, few)) (omega (arith, fewer))
       (record { told = reads.told; stopped = λ start begun. tt; tried = tt; cylinders = refl; left = refl; calls = reads_make g old mid 1 reads }) follows
 
-  pub unread_follows : (at most tries : ℕ) (t : Trouble) → 1 ≤ most → IsTrouble g at old mid t → trouble_had_tried t ≡ false → Follows g at most tries old mid k0 k0 (Err (trouble_after_try t))
+  pub unread_follows : (at : Top) (most tries : ℕ) (t : Trouble) → 1 ≤ most → IsTrouble g at old mid t → trouble_had_tried t ≡ false → FollowsStart g at most tries old mid k0 k0 (Err (trouble_after_try t))
   unread_follows at most tries t few is untried = record {
     told = tt;
     stopped = λ start begun. by t is start begun;
@@ -140,11 +141,11 @@ module _ {D : Type 0} (g : Ghosts D) (root : roots.Root) (n : ℕ) (old mid : D)
     where
       by : (x : Trouble) → IsTrouble g at old mid x → (start : D) → HasBegun g start old → IsDropTrouble g at start mid (trouble_after_try x)
       by (trouble.Disk tried) is start begun = stopped_after_try g start old mid begun.n begun.t tried begun.makes begun.tried is
-      by (trouble.Damaged damage) is start begun = OfFile old (λ tells. record { honest = subst IsTrue (sym begun.makes.same.honesty) tells.honest; told = λ b. begun.told b (tells.told b) }) (sym reads.content) is
+      by (trouble.Damaged damage) is start begun = OfFile old (λ tells. record { honest = subst IsTrue (sym begun.makes.same.honesty) tells.honest; told = λ b. begun.told b (tells.told b) }) (sym reads.content) (sym reads.same.size) is
 
 -- its leaves and the node itself
-pub node_on : {D : Type 0} (g : Ghosts D) (root : roots.Root) (leaves : List ℕ) (n at : ℕ) (mid mid2 new : D) (k0 k1 k2 : Kept) (result : Result (Unit {0}) Trouble) → FreesTo g root (GivesLeaves root leaves n 0) (leaf_pointers.count * n + 0) n (leaf_pointers.count * n + leaf_pointers.count) n mid mid2 k0 k1 (Ok tt)
-    → FreesBlock g (node_of root n) mid2 new k1 k2 result → Follows g at 2 1 mid2 new k1 k2 result → FreesTo g root (λ a next keep. GivesLeaves root leaves n 0 a next keep × (node_of next n ≡ 0)) (leaf_pointers.count * n) n (leaf_pointers.count * n + leaf_pointers.count) (n + 1) mid new k0 k2 result
+pub node_on : {D : Type 0} (g : Ghosts D) (root : roots.Root) (leaves : List ℕ) (n : ℕ) (at : Top) (mid mid2 new : D) (k0 k1 k2 : Kept) (result : Result (Unit {0}) Trouble) → FreesTo g root (GivesLeaves root leaves n 0) (leaf_pointers.count * n + 0) n (leaf_pointers.count * n + leaf_pointers.count) n mid mid2 k0 k1 (Ok tt)
+    → FreesBlock g (node_of root n) mid2 new k1 k2 result → FollowsStart g at 2 1 mid2 new k1 k2 result → FreesTo g root (λ a next keep. GivesLeaves root leaves n 0 a next keep × (node_of next n ≡ 0)) (leaf_pointers.count * n) n (leaf_pointers.count * n + leaf_pointers.count) (n + 1) mid new k0 k2 result
 node_on g root leaves n at mid mid2 new k0 k1 k2 result done frees follows =
     frees_on g root (λ a next keep. GivesLeaves root leaves n 0 a next keep × (node_of next n ≡ 0)) (λ a next keep. GivesLeaves root leaves n 0 a next keep × (node_of next n ≡ 0)) (leaf_pointers.count * n) n (leaf_pointers.count * n + leaf_pointers.count) n (leaf_pointers.count * n + leaf_pointers.count) (n + 1) mid mid2 new k0 k1 k2 result (λ a next keep given. given)
     (frees_given g root (λ a next keep. GivesLeaves root leaves n 0 a next keep × (node_of next n ≡ 0)) (GivesLeaves root leaves n 0) (leaf_pointers.count * n) n (leaf_pointers.count * n + leaf_pointers.count) n mid mid2 k0 k1 (Ok tt) (λ a next keep given. given.0)
@@ -207,7 +208,7 @@ module _ {D : Type 0} (g : Ghosts D) (root : roots.Root) (size : ℕ) (end : End
   end_err l n e frees = frees_err g root Given (leaves_in size) last l n leaf_limit node_pointers.count old mid k0 k1 e frees
 
   -- that node, where it goes
-  pub end_node : (at n block : ℕ) (new : D) (k2 : Kept) (result : Result (Unit {0}) Trouble) → n ≡ last → block ≡ (if end.kept == 0 then node_of root n else 0) → FreesTo g root Given (leaves_in size) last (leaf_pointers.count * last + leaf_pointers.count) last old mid k0 k1 (Ok tt) → FreesBlock g block mid new k1 k2 result → Follows g at 2 1 mid new k1 k2 result
+  pub end_node : (at : Top) (n block : ℕ) (new : D) (k2 : Kept) (result : Result (Unit {0}) Trouble) → n ≡ last → block ≡ (if end.kept == 0 then node_of root n else 0) → FreesTo g root Given (leaves_in size) last (leaf_pointers.count * last + leaf_pointers.count) last old mid k0 k1 (Ok tt) → FreesBlock g block mid new k1 k2 result → FollowsStart g at 2 1 mid new k1 k2 result
       → FreesTo g root Given (leaves_in size) last (leaf_pointers.count * last + leaf_pointers.count) (last + 1) old new k0 k2 result
   end_node at n block new k2 result number is done frees follows =
       frees_on g root Given Given (leaves_in size) last (leaf_pointers.count * last + leaf_pointers.count) last (leaf_pointers.count * last + leaf_pointers.count) (last + 1) old mid new k0 k1 k2 result (λ a next keep given. given) done

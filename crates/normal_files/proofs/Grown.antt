@@ -1,5 +1,5 @@
 -- The root written with a greater size, and then a barrier.
-use Rattle.normal_files.proofs.Words.{◌≡◌, inl, ◌≤◌, ℕ, List, Ok, set, refl, sym, ◌∙◌, ap, subst, arith, length, Result, Image, Nothing, block_at, IsSettled, Leaves, Ghosts, Puid, Trouble, on, wider, IsGoodRoot, root_spelling, AreCounts, Kept, bytes_held, grown_fit, grown_object, SetSize, File, with_object, changed_object, resized, entry_in, rises-with_object, Frames, Holds, carries_settled, frames_begin, Accounts, HasDrafts, ChangesOnly, of_owner, is_meant, is_of, object_changes_on, size_limit}
+use Rattle.normal_files.proofs.Words.{◌≡◌, inl, ◌≤◌, ℕ, List, Ok, set, refl, sym, ◌∙◌, ap, subst, arith, length, Result, Image, Nothing, block_at, IsSettled, Leaves, Ghosts, Puid, Trouble, on, wider, IsGoodRoot, root_spelling, AreCounts, Kept, bytes_held, grown_fit, grown_object, SetSize, File, with_object, changed_object, resized, entry_in, rises-with_object, Frames, Holds, carries_settled, frames_begin, Accounts, HasDrafts, ChangesOnly, of_owner, is_meant, is_owned_by, object_changes_on, size_limit}
 use Rattle.normal_files.specs.Frees.{TakesNone}
 use Rattle.normal_files.specs.Laid.{leaves_of}
 use Rattle.normal_files.specs.Standing.{BecomesFile, IsPartly}
@@ -7,11 +7,11 @@ use Rattle.normal_files.specs.Steps.{WritesBlock}
 use Rattle.normal_files.proofs.Owned.{IsOwn, all_there, block_from_own, blocks_stay}
 use Rattle.normal_files.proofs.Trimmed.{IsEitherWay, IsLed, KeepsEntries, a_file, either_begin, entries_begin, gives, pointer_stays, set_content, shrunk_holds, shrunk_partly, shrunk_reads, shrunk_rooted}
 use Rattle.normal_files.proofs.Trees.{each_leaf, stands_at}
-use Rattle.normal_files.specs.View.{View, id_at}
+use Rattle.normal_files.specs.View.{FileView, id_at}
 use Rattle.block_tree.specs.declared.root.Root as roots
 use Rattle.ufs_model.specs.declared.object.Object.TheVariants as objects
 
-module _ {D : Type 0} {g : Ghosts D} {r : ℕ} {root : roots.Root} {start : D} {kept : Kept} (v : View g r root start kept) {size : ℕ} (more : length v.file.bytes ≤ size) (allowed : size ≤ size_limit) where
+module _ {D : Type 0} {g : Ghosts D} {r : ℕ} {root : roots.Root} {start : D} {kept : Kept} (v : FileView g r root start kept) {size : ℕ} (more : length v.file.bytes ≤ size) (allowed : size ≤ size_limit) where
   abbrev a : Image
   a = g.content start
 
@@ -88,7 +88,7 @@ module _ {D : Type 0} {g : Ghosts D} {r : ℕ} {root : roots.Root} {start : D} {
                 (shrunk_reads v.has led (way a frames) (as_a a frames))
                 (blocks_stay a (set a r spelt) id root next v.has.rooted (shrunk_rooted v.has led (way a frames) (as_a a frames)) (λ n. refl)
                 (pointer_stays v.has led (way a frames) (as_a a frames)) contents.entries (v.store.account.objects id (objects.File v.file) v.has.at))
-                (subst (HasDrafts (set a r spelt) id) (sym v.no_draft) (λ m. ap (is_of is_meant r) (contents.entries m) ∙ subst (HasDrafts a id) v.no_draft (v.store.account.drafts id (objects.File v.file) v.has.at) m))
+                (subst (HasDrafts (set a r spelt) id) (sym v.no_draft) (λ m. ap (is_owned_by is_meant r) (contents.entries m) ∙ subst (HasDrafts a id) v.no_draft (v.store.account.drafts id (objects.File v.file) v.has.at) m))
                 (λ x other. refl) contents.only refl (all_there v.graph id (objects.File new_file) v.drafts v.store.account.on_objects));
             counts = subst (λ (i : Image). AreCounts i kept) (sym content_is) contents.counts;
             ordered = rises-with_object v.graph id (objects.File new_file) v.store.ordered;

@@ -1,6 +1,6 @@
 -- A file that lies on a disk is the tree of its root, and the other way round.
 use Rattle.normal_files.proofs.Words.{◌≡◌, ◌≢◌, inl, inr, ℕ, zero, suc, ◌<◌, ◌≤◌, false, List, [], ◌∷◌, ◌++◌, length, Option, Some, refl, sym, ◌∙◌, ap, subst, arith, IsTrue, is_some, cases_lt, Image, block_at, Puid, leaf_pointers, node_pointers, IsRootBlock, root_spelling, end_of, levels_of, pointer, tree_of, one_root, Object, BelongsTo, is_committed, part_at, LeavesFit, IsTree, leaf_in, object_with, Held, held_at, place_at, tree_in, first_or, sight, source, ReadsAs, no_shadows, reads_by_root, held_some, held_there, some_held, held, held_is, leaf_place, node_place, nothing_below, two_levels}
-use Rattle.normal_files.specs.Laid.{IsLaid, IsRooted, leaf_of, node_of, object_of}
+use Rattle.normal_files.specs.Laid.{IsLaid, IsRooted, leaf_of, node_of, object_laid}
 use Rattle.normal_files.proofs.Trees.{leaf_at, node_at, none_past}
 use Rattle.block_tree.specs.declared.root.Root as roots
 
@@ -38,7 +38,7 @@ module _ (image : Image) (content : List ℕ) (root : roots.Root) (is : IsRootBl
   leaf_there n k small real = ap (held_at image) (leaf_at image content root is n k small) ∙ held_there image (leaf_of image root n k) real
 
   -- from blocks to the tree
-  pub tree_of_laid : (r : ℕ) → content ≡ root_spelling root → IsLaid image r root → IsTree (length image) r (tree_in image content) root (object_of image root)
+  pub tree_of_laid : (r : ℕ) → content ≡ root_spelling root → IsLaid image r root → IsTree (length image) r (tree_in image content) root (object_laid image root)
   tree_of_laid r spelled laid = record {
     spelled = is;
     object = ap (λ (c : List ℕ). object_with root (leaf_in (tree_in image c))) spelled;
@@ -78,13 +78,13 @@ module _ (image : Image) (content : List ℕ) (root : roots.Root) (is : IsRootBl
 
 -- ---- a file that is read by its root
 
-pub rooted_reads : (image : Image) (id : Puid) (root : roots.Root) → IsRooted image id root → ReadsAs (length image) id (sight image id.block) (object_of image root)
+pub rooted_reads : (image : Image) (id : Puid) (root : roots.Root) → IsRooted image id root → ReadsAs (length image) id (sight image id.block) (object_laid image root)
 rooted_reads image id root rooted =
     let is : IsRootBlock (root_spelling root) root = record { good = rooted.laid.good; spelled = refl } in
-    reads_by_root image id (root_spelling root) root (object_of image root) rooted.no_bit rooted.here is rooted.word rooted.part
+    reads_by_root image id (root_spelling root) root (object_laid image root) rooted.no_bit rooted.here is rooted.word rooted.part
     (tree_of_laid image (root_spelling root) root is id.block refl rooted.laid)
 
-pub rooted_is : (image : Image) (id : Puid) (o : Object) → is_committed (part_at image id.block) ≡ false → ReadsAs (length image) id (sight image id.block) o → (root : roots.Root) × IsRooted image id root × (object_of image root ≡ o)
+pub rooted_is : (image : Image) (id : Puid) (o : Object) → is_committed (part_at image id.block) ≡ false → ReadsAs (length image) id (sight image id.block) o → (root : roots.Root) × IsRooted image id root × (object_laid image root ≡ o)
 unfolding sight
 rooted_is image id o bit reads =
     let itself = ap (first_or id.block) (no_shadows image id.block bit) in

@@ -1,5 +1,5 @@
 -- The blocks of a file that is read by its root: the root, and the nodes and leaves to which the pointers lead.
-use Rattle.normal_files.proofs.Words.{◌≡◌, ◌≢◌, ◌⊎◌, inl, inr, ℕ, ◌<◌, List, [], ◌∷◌, Some, refl, sym, ◌∙◌, ap, subst, true, Image, Puid, IsRootBlock, root_spelling, entry_in, IsBlockOf, tree_in, first_or, sight, no_shadows, read_by_root, held, HasItsBlocks, Opened, is_had, is_leaving, is_of, list_all, and_from, and_parts, Object, Graph, is_there, with_object, still_there, leaf_pointers}
+use Rattle.normal_files.proofs.Words.{◌≡◌, ◌≢◌, ◌⊎◌, inl, inr, ℕ, ◌<◌, List, [], ◌∷◌, Some, refl, sym, ◌∙◌, ap, subst, true, Image, Puid, IsRootBlock, root_spelling, entry_in, IsBlockOf, tree_in, first_or, sight, no_shadows, read_by_root, held, HasItsBlocks, Opened, is_had, is_leaving, is_owned_by, list_all, and_from, and_parts, Object, Graph, is_there, with_object, still_there, leaf_pointers}
 use Rattle.normal_files.specs.Laid.{IsRooted, leaf_of, node_of}
 use Rattle.normal_files.proofs.Laid.{each, leaf_there, node_there}
 use Rattle.block_tree.specs.declared.root.Root as roots
@@ -41,9 +41,9 @@ pub blocks_stay : (a b : Image) (id : Puid) (root next : roots.Root) → IsRoote
     → HasItsBlocks a id.block → HasItsBlocks b id.block
 blocks_stay a b id root next one two nodes same entries has = record {
   no_bit = two.no_bit;
-  each = λ m is. ap (is_of is_had id.block) (entries m) ∙ has.each m (block_from_own a id root one m (back m (own_from_block b id next two m is)));
-  no_other = λ m is. block_from_own b id next two m (forth m (own_from_block a id root one m (has.no_other m (sym (ap (is_of is_had id.block) (entries m)) ∙ is))));
-  none_leaves = λ m. ap (is_of is_leaving id.block) (entries m) ∙ has.none_leaves m;
+  each = λ m is. ap (is_owned_by is_had id.block) (entries m) ∙ has.each m (block_from_own a id root one m (back m (own_from_block b id next two m is)));
+  no_other = λ m is. block_from_own b id next two m (forth m (own_from_block a id root one m (has.no_other m (sym (ap (is_owned_by is_had id.block) (entries m)) ∙ is))));
+  none_leaves = λ m. ap (is_owned_by is_leaving id.block) (entries m) ∙ has.none_leaves m;
 }
   where
     back : (m : ℕ) → IsOwn b id next m → IsOwn a id root m

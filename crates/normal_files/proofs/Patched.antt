@@ -1,7 +1,7 @@
 -- A file of which some leaves have their new bytes is between the old file and the new.
-use Rattle.normal_files.proofs.Words.{◌≡◌, ◌≢◌, ◌⊎◌, inl, inr, ℕ, ◌+◌, ◌*◌, ◌/◌, ◌<◌, ◌≤◌, Bool, true, false, List, length, Option, Some, None, refl, sym, ◌∙◌, ap, subst, arith, ◌&&◌, nat_le, nat_lt, nat_tests, Image, block_at, Puid, root_spelling, levels_of, path_to, tree_of, patched, SetsSize, GivesFile, LeavesFit, Writes, bytes_held, mixed_fit, same_object, content_is, length-leaf_content, file_to_leaves, laid_outside, over_early, over_past, writes_fit, writes_object, File, Graph, changed_object, leaves_in, written, Overwrite, leaf_content, Held, held, held_is, Frames, others}
+use Rattle.normal_files.proofs.Words.{◌≡◌, ◌≢◌, ◌⊎◌, inl, inr, ℕ, ◌+◌, ◌*◌, ◌/◌, ◌<◌, ◌≤◌, Bool, true, false, List, length, Option, Some, None, refl, sym, ◌∙◌, ap, subst, arith, ◌&&◌, nat_le, nat_lt, nat_tests, Image, block_at, Puid, root_spelling, levels_of, path_to, tree_of, patched, SetsSize, GivesFile, LeavesFit, WritesLeaves, bytes_held, mixed_fit, same_object, content_is, length-leaf_content, file_to_leaves, laid_outside, over_early, over_past, writes_fit, writes_object, File, Graph, changed_object, leaves_in, written, Overwrite, leaf_content, Held, held, held_is, Frames, others}
 use Rattle.normal_files.specs.Among.{IsAmong, IsEither}
-use Rattle.normal_files.specs.Laid.{IsRooted, leaves_of, object_of}
+use Rattle.normal_files.specs.Laid.{IsRooted, leaves_of, object_laid}
 use Rattle.normal_files.specs.Standing.{IsPartly}
 use Rattle.normal_files.proofs.Laid.{tree_of_laid}
 use Rattle.normal_files.proofs.Among.{among_rooted, leaf_either}
@@ -65,7 +65,7 @@ module _ (fill offset : ℕ) (bytes : List ℕ) (old : ℕ → Option Held) (who
       by None is = ap (λ (b : Bool). bytes_held (rewritten b (after l) None)) (not_touched l out)
       by (Some h) is = ap Some (untouched l out ∙ content_is fill (old l) h.content (ap bytes_held is) (whole l h is))
 
-  pub next_writes : Writes fill offset bytes old next
+  pub next_writes : WritesLeaves fill offset bytes old next
   next_writes = record {
     before = λ l early. next_untouched l (inl early);
     here = λ l from to. next_touched l (touched_is l from to);
@@ -114,7 +114,7 @@ module _ {a : Image} {graph : Graph} {id : Puid} {f : File} {root : roots.Root} 
 
     -- ---- one whose leaves are all of after
 
-    pub last_file : (c : Image) (r : roots.Root) → SetsSize root.size root r → ((l : ℕ) → bytes_held (leaves_of c r l) ≡ bytes_held (last l)) → object_of c r ≡ objects.File (written f offset bytes)
+    pub last_file : (c : Image) (r : roots.Root) → SetsSize root.size root r → ((l : ℕ) → bytes_held (leaves_of c r l) ≡ bytes_held (last l)) → object_laid c r ≡ objects.File (written f offset bytes)
     last_file c r head all =
         let w = next_writes root.fill offset bytes (leaves_of a root) whole in
         same_object root.size root r head (leaves_of c r)

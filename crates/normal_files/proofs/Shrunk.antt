@@ -1,5 +1,5 @@
 -- A file that was set to less: what its root no longer leads to becomes Free, and then the store has the file.
-use Rattle.normal_files.proofs.Words.{◌≡◌, ◌≢◌, ◌⊎◌, inl, inr, ℕ, ◌+◌, ◌*◌, ◌<◌, ◌≤◌, Bool, true, false, cond, List, [], length, set, get_or, Some, refl, sym, ◌∙◌, ap, subst, get_or-set_other, arith, nat_lt, length-set, both_ways, cases_eq, cases_lt, get_or_past, Image, block_at, IsSettled, left_now, Ghosts, Puid, Place, Leaf, Node, Root, node_spelling, root_spelling, AreCounts, Kept, entry_in, BlockState, Free, File, Object, Graph, object_at, with_object, same_puid, leaves_in, resized, filter-rises, object_at-with_object, rises-with_object, same_puid_is, same_puid_itself, Frames, IsBlockOf, IsLoose, BelongsTo, is_committed, part_at, part_of, sight, Holds, ReadsAs, carried, other_at, others, owned_is_loose, frames_hold, framed_sight, same_blocks, placed, begins, HasDrafts, HasItsBlocks, ChangesOnly, of_owner, is_had, is_leaving, is_meant, is_of, changes_begin, changes_then, free_unowned, object_changes_on, leaf_pointers, node_pointers, leaf_limit, leaves_at, zeros}
+use Rattle.normal_files.proofs.Words.{◌≡◌, ◌≢◌, ◌⊎◌, inl, inr, ℕ, ◌+◌, ◌*◌, ◌<◌, ◌≤◌, Bool, true, false, cond, List, [], length, set, get_or, Some, refl, sym, ◌∙◌, ap, subst, get_or-set_other, arith, nat_lt, length-set, both_ways, cases_eq, cases_lt, get_or_past, Image, block_at, IsSettled, left_now, Ghosts, Puid, Place, Leaf, Node, Root, node_spelling, root_spelling, AreCounts, Kept, entry_in, BlockState, Free, File, Object, Graph, object_at, with_object, same_puid, leaves_in, resized, filter-rises, object_at-with_object, rises-with_object, same_puid_is, same_puid_itself, Frames, IsBlockOf, IsLoose, BelongsTo, is_committed, part_at, part_of, sight, Holds, ReadsAs, carried, other_at, others, owned_is_loose, frames_hold, framed_sight, same_blocks, placed, begins, HasDrafts, HasItsBlocks, ChangesOnly, of_owner, is_had, is_leaving, is_meant, is_owned_by, changes_begin, changes_then, free_unowned, object_changes_on, leaf_pointers, node_pointers, leaf_limit, leaves_at, zeros}
 use Rattle.normal_files.specs.Cuts.{MayTrim, last_node, put_at, trimmed}
 use Rattle.normal_files.specs.Frees.{Drops, IsDropped, IsFreed, IsFreeing, TakesNone, FreedLeaf, FreedNode}
 use Rattle.normal_files.specs.Laid.{IsRooted, leaf_of, leaves_of, node_of}
@@ -13,11 +13,11 @@ use Rattle.normal_files.proofs.Owned.{IsOwn, all_there, block_from_own, own_from
 use Rattle.normal_files.proofs.Trees.{near, same_leaves}
 use Rattle.normal_files.proofs.Trimmed.{IsEitherWay, IsLed, IsTrimmed, KeepsEntries, either_partly, entries_begin, gives, led, set_content, shrunk_holds, shrunk_own, shrunk_partly, shrunk_parts, shrunk_rooted}
 use Rattle.normal_files.proofs.Places.{one_leaf, one_node}
-use Rattle.normal_files.specs.View.{View, id_at}
+use Rattle.normal_files.specs.View.{FileView, id_at}
 use Rattle.block_tree.specs.declared.root.Root as roots
 use Rattle.ufs_model.specs.declared.object.Object.TheVariants as objects
 
-module _ {D : Type 0} {g : Ghosts D} {r : ℕ} {root : roots.Root} {start : D} {kept : Kept} {v : View g r root start kept} {size : ℕ} {end : End} {next : roots.Root} (z : IsCut v size end next) where
+module _ {D : Type 0} {g : Ghosts D} {r : ℕ} {root : roots.Root} {start : D} {kept : Kept} {v : FileView g r root start kept} {size : ℕ} {end : End} {next : roots.Root} (z : IsCut v size end next) where
   abbrev a : Image
   a = g.content start
 
@@ -238,8 +238,8 @@ module _ {D : Type 0} {g : Ghosts D} {r : ℕ} {root : roots.Root} {start : D} {
     pub shrunk_entries : TakesNone a c
     shrunk_entries m = elim (entry_cases m) [ inl same ↦ inl same | inr freed ↦ inr (was.free m freed) ]
 
-    none_of : (test : BlockState → Bool) → test Free ≡ false → ((m : ℕ) → is_of test r (entry_in a m) ≡ false) → (m : ℕ) → is_of test r (entry_in c m) ≡ false
-    none_of test real none m = elim (entry_cases m) [ inl same ↦ ap (is_of test r) same ∙ none m | inr freed ↦ free_unowned test real r (entry_in c m) (was.free m freed) ]
+    none_of : (test : BlockState → Bool) → test Free ≡ false → ((m : ℕ) → is_owned_by test r (entry_in a m) ≡ false) → (m : ℕ) → is_owned_by test r (entry_in c m) ≡ false
+    none_of test real none m = elim (entry_cases m) [ inl same ↦ ap (is_owned_by test r) same ∙ none m | inr freed ↦ free_unowned test real r (entry_in c m) (was.free m freed) ]
 
     has_now : HasItsBlocks a r → HasItsBlocks c r
     has_now has = record {
@@ -247,12 +247,12 @@ module _ {D : Type 0} {g : Ghosts D} {r : ℕ} {root : roots.Root} {start : D} {
       each = λ m block.
           let own = own_from_block b id next b_rooted m (same_blocks c b r m (sym sight_same) block) in
           elim (entry_cases m) [
-            | inl same ↦ ap (is_of is_had r) same ∙ has.each m (block_from_own a id root v.has.rooted m (b_own m own))
+            | inl same ↦ ap (is_owned_by is_had r) same ∙ has.each m (block_from_own a id root v.has.rooted m (b_own m own))
             | inr freed ↦ absurd (freed_gone m freed own)
           ];
       no_other = λ m had. elim (entry_cases m) [
         | inr freed ↦ absurd (both_ways _ (free_unowned is_had refl r (entry_in c m) (was.free m freed)) had)
-        | inl same ↦ elim (kept_or_freed m (own_from_block a id root v.has.rooted m (has.no_other m (sym (ap (is_of is_had r) same) ∙ had)))) [
+        | inl same ↦ elim (kept_or_freed m (own_from_block a id root v.has.rooted m (has.no_other m (sym (ap (is_owned_by is_had r) same) ∙ had)))) [
           | inl own ↦ same_blocks b c r m sight_same (block_from_own b id next b_rooted m own)
           | inr freed ↦ absurd (both_ways _ (free_unowned is_had refl r (entry_in c m) (was.free m freed)) had)
         ]

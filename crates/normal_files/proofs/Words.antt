@@ -28,7 +28,7 @@ pub use Rattle.claims.proofs.Claims.{claims_then}
 pub use Rattle.claims.specs.Claims.{AreClaimed}
 pub use Rattle.cyl_alloc.specs.Enters.{Enters, EntryWritten}
 pub use Rattle.cyl_alloc.specs.Refusals.{IsFindRefusal}
-pub use Rattle.cyl_alloc.specs.Space.{AreCounts, IsBadMap, IsLeastFree, Kept, allocated, free_entry}
+pub use Rattle.cyl_alloc.specs.Space.{AreCounts, IsBadMap, IsLeastFree, Kept, allocated, unheld_entry}
 unfoldable pub use Rattle.cyl_alloc.specs.Space.{free_in_cylinder}
 pub use Rattle.cyl_map.proofs.Volumes.{block_at-with_entry, entry_in-set, entry_in-with_entry_other, entry_in-with_entry_same, entry_in_table, length-with_entry, map_in_image, same_or_not}
 pub use Rattle.cyl_map.specs.Entry.{IsEntry}
@@ -47,10 +47,10 @@ pub use Rattle.leaf_changes.proofs.Overlays.{laid, laid_outside, length-overlaid
 pub use Rattle.leaf_changes.proofs.ReadParts.{read_all, read_more}
 pub use Rattle.leaf_changes.proofs.Resized.{cut_fit, cut_object, grown_fit, grown_object}
 pub use Rattle.leaf_changes.proofs.Written.{writes_fit, writes_object}
-pub use Rattle.leaf_changes.specs.Bytes.{cut, overlaid, patched, with_leaf}
+pub use Rattle.leaf_changes.specs.Bytes.{cut, overlaid, patched, with_leaf_copied}
 pub use Rattle.leaf_changes.specs.Changes.{SetsSize}
 pub use Rattle.leaf_changes.specs.Gives.{GivesFile, kind_of}
-pub use Rattle.leaf_changes.specs.Leaves.{IsReadTo, LeavesFit, Shrinks, Writes, bytes_held, cut_held}
+pub use Rattle.leaf_changes.specs.Leaves.{IsReadTo, LeavesFit, Shrinks, WritesLeaves, bytes_held, cut_held}
 pub use Rattle.std.proofs.Common.{Bool, Err, IsTrue, List, None, Ok, Option, Some, [], ap, arith, below_more, cond, eq-eqb, false, get_or, get_or-set_other, get_or-set_same, inl, inr, is_some, length, refl, replicate, set, subst, suc, sym, true, zero, ℕ, ⊎_elim, ◌%◌, ◌*◌, ◌++◌, ◌+◌, ◌-◌, ◌/◌, ◌<◌, ◌^◌, ◌∙◌, ◌∷◌, ◌≡◌, ◌≢◌, ◌≤◌, ◌⊎◌}
 pub use Rattle.std.proofs.Math.ListN.{length-set}
 pub use Rattle.std.proofs.Math.Path.{fun_ext}
@@ -101,4 +101,4 @@ pub use Rattle.vol_owners.proofs.Entries.{free_unowned, taken_of}
 pub use Rattle.vol_owners.proofs.Steps.{object_changes_on}
 pub use Rattle.vol_owners.specs.Account.{Accounts, HasDrafts, HasItsBlocks, Opened, drafts_of, is_meant_for}
 pub use Rattle.vol_owners.specs.Change.{ChangesOnly, IsOpenTo, of_owner}
-pub use Rattle.vol_owners.specs.Owner.{is_had, is_leaving, is_meant, is_of, is_placed, is_taken, owner_of}
+pub use Rattle.vol_owners.specs.Owner.{is_had, is_leaving, is_meant, is_owned_by, is_placed, is_taken, owner_of}

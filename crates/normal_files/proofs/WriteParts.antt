@@ -12,8 +12,8 @@ use Rattle.normal_files.proofs.Amid.{amid_begins}
 use Rattle.normal_files.proofs.Patched.{partly_written}
 use Rattle.normal_files.proofs.WriteRun.{order_now, partly1, partly2, stores_now}
 use Rattle.normal_files.specs.Parts.{AreParts}
-use Rattle.normal_files.specs.Writes.{IsWritable, Wrote}
-use Rattle.normal_files.specs.View.{View, Way, id_at, way_of}
+use Rattle.normal_files.specs.Writes.{IsWritable, WroteFile}
+use Rattle.normal_files.specs.View.{FileView, Way, id_at, way_of}
 use Rattle.normal_files.specs.Ends.{is_damaged}
 use Rattle.cfs_base.specs.declared.refusal.Trouble.TheVariants as trouble
 use Rattle.block_tree.specs.declared.root.Root as roots
@@ -25,7 +25,7 @@ after_is g old new (trouble.Damaged damage) is = absurd is
 pub amid_at : {D : Type 0} {g : Ghosts D} {r : ℕ} {w : Way g r} {offset : ℕ} {bytes : List ℕ} {m n : ℕ} {now : D} {kept : Kept} → m ≡ n → IsAmid w offset bytes m now kept → IsAmid w offset bytes n now kept
 amid_at {w = w} {offset = offset} {bytes = bytes} {now = now} {kept = kept} same amid = subst (λ (m : ℕ). IsAmid w offset bytes m now kept) same amid
 
-module _ {D : Type 0} {g : Ghosts D} {r : ℕ} {root : roots.Root} {start : D} {kept : Kept} {v : View g r root start kept} {offset : ℕ} {bytes : List ℕ} {low high : Part} (is : IsWritable v offset bytes low high) where
+module _ {D : Type 0} {g : Ghosts D} {r : ℕ} {root : roots.Root} {start : D} {kept : Kept} {v : FileView g r root start kept} {offset : ℕ} {bytes : List ℕ} {low high : Part} (is : IsWritable v offset bytes low high) where
   abbrev w : Way g r
   w = way_of v
 
@@ -33,7 +33,7 @@ module _ {D : Type 0} {g : Ghosts D} {r : ℕ} {root : roots.Root} {start : D} {
   begun = amid_begins w offset bytes kept v.store.carries v.store.counts
 
   -- a write that is refused
-  pub refused_wrote : {new : D} {after : Kept} (e : Refused) → Leaves g start new (MayLeave w offset bytes) → is_damaged e ≡ false → Wrote v offset bytes new after (Err e)
+  pub refused_wrote : {new : D} {after : Kept} (e : Refused) → Leaves g start new (MayLeave w offset bytes) → is_damaged e ≡ false → WroteFile v offset bytes new after (Err e)
   refused_wrote {new} e images sound =
       record { file = record { done = tt; images = wider g start new _ _ images (λ c among. partly_written v.has offset bytes is.inside c among) }; settled = tt; order = tt; sound = sound }
 
@@ -54,7 +54,7 @@ module _ {D : Type 0} {g : Ghosts D} {r : ℕ} {root : roots.Root} {start : D} {
         (λ same. subst (λ (i : Image). IsPartly i v.graph (id_at r v.word) v.file (written v.file offset bytes)) (sym same) (partly1 is parts entries now both))
         (λ same. subst (λ (i : Image). IsPartly i v.graph (id_at r v.word) v.file (written v.file offset bytes)) (sym same) (partly2 is parts entries now both)))
 
-    pub end_wrote : {new : D} → Leaves g d new (λ c. (c ≡ one) ⊎ (c ≡ two)) → g.content new ≡ two → IsSettled g new → Wrote v offset bytes new k1 (Ok tt)
+    pub end_wrote : {new : D} → Leaves g d new (λ c. (c ≡ one) ⊎ (c ≡ two)) → g.content new ≡ two → IsSettled g new → WroteFile v offset bytes new k1 (Ok tt)
     end_wrote {new} images content settled = record {
       file = record { done = stores_now is parts entries now both new content settled; images = end_images images };
       settled = settled;

@@ -1,5 +1,5 @@
 -- A write, from the first leaf to the last pointer.
-use Rattle.normal_files.proofs.Words.{◌≡◌, ◌≢◌, ◌⊎◌, inl, inr, ℕ, zero, suc, ◌+◌, ◌-◌, ◌*◌, ◌/◌, ◌%◌, ◌<◌, ◌≤◌, Bool, true, false, List, [], length, get_or, Option, Some, None, refl, sym, ◌∙◌, ap, subst, arith, ◌&&◌, ◌==◌, is_some, not, both_ways, cases_eq, cases_lt, Image, block_at, IsSettled, Ghosts, Puid, Place, Leaf, Node, Root, root_spelling, AreClaimed, claims_then, AreCounts, Kept, allocated, BlockState, Allocated, Free, IntendAllocate, IntendDeallocate, MapEntry, entry_in, LeavesFit, bytes_held, Graph, with_object, has_number, parents, leaves_in, written, rises-with_object, BelongsTo, part_at, part_of, Held, held_at, sight, Holds, ReadsAs, carries_settled, object_put, placed, taken_apart, held_there, held, not_map, Accounts, HasDrafts, HasItsBlocks, is_meant_for, ChangesOnly, of_owner, is_had, is_leaving, is_meant, is_of, is_taken, taken_of, object_changes_on, leaf_pointers, leaves_at}
+use Rattle.normal_files.proofs.Words.{◌≡◌, ◌≢◌, ◌⊎◌, inl, inr, ℕ, zero, suc, ◌+◌, ◌-◌, ◌*◌, ◌/◌, ◌%◌, ◌<◌, ◌≤◌, Bool, true, false, List, [], length, get_or, Option, Some, None, refl, sym, ◌∙◌, ap, subst, arith, ◌&&◌, ◌==◌, is_some, not, both_ways, cases_eq, cases_lt, Image, block_at, IsSettled, Ghosts, Puid, Place, Leaf, Node, Root, root_spelling, AreClaimed, claims_then, AreCounts, Kept, allocated, BlockState, Allocated, Free, IntendAllocate, IntendDeallocate, MapEntry, entry_in, LeavesFit, bytes_held, Graph, with_object, has_number, parents, leaves_in, written, rises-with_object, BelongsTo, part_at, part_of, Held, held_at, sight, Holds, ReadsAs, carries_settled, object_put, placed, taken_apart, held_there, held, not_map, Accounts, HasDrafts, HasItsBlocks, is_meant_for, ChangesOnly, of_owner, is_had, is_leaving, is_meant, is_owned_by, is_taken, taken_of, object_changes_on, leaf_pointers, leaves_at}
 use Rattle.normal_files.specs.Among.{leaf_after}
 use Rattle.normal_files.specs.Laid.{IsAt, IsRooted, leaf_of, leaves_of, node_of}
 use Rattle.normal_files.specs.Links.{linked_image, linked_root}
@@ -21,7 +21,7 @@ use Rattle.normal_files.proofs.Stages.{Comes, IsStage, begin, end, steps}
 use Rattle.normal_files.proofs.TakeRun.{content_stays, new_stays, some_block}
 use Rattle.normal_files.proofs.Trees.{leaf_stands, same_leaves}
 use Rattle.normal_files.specs.Writes.{IsWritable}
-use Rattle.normal_files.specs.View.{View, id_at, way_of}
+use Rattle.normal_files.specs.View.{FileView, id_at, way_of}
 use Rattle.block_tree.specs.declared.root.Root as roots
 use Rattle.ufs_model.specs.declared.object.Object.TheVariants as objects
 
@@ -37,7 +37,7 @@ split IntendAllocate b q taken leaving meant = absurd (both_ways _ meant taken)
 split IntendDeallocate b q taken leaving meant = absurd (both_ways _ leaving taken)
 
 -- what is taken, not meant and not leaving is had
-had_only : (r : ℕ) (o : Option MapEntry) → is_of is_taken r o ≡ true → is_of is_leaving r o ≡ false → is_of is_meant r o ≡ false → is_of is_had r o ≡ true
+had_only : (r : ℕ) (o : Option MapEntry) → is_owned_by is_taken r o ≡ true → is_owned_by is_leaving r o ≡ false → is_owned_by is_meant r o ≡ false → is_owned_by is_had r o ≡ true
 had_only r None taken leaving meant = cc
 had_only r (Some e) taken leaving meant = split e.state (is_some e.place) (r == e.owner) taken leaving meant
 
@@ -47,7 +47,7 @@ small_image image g holds = omega (arith, holds.label.size_is, holds.label.is_la
 keeps_itself : (c : Image) → KeepsTaken c c
 keeps_itself c = record { size = refl; entries = λ m taken. refl; contents = λ m no taken. refl }
 
-module _ {D : Type 0} {g : Ghosts D} {r : ℕ} {root : roots.Root} {start : D} {k0 : Kept} {v : View g r root start k0} {offset : ℕ} {bytes : List ℕ} {low high : Part} (can : IsWritable v offset bytes low high) {size : ℕ} (parts : AreParts size offset (length bytes) low high)
+module _ {D : Type 0} {g : Ghosts D} {r : ℕ} {root : roots.Root} {start : D} {k0 : Kept} {v : FileView g r root start k0} {offset : ℕ} {bytes : List ℕ} {low high : Part} (can : IsWritable v offset bytes low high) {size : ℕ} (parts : AreParts size offset (length bytes) low high)
     {p d : D} {kept : Kept} (same_p : (m : ℕ) → entry_in (g.content p) m ≡ entry_in (g.content start) m) (may : MayTake (way_of v) offset bytes d kept)
     {low_next high_next : Next} (both : TakesBoth (g.content p) (g.content d) r root.fill offset bytes low (node_of root low.number) low_next high (node_of root high.number) high_next) where
   abbrev a : Image
@@ -271,17 +271,17 @@ module _ {D : Type 0} {g : Ghosts D} {r : ℕ} {root : roots.Root} {start : D} {
     new_entry m (inr (inl (k, t, is))) = (Leaf (leaf_pointers.count * high.number + k), comes2.stage.entries m ∙ ap (entry_in c) is ∙ (both.high_has.leaves k t).entry)
     new_entry m (inr (inr (zero_had, grown, is))) = (Node high.number, comes2.stage.entries m ∙ ap (entry_in c) is ∙ (both.high_has.node_new zero_had grown).entry)
 
-    none_leaves : (m : ℕ) → is_of is_leaving r (entry_in c2 m) ≡ false
-    none_leaves m = elim (entry_cases m) [ inl same ↦ ap (is_of is_leaving r) same ∙ has.none_leaves m | inr one ↦ ap (is_of is_leaving r) (new_entry m one).1 ]
+    none_leaves : (m : ℕ) → is_owned_by is_leaving r (entry_in c2 m) ≡ false
+    none_leaves m = elim (entry_cases m) [ inl same ↦ ap (is_owned_by is_leaving r) same ∙ has.none_leaves m | inr one ↦ ap (is_owned_by is_leaving r) (new_entry m one).1 ]
 
-    pub none_meant : (m : ℕ) → is_of is_meant r (entry_in c2 m) ≡ false
-    none_meant m = elim (entry_cases m) [ inl same ↦ ap (is_of is_meant r) same ∙ none m | inr one ↦ ap (is_of is_meant r) (new_entry m one).1 ]
+    pub none_meant : (m : ℕ) → is_owned_by is_meant r (entry_in c2 m) ≡ false
+    none_meant m = elim (entry_cases m) [ inl same ↦ ap (is_owned_by is_meant r) same ∙ none m | inr one ↦ ap (is_owned_by is_meant r) (new_entry m one).1 ]
 
     -- each block of the file is had
-    had_at : (m : ℕ) (q : Place) → BelongsTo r q (part_at c2 m) → is_of is_had r (entry_in c2 m) ≡ true
+    had_at : (m : ℕ) (q : Place) → BelongsTo r q (part_at c2 m) → is_owned_by is_had r (entry_in c2 m) ≡ true
     had_at m q is = had_only r (entry_in c2 m) (taken_of c2 m r (placed c2 m r q (part_at c2 m) refl is).taken) (none_leaves m) (none_meant m)
 
-    each_had : (m : ℕ) → IsOwn c2 id r2 m → is_of is_had r (entry_in c2 m) ≡ true
+    each_had : (m : ℕ) → IsOwn c2 id r2 m → is_owned_by is_had r (entry_in c2 m) ≡ true
     each_had m (inl is) = had_at m Root (subst (λ (z : ℕ). BelongsTo r Root (part_at c2 z)) (sym is) now_rooted.part)
     each_had m (inr (inl (n, real, is))) = had_at m (Node n) (subst (λ (z : ℕ). BelongsTo r (Node n) (part_at c2 z)) (sym is) (now_rooted.laid.nodes n real).part)
     each_had m (inr (inr (n, k, small, real, is))) = had_at m (Leaf (leaf_pointers.count * n + k)) (subst (λ (z : ℕ). BelongsTo r (Leaf (leaf_pointers.count * n + k)) (part_at c2 z)) (sym is) (now_rooted.laid.leaves n k small real).part)
@@ -315,7 +315,7 @@ module _ {D : Type 0} {g : Ghosts D} {r : ℕ} {root : roots.Root} {start : D} {
       no_bit = now_rooted.no_bit;
       each = λ m is. each_had m (own_from_block c2 id r2 now_rooted m is);
       no_other = λ m is. block_from_own c2 id r2 now_rooted m (elim (entry_cases m) [
-        | inl same ↦ old_own m (own_from_block a id root v.has.rooted m (has.no_other m (sym (ap (is_of is_had r) same) ∙ is)))
+        | inl same ↦ old_own m (own_from_block a id root v.has.rooted m (has.no_other m (sym (ap (is_owned_by is_had r) same) ∙ is)))
         | inr one ↦ new_own m one
       ]);
       none_leaves = none_leaves;

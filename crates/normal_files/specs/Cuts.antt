@@ -48,15 +48,15 @@ pub record IsEnd (image : Image) (root : roots.Root) (size : ℕ) (end : End) : 
 abbrev pub put_at : Image → ℕ → List ℕ → Image
 put_at c block content = if block == 0 then c else set c block content
 
-abbrev pub MayPut : (Image → Type 0) → ℕ → List ℕ → Image → Type 0
-MayPut images block content c = images c ⊎ ((block ≢ 0) × Written images block content c)
+abbrev pub MayPutBlock : (Image → Type 0) → ℕ → List ℕ → Image → Type 0
+MayPutBlock images block content c = images c ⊎ ((block ≢ 0) × Written images block content c)
 
 -- the image once both are
 abbrev pub trimmed : Image → End → Image
 trimmed c end = put_at (put_at c end.cut end.content) end.kept (node_spelling end.node)
 
 abbrev pub MayTrim : (Image → Type 0) → End → Image → Type 0
-MayTrim images end = MayPut (MayPut images end.cut end.content) end.kept (node_spelling end.node)
+MayTrim images end = MayPutBlock (MayPutBlock images end.cut end.content) end.kept (node_spelling end.node)
 
 -- ---- the root
 

@@ -7,15 +7,17 @@ use Rattle.cfs_base.specs.Run.{Tells}
 use Rattle.cfs_base.specs.declared.disk.Disk.{Ghosts}
 use Rattle.cfs_base.specs.declared.refusal.Damage.{Damage}
 use Rattle.cfs_base.specs.declared.refusal.Refused.{Refused}
-use Rattle.cyl_alloc.specs.Space.{AreCounts, IsBadMap, Kept}
+use Rattle.cyl_alloc.specs.Space.{IsBadMap, IsMiscounted, Kept}
+use Rattle.cyl_map.specs.Volume.{map_of}
 use Rattle.normal_files.specs.Steps.{HasCome}
 use Rattle.cfs_base.specs.declared.refusal.Refused.TheVariants as refusals
 
 -- no Free block was found: a map is none, or has none where some were counted
 pub data IsNoSpace {D : Type 0} (g : Ghosts D) (old new : D) (kept : Kept) (damage : Damage) : Type 0 where
-  NoMap : damage.code ≡ no_entry → damage.block < g.blocks new → (Tells g old → IsBadMap (g.content new) damage.block)
+  NoMap : damage.code ≡ no_entry → damage.block ≡ map_of damage.block → damage.block < g.blocks new
+      → (Tells g old → IsBadMap (g.content new) damage.block)
       → IsNoSpace g old new kept damage
-  OtherCount : damage.code ≡ other_count → (Tells g old → ¬ AreCounts (g.content new) kept)
+  OtherCount : damage.code ≡ other_count → IsMiscounted (Tells g old) (g.content new) kept damage.block
       → IsNoSpace g old new kept damage
 
 -- a device call failed, or no Free block was found where there are some

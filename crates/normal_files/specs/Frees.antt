@@ -14,7 +14,7 @@ use Rattle.cfs_base.specs.declared.kind.Place.TheVariants.{Leaf, Node}
 use Rattle.cfs_base.specs.declared.refusal.Damage.{Damage}
 use Rattle.cfs_base.specs.declared.refusal.Refused.{Refused}
 use Rattle.cfs_base.specs.declared.refusal.Trouble.{Trouble}
-use Rattle.cyl_alloc.specs.Space.{AreCounts, IsBadMap, Kept, free_entry}
+use Rattle.cyl_alloc.specs.Space.{AreCounts, IsBadMap, Kept, unheld_entry}
 use Rattle.cyl_map.specs.Volume.{AreMaps, entry_in, is_free_in, map_of, map_with, with_entry}
 use Rattle.ufs_model.specs.Graph.{Graph}
 use Rattle.vol_image.specs.Frame.{Frames, IsLoose}
@@ -24,6 +24,7 @@ use Rattle.vol_image.specs.Sound.{Holds}
 use Rattle.vol_owners.specs.Change.{ChangesOnly, of_owner}
 use Rattle.normal_files.specs.Cuts.{IsCutRoot, first_gone, last_node}
 use Rattle.normal_files.specs.Laid.{leaf_of, node_of}
+use Rattle.leaf_changes.specs.Tops.{Top}
 use Rattle.normal_files.specs.Refusal.{IsDamage, IsRefusal}
 use Rattle.normal_files.specs.declared.cut.End.{End}
 use Rattle.ufs_model.specs.Object.{leaves_in}
@@ -33,19 +34,19 @@ use Rattle.block_tree.specs.declared.root.Root as roots
 -- ---- on any disk
 
 -- what is wrong: the map of a block is none, or a block of the file is damaged, as the disk is then
-pub data IsDropDamage {D : Type 0} (g : Ghosts D) (at : ℕ) (start new : D) (damage : Damage) : Type 0 where
-  NoMap : damage.code ≡ no_entry → (Tells g start → IsBadMap (g.content new) damage.block)
+pub data IsDropDamage {D : Type 0} (g : Ghosts D) (at : Top) (start new : D) (damage : Damage) : Type 0 where
+  NoMap : damage.code ≡ no_entry → damage.block ≡ map_of damage.block → (Tells g start → IsBadMap (g.content new) damage.block)
       → IsDropDamage g at start new damage
-  OfFile : (mid : D) → (Tells g start → Tells g mid) → g.content mid ≡ g.content new → IsDamage g at mid damage
-      → IsDropDamage g at start new damage
+  OfFile : (mid : D) → (Tells g start → Tells g mid) → g.content mid ≡ g.content new → g.blocks mid ≡ g.blocks new
+      → IsDamage g at mid damage → IsDropDamage g at start new damage
 
 -- a device call failed, or a block that was read is damaged
-abbrev pub IsDropTrouble : {D : Type 0} → Ghosts D → ℕ → D → D → Trouble → Type 0
+abbrev pub IsDropTrouble : {D : Type 0} → Ghosts D → Top → D → D → Trouble → Type 0
 IsDropTrouble g at start new (trouble.Disk tried) = HasStopped g tried start new
 IsDropTrouble g at start new (trouble.Damaged damage) = IsDropDamage g at start new damage
 
 -- the same, or a block that was read before any write is
-abbrev pub IsShrinkTrouble : {D : Type 0} → Ghosts D → ℕ → D → D → Trouble → Type 0
+abbrev pub IsShrinkTrouble : {D : Type 0} → Ghosts D → Top → D → D → Trouble → Type 0
 IsShrinkTrouble g at old new (trouble.Disk tried) = HasStopped g tried old new
 IsShrinkTrouble g at old new (trouble.Damaged damage) = IsDamage g at old damage ⊎ IsDropDamage g at old new damage
 
@@ -58,7 +59,7 @@ pub record HasBegun {D : Type 0} (g : Ghosts D) (start now : D) : Type 0 where
   pub tried : HasTried g start now
 
 -- at most n device calls are made, t of them writes, after such a start
-pub record Follows {D : Type 0} (g : Ghosts D) (at n t : ℕ) (old new : D) (before after : Kept)
+pub record FollowsStart {D : Type 0} (g : Ghosts D) (at : Top) (n t : ℕ) (old new : D) (before after : Kept)
     (result : Result (Unit {0}) Trouble) : Type 0 where
   pub told : OnOk result ((b : ℕ) → IsTrue (g.told old b) → IsTrue (g.told new b))
   pub stopped : (start : D) → HasBegun g start old → IfErr result (IsDropTrouble g at start new)
@@ -71,11 +72,11 @@ pub record Follows {D : Type 0} (g : Ghosts D) (at n t : ℕ) (old new : D) (bef
 pub record FreesBlock {D : Type 0} (g : Ghosts D) (block : ℕ) (old new : D) (before after : Kept)
     (result : Result (Unit {0}) Trouble) : Type 0 where
   pub none : block ≡ 0 → (new ≡ old) × (after ≡ before)
-  pub freed : block ≢ 0 → Tells g old → OnOk result (g.content new ≡ with_entry (g.content old) block free_entry)
+  pub freed : block ≢ 0 → Tells g old → OnOk result (g.content new ≡ with_entry (g.content old) block unheld_entry)
   pub counts : block ≢ 0 → Tells g old → AreCounts (g.content old) before → is_free_in (g.content old) block ≡ false
       → OnOk result (AreCounts (g.content new) after)
   pub images : block ≢ 0 → Tells g old
-      → Leaves g old new (Written (left_now g old) (map_of block) (map_with (g.content old) block free_entry))
+      → Leaves g old new (Written (left_now g old) (map_of block) (map_with (g.content old) block unheld_entry))
   pub sound : Tells g old → AreMaps (g.content old) → IfErr result (λ t. is_damage t ≡ false)
 
 -- ---- what the file had
@@ -159,6 +160,6 @@ GivesEnd root size end a next keep =
 abbrev pub TakesNone : Image → Image → Type 0
 TakesNone a c = (m : ℕ) → (entry_in c m ≡ entry_in a m) ⊎ (is_free_in c m ≡ true)
 
-abbrev pub IsResizeRefusal : {D : Type 0} → Ghosts D → (at floor : ℕ) → D → D → Kept → Refused → Type 0
+abbrev pub IsResizeRefusal : {D : Type 0} → Ghosts D → Top → (floor : ℕ) → D → D → Kept → Refused → Type 0
 IsResizeRefusal g at floor old new = IsRefusal g (λ damage. IsDamage g at old damage
     ⊎ IsDropDamage g at old new damage) floor old new

@@ -25,8 +25,8 @@ leaf_of image root n k = get_or (leaves_at image (node_of root n)) k 0
 abbrev pub leaves_of : Image → roots.Root → ℕ → Option Held
 leaves_of image root = leaf_in (tree_in image (root_spelling root))
 
-abbrev pub object_of : Image → roots.Root → Object
-object_of image root = object_with root (leaves_of image root)
+abbrev pub object_laid : Image → roots.Root → Object
+object_laid image root = object_with root (leaves_of image root)
 
 -- the block is one of the disk, and of this owner at this place
 pub record IsAt (image : Image) (owner : ℕ) (place : Place) (block : ℕ) : Type 0 where

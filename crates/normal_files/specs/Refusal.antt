@@ -1,36 +1,33 @@
 -- Why a call on a file is refused.
-use Rattle.std.specs.Prelude.{◌≡◌, ℕ, ◌+◌, ◌<◌, ◌≤◌, get_or, sum}
+use Rattle.std.specs.Prelude.{◌≡◌, ℕ, ◌+◌, ◌<◌, sum}
 use Rattle.cfs_base.specs.Calls.{HasStopped}
 use Rattle.cfs_base.specs.Codes.{no_root, past_disk}
-use Rattle.cfs_base.specs.Disk.{Image, block_at}
+use Rattle.cfs_base.specs.Disk.{block_at}
 use Rattle.cfs_base.specs.Run.{Tells}
 use Rattle.cfs_base.specs.declared.disk.Disk.{Ghosts}
 use Rattle.cfs_base.specs.declared.refusal.Damage.{Damage}
 use Rattle.cfs_base.specs.declared.refusal.Refused.{Refused}
 use Rattle.cfs_base.specs.declared.refusal.Trouble.{Trouble}
 use Rattle.cyl_alloc.specs.Space.{Kept}
-use Rattle.block_tree.specs.Pointers.{Level, leaf_pointers, pointers_of}
+use Rattle.block_tree.specs.Pointers.{leaf_pointers}
 use Rattle.block_tree.specs.Root.{IsRootBlock}
+use Rattle.leaf_changes.specs.Tops.{IsFarBlock, Top}
 use Rattle.cfs_base.specs.declared.refusal.Refused.TheVariants as refusals
 use Rattle.cfs_base.specs.declared.refusal.Trouble.TheVariants as trouble
 use Rattle.block_tree.specs.declared.root.Root as roots
 
--- a pointer in this block leads past a disk of this size
-abbrev pub IsFar : ℕ → Image → Level → ℕ → Type 0
-IsFar size image level block = (k : ℕ) × (size ≤ get_or (pointers_of level (block_at image block)) k 0)
-
--- what is wrong with the block that is named: the root block is none, or a pointer in it or in a node leads past the
--- disk
-pub data IsDamage {D : Type 0} (g : Ghosts D) (at : ℕ) (old : D) (damage : Damage) : Type 0 where
-  NoRoot : damage.code ≡ no_root → damage.block ≡ at
-      → (Tells g old → (root : roots.Root) → ¬ IsRootBlock (block_at (g.content old) at) root)
+-- What is wrong with the block that is named: the root block is none, or a pointer of the root that the call goes down
+-- from, or of a node, leads past the disk.
+pub data IsDamage {D : Type 0} (g : Ghosts D) (at : Top) (old : D) (damage : Damage) : Type 0 where
+  NoRoot : damage.code ≡ no_root → damage.block ≡ at.block
+      → (Tells g old → (root : roots.Root) → ¬ IsRootBlock (block_at (g.content old) at.block) root)
       → IsDamage g at old damage
-  FarRoot : damage.code ≡ past_disk → damage.block ≡ at → IsDamage g at old damage
-  FarNode : damage.code ≡ past_disk → (Tells g old → IsFar (g.blocks old) (g.content old) leaf_pointers damage.block)
-      → IsDamage g at old damage
+  FarRoot : damage.code ≡ past_disk → damage.block ≡ at.block → at.IsFar (g.blocks old) → IsDamage g at old damage
+  FarNode : damage.code ≡ past_disk
+      → (Tells g old → IsFarBlock (g.blocks old) (g.content old) leaf_pointers damage.block) → IsDamage g at old damage
 
 -- a device call failed, or a block that was read is damaged
-abbrev pub IsTrouble : {D : Type 0} → Ghosts D → ℕ → D → D → Trouble → Type 0
+abbrev pub IsTrouble : {D : Type 0} → Ghosts D → Top → D → D → Trouble → Type 0
 IsTrouble g at old new (trouble.Disk tried) = HasStopped g tried old new
 IsTrouble g at old new (trouble.Damaged damage) = IsDamage g at old damage
 

@@ -14,7 +14,7 @@ use Rattle.vol_image.specs.Seen.{tree_in}
 use Rattle.vol_image.specs.Sound.{Holds}
 use Rattle.vol_image.specs.Survives.{IsBetween}
 use Rattle.vol_owners.specs.Account.{Opened}
-use Rattle.normal_files.specs.View.{View, id_at}
+use Rattle.normal_files.specs.View.{FileView, id_at}
 use Rattle.vol_owners.specs.Change.{ChangesOnly, of_owner}
 use Rattle.cfs_base.specs.Run.{Leaves}
 use Rattle.block_tree.specs.declared.root.Root as roots
@@ -52,6 +52,7 @@ pub record IsPartly (image : Image) (graph : Graph) (id : Puid) (old new : File)
 -- how a call ends that changes a file into another: done, the store has that; done or not, a crash leaves what is
 -- between
 pub record Becomes {D E : Type 0} {g : Ghosts D} {block : ℕ} {root : roots.Root} {disk : D} {kept : Kept}
-    (v : View g block root disk kept) (to : File) (new : D) (after : Kept) (result : Result (Unit {0}) E) : Type 0 where
+    (v : FileView g block root disk kept) (to : File) (new : D) (after : Kept)
+    (result : Result (Unit {0}) E) : Type 0 where
   pub done : OnOk result (BecomesFile g v.graph v.drafts (id_at block v.word) to disk new after)
   pub images : Leaves g disk new (λ c. IsPartly c v.graph (id_at block v.word) v.file to)

@@ -48,9 +48,9 @@ pub record Stops {D : Type 0} (g : Ghosts D) (n t : ℕ) (old new : D) (e : Trou
   pub calls : MakesAtMost g n t old new
 
 -- how a call ends; what it gives tells whether a write was tried
-abbrev pub Comes : {D A : Type 0} → Ghosts D → (n t : ℕ) → D → D → Result A Trouble → (A → Bool) → Type 0
-Comes g n t old new (Ok x) tried = HasCome g n t (tried x) old new
-Comes g n t old new (Err e) tried = Stops g n t old new e
+abbrev pub ComesOrStops : {D A : Type 0} → Ghosts D → (n t : ℕ) → D → D → Result A Trouble → (A → Bool) → Type 0
+ComesOrStops g n t old new (Ok x) tried = HasCome g n t (tried x) old new
+ComesOrStops g n t old new (Err e) tried = Stops g n t old new e
 
 -- ---- a file on its way
 

@@ -155,9 +155,9 @@ Took {g = g} w offset bytes old new after (Err e) P =
     Leaves g w.start new (MayLeave w offset bytes) × (is_damaged e ≡ false)
 
 -- so it ends wherever blocks may be taken
-abbrev pub Takes : {D A : Type 0} → Ghosts D → (block offset : ℕ) → (bytes : List ℕ) → D → D → Kept → Kept
+abbrev pub TakesBlocks : {D A : Type 0} → Ghosts D → (block offset : ℕ) → (bytes : List ℕ) → D → D → Kept → Kept
     → Result A Refused → (Image → Image → A → Type 0) → Type 0
-Takes g block offset bytes old new before after result P =
+TakesBlocks g block offset bytes old new before after result P =
     (w : Way g block) → MayTake w offset bytes old before → Took w offset bytes old new after result P
 
 -- ---- both parts

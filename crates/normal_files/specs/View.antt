@@ -9,7 +9,7 @@ use Rattle.ufs_model.specs.declared.object.File.{File}
 use Rattle.ufs_model.specs.Graph.{Graph, object_at}
 use Rattle.vol_image.specs.Sound.{Holds}
 use Rattle.vol_owners.specs.Account.{Opened, drafts_of}
-use Rattle.normal_files.specs.Laid.{IsRooted, object_of}
+use Rattle.normal_files.specs.Laid.{IsRooted, object_laid}
 use Rattle.block_tree.specs.declared.root.Root as roots
 use Rattle.ufs_model.specs.declared.object.Object.TheVariants as objects
 
@@ -22,11 +22,11 @@ pub record HasFile (a : Image) (graph : Graph) (id : Puid) (f : File) (root : ro
   pub holds : Holds a graph
   pub at : object_at graph id ≡ Some (objects.File f)
   pub rooted : IsRooted a id root
-  pub same : object_of a root ≡ objects.File f
+  pub same : object_laid a root ≡ objects.File f
   pub blocks : AreBlocks a
 
 -- the store has a file without a draft, with this root in this block
-pub record View {D : Type 0} (g : Ghosts D) (block : ℕ) (root : roots.Root) (disk : D) (kept : Kept) : Type 0 where
+pub record FileView {D : Type 0} (g : Ghosts D) (block : ℕ) (root : roots.Root) (disk : D) (kept : Kept) : Type 0 where
   pub graph : Graph
   pub drafts : List Opened
   pub word : ℕ
@@ -45,6 +45,6 @@ pub record Way {D : Type 0} (g : Ghosts D) (block : ℕ) : Type 0 where
   pub has : HasFile (g.content start) graph (id_at block word) file root
 
 abbrev pub way_of : {D : Type 0} {g : Ghosts D} {block : ℕ} {root : roots.Root} {disk : D} {kept : Kept}
-    → View g block root disk kept → Way g block
+    → FileView g block root disk kept → Way g block
 way_of {root = root} {disk = disk} v =
     record { graph = v.graph; word = v.word; file = v.file; root = root; start = disk; has = v.has }

@@ -7,12 +7,14 @@ use Rattle.ufs_model.specs.declared.object.File.{File}
 use Rattle.ufs_model.specs.Numbers.{branches, missing}
 use Rattle.ufs_model.specs.Object.{held_levels, touched}
 use Rattle.normal_files.specs.Ends.{IsNoSpace}
+use Rattle.leaf_changes.specs.Tops.{Top}
 use Rattle.normal_files.specs.Refusal.{IsDamage, IsRefusal}
 use Rattle.cfs_base.specs.declared.refusal.Refused.TheVariants as refusals
 use Rattle.ufs_model.specs.declared.object.Object.TheVariants as objects
 
 -- of a write; `after` is what was counted Free at its end
-abbrev pub IsWriteRefusal : {D : Type 0} → Ghosts D → (at floor : ℕ) → D → D → (before after : Kept) → Refused → Type 0
+abbrev pub IsWriteRefusal : {D : Type 0} → Ghosts D → Top → (floor : ℕ) → D → D → (before after : Kept) → Refused
+    → Type 0
 IsWriteRefusal g at floor old new before after =
     IsRefusal g (λ damage. IsDamage g at old damage ⊎ IsNoSpace g old new after damage) floor old new before
 

@@ -10,20 +10,20 @@ use Rattle.normal_files.specs.Ends.{is_damaged}
 use Rattle.normal_files.specs.Order.{claims_of}
 use Rattle.normal_files.specs.Parts.{IsPart}
 use Rattle.normal_files.specs.Standing.{Becomes}
-use Rattle.normal_files.specs.View.{View}
+use Rattle.normal_files.specs.View.{FileView}
 use Rattle.normal_files.specs.declared.part.Part.{Part}
 use Rattle.block_tree.specs.declared.root.Root as roots
 
 -- the bytes lie within the file, and these parts are of it
 pub record IsWritable {D : Type 0} {g : Ghosts D} {block : ℕ} {root : roots.Root} {disk : D} {kept : Kept}
-    (v : View g block root disk kept) (offset : ℕ) (bytes : List ℕ) (low high : Part) : Type 0 where
+    (v : FileView g block root disk kept) (offset : ℕ) (bytes : List ℕ) (low high : Part) : Type 0 where
   pub inside : offset + length bytes ≤ length v.file.bytes
   pub low_is : IsPart (g.content disk) root low
   pub high_is : IsPart (g.content disk) root high
 
 -- how a write ends
-pub record Wrote {D : Type 0} {g : Ghosts D} {block : ℕ} {root : roots.Root} {disk : D} {kept : Kept}
-    (v : View g block root disk kept) (offset : ℕ) (bytes : List ℕ) (new : D) (after : Kept)
+pub record WroteFile {D : Type 0} {g : Ghosts D} {block : ℕ} {root : roots.Root} {disk : D} {kept : Kept}
+    (v : FileView g block root disk kept) (offset : ℕ) (bytes : List ℕ) (new : D) (after : Kept)
     (result : Result (Unit {0}) Refused) : Type 0 where
   pub file : Becomes v (written v.file offset bytes) new after result
   pub settled : OnOk result (IsSettled g new)

@@ -63,7 +63,7 @@ fn take_leaf<D: Disk>(
     requires some { at.0 ≢ 0 }
     requires below { leaf < leaf_limit }
     ensures takes { (offset : ℕ) (bytes : List ℕ)
-        → spec.Takes D.Disk at.0 offset bytes disk.old disk.new space.old space.new
+        → spec.TakesBlocks D.Disk at.0 offset bytes disk.old disk.new space.old space.new
         result (λ a c taken. spec.TakesLeaf a c at.0 leaf held block taken.leaf taken.node content.now) }
     ensures near { block < D.blocks disk.old → IfOk result (λ taken. taken.node < D.blocks disk.old) }
     ensures ends { Finishes D.Disk 5 3 (spec.leaf_takes held) disk.old disk.new space.old space.new result (λ taken.
@@ -106,9 +106,9 @@ impl Part {
         requires from { self.now.leaves.from ≤ leaf }
         requires to { leaf < self.now.leaves.to }
         ensures takes { (d : D) (kept : Kept)
-            → spec.Takes D.Disk at.0 offset bytes.now d disk.old kept space.old (Ok next)
+            → spec.TakesBlocks D.Disk at.0 offset bytes.now d disk.old kept space.old (Ok next)
             (λ a c now. spec.HasTaken a c at.0 fill offset bytes.now self.now had leaf now)
-            → spec.Takes D.Disk at.0 offset bytes.now d disk.new kept space.new result
+            → spec.TakesBlocks D.Disk at.0 offset bytes.now d disk.new kept space.new result
             (λ a c now. spec.HasTaken a c at.0 fill offset bytes.now self.now had (leaf + 1) now) }
         ensures near { next.block < D.blocks disk.old → IfOk result (λ more. more.block < D.blocks disk.old) }
         ensures ends { spec.Passes D.Disk had self.now.own.leaves leaf next disk.old disk.new space.old space.new
@@ -153,7 +153,7 @@ impl Part {
         requires read { IsReadPart (D.blocks disk.old) self.now }
         requires near { self.now.leaves.from < self.now.leaves.to
             → node_of root.now self.now.number < D.blocks disk.old }
-        ensures takes { spec.Takes D.Disk at.0 offset bytes.now disk.old disk.new space.old space.new result
+        ensures takes { spec.TakesBlocks D.Disk at.0 offset bytes.now disk.old disk.new space.old space.new result
             (λ a c next.
             spec.HasTaken a c at.0 root.now.fill offset bytes.now self.now (node_of root.now self.now.number)
             self.now.leaves.to next) }
@@ -195,7 +195,7 @@ impl Part {
         requires read { IsReadPart (D.blocks disk.old) self.now }
         requires near { self.now.leaves.from < self.now.leaves.to
             → node_of root.now self.now.number < D.blocks disk.old }
-        ensures takes { spec.Takes D.Disk at.0 offset bytes.now disk.old disk.new space.old space.new result
+        ensures takes { spec.TakesBlocks D.Disk at.0 offset bytes.now disk.old disk.new space.old space.new result
             (λ a c next.
             spec.HasTaken a c at.0 root.now.fill offset bytes.now self.now (node_of root.now self.now.number)
             self.now.leaves.to next × spec.IsWhole c (node_of root.now self.now.number) next) }

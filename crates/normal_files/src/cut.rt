@@ -11,6 +11,7 @@ ghost use Rattle.cfs_base.specs.Refusals.{trouble_had_tried};
 ghost use Rattle.cfs_base.specs.Run.{IsSettled, Leaves as LeavesOf, Tells, left_now};
 ghost use Rattle.cfs_base.specs.declared.refusal.Trouble.TheVariants as troubles;
 ghost use Rattle.leaf_changes.specs.Bytes.{cut};
+ghost use Rattle.leaf_changes.specs.Tops.{root_top};
 ghost use Rattle.normal_files.specs.Cuts as spec;
 ghost use Rattle.normal_files.specs.Laid.{node_of};
 ghost use Rattle.block_tree.specs.Reads.{IsNear, is_damage};
@@ -93,7 +94,7 @@ pub(crate) fn read_end<D: Disk>(
     requires size { size ≤ size_limit }
     ensures read { IfOk result (spec.IsReadEnd (D.blocks disk.old) root.now size) }
     ensures end { Tells D.Disk disk.old → IfOk result (spec.IsEnd (D.content disk.old) root.now size) }
-    ensures refused { IfErr result (IsTrouble D.Disk at.0 disk.old disk.new) }
+    ensures refused { IfErr result (IsTrouble D.Disk (root_top at.0 root.now) disk.old disk.new) }
     ensures untried { IfErr result (λ trouble. trouble_had_tried trouble ≡ false) }
     ensures sound { Tells D.Disk disk.old
         → IsNear (D.blocks disk.old) (D.content disk.old) (node_of root.now (spec.last_node size))
@@ -128,7 +129,7 @@ fn put_at<D: Disk>(disk: &mut D, block: u32, content: &Block) -> Result<(), Trou
     requires { block < D.blocks disk.old }
     ensures done { OnOk result (D.content disk.new ≡ spec.put_at (D.content disk.old) block content.now) }
     ensures told { OnOk result ((b : ℕ) → IsTrue (D.told disk.old b) → IsTrue (D.told disk.new b)) }
-    ensures images { LeavesOf D.Disk disk.old disk.new (spec.MayPut (left_now D.Disk disk.old) block content.now) }
+    ensures images { LeavesOf D.Disk disk.old disk.new (spec.MayPutBlock (left_now D.Disk disk.old) block content.now) }
     ensures tried { IfErr result (λ t. t ≡ troubles.Disk true) }
     ensures stopped { IfErr result (HasStoppedBy D.Disk disk.old disk.new) }
     ensures calls { MakesAtMost D.Disk 1 1 disk.old disk.new }

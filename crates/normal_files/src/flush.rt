@@ -3,7 +3,7 @@ ghost use Rattle.std.specs.Prelude.{◌≡◌, ℕ, IfErr, IsTrue, OnOk, true};
 ghost use Rattle.cfs_base.specs.Disk.{Nothing};
 ghost use Rattle.cfs_base.specs.Run.{IsSettled, Leaves as LeavesOf};
 ghost use Rattle.cfs_base.specs.declared.refusal.Trouble.TheVariants as troubles;
-ghost use Rattle.normal_files.specs.Steps.{Comes};
+ghost use Rattle.normal_files.specs.Steps.{ComesOrStops};
 
 use cfs_base::{Disk, Trouble};
 
@@ -14,7 +14,7 @@ pub(crate) fn flush<D: Disk>(disk: &mut D) -> Result<(), Trouble>
     ensures told { (n : ℕ) → IsTrue (D.told disk.old n) → IsTrue (D.told disk.new n) }
     ensures images { LeavesOf D.Disk disk.old disk.new Nothing }
     ensures failed { IfErr result (λ t. t ≡ troubles.Disk true) }
-    ensures ends { Comes D.Disk 1 1 disk.old disk.new result (λ done. true) }
+    ensures ends { ComesOrStops D.Disk 1 1 disk.old disk.new result (λ done. true) }
 {
     match disk.barrier() {
         Ok(()) => Ok(()),

@@ -2,6 +2,7 @@
 ghost use Rattle.std.specs.Prelude.{◌≡◌, ◌+◌, ◌*◌, ◌<◌, ◌≤◌, ◌==◌, if◌then◌else◌, length};
 ghost use Rattle.std.specs.List.{All};
 ghost use Rattle.block_tree.specs.Pointers.{leaf_limit, leaf_pointers, node_pointers, size_limit};
+ghost use Rattle.leaf_changes.specs.Tops.{root_top, still_top};
 ghost use Rattle.normal_files.specs.Cuts.{IsReadEnd, last_node as node_at};
 ghost use Rattle.normal_files.specs.Frees as spec;
 ghost use Rattle.ufs_model.specs.Object.{leaves_in as leaves_of};
@@ -17,7 +18,7 @@ fn free<D: Disk>(disk: &mut D, space: &mut Space, at: BlockNo, block: u32) -> Re
     requires size { D.blocks disk.old ≡ 64 * length space.old.free }
     requires on_disk { block < D.blocks disk.old }
     ensures frees { spec.FreesBlock D.Disk block disk.old disk.new space.old space.new result }
-    ensures follows { spec.Follows D.Disk at.0 2 1 disk.old disk.new space.old space.new result }
+    ensures follows { spec.FollowsStart D.Disk (still_top at.0) 2 1 disk.old disk.new space.old space.new result }
 {
     if block == 0 {
         return Ok(());
@@ -44,7 +45,8 @@ fn free_leaves<D: Disk>(
     ensures frees { spec.FreesTo D.Disk root.now (spec.GivesLeaves root.now node.now.leaves number from)
         (leaf_pointers.count * number + from) number
         (leaf_pointers.count * number + leaf_pointers.count) number disk.old disk.new space.old space.new result }
-    ensures follows { spec.Follows D.Disk at.0 256 leaf_pointers.count disk.old disk.new space.old space.new result }
+    ensures follows { spec.FollowsStart D.Disk (still_top at.0) 256 leaf_pointers.count disk.old disk.new
+        space.old space.new result }
 {
     for place in from..LEAVES as u32 {
         match free(disk, space, at, node.leaves[place as usize]) {
@@ -69,7 +71,8 @@ fn free_node<D: Disk>(
     ensures frees { spec.FreesTo D.Disk root.now (spec.GivesNode number)
         (leaf_pointers.count * number) number
         (leaf_pointers.count * number + leaf_pointers.count) (number + 1) disk.old disk.new space.old space.new result }
-    ensures follows { spec.Follows D.Disk at.0 259 129 disk.old disk.new space.old space.new result }
+    ensures follows { spec.FollowsStart D.Disk (root_top at.0 root.now) 259 129 disk.old disk.new space.old space.new
+        result }
 {
     let block = root.nodes[number as usize];
     let node = match read_node(disk, block, at) {
@@ -96,7 +99,9 @@ fn free_nodes<D: Disk>(
     requires from { from ≤ node_pointers.count }
     ensures frees { spec.FreesTo D.Disk root.now (spec.GivesNodes from)
         (leaf_pointers.count * from) from leaf_limit node_pointers.count disk.old disk.new space.old space.new result }
-    ensures follows { spec.Follows D.Disk at.0 31080 15480 disk.old disk.new space.old space.new result }
+    ensures follows { spec.FollowsStart D.Disk (root_top at.0 root.now) 31080 15480 disk.old disk.new space.old
+        space.new
+        result }
 {
     for number in from..NODES as u32 {
         match free_node(disk, space, at, root, number) {
@@ -132,7 +137,9 @@ pub(crate) fn free_past<D: Disk>(
     requires read { IsReadEnd (D.blocks disk.old) root.now size end.now }
     ensures frees { spec.FreesTo D.Disk root.now (spec.GivesEnd root.now size end.now)
         (leaves_of size) (node_at size) leaf_limit node_pointers.count disk.old disk.new space.old space.new result }
-    ensures follows { spec.Follows D.Disk at.0 31338 15609 disk.old disk.new space.old space.new result }
+    ensures follows { spec.FollowsStart D.Disk (root_top at.0 root.now) 31338 15609 disk.old disk.new space.old
+        space.new
+        result }
 {
     let keep = leaves_in(size);
     let last = last_node(size);

@@ -5,8 +5,8 @@ ghost use Rattle.cfs_base.specs.Run.{IsSettled};
 ghost use Rattle.cyl_alloc.specs.Space.{Kept};
 ghost use Rattle.normal_files.specs.Frees.{TakesNone};
 ghost use Rattle.normal_files.specs.Standing.{Becomes};
-ghost use Rattle.normal_files.specs.Steps.{Comes};
-ghost use Rattle.normal_files.specs.View.{View};
+ghost use Rattle.normal_files.specs.Steps.{ComesOrStops};
+ghost use Rattle.normal_files.specs.View.{FileView};
 ghost use Rattle.ufs_model.specs.Object.{resized};
 
 use crate::flush::flush;
@@ -23,10 +23,10 @@ pub(crate) fn grow<D: Disk>(
 ) -> Result<(), Trouble>
     requires at { at.0 < D.blocks disk.old }
     requires allowed { size ≤ size_limit }
-    ensures grown { (kept : Kept) (v : View D.Disk at.0 root.now disk.old kept) → length v.file.bytes ≤ size
+    ensures grown { (kept : Kept) (v : FileView D.Disk at.0 root.now disk.old kept) → length v.file.bytes ≤ size
         → Becomes v (resized v.file size) disk.new kept result
         × OnOk result (IsSettled D.Disk disk.new × TakesNone (D.content disk.old) (D.content disk.new)) }
-    ensures ends { Comes D.Disk 2 2 disk.old disk.new result (λ done. true) }
+    ensures ends { ComesOrStops D.Disk 2 2 disk.old disk.new result (λ done. true) }
 {
     let mut next = *root;
     next.size = size;

@@ -12,7 +12,7 @@ ghost use Rattle.leaf_changes.specs.Bytes.{patched as patched_with};
 ghost use Rattle.normal_files.specs.Parts.{IsPart, IsReadPart};
 ghost use Rattle.ufs_model.specs.Object.{leaves_in};
 ghost use Rattle.block_tree.specs.Reads.{HasStoppedBy};
-ghost use Rattle.normal_files.specs.Steps.{Comes, IsAmid, Puts, WritesBlock, told_after};
+ghost use Rattle.normal_files.specs.Steps.{ComesOrStops, IsAmid, Puts, WritesBlock, told_after};
 ghost use Rattle.normal_files.specs.View.{Way};
 
 use crate::part::Part;
@@ -122,7 +122,7 @@ impl Part {
         ensures puts { (block : ℕ) (w : Way D.Disk block) (kept : Kept) → IsPart (D.content w.start) w.root self.now
             → IsAmid w offset bytes.now leaf disk.old kept
             → Puts w offset bytes.now (leaf + 1) disk.old disk.new kept result }
-        ensures ends { Comes D.Disk 2 1 disk.old disk.new result (λ tried. tried) }
+        ensures ends { ComesOrStops D.Disk 2 1 disk.old disk.new result (λ tried. tried) }
         ensures size { D.blocks disk.new ≡ D.blocks disk.old }
     {
         let block = self.own.leaves[leaf as usize % LEAVES];
@@ -144,7 +144,7 @@ impl Part {
         ensures puts { (block : ℕ) (w : Way D.Disk block) (kept : Kept) → IsPart (D.content w.start) w.root self.now
             → IsAmid w offset bytes.now self.now.leaves.from disk.old kept
             → Puts w offset bytes.now self.now.leaves.to disk.old disk.new kept result }
-        ensures ends { Comes D.Disk (2 * (self.now.leaves.to - self.now.leaves.from))
+        ensures ends { ComesOrStops D.Disk (2 * (self.now.leaves.to - self.now.leaves.from))
             (self.now.leaves.to - self.now.leaves.from) disk.old disk.new result (λ tried. tried) }
         ensures size { D.blocks disk.new ≡ D.blocks disk.old }
     {

@@ -3,7 +3,7 @@ ghost use Rattle.std.specs.Prelude.{◌≡◌, ◌<◌, true, set, IfOk, OnOk};
 ghost use Rattle.block_tree.specs.Pointers.{node_pointers};
 ghost use Rattle.cfs_base.specs.Run.{IsSettled, Leaves as LeavesOf};
 ghost use Rattle.normal_files.specs.Links.{linked_image, linked_root};
-ghost use Rattle.normal_files.specs.Steps.{Comes};
+ghost use Rattle.normal_files.specs.Steps.{ComesOrStops};
 
 use crate::flush::flush;
 use crate::in_place::{after, write_block};
@@ -23,7 +23,7 @@ pub(crate) fn write_through<D: Disk>(
         × IsSettled D.Disk disk.new) }
     ensures images { IsSettled D.Disk disk.old
         → LeavesOf D.Disk disk.old disk.new (λ c. c ≡ set (D.content disk.old) block content.now) }
-    ensures ends { Comes D.Disk 2 2 disk.old disk.new result (λ done. true) }
+    ensures ends { ComesOrStops D.Disk 2 2 disk.old disk.new result (λ done. true) }
 {
     match write_block(disk, block, content) {
         Ok(()) => {}
@@ -53,7 +53,7 @@ pub(crate) fn link<D: Disk>(
         × IsSettled D.Disk disk.new) }
     ensures images { IsSettled D.Disk disk.old
         → LeavesOf D.Disk disk.old disk.new (λ c. c ≡ linked_image (D.content disk.old) at.0 root.now number next.now) }
-    ensures ends { Comes D.Disk 2 2 disk.old disk.new result (λ led. next.now.grown) }
+    ensures ends { ComesOrStops D.Disk 2 2 disk.old disk.new result (λ led. next.now.grown) }
 {
     if !next.grown {
         return Ok(*root);

@@ -4,6 +4,7 @@ ghost use Rattle.block_tree.specs.Pointers.{leaf_pointers, node_pointers};
 ghost use Rattle.cfs_base.specs.Calls.{OnlyReads};
 ghost use Rattle.cfs_base.specs.Refusals.{trouble_had_tried};
 ghost use Rattle.cfs_base.specs.Run.{Tells};
+ghost use Rattle.leaf_changes.specs.Tops.{root_top};
 ghost use Rattle.normal_files.specs.Laid.{node_of};
 ghost use Rattle.block_tree.specs.Reads.{IsNear, is_damage};
 ghost use Rattle.normal_files.specs.Parts as spec;
@@ -54,7 +55,7 @@ impl Part {
             × (part.leaves.to ≡ min touched.to (leaf_pointers.count * number + leaf_pointers.count))) }
         ensures there { IfOk result (λ part. part.leaves.from < part.leaves.to
             → node_of root.now number < D.blocks disk.old) }
-        ensures refused { IfErr result (IsTrouble D.Disk at.0 disk.old disk.new) }
+        ensures refused { IfErr result (IsTrouble D.Disk (root_top at.0 root.now) disk.old disk.new) }
         ensures untried { IfErr result (λ trouble. trouble_had_tried trouble ≡ false) }
         ensures sound { Tells D.Disk disk.old → IsNear (D.blocks disk.old) (D.content disk.old)
             (node_of root.now number)

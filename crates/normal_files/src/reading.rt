@@ -4,6 +4,7 @@ ghost use Rattle.block_tree.specs.Pointers.{size_limit};
 ghost use Rattle.cfs_base.specs.Calls.{OnlyReads};
 ghost use Rattle.cfs_base.specs.Refusals.{trouble_had_tried};
 ghost use Rattle.cfs_base.specs.Run.{Tells};
+ghost use Rattle.leaf_changes.specs.Tops.{root_top};
 ghost use Rattle.block_tree.specs.Reads.{is_damage};
 ghost use Rattle.normal_files.specs.Refusal.{IsTrouble};
 ghost use Rattle.normal_files.specs.Standing.{IsFileAt, IsRootAt};
@@ -30,7 +31,7 @@ pub fn read<D: Disk>(
         → IsRootAt (D.content disk.old) at.0 root.now → offset + length into.old ≤ length f.bytes
         → OnOk result (into.new ≡ slice_range f.bytes offset (offset + length into.old)) }
     ensures long { length into.new ≡ length into.old }
-    ensures refused { IfErr result (IsTrouble D.Disk at.0 disk.old disk.new) }
+    ensures refused { IfErr result (IsTrouble D.Disk (root_top at.0 root.now) disk.old disk.new) }
     ensures untried { IfErr result (λ trouble. trouble_had_tried trouble ≡ false) }
     ensures sound { (f : files.File) → Tells D.Disk disk.old → IsFileAt (D.content disk.old) at.0 f
         → IsRootAt (D.content disk.old) at.0 root.now → IfErr result (λ trouble. is_damage trouble ≡ false) }

@@ -3,6 +3,7 @@ ghost use Rattle.std.specs.Prelude.{◌≡◌, ◌+◌, ◌*◌, ◌<◌, ◌≤
 ghost use Rattle.block_tree.specs.Pointers.{size_limit};
 ghost use Rattle.cfs_base.specs.Calls.{MakesAtMost, OnlyReads};
 ghost use Rattle.cfs_base.specs.declared.refusal.Refused.TheVariants as refusals;
+ghost use Rattle.leaf_changes.specs.Tops.{disk_top};
 ghost use Rattle.normal_files.specs.Calls.{Handed, ResizesFile};
 ghost use Rattle.normal_files.specs.Frees.{IsResizeRefusal};
 ghost use Rattle.normal_files.specs.WriteRefusal.{TellsNeed, is_untried};
@@ -35,7 +36,8 @@ pub fn resize<D: Disk>(
     ensures full { IfErr result (TellsNeed 0) }
     // Where a write was tried so many were Free.
     ensures begun { IfErr result (λ e. e ≡ refusals.Disk true → floor ≤ sum space.old.free) }
-    ensures refused { IfErr result (IsResizeRefusal D.Disk at.0 floor disk.old disk.new space.old) }
+    ensures refused { IfErr result (IsResizeRefusal D.Disk (disk_top D.Disk at.0 disk.old) floor disk.old disk.new
+        space.old) }
     // Where nothing was tried, all is as it was.
     ensures untried { IfErr result (λ e. is_untried e ≡ true → (space.new ≡ space.old)
         × OnlyReads D.Disk 3 disk.old disk.new) }

@@ -3,11 +3,12 @@ ghost use Rattle.std.specs.Prelude.{◌≡◌, ◌*◌, ◌+◌, ◌<◌, ◌≤
 ghost use Rattle.block_tree.specs.Pointers.{size_limit};
 ghost use Rattle.cfs_base.specs.Calls.{MakesAtMost, OnlyReads};
 ghost use Rattle.cfs_base.specs.declared.refusal.Trouble.TheVariants as troubles;
+ghost use Rattle.leaf_changes.specs.Tops.{root_top};
 ghost use Rattle.normal_files.specs.Cuts as spec;
 ghost use Rattle.normal_files.specs.Frees.{IsShrinkTrouble, TakesNone};
 ghost use Rattle.block_tree.specs.Reads.{is_damage};
 ghost use Rattle.normal_files.specs.Standing.{Becomes};
-ghost use Rattle.normal_files.specs.View.{View};
+ghost use Rattle.normal_files.specs.View.{FileView};
 ghost use Rattle.ufs_model.specs.Object.{resized};
 
 use crate::cut::{End, cut_root, last_node, read_end, trim};
@@ -40,11 +41,11 @@ pub(crate) fn shrink<D: Disk>(
     requires size { D.blocks disk.old ≡ 64 * length space.old.free }
     requires on_disk { at.0 < D.blocks disk.old }
     requires allowed { size ≤ size_limit }
-    ensures shrunk { (v : View D.Disk at.0 root.now disk.old space.old) → size < length v.file.bytes
+    ensures shrunk { (v : FileView D.Disk at.0 root.now disk.old space.old) → size < length v.file.bytes
         → Becomes v (resized v.file size) disk.new space.new result
         × OnOk result (TakesNone (D.content disk.old) (D.content disk.new))
         × IfErr result (λ t. is_damage t ≡ false) }
-    ensures refused { IfErr result (IsShrinkTrouble D.Disk at.0 disk.old disk.new) }
+    ensures refused { IfErr result (IsShrinkTrouble D.Disk (root_top at.0 root.now) disk.old disk.new) }
     ensures untried { IfErr result (λ t. t ≡ troubles.Disk false → (space.new ≡ space.old)
         × OnlyReads D.Disk 2 disk.old disk.new) }
     ensures cylinders { length space.new.free ≡ length space.old.free }

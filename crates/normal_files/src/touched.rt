@@ -4,6 +4,7 @@ ghost use Rattle.block_tree.specs.Pointers.{size_limit};
 ghost use Rattle.cfs_base.specs.Calls.{OnlyReads};
 ghost use Rattle.cfs_base.specs.Refusals.{trouble_had_tried};
 ghost use Rattle.cfs_base.specs.Run.{Tells};
+ghost use Rattle.leaf_changes.specs.Tops.{root_top};
 ghost use Rattle.normal_files.specs.Laid.{node_of};
 ghost use Rattle.normal_files.specs.Parts.{AreParts, IsPart};
 ghost use Rattle.block_tree.specs.Reads.{is_damage};
@@ -44,7 +45,7 @@ impl Touched {
         ensures high_near { IfOk result (λ t. t.high.leaves.from < t.high.leaves.to
             → node_of root.now t.high.number < D.blocks disk.old) }
         ensures few { IfOk result (λ t. t.high.leaves.to ≤ t.low.leaves.from + 9) }
-        ensures refused { IfErr result (IsTrouble D.Disk at.0 disk.old disk.new) }
+        ensures refused { IfErr result (IsTrouble D.Disk (root_top at.0 root.now) disk.old disk.new) }
         ensures untried { IfErr result (λ trouble. trouble_had_tried trouble ≡ false) }
         ensures sound { (f : files.File) → Tells D.Disk disk.old → IsFileAt (D.content disk.old) at.0 f
             → IsRootAt (D.content disk.old) at.0 root.now → IfErr result (λ trouble. is_damage trouble ≡ false) }

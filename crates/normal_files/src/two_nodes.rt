@@ -6,7 +6,7 @@ ghost use Rattle.normal_files.specs.Ends.{Finishes};
 ghost use Rattle.normal_files.specs.Laid.{node_of};
 ghost use Rattle.normal_files.specs.Links.{linked_image, linked_root};
 ghost use Rattle.normal_files.specs.Parts.{IsReadPart, part_need};
-ghost use Rattle.normal_files.specs.Steps.{Comes};
+ghost use Rattle.normal_files.specs.Steps.{ComesOrStops};
 ghost use Rattle.normal_files.specs.Takes as spec;
 
 use crate::absent::refused;
@@ -43,7 +43,8 @@ pub(crate) fn take_both<D: Disk>(
     requires low_near { low.now.leaves.from < low.now.leaves.to → node_of root.now low.now.number < D.blocks disk.old }
     requires high_near { high.now.leaves.from < high.now.leaves.to
         → node_of root.now high.now.number < D.blocks disk.old }
-    ensures takes { spec.Takes D.Disk at.0 offset bytes.now disk.old disk.new space.old space.new result (λ a c both.
+    ensures takes { spec.TakesBlocks D.Disk at.0 offset bytes.now disk.old disk.new space.old space.new result
+        (λ a c both.
         spec.TakesBoth a c at.0 root.now.fill offset bytes.now low.now (node_of root.now low.now.number) both.low
         high.now (node_of root.now high.now.number) both.high) }
     ensures low_near { IfOk result (λ both. both.low.grown ≡ true → both.low.block < D.blocks disk.old) }
@@ -92,7 +93,8 @@ pub(crate) fn link_both<D: Disk>(
         (c ≡ linked_image (D.content disk.old) at.0 root.now low both.now.low)
         ⊎ (c ≡ linked_image (linked_image (D.content disk.old) at.0 root.now low both.now.low) at.0
         (linked_root root.now low both.now.low) high both.now.high)) }
-    ensures ends { Comes D.Disk 4 4 disk.old disk.new result (λ done. both.now.low.grown || both.now.high.grown) }
+    ensures ends { ComesOrStops D.Disk 4 4 disk.old disk.new result
+        (λ done. both.now.low.grown || both.now.high.grown) }
 {
     let led = match link(disk, at, root, low, &both.low) {
         Ok(led) => led,

@@ -6,16 +6,17 @@ ghost use Rattle.cfs_base.specs.Calls.{MakesAtMost, OnlyReads};
 ghost use Rattle.cfs_base.specs.Run.{IsSettled, Leaves as LeavesOf, Tells};
 ghost use Rattle.cfs_base.specs.declared.refusal.Trouble.TheVariants as troubles;
 ghost use Rattle.cyl_alloc.specs.Space.{Kept};
+ghost use Rattle.leaf_changes.specs.Tops.{root_top};
 ghost use Rattle.normal_files.specs.Calls.{Handed, WritesFile};
 ghost use Rattle.normal_files.specs.Ends.{Finishes};
 ghost use Rattle.normal_files.specs.Laid.{node_of};
 ghost use Rattle.normal_files.specs.Links.{linked_image, linked_root};
 ghost use Rattle.normal_files.specs.Parts.{AreParts, IsPart, part_need};
 ghost use Rattle.normal_files.specs.Standing.{IsRootAt};
-ghost use Rattle.normal_files.specs.Steps.{Comes, IsAmid, Puts};
+ghost use Rattle.normal_files.specs.Steps.{ComesOrStops, IsAmid, Puts};
 ghost use Rattle.normal_files.specs.WriteRefusal.{IsWriteRefusal, is_untried};
-ghost use Rattle.normal_files.specs.View.{View, Way};
-ghost use Rattle.normal_files.specs.Writes.{IsWritable, Wrote};
+ghost use Rattle.normal_files.specs.View.{FileView, Way};
+ghost use Rattle.normal_files.specs.Writes.{IsWritable, WroteFile};
 ghost use Rattle.ufs_model.specs.Object.{leaves_in};
 
 use crate::absent::refused;
@@ -42,7 +43,7 @@ fn put_both<D: Disk>(
         → IsAmid w offset bytes.now (offset / 512) disk.old kept
         → IsPart (D.content w.start) w.root low.now → IsPart (D.content w.start) w.root high.now
         → Puts w offset bytes.now (leaves_in (offset + length bytes.now)) disk.old disk.new kept result }
-    ensures ends { Comes D.Disk (2 * (high.now.leaves.to - low.now.leaves.from))
+    ensures ends { ComesOrStops D.Disk (2 * (high.now.leaves.to - low.now.leaves.from))
         (high.now.leaves.to - low.now.leaves.from)
         disk.old disk.new result (λ tried. tried) }
     ensures size { D.blocks disk.new ≡ D.blocks disk.old }
@@ -79,7 +80,7 @@ fn end_write<D: Disk>(
         ⊎ (c ≡ linked_image (linked_image (D.content disk.old) at.0 root.now low both.now.low) at.0
         (linked_root root.now low both.now.low) high both.now.high)) }
     ensures failed { IfErr result (λ t. t ≡ troubles.Disk true) }
-    ensures ends { Comes D.Disk 5 5 disk.old disk.new result (λ done. true) }
+    ensures ends { ComesOrStops D.Disk 5 5 disk.old disk.new result (λ done. true) }
 {
     match flush(disk) {
         Ok(()) => {}
@@ -112,8 +113,9 @@ pub(crate) fn write_parts<D: Disk>(
     requires high_near { high.now.leaves.from < high.now.leaves.to
         → node_of root.now high.now.number < D.blocks disk.old }
     requires room { part_need root.now low.now + part_need root.now high.now ≤ sum space.old.free }
-    ensures writes { (v : View D.Disk at.0 root.now disk.old space.old) → IsWritable v offset bytes.now low.now high.now
-        → Wrote v offset bytes.now disk.new space.new result }
+    ensures writes { (v : FileView D.Disk at.0 root.now disk.old space.old)
+        → IsWritable v offset bytes.now low.now high.now
+        → WroteFile v offset bytes.now disk.new space.new result }
     ensures ends { Finishes D.Disk (7 * (high.now.leaves.to - low.now.leaves.from) + 7)
         (4 * (high.now.leaves.to - low.now.leaves.from) + 7) (part_need root.now low.now + part_need root.now high.now)
         disk.old disk.new space.old space.new result (λ done. true) }
@@ -155,7 +157,8 @@ pub fn write<D: Disk>(
     ensures writes { (h : Handed D.Disk at.0 disk.old space.old) → IsRootAt (D.content disk.old) at.0 root.now
         → offset + length bytes.now ≤ length h.file.bytes
         → WritesFile h offset bytes.now floor disk.new space.new result }
-    ensures refused { IfErr result (IsWriteRefusal D.Disk at.0 floor disk.old disk.new space.old space.new) }
+    ensures refused { IfErr result (IsWriteRefusal D.Disk (root_top at.0 root.now) floor disk.old disk.new
+        space.old space.new) }
     // Where nothing was tried, all is as it was.
     ensures untried { IfErr result (λ e. is_untried e ≡ true → (space.new ≡ space.old)
         × OnlyReads D.Disk 72 disk.old disk.new) }

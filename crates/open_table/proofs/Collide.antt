@@ -1,12 +1,12 @@
 -- Grants that stand beside one another.
 use Rattle.std.proofs.Common.{◌≡◌, List, [], ◌∷◌, ◌++◌, refl, ap, ◌∙◌, Option, Some, None, Bool, true, false, cond, not, ◌&&◌}
-use Rattle.open_table.proofs.Words.{Grant, Mode, and_parts, collides, conflicts, find, list_all, list_any, mode_in, none_collide, option_map, or_parts, same_puid, same_tuid, tuids_differ}
+use Rattle.open_table.proofs.Words.{Grant, Mode, and_parts, collides, conflicts, find, list_all, list_any, open_mode, none_collide, option_map, or_parts, same_puid, same_tuid, tuids_differ}
 use Rattle.open_table.proofs.Lists.{not_true, same_puid-trans, collides-sym, one_mode}
 
 -- ---- what a grant collides with
 
 -- it collides with the first on its object, where the modes conflict
-pub collides-first : (grants : List Grant) (g : Grant) (m : Mode) → mode_in grants g.id ≡ Some m → conflicts g.mode m ≡ true → option_map (λ h. h.mode) (find (collides g) grants) ≡ Some m
+pub collides-first : (grants : List Grant) (g : Grant) (m : Mode) → open_mode grants g.id ≡ Some m → conflicts g.mode m ≡ true → option_map (λ h. h.mode) (find (collides g) grants) ≡ Some m
 collides-first [] g m there conflict = cc
 collides-first (h ∷ grants) g m there conflict =
     elim (same_puid g.id h.id) as (λ s. option_map (λ h. h.mode) (cond s (Some h) (find (λ g'. same_puid g.id g'.id) grants)) ≡ Some m
@@ -16,7 +16,7 @@ collides-first (h ∷ grants) g m there conflict =
     ] there
 
 -- and with none where none is on its object
-pub collides-none : (grants : List Grant) (g : Grant) → mode_in grants g.id ≡ None → find (collides g) grants ≡ None
+pub collides-none : (grants : List Grant) (g : Grant) → open_mode grants g.id ≡ None → find (collides g) grants ≡ None
 collides-none [] g none = refl
 collides-none (h ∷ grants) g none =
     elim (same_puid g.id h.id) as (λ s. option_map (λ h. h.mode) (cond s (Some h) (find (λ g'. same_puid g.id g'.id) grants)) ≡ None
@@ -34,7 +34,7 @@ beside (x ∷ grants) g h same mode all =
     let none : collides g x ≡ false = alike ∙ not_true (collides h x) parts.0 in
     rw none (beside grants g h same mode parts.1)
 
-pub collides-shared : (grants : List Grant) (g : Grant) (m : Mode) → none_collide grants ≡ true → mode_in grants g.id ≡ Some m → conflicts g.mode m ≡ false → find (collides g) grants ≡ None
+pub collides-shared : (grants : List Grant) (g : Grant) (m : Mode) → none_collide grants ≡ true → open_mode grants g.id ≡ Some m → conflicts g.mode m ≡ false → find (collides g) grants ≡ None
 collides-shared [] g m apart there shared = cc
 collides-shared (h ∷ grants) g m apart there shared =
     let parts = and_parts (list_all (λ x. not (collides h x)) grants) (none_collide grants) apart in

@@ -1,6 +1,6 @@
 -- Lists of grants.
 use Rattle.std.proofs.Common.{◌≡◌, ◌≢◌, ℕ, suc, ◌<◌, ◌≤◌, List, [], ◌∷◌, ◌++◌, length, refl, sym, ap, ◌∙◌, arith, Option, Some, None, Bool, true, false, cond, not, ◌&&◌, eqb, Result, Ok, Err, append-nil}
-use Rattle.open_table.proofs.Words.{Grant, Mode, OnErr, OnOk, Puid, Reading, Tuid, Writing, and_parts, collides, conflicts, filter, filter-append, find, first_of, grant_in, grants_of, is_grant, mode_in, nat_tests, option_map, same_puid, same_tuid, slice_get, without_grant, without_session}
+use Rattle.open_table.proofs.Words.{Grant, Mode, OnErr, OnOk, Puid, Reading, Tuid, Writing, and_parts, collides, conflicts, filter, filter-append, find, first_grant, session_grant, grants_of, is_session_grant, open_mode, nat_tests, option_map, same_puid, same_tuid, slice_get, without_grant, without_session}
 
 -- ---- tests
 
@@ -42,18 +42,18 @@ one_mode Writing Writing h = cc
 -- ---- a session's own grants
 
 -- one of them is found as among all
-pub find-grants_of : (grants : List Grant) (who : ℕ) (t : Tuid) → find (λ g. same_tuid g.tuid t) (grants_of grants who) ≡ grant_in grants who t
+pub find-grants_of : (grants : List Grant) (who : ℕ) (t : Tuid) → find (λ g. same_tuid g.tuid t) (grants_of grants who) ≡ session_grant grants who t
 find-grants_of [] who t = refl
 find-grants_of (g ∷ grants) who t =
-    elim (eqb g.session who) as (λ s. find (λ g. same_tuid g.tuid t) (cond s (g ∷ grants_of grants who) (grants_of grants who)) ≡ cond (s && same_tuid g.tuid t) (Some g) (grant_in grants who t)) [
+    elim (eqb g.session who) as (λ s. find (λ g. same_tuid g.tuid t) (cond s (g ∷ grants_of grants who) (grants_of grants who)) ≡ cond (s && same_tuid g.tuid t) (Some g) (session_grant grants who t)) [
       | true ↦ ap (λ rest. cond (same_tuid g.tuid t) (Some g) rest) (find-grants_of grants who t)
       | false ↦ find-grants_of grants who t
     ]
 
-pub first-grants_of : (grants : List Grant) (who : ℕ) → slice_get (grants_of grants who) 0 ≡ first_of grants who
+pub first-grants_of : (grants : List Grant) (who : ℕ) → slice_get (grants_of grants who) 0 ≡ first_grant grants who
 first-grants_of [] who = refl
 first-grants_of (g ∷ grants) who =
-    elim (eqb g.session who) as (λ s. slice_get (cond s (g ∷ grants_of grants who) (grants_of grants who)) 0 ≡ cond s (Some g) (first_of grants who)) [
+    elim (eqb g.session who) as (λ s. slice_get (cond s (g ∷ grants_of grants who) (grants_of grants who)) 0 ≡ cond s (Some g) (first_grant grants who)) [
       | true ↦ refl
       | false ↦ first-grants_of grants who
     ]
@@ -76,7 +76,7 @@ grants_of-without_grant (g ∷ grants) who t =
 pub grants_of-without_other : (grants : List Grant) (who other : ℕ) (t : Tuid) → other ≢ who → grants_of (without_grant grants who t) other ≡ grants_of grants other
 grants_of-without_other [] who other t apart = refl
 grants_of-without_other (g ∷ grants) who other t apart =
-    elim (is_grant who t g) as (λ k. is_grant who t g ≡ k → grants_of (cond (not k) (g ∷ without_grant grants who t) (without_grant grants who t)) other ≡ grants_of (g ∷ grants) other) [
+    elim (is_session_grant who t g) as (λ k. is_session_grant who t g ≡ k → grants_of (cond (not k) (g ∷ without_grant grants who t) (without_grant grants who t)) other ≡ grants_of (g ∷ grants) other) [
       | true ↦ λ is.
           let not_own : eqb g.session other ≡ false = grind (arith, nat_tests, and_parts (eqb g.session who) (same_tuid g.tuid t) is) in
           rw not_own (grants_of-without_other grants who other t apart)
@@ -88,34 +88,34 @@ grants_of-without_other (g ∷ grants) who other t apart =
 pub without_session-without_grant : (grants : List Grant) (who : ℕ) (t : Tuid) → without_session (without_grant grants who t) who ≡ without_session grants who
 without_session-without_grant [] who t = refl
 without_session-without_grant (g ∷ grants) who t =
-    elim (is_grant who t g) as (λ k. is_grant who t g ≡ k → without_session (cond (not k) (g ∷ without_grant grants who t) (without_grant grants who t)) who ≡ without_session (g ∷ grants) who) [
+    elim (is_session_grant who t g) as (λ k. is_session_grant who t g ≡ k → without_session (cond (not k) (g ∷ without_grant grants who t) (without_grant grants who t)) who ≡ without_session (g ∷ grants) who) [
       | true ↦ λ is. rw (and_parts (eqb g.session who) (same_tuid g.tuid t) is).0 (without_session-without_grant grants who t)
       | false ↦ λ is. ap (λ rest. cond (not (eqb g.session who)) (g ∷ rest) rest) (without_session-without_grant grants who t)
     ] refl
 
-pub without_session-none : (grants : List Grant) (who : ℕ) → first_of grants who ≡ None → without_session grants who ≡ grants
+pub without_session-none : (grants : List Grant) (who : ℕ) → first_grant grants who ≡ None → without_session grants who ≡ grants
 without_session-none [] who none = refl
 without_session-none (g ∷ grants) who none =
-    elim (eqb g.session who) as (λ s. cond s (Some g) (first_of grants who) ≡ None → cond (not s) (g ∷ without_session grants who) (without_session grants who) ≡ g ∷ grants) [
+    elim (eqb g.session who) as (λ s. cond s (Some g) (first_grant grants who) ≡ None → cond (not s) (g ∷ without_session grants who) (without_session grants who) ≡ g ∷ grants) [
       | true ↦ λ found. cc
       | false ↦ λ rest. ap (λ rest. g ∷ rest) (without_session-none grants who rest)
     ] none
 
-pub grants_of-none : (grants : List Grant) (who : ℕ) → first_of grants who ≡ None → grants_of grants who ≡ []
+pub grants_of-none : (grants : List Grant) (who : ℕ) → first_grant grants who ≡ None → grants_of grants who ≡ []
 grants_of-none [] who none = refl
 grants_of-none (g ∷ grants) who none =
-    elim (eqb g.session who) as (λ s. cond s (Some g) (first_of grants who) ≡ None → cond s (g ∷ grants_of grants who) (grants_of grants who) ≡ []) [
+    elim (eqb g.session who) as (λ s. cond s (Some g) (first_grant grants who) ≡ None → cond s (g ∷ grants_of grants who) (grants_of grants who) ≡ []) [
       | true ↦ λ found. cc
       | false ↦ λ rest. grants_of-none grants who rest
     ] none
 
 -- the first of a session's grants is found by its identifier
-pub grant_in-first : (grants : List Grant) (who : ℕ) (g : Grant) → first_of grants who ≡ Some g → grant_in grants who g.tuid ≡ Some g
-grant_in-first [] who g first = cc
-grant_in-first (h ∷ grants) who g first =
-    elim (eqb h.session who) as (λ s. cond s (Some h) (first_of grants who) ≡ Some g → cond (s && same_tuid h.tuid g.tuid) (Some h) (grant_in grants who g.tuid) ≡ Some g) [
+pub session_grant-first : (grants : List Grant) (who : ℕ) (g : Grant) → first_grant grants who ≡ Some g → session_grant grants who g.tuid ≡ Some g
+session_grant-first [] who g first = cc
+session_grant-first (h ∷ grants) who g first =
+    elim (eqb h.session who) as (λ s. cond s (Some h) (first_grant grants who) ≡ Some g → cond (s && same_tuid h.tuid g.tuid) (Some h) (session_grant grants who g.tuid) ≡ Some g) [
       | true ↦ λ here. let same : h ≡ g = cc in rw (← same, same_tuid-itself h.tuid) refl
-      | false ↦ λ later. grant_in-first grants who g later
+      | false ↦ λ later. session_grant-first grants who g later
     ] first
 
 -- ---- one more
@@ -131,9 +131,9 @@ grants_of-push grants g who =
     last true u same = rw (← same) refl
     last false u same = rw (← same) (append-nil (grants_of grants who))
 
-pub mode_in-push : (grants : List Grant) (g : Grant) (id : Puid) → find (collides g) grants ≡ None → mode_in (grants ++ g ∷ []) id ≡ cond (same_puid id g.id) (Some g.mode) (mode_in grants id)
-mode_in-push [] g id none = elim (same_puid id g.id) as (λ t. option_map (λ g. g.mode) (cond t (Some g) None) ≡ cond t (Some g.mode) None) [ true ↦ refl | false ↦ refl ]
-mode_in-push (h ∷ grants) g id none =
+pub open_mode-push : (grants : List Grant) (g : Grant) (id : Puid) → find (collides g) grants ≡ None → open_mode (grants ++ g ∷ []) id ≡ cond (same_puid id g.id) (Some g.mode) (open_mode grants id)
+open_mode-push [] g id none = elim (same_puid id g.id) as (λ t. option_map (λ g. g.mode) (cond t (Some g) None) ≡ cond t (Some g.mode) None) [ true ↦ refl | false ↦ refl ]
+open_mode-push (h ∷ grants) g id none =
     let parts = passed (collides g h) (find (collides g) grants) none in
     elim (same_puid id h.id) as (λ s. same_puid id h.id ≡ s
     → option_map (λ g. g.mode) (cond s (Some h) (find (λ g. same_puid id g.id) (grants ++ g ∷ []))) ≡ cond (same_puid id g.id) (Some g.mode) (option_map (λ g. g.mode) (cond s (Some h) (find (λ g. same_puid id g.id) grants)))) [
@@ -144,7 +144,7 @@ mode_in-push (h ∷ grants) g id none =
             ap Some (sym (one_mode g.mode h.mode free))
         | false ↦ λ other. refl
       ] refl
-      | false ↦ λ other. mode_in-push grants g id parts.1
+      | false ↦ λ other. open_mode-push grants g id parts.1
     ] refl
   where
     passed : (t : Bool) (rest : Option Grant) → cond t (Some h) rest ≡ None → (t ≡ false) × (rest ≡ None)
@@ -168,12 +168,12 @@ shorter p (h ∷ grants) g found =
       | false ↦ omega (arith, no_longer grants)
     ]
 
-pub grants_of-fewer : (grants : List Grant) (who : ℕ) (g : Grant) → first_of grants who ≡ Some g → length (grants_of (without_grant grants who g.tuid) who) < length (grants_of grants who)
+pub grants_of-fewer : (grants : List Grant) (who : ℕ) (g : Grant) → first_grant grants who ≡ Some g → length (grants_of (without_grant grants who g.tuid) who) < length (grants_of grants who)
 grants_of-fewer grants who g first =
-    rw (grants_of-without_grant grants who g.tuid) (shorter (λ h. same_tuid h.tuid g.tuid) (grants_of grants who) g (find-grants_of grants who g.tuid ∙ grant_in-first grants who g first))
+    rw (grants_of-without_grant grants who g.tuid) (shorter (λ h. same_tuid h.tuid g.tuid) (grants_of grants who) g (find-grants_of grants who g.tuid ∙ session_grant-first grants who g first))
 
 -- it is closed, whatever the answer looks like
-pub first-closed : {E : Type 0} (r : Result Grant E) (old new : List Grant) (who : ℕ) (g : Grant) → first_of old who ≡ Some g → OnOk r (new ≡ without_grant old who g.tuid) → OnErr r (grant_in old who g.tuid ≡ None)
+pub first-closed : {E : Type 0} (r : Result Grant E) (old new : List Grant) (who : ℕ) (g : Grant) → first_grant old who ≡ Some g → OnOk r (new ≡ without_grant old who g.tuid) → OnErr r (session_grant old who g.tuid ≡ None)
     → new ≡ without_grant old who g.tuid
 first-closed (Ok closed) old new who g first done none = done
-first-closed (Err e) old new who g first done none = let found = grant_in-first old who g first in cc
+first-closed (Err e) old new who g first done none = let found = session_grant-first old who g first in cc

@@ -1,6 +1,6 @@
 -- The model's grants without their drafts.
 use Rattle.std.proofs.Common.{◌≡◌, suc, List, [], ◌∷◌, length, refl, sym, ap, ◌∙◌, Some, Bool, true, false, cond, not, ◌&&◌, ◌||◌, is_some}
-use Rattle.open_table.proofs.Words.{Grant, Mode, Puid, Reading, Writing, and_parts, collides, conflicts, filter, find, is_writing, list_all, list_any, mode_in, none_collide, option_map, same_puid, shown, table_of}
+use Rattle.open_table.proofs.Words.{Grant, Mode, Puid, Reading, Writing, and_parts, collides, conflicts, filter, find, is_writing, list_all, list_any, open_mode, none_collide, option_map, same_puid, shown, table_of}
 use Rattle.ufs_model.specs.declared.object.Grant as models
 use Rattle.open_table.proofs.Lists.{not_true, same_puid-trans}
 
@@ -70,7 +70,7 @@ no_writer (h ∷ grants) g id reading same all =
     rw (sym alike ∙ not_true (collides g (shown h)) parts.0) (no_writer grants g id reading same parts.1)
 
 pub open_for_writing : (grants : List models.Grant) (id : Puid) → none_collide (table_of grants) ≡ true
-    → is_writing (mode_in (table_of grants) id) ≡ list_any (λ g. same_puid id g.id && not (is_for_reading g.mode)) grants
+    → is_writing (open_mode (table_of grants) id) ≡ list_any (λ g. same_puid id g.id && not (is_for_reading g.mode)) grants
 open_for_writing [] id apart = refl
 open_for_writing (g ∷ grants) id apart =
     let parts = and_parts (list_all (λ x. not (collides (shown g) x)) (table_of grants)) (none_collide (table_of grants)) apart in

@@ -1,7 +1,7 @@
 -- The tables beside the list.
 use Rattle.std.proofs.Common.{◌≡◌, ℕ, ◌+◌, ◌<◌, ◌≤◌, ◌^◌, List, [], ◌∷◌, ◌++◌, length, refl, sym, ap, ◌∙◌, arith, Option, Some, None, true, false, cond, eqb, leb, length-append}
-use Rattle.open_table.proofs.Words.{Grant, IsTied, MOST_GRANTS, Mode, Puid, collides, conflicts, find, grants_of, is_held, list_all, list_any, mode_against, nat_tests, option_map, same_puid, same_tuid, then_some}
-use Rattle.open_table.proofs.Lists.{grants_of-push, mode_in-push}
+use Rattle.open_table.proofs.Words.{Grant, IsTied, MOST_GRANTS, Mode, Puid, collides, conflicts, find, grants_of, is_grant_table, list_all, list_any, mode_against, nat_tests, option_map, same_puid, same_tuid, then_some}
+use Rattle.open_table.proofs.Lists.{grants_of-push, open_mode-push}
 use Rattle.open_table.proofs.Collide.{collides-first, collides-none, collides-shared, none_collide-push, tuids_differ-push}
 
 module _ {grants : List Grant} {own : ℕ → List Grant} {modes : Puid → Option Mode} (tied : IsTied grants own modes) where
@@ -24,7 +24,7 @@ module _ {grants : List Grant} {own : ℕ → List Grant} {modes : Puid → Opti
       → IsTied (grants ++ g ∷ []) own' modes'
   IsTied-more g against few new small own_is modes_is = record {
     own = λ who. own_is who ∙ ap (λ gs. cond (eqb who g.session) (gs ++ g ∷ []) gs) (tied.own who) ∙ sym (grants_of-push grants g who);
-    modes = λ id. modes_is id ∙ ap (λ m. cond (same_puid id g.id) (Some g.mode) m) (tied.modes id) ∙ sym (mode_in-push grants g id free);
+    modes = λ id. modes_is id ∙ ap (λ m. cond (same_puid id g.id) (Some g.mode) m) (tied.modes id) ∙ sym (open_mode-push grants g id free);
     few = λ who. rw (grants_of-push grants g who) (counted who);
     apart = none_collide-push grants g tied.apart free;
     tuids = tuids_differ-push grants g tied.tuids new;
@@ -49,8 +49,8 @@ module _ {grants : List Grant} {own : ℕ → List Grant} {modes : Puid → Opti
 
   -- ---- what holds of all
 
-  pub is_held-all : is_held grants ≡ true
-  is_held-all = rw (tied.apart, tied.tuids) (each grants)
+  pub is_grant_table-all : is_grant_table grants ≡ true
+  is_grant_table-all = rw (tied.apart, tied.tuids) (each grants)
     where
       each : (some : List Grant) → list_all (λ g. leb (length (grants_of grants g.session)) MOST_GRANTS) some ≡ true
       each [] = refl

@@ -1,6 +1,6 @@
 -- One grant less.
 use Rattle.std.proofs.Common.{◌≡◌, ◌≢◌, ℕ, ◌+◌, ◌≤◌, List, [], ◌∷◌, ◌++◌, length, refl, sym, ap, ◌∙◌, arith, Option, Some, None, Bool, true, false, cond, not, ◌&&◌, ◌||◌, eqb, length-append}
-use Rattle.open_table.proofs.Words.{Grant, IsTied, Mode, Puid, Tuid, and_parts, collides, conflicts, filter, filter-append, find, grant_in, grants_of, is_grant, list_all, list_any, mode_in, nat_tests, none_collide, option_map, or_parts, same_puid, same_tuid, tuids_differ, without_grant}
+use Rattle.open_table.proofs.Words.{Grant, IsTied, Mode, Puid, Tuid, and_parts, collides, conflicts, filter, filter-append, find, session_grant, grants_of, is_session_grant, list_all, list_any, open_mode, nat_tests, none_collide, option_map, or_parts, same_puid, same_tuid, tuids_differ, without_grant}
 use Rattle.open_table.proofs.Lists.{not_true, same_puid-sym, same_puid-trans, same_tuid-sym, same_tuid-trans, one_mode, grants_of-without_grant, grants_of-without_other}
 
 -- ---- where it stands
@@ -24,11 +24,11 @@ pub record IsSplit (grants : List Grant) (who : ℕ) (t : Tuid) (c : Grant) : Ty
   pub whole : grants ≡ front ++ c ∷ back
   pub left : without_grant grants who t ≡ front ++ back
 
-pub split : (grants : List Grant) (who : ℕ) (t : Tuid) (c : Grant) → tuids_differ grants ≡ true → grant_in grants who t ≡ Some c → IsSplit grants who t c
+pub split : (grants : List Grant) (who : ℕ) (t : Tuid) (c : Grant) → tuids_differ grants ≡ true → session_grant grants who t ≡ Some c → IsSplit grants who t c
 split [] who t c differ found = cc
 split (g ∷ grants) who t c differ found =
     let parts = and_parts (list_all (λ h. not (same_tuid g.tuid h.tuid)) grants) (tuids_differ grants) differ in
-    elim (is_grant who t g) as (λ k. is_grant who t g ≡ k → cond k (Some g) (grant_in grants who t) ≡ Some c → IsSplit (g ∷ grants) who t c) [
+    elim (is_session_grant who t g) as (λ k. is_session_grant who t g ≡ k → cond k (Some g) (session_grant grants who t) ≡ Some c → IsSplit (g ∷ grants) who t c) [
       | true ↦ λ is here.
           let same : g ≡ c = cc in
           record { front = []; back = grants; whole = ap (λ c. c ∷ grants) same; left = rw is (none_left grants g who t (and_parts (eqb g.session who) (same_tuid g.tuid t) is).1 parts.0) }
@@ -39,39 +39,39 @@ split (g ∷ grants) who t c differ found =
 
 -- ---- how objects are open without it
 
-mode_in-other : (front back : List Grant) (c : Grant) (id : Puid) → same_puid id c.id ≡ false → mode_in (front ++ back) id ≡ mode_in (front ++ c ∷ back) id
-mode_in-other [] back c id other = rw other refl
-mode_in-other (g ∷ front) back c id other =
+open_mode-other : (front back : List Grant) (c : Grant) (id : Puid) → same_puid id c.id ≡ false → open_mode (front ++ back) id ≡ open_mode (front ++ c ∷ back) id
+open_mode-other [] back c id other = rw other refl
+open_mode-other (g ∷ front) back c id other =
     elim (same_puid id g.id) as (λ s. option_map (λ h. h.mode) (cond s (Some g) (find (λ h. same_puid id h.id) (front ++ back))) ≡ option_map (λ h. h.mode) (cond s (Some g) (find (λ h. same_puid id h.id) (front ++ c ∷ back)))) [
       | true ↦ refl
-      | false ↦ mode_in-other front back c id other
+      | false ↦ open_mode-other front back c id other
     ]
 
 -- of the object that it opened, where none is left on it
-mode_in-gone : (grants : List Grant) (c : Grant) (id : Puid) → same_puid id c.id ≡ true → list_any (λ g. same_puid g.id c.id) grants ≡ false → mode_in grants id ≡ None
-mode_in-gone [] c id same gone = refl
-mode_in-gone (g ∷ grants) c id same gone =
+open_mode-gone : (grants : List Grant) (c : Grant) (id : Puid) → same_puid id c.id ≡ true → list_any (λ g. same_puid g.id c.id) grants ≡ false → open_mode grants id ≡ None
+open_mode-gone [] c id same gone = refl
+open_mode-gone (g ∷ grants) c id same gone =
     let parts = or_parts (same_puid g.id c.id) (list_any (λ g. same_puid g.id c.id) grants) gone in
     let other : same_puid id g.id ≡ false = same_puid-trans id c.id g.id same ∙ same_puid-sym c.id g.id ∙ parts.0 in
-    rw other (mode_in-gone grants c id same parts.1)
+    rw other (open_mode-gone grants c id same parts.1)
 
 -- and where others are left on it, which are in its mode
-mode_in-beside : (grants : List Grant) (c : Grant) (id : Puid) → same_puid id c.id ≡ true → list_all (λ x. not (collides c x)) grants ≡ true → list_any (λ g. same_puid g.id c.id) grants ≡ true → mode_in grants id ≡ Some c.mode
-mode_in-beside [] c id same all there = cc
-mode_in-beside (g ∷ grants) c id same all there =
+open_mode-beside : (grants : List Grant) (c : Grant) (id : Puid) → same_puid id c.id ≡ true → list_all (λ x. not (collides c x)) grants ≡ true → list_any (λ g. same_puid g.id c.id) grants ≡ true → open_mode grants id ≡ Some c.mode
+open_mode-beside [] c id same all there = cc
+open_mode-beside (g ∷ grants) c id same all there =
     let parts = and_parts (not (collides c g)) (list_all (λ x. not (collides c x)) grants) all in
     let alike : same_puid id g.id ≡ same_puid g.id c.id = same_puid-trans id c.id g.id same ∙ same_puid-sym c.id g.id in
-    elim (same_puid g.id c.id) as (λ s. same_puid g.id c.id ≡ s → (s || list_any (λ g. same_puid g.id c.id) grants) ≡ true → mode_in (g ∷ grants) id ≡ Some c.mode) [
+    elim (same_puid g.id c.id) as (λ s. same_puid g.id c.id ≡ s → (s || list_any (λ g. same_puid g.id c.id) grants) ≡ true → open_mode (g ∷ grants) id ≡ Some c.mode) [
       | true ↦ λ is here.
           let free : conflicts c.mode g.mode ≡ false = sym (ap (λ t. t && conflicts c.mode g.mode) (same_puid-sym c.id g.id ∙ is)) ∙ not_true (collides c g) parts.0 in
           rw (alike ∙ is) (ap Some (sym (one_mode c.mode g.mode free)))
-      | false ↦ λ is later. rw (alike ∙ is) (mode_in-beside grants c id same parts.1 later)
+      | false ↦ λ is later. rw (alike ∙ is) (open_mode-beside grants c id same parts.1 later)
     ] refl there
 
-mode_in-shared : (front back : List Grant) (c : Grant) (id : Puid) → same_puid id c.id ≡ true → none_collide (front ++ c ∷ back) ≡ true → list_any (λ g. same_puid g.id c.id) (front ++ back) ≡ true
-    → mode_in (front ++ back) id ≡ mode_in (front ++ c ∷ back) id
-mode_in-shared [] back c id same apart there = rw same (mode_in-beside back c id same (and_parts (list_all (λ x. not (collides c x)) back) (none_collide back) apart).0 there)
-mode_in-shared (g ∷ front) back c id same apart there =
+open_mode-shared : (front back : List Grant) (c : Grant) (id : Puid) → same_puid id c.id ≡ true → none_collide (front ++ c ∷ back) ≡ true → list_any (λ g. same_puid g.id c.id) (front ++ back) ≡ true
+    → open_mode (front ++ back) id ≡ open_mode (front ++ c ∷ back) id
+open_mode-shared [] back c id same apart there = rw same (open_mode-beside back c id same (and_parts (list_all (λ x. not (collides c x)) back) (none_collide back) apart).0 there)
+open_mode-shared (g ∷ front) back c id same apart there =
     let parts = and_parts (list_all (λ x. not (collides g x)) (front ++ c ∷ back)) (none_collide (front ++ c ∷ back)) apart in
     elim (same_puid id g.id) as (λ s. same_puid id g.id ≡ s
     → option_map (λ h. h.mode) (cond s (Some g) (find (λ h. same_puid id h.id) (front ++ back))) ≡ option_map (λ h. h.mode) (cond s (Some g) (find (λ h. same_puid id h.id) (front ++ c ∷ back)))) [
@@ -79,7 +79,7 @@ mode_in-shared (g ∷ front) back c id same apart there =
       | false ↦ λ other.
           let off : same_puid g.id c.id ≡ false = same_puid-sym g.id c.id ∙ sym (same_puid-trans id c.id g.id same) ∙ other in
           let rest : list_any (λ g. same_puid g.id c.id) (front ++ back) ≡ true = sym (ap (λ t. t || list_any (λ g. same_puid g.id c.id) (front ++ back)) off) ∙ there in
-          mode_in-shared front back c id same parts.1 rest
+          open_mode-shared front back c id same parts.1 rest
     ] refl
 
 -- ---- what holds of all still does
@@ -112,13 +112,13 @@ few-without front back c who =
 
 -- ---- the tables beside the list
 
-module _ {grants : List Grant} {own : ℕ → List Grant} {modes : Puid → Option Mode} (tied : IsTied grants own modes) (who : ℕ) (t : Tuid) (c : Grant) (found : grant_in grants who t ≡ Some c) where
+module _ {grants : List Grant} {own : ℕ → List Grant} {modes : Puid → Option Mode} (tied : IsTied grants own modes) (who : ℕ) (t : Tuid) (c : Grant) (found : session_grant grants who t ≡ Some c) where
   parts : IsSplit grants who t c
   parts = split grants who t c tied.tuids found
 
   -- what is told of all but the modes
   less : {own' : ℕ → List Grant} → ((q : ℕ) → own' q ≡ cond (eqb q who) (filter (λ g. not (same_tuid g.tuid t)) (own q)) (own q))
-      → {modes' : Puid → Option Mode} → ((id : Puid) → modes' id ≡ mode_in (without_grant grants who t) id)
+      → {modes' : Puid → Option Mode} → ((id : Puid) → modes' id ≡ open_mode (without_grant grants who t) id)
       → IsTied (without_grant grants who t) own' modes'
   less own_is modes_is = record {
     own = λ q. own_is q ∙ whose q (eqb q who) refl;
@@ -141,11 +141,11 @@ module _ {grants : List Grant} {own : ℕ → List Grant} {modes : Puid → Opti
   pub IsTied-shared : list_any (λ g. same_puid g.id c.id) (without_grant grants who t) ≡ true
       → {own' : ℕ → List Grant} → ((q : ℕ) → own' q ≡ cond (eqb q who) (filter (λ g. not (same_tuid g.tuid t)) (own q)) (own q))
       → IsTied (without_grant grants who t) own' modes
-  IsTied-shared there own_is = less own_is (λ id. tied.modes id ∙ ap (λ gs. mode_in gs id) parts.whole ∙ still id (same_puid id c.id) refl ∙ sym (ap (λ gs. mode_in gs id) parts.left))
+  IsTied-shared there own_is = less own_is (λ id. tied.modes id ∙ ap (λ gs. open_mode gs id) parts.whole ∙ still id (same_puid id c.id) refl ∙ sym (ap (λ gs. open_mode gs id) parts.left))
     where
-      still : (id : Puid) (s : Bool) → same_puid id c.id ≡ s → mode_in (parts.front ++ c ∷ parts.back) id ≡ mode_in (parts.front ++ parts.back) id
-      still id true same = sym (mode_in-shared parts.front parts.back c id same (sym (ap none_collide parts.whole) ∙ tied.apart) (sym (ap (λ gs. list_any (λ g. same_puid g.id c.id) gs) parts.left) ∙ there))
-      still id false other = sym (mode_in-other parts.front parts.back c id other)
+      still : (id : Puid) (s : Bool) → same_puid id c.id ≡ s → open_mode (parts.front ++ c ∷ parts.back) id ≡ open_mode (parts.front ++ parts.back) id
+      still id true same = sym (open_mode-shared parts.front parts.back c id same (sym (ap none_collide parts.whole) ∙ tied.apart) (sym (ap (λ gs. list_any (λ g. same_puid g.id c.id) gs) parts.left) ∙ there))
+      still id false other = sym (open_mode-other parts.front parts.back c id other)
 
   -- none is left on it
   pub IsTied-closed : list_any (λ g. same_puid g.id c.id) (without_grant grants who t) ≡ false
@@ -154,6 +154,6 @@ module _ {grants : List Grant} {own : ℕ → List Grant} {modes : Puid → Opti
       → IsTied (without_grant grants who t) own' modes'
   IsTied-closed gone own_is modes_is = less own_is (λ id. modes_is id ∙ still id (same_puid id c.id) refl)
     where
-      still : (id : Puid) (s : Bool) → same_puid id c.id ≡ s → cond s None (modes id) ≡ mode_in (without_grant grants who t) id
-      still id true same = sym (mode_in-gone (without_grant grants who t) c id same gone)
-      still id false other = tied.modes id ∙ ap (λ gs. mode_in gs id) parts.whole ∙ sym (mode_in-other parts.front parts.back c id other) ∙ sym (ap (λ gs. mode_in gs id) parts.left)
+      still : (id : Puid) (s : Bool) → same_puid id c.id ≡ s → cond s None (modes id) ≡ open_mode (without_grant grants who t) id
+      still id true same = sym (open_mode-gone (without_grant grants who t) c id same gone)
+      still id false other = tied.modes id ∙ ap (λ gs. open_mode gs id) parts.whole ∙ sym (open_mode-other parts.front parts.back c id other) ∙ sym (ap (λ gs. open_mode gs id) parts.left)

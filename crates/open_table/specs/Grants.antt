@@ -19,29 +19,29 @@ pub record Table : Type 0 where
 
 -- ---- what is found
 
-abbrev pub is_grant : ℕ → Tuid → Grant → Bool
-is_grant who t g = (g.session == who) && same_tuid g.tuid t
+abbrev pub is_session_grant : ℕ → Tuid → Grant → Bool
+is_session_grant who t g = (g.session == who) && same_tuid g.tuid t
 
 -- the session's grant of that identifier
-abbrev pub grant_in : List Grant → ℕ → Tuid → Option Grant
-grant_in grants who t = find (is_grant who t) grants
+abbrev pub session_grant : List Grant → ℕ → Tuid → Option Grant
+session_grant grants who t = find (is_session_grant who t) grants
 
 -- the session's grants
 abbrev pub grants_of : List Grant → ℕ → List Grant
 grants_of grants who = filter (λ g. g.session == who) grants
 
 -- the first of them
-abbrev pub first_of : List Grant → ℕ → Option Grant
-first_of grants who = find (λ g. g.session == who) grants
+abbrev pub first_grant : List Grant → ℕ → Option Grant
+first_grant grants who = find (λ g. g.session == who) grants
 
 -- how the object is open
-abbrev pub mode_in : List Grant → Puid → Option Mode
-mode_in grants id = option_map (λ g. g.mode) (find (λ g. same_puid id g.id) grants)
+abbrev pub open_mode : List Grant → Puid → Option Mode
+open_mode grants id = option_map (λ g. g.mode) (find (λ g. same_puid id g.id) grants)
 
 -- ---- what is left
 
 abbrev pub without_grant : List Grant → ℕ → Tuid → List Grant
-without_grant grants who t = filter (λ g. not (is_grant who t g)) grants
+without_grant grants who t = filter (λ g. not (is_session_grant who t g)) grants
 
 abbrev pub without_session : List Grant → ℕ → List Grant
 without_session grants who = filter (λ g. not (g.session == who)) grants
@@ -86,5 +86,5 @@ tuids_differ (g ∷ grants) = list_all (λ h. not (same_tuid g.tuid h.tuid)) gra
 abbrev pub few_each : List Grant → Bool
 few_each grants = list_all (λ g. nat_le (length (grants_of grants g.session)) MOST_GRANTS) grants
 
-abbrev pub is_held : List Grant → Bool
-is_held grants = none_collide grants && tuids_differ grants && few_each grants
+abbrev pub is_grant_table : List Grant → Bool
+is_grant_table grants = none_collide grants && tuids_differ grants && few_each grants

@@ -11,7 +11,7 @@ use Rattle.cfs_base.specs.declared.kind.Mode.{Mode}
 use Rattle.ufs_model.specs.declared.limits.TheConstants.{MOST_GRANTS}
 use Rattle.ufs_model.specs.Identifier.{same_tuid}
 use Rattle.open_table.specs.declared.grant.Grant.{Grant}
-use Rattle.open_table.specs.Grants.{grants_of, mode_in, none_collide, tuids_differ}
+use Rattle.open_table.specs.Grants.{grants_of, open_mode, none_collide, tuids_differ}
 
 abbrev pub Own : Type 0
 Own = HashMap ℕ (Vec Grant Global) (BuildHasherDefault FoldHasher)
@@ -41,7 +41,7 @@ mode_at m id = get same_key m (id.block, id.word)
 -- the tables tell what the list tells. No two grants collide or have one identifier, and no session has too many
 pub record IsTied (grants : List Grant) (sessions : ℕ → List Grant) (objects : Puid → Option Mode) : Type 0 where
   pub own : (who : ℕ) → sessions who ≡ grants_of grants who
-  pub modes : (id : Puid) → objects id ≡ mode_in grants id
+  pub modes : (id : Puid) → objects id ≡ open_mode grants id
   pub few : (who : ℕ) → length (grants_of grants who) ≤ MOST_GRANTS
   pub apart : none_collide grants ≡ true
   pub tuids : tuids_differ grants ≡ true

@@ -3,7 +3,8 @@ ghost use Rattle.std.specs.Prelude.{◌≡◌, ◌<◌, ◌++◌, [], ◌∷◌,
 ghost use Rattle.std.specs.Prelude.{IsTrue, IsOk, OnOk, OnErr, IfOk, IfErr};
 ghost use Rattle.std.specs.List.{list_any};
 ghost use Rattle.ufs_model.specs.Identifier.{same_puid, same_tuid};
-ghost use Rattle.open_table.specs.Grants.{grant_in, first_of, mode_in, without_grant, without_session, is_held};
+ghost use Rattle.open_table.specs.Grants.{session_grant, first_grant, open_mode, without_grant, without_session};
+ghost use Rattle.open_table.specs.Grants.{is_grant_table};
 ghost use Rattle.open_table.specs.Grants.{conflicts, mode_against, fault_of};
 
 use crate::objects::Objects;
@@ -113,7 +114,7 @@ impl Grants {
 
     /// The session's grant with this temporary identifier.
     pub fn find(&self, who: Session, tuid: Tuid) -> Option<Grant>
-        ensures { result ≡ grant_in self.now.grants who tuid }
+        ensures { result ≡ session_grant self.now.grants who tuid }
     {
         self.sessions.find(who, tuid)
     }
@@ -121,9 +122,9 @@ impl Grants {
     /// Takes the session's grant with this temporary identifier out, which goes over the list. Where there is none all
     /// stays as it was. Takes no memory.
     pub fn close(&mut self, who: Session, tuid: Tuid) -> Result<Grant, NoGrant>
-        ensures found { IfOk result (λ grant. grant_in self.old.grants who tuid ≡ Some grant) }
+        ensures found { IfOk result (λ grant. session_grant self.old.grants who tuid ≡ Some grant) }
         ensures grants { OnOk result (self.new.grants ≡ without_grant self.old.grants who tuid) }
-        ensures none { OnErr result (grant_in self.old.grants who tuid ≡ None) }
+        ensures none { OnErr result (session_grant self.old.grants who tuid ≡ None) }
         ensures err { OnErr result (self.new ≡ self.old) }
         ensures room { self.old.has_room ≡ true → self.new.has_room ≡ true }
     {
@@ -139,14 +140,14 @@ impl Grants {
 
     /// How an object is open. Grants on one object are all in one mode.
     pub fn mode_on(&self, id: Puid) -> Option<Mode>
-        ensures { result ≡ mode_in self.now.grants id }
+        ensures { result ≡ open_mode self.now.grants id }
     {
         self.objects.mode_on(id)
     }
 
     /// The first of the session's grants.
     pub fn next_of(&self, who: Session) -> Option<Grant>
-        ensures { result ≡ first_of self.now.grants who }
+        ensures { result ≡ first_grant self.now.grants who }
     {
         self.sessions.of(who).first().copied()
     }
@@ -165,7 +166,7 @@ impl Grants {
     /// The number of grants.
     pub fn len(&self) -> u32
         ensures len { result ≡ length self.now.grants }
-        ensures held { IsTrue (is_held self.now.grants) }
+        ensures held { IsTrue (is_grant_table self.now.grants) }
     {
         self.grants.len() as u32
     }

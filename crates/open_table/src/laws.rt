@@ -10,7 +10,8 @@ ghost use Rattle.ufs_model.specs.Outcome.{outcome_of};
 ghost use Rattle.ufs_model.specs.Word.{word};
 ghost use Rattle.ufs_model.specs.Refusal.{is_open, is_open_for_writing, is_locked, has_all_grants};
 ghost use Rattle.open_table.specs.declared.grant.Grant.{Grant};
-ghost use Rattle.open_table.specs.Grants.{grant_in, grants_of, mode_in, mode_against, without_grant, without_session};
+ghost use Rattle.open_table.specs.Grants.{session_grant, grants_of, open_mode, mode_against, without_grant};
+ghost use Rattle.open_table.specs.Grants.{without_session};
 ghost use Rattle.open_table.specs.Grants.{none_collide};
 ghost use Rattle.open_table.specs.Model.{shown, table_of, is_writing};
 
@@ -18,10 +19,10 @@ ghost use Rattle.open_table.specs.Model.{shown, table_of, is_writing};
 /// a closing and a leave make of it.
 pub fn table_follows_the_model()
     ensures found { (s : State) (who : ℕ) (t : Tuid)
-        → grant_in (table_of s.grants) who t ≡ option_map shown (grant_of s who t) }
-    ensures open { (s : State) (id : Puid) → is_some (mode_in (table_of s.grants) id) ≡ is_open s id }
+        → session_grant (table_of s.grants) who t ≡ option_map shown (grant_of s who t) }
+    ensures open { (s : State) (id : Puid) → is_some (open_mode (table_of s.grants) id) ≡ is_open s id }
     ensures written { (s : State) (id : Puid) → none_collide (table_of s.grants) ≡ true
-        → is_writing (mode_in (table_of s.grants) id) ≡ is_open_for_writing s id }
+        → is_writing (open_mode (table_of s.grants) id) ≡ is_open_for_writing s id }
     ensures locked { (s : State) (who : ℕ) (g : Grant)
         → is_some (mode_against (table_of s.grants) g) ≡ is_locked s who (asks.OpenFor g.id g.mode) }
     ensures full { (s : State) (who : ℕ) (id : Puid) (mode : Mode)

@@ -1,6 +1,6 @@
 -- What a crash leaves of a disk in memory after one call more.
 use Rattle.std.proofs.Common.{◌≡◌, ◌≢◌, ◌⊎◌, inl, inr, ⊎_elim, ℕ, ◌<◌, ◌≤◌, Bool, true, false, ◌||◌, nat_eq, List, [], length, set, refl, sym, ◌∙◌, ap, subst, arith, length-set, get_or-set_same, get_or-set_other, set-set, ext_get_or, Vec, Global}
-use Rattle.pair_disk.proofs.Words.{AreBlocks, Barrier, Block, History, Image, IsBlock, IsImage, KeptCall, LeavesOnly, Nothing, State, Torn, Write, after, block_at, cases_eq, clock, count_of, left_of, lifted, nat_tests, replay, set-get_or, state_now, unwritten}
+use Rattle.pair_disk.proofs.Words.{AreBlocks, Barrier, Block, History, Image, IsBlock, IsTornImage, KeptCall, LeavesOnly, Nothing, TornState, Torn, Write, torn_next, block_at, cases_eq, history_clock, count_of, history_left, lifted, nat_tests, replayed_writes, set-get_or, torn_now, unwritten}
 
 -- a number is itself, and no other
 is_self : (n : ℕ) (b : Bool) → (nat_eq n n || b) ≡ true
@@ -30,7 +30,7 @@ blocks_set image n b are is = λ k on.
     ]
 
 -- a torn block may have any bytes
-pub image_set : (s : State) (c : Image) (n : ℕ) (b : List ℕ) → IsImage s c → s.torn n ≡ true → (n < length c → IsBlock b) → IsImage s (set c n b)
+pub image_set : (s : TornState) (c : Image) (n : ℕ) (b : List ℕ) → IsTornImage s c → s.torn n ≡ true → (n < length c → IsBlock b) → IsTornImage s (set c n b)
 image_set s c n b is torn block =
     let P : List ℕ → Type 0 = IsBlock in
     let long : length (set c n b) ≡ length c = length-set c n b in
@@ -43,9 +43,9 @@ image_set s c n b is torn block =
       ];
     }
 
-module _ (s : State) (n : ℕ) (c : Image) (on : n < length c) (h : IsImage (after (Write n) s) c) where
+module _ (s : TornState) (n : ℕ) (c : Image) (on : n < length c) (h : IsTornImage (torn_next (Write n) s) c) where
   -- the block was torn before
-  was_torn : s.torn n ≡ true → IsImage s c
+  was_torn : s.torn n ≡ true → IsTornImage s c
   was_torn torn = record {
     size = h.size;
     whole = λ k whole. h.whole k (apart k n (s.torn k) (λ (e : k ≡ n). let same : s.torn k ≡ s.torn n = ap s.torn e in cc) ∙ whole);
@@ -53,7 +53,7 @@ module _ (s : State) (n : ℕ) (c : Image) (on : n < length c) (h : IsImage (aft
   }
 
   -- it is now
-  is_torn : s.torn n ≡ false → Torn (IsImage s) n c
+  is_torn : s.torn n ≡ false → Torn (IsTornImage s) n c
   is_torn whole =
       let P : List ℕ → Type 0 = IsBlock in
       let b : List ℕ = block_at s.base n in
@@ -74,7 +74,7 @@ module _ (s : State) (n : ℕ) (c : Image) (on : n < length c) (h : IsImage (aft
       )
 
   -- what a crash leaves after a write that was tried: what it left before, or that with the block torn
-  pub tried : IsImage s c ⊎ Torn (IsImage s) n c
+  pub tried : IsTornImage s c ⊎ Torn (IsTornImage s) n c
   tried = elim (cases_torn (s.torn n)) [ inl was ↦ inl (was_torn was) | inr whole ↦ inr (is_torn whole) ]
     where
       cases_torn : (b : Bool) → (b ≡ true) ⊎ (b ≡ false)
@@ -82,27 +82,27 @@ module _ (s : State) (n : ℕ) (c : Image) (on : n < length c) (h : IsImage (aft
       cases_torn false = inr refl
 
 -- after a barrier it leaves the content
-pub flushed : (s : State) (blocks : Vec Block Global) (c : Image) → IsImage (after (Barrier blocks) s) c → c ≡ blocks.items
+pub flushed : (s : TornState) (blocks : Vec Block Global) (c : Image) → IsTornImage (torn_next (Barrier blocks) s) c → c ≡ blocks.items
 flushed s blocks c h = ext_get_or [] c blocks.items h.size (λ n on. h.whole n refl)
 
 -- nothing was written yet
-pub fresh : (h : History) (t : ℕ) → h.kept.items ≡ [] → (c : Image) → left_of h t c → c ≡ h.first.items
+pub fresh : (h : History) (t : ℕ) → h.kept.items ≡ [] → (c : Image) → history_left h t c → c ≡ h.first.items
 fresh h t none c left =
-    let is = subst (λ (calls : List KeptCall). IsImage (replay (unwritten h.first.items) left.0 calls) c) none left.3 in
+    let is = subst (λ (calls : List KeptCall). IsTornImage (replayed_writes (unwritten h.first.items) left.0 calls) c) none left.3 in
     ext_get_or [] c h.first.items is.size (λ n on. is.whole n refl)
 
 -- what a history says of the disk that holds it
 module _ {D : Type 0} (history : D → History) where
   -- a write that was tried
-  pub writes : {old new : D} (n : ℕ) → n < count_of (history old) → LeavesOnly clock left_of (history old) (history new) (IsImage (after (Write n) (state_now (history old))))
-      → LeavesOnly (λ d. clock (history d)) (λ d. left_of (history d)) old new (Torn (left_of (history old) (clock (history old))) n)
-  writes {old} n on images = lifted clock left_of history images (λ c h.
-      let m : ℕ = clock (history old) in
-      let s : State = state_now (history old) in
+  pub writes : {old new : D} (n : ℕ) → n < count_of (history old) → LeavesOnly history_clock history_left (history old) (history new) (IsTornImage (torn_next (Write n) (torn_now (history old))))
+      → LeavesOnly (λ d. history_clock (history d)) (λ d. history_left (history d)) old new (Torn (history_left (history old) (history_clock (history old))) n)
+  writes {old} n on images = lifted history_clock history_left history images (λ c h.
+      let m : ℕ = history_clock (history old) in
+      let s : TornState = torn_now (history old) in
       ⊎_elim (λ is. inl (λ t le. (m, le, omega arith, is))) (λ torn. inr (torn.0, (m, omega arith, omega arith, torn.1), torn.2)) (tried s n c (omega (arith, on, h.size, ((history old).sized m).size)) h))
 
   -- a barrier
-  pub flushes : {old new : D} (blocks : Vec Block Global) → ((t : ℕ) → t ≤ clock (history old) → left_of (history old) t blocks.items) → LeavesOnly clock left_of (history old) (history new) (IsImage (after (Barrier blocks) (state_now (history old))))
-      → LeavesOnly (λ d. clock (history d)) (λ d. left_of (history d)) old new Nothing
+  pub flushes : {old new : D} (blocks : Vec Block Global) → ((t : ℕ) → t ≤ history_clock (history old) → history_left (history old) t blocks.items) → LeavesOnly history_clock history_left (history old) (history new) (IsTornImage (torn_next (Barrier blocks) (torn_now (history old))))
+      → LeavesOnly (λ d. history_clock (history d)) (λ d. history_left (history d)) old new Nothing
   flushes {old} blocks may images =
-      lifted clock left_of history images (λ c h. inl (λ t le. subst (left_of (history old) t) (sym (flushed (state_now (history old)) blocks c h)) (may t le)))
+      lifted history_clock history_left history images (λ c h. inl (λ t le. subst (history_left (history old) t) (sym (flushed (torn_now (history old)) blocks c h)) (may t le)))

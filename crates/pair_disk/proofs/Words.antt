@@ -5,11 +5,11 @@ pub use Rattle.cfs_base.specs.Disk.{AreBlocks, Image, IsBlock, IsSameDisk, Leave
 pub use Rattle.cfs_base.specs.Replay.{Left, after_before, all_before}
 pub use Rattle.cfs_base.specs.declared.block.Block.{Block}
 pub use Rattle.pair_disk.specs.Below.{ChangesPair, PutsBelow, Stays}
-pub use Rattle.pair_disk.specs.History.{clock, count_of, left_of, state_now}
+pub use Rattle.pair_disk.specs.History.{history_clock, count_of, history_left, torn_now}
 pub use Rattle.pair_disk.specs.Laws.{half_on, length-pairs, pairs-at}
 pub use Rattle.pair_disk.specs.Pair.{IsFlushed, PairLeft, gate_at, gate_for, half_at, other_half, shown_by, shown_half_of, shown_in, tells_both, tells_pair}
 unfoldable pub use Rattle.pair_disk.specs.Pair.{pairs_in}
-pub use Rattle.pair_disk.specs.Replay.{HasSize, IsImage, IsOfBlocks, State, after, made, made_at, may_tear, picked, replay, unwritten}
+pub use Rattle.pair_disk.specs.Replay.{HasSize, IsTornImage, IsOfBlocks, TornState, torn_next, torn_by, call_moment, may_tear, picked, replayed_writes, unwritten}
 pub use Rattle.pair_disk.specs.Stays.{stays_image}
 pub use Rattle.pair_disk.specs.Torn.{Torn}
 pub use Rattle.pair_disk.specs.declared.half.Half.{Half}

@@ -3,19 +3,19 @@ use Rattle.std.specs.Prelude.{◌≡◌, ℕ, List}
 use Rattle.cfs_base.specs.Disk.{Image}
 use Rattle.pair_disk.specs.declared.history.History.{History}
 use Rattle.pair_disk.specs.declared.torn_memory.TornMemory.{TornMemory}
-use Rattle.pair_disk.specs.History.{clock, left_of}
+use Rattle.pair_disk.specs.History.{history_clock, history_left}
 
-abbrev pub content_of : TornMemory → Image
-content_of d = d.content.items
+abbrev pub torn_content : TornMemory → Image
+torn_content d = d.content.items
 
 abbrev pub history_of : TornMemory → History
 history_of d = d.history
 
 -- no call was made on it, and a crash leaves its content alone
-pub record IsMade (d : TornMemory) (image : Image) (calls : List ℕ) : Type 0 where
-  pub content : content_of d ≡ image
-  pub only : (c : Image) → left_of (history_of d) (clock (history_of d)) c → c ≡ content_of d
+pub record IsUncalledMemory (d : TornMemory) (image : Image) (calls : List ℕ) : Type 0 where
+  pub content : torn_content d ≡ image
+  pub only : (c : Image) → history_left (history_of d) (history_clock (history_of d)) c → c ≡ torn_content d
   pub listed : d.listed.items ≡ calls
-  pub moment : clock (history_of d) ≡ 0
+  pub moment : history_clock (history_of d) ≡ 0
   pub tries : d.tries ≡ 0
   pub faults : d.faults ≡ 0

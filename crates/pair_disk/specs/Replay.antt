@@ -9,37 +9,37 @@ use Rattle.pair_disk.specs.declared.kept.KeptCall.{KeptCall}
 use Rattle.pair_disk.specs.declared.kept.TornPick.{TornPick}
 
 -- the content at the last barrier that was done, and which blocks were written since
-pub record State : Type 0 where
+pub record TornState : Type 0 where
   pub base : Image
   pub torn : ℕ → Bool
 
 -- nothing was written yet
-abbrev pub unwritten : Image → State
+abbrev pub unwritten : Image → TornState
 unwritten image = record { base = image; torn = λ n. false }
 
 -- what a kept call does
-abbrev pub after : Call → State → State
-after (Write at) s = record { base = s.base; torn = λ n. nat_eq n at || s.torn n }
-after (Barrier blocks) s = record { base = blocks.items; torn = λ n. false }
+abbrev pub torn_next : Call → TornState → TornState
+torn_next (Write at) s = record { base = s.base; torn = λ n. nat_eq n at || s.torn n }
+torn_next (Barrier blocks) s = record { base = blocks.items; torn = λ n. false }
 
-abbrev pub made_at : KeptCall → ℕ
-made_at kept = kept.moment
+abbrev pub call_moment : KeptCall → ℕ
+call_moment kept = kept.moment
 
-abbrev pub made : KeptCall → State → State
-made kept s = after kept.call s
+abbrev pub torn_by : KeptCall → TornState → TornState
+torn_by kept s = torn_next kept.call s
 
 -- the state at moment t, after the calls made before it
-abbrev pub replay : State → ℕ → List KeptCall → State
-replay s t kept = calls.replay made_at made s t kept
+abbrev pub replayed_writes : TornState → ℕ → List KeptCall → TornState
+replayed_writes s t kept = calls.replay call_moment torn_by s t kept
 
 -- a crash may leave it: each block that was written since the barrier has any bytes, each other block those of then
-pub record IsImage (s : State) (c : Image) : Type 0 where
+pub record IsTornImage (s : TornState) (c : Image) : Type 0 where
   pub size : length c ≡ length s.base
   pub whole : (n : ℕ) → s.torn n ≡ false → block_at c n ≡ block_at s.base n
   pub torn : (n : ℕ) → n < length c → s.torn n ≡ true → IsBlock (block_at c n)
 
 -- the content at the barrier is of so many blocks
-pub record IsOfBlocks (count : ℕ) (s : State) : Type 0 where
+pub record IsOfBlocks (count : ℕ) (s : TornState) : Type 0 where
   pub size : length s.base ≡ count
   pub blocks : AreBlocks s.base
 
@@ -54,5 +54,5 @@ picked image [] = image
 picked image (pick ∷ later) = picked (set image pick.block pick.content) later
 
 -- the blocks of all picks were written since the barrier
-abbrev pub may_tear : State → List TornPick → Bool
+abbrev pub may_tear : TornState → List TornPick → Bool
 may_tear s picks = list_all (λ pick. s.torn pick.block) picks

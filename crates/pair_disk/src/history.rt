@@ -3,7 +3,8 @@ ghost use Rattle.std.specs.Prelude.{◌≡◌, ◌≤◌, ◌-◌, ◌^◌, ℕ,
 ghost use Rattle.cfs_base.specs.Disk.{AreBlocks};
 ghost use Rattle.cfs_base.specs.Outside.{Rose, count_after};
 ghost use Rattle.cfs_base.specs.Replay.{all_before};
-ghost use Rattle.pair_disk.specs.Replay.{HasSize, IsImage, IsOfBlocks, after, made_at, may_tear, replay, unwritten};
+ghost use Rattle.pair_disk.specs.Replay.{HasSize, IsTornImage, IsOfBlocks, torn_next, call_moment, may_tear};
+ghost use Rattle.pair_disk.specs.Replay.{replayed_writes, unwritten};
 
 use crate::kept::{Call, KeptCall, TornPick};
 use crate::replay::{base_after, torn_after};
@@ -19,14 +20,14 @@ pub struct History {
     moment: u64,
     kept: Vec<KeptCall>,
     ghost clocked: { moment ≤ 2 ^ 64 - 1 },
-    ghost past: { IsTrue (all_before made_at moment kept.items) },
-    ghost sized: { (t : ℕ) → IsOfBlocks (length first.items) (replay (unwritten first.items) t kept.items) },
+    ghost past: { IsTrue (all_before call_moment moment kept.items) },
+    ghost sized: { (t : ℕ) → IsOfBlocks (length first.items) (replayed_writes (unwritten first.items) t kept.items) },
 }
 
 impl History {
     ghost use Rattle.std.specs.Prelude.{IfOk};
     ghost use Rattle.cfs_base.specs.Disk.{Image, Nothing, LeavesOnly, KeepsLeft};
-    ghost use Rattle.pair_disk.specs.History.{clock, left_of, count_of, state_at, state_now};
+    ghost use Rattle.pair_disk.specs.History.{history_clock, history_left, count_of, torn_state_at, torn_now};
 
     /// Nothing was called yet. Takes no memory.
     pub fn new(alloc: Global, first: Vec<Block>) -> History
@@ -43,18 +44,18 @@ impl History {
     }
 
     pub fn moment(&self) -> u64
-        ensures { result ≡ clock self.now }
+        ensures { result ≡ history_clock self.now }
     {
         self.moment
     }
 
     /// A call that changes nothing is made.
     pub fn pass(&mut self)
-        ensures clock { clock self.new ≡ count_after (clock self.old) }
-        ensures rose { Rose (clock self.old) (clock self.new) }
-        ensures state { state_now self.new ≡ state_now self.old }
-        ensures images { LeavesOnly clock left_of self.old self.new Nothing }
-        ensures keeps { KeepsLeft clock left_of self.old self.new }
+        ensures clock { history_clock self.new ≡ count_after (history_clock self.old) }
+        ensures rose { Rose (history_clock self.old) (history_clock self.new) }
+        ensures state { torn_now self.new ≡ torn_now self.old }
+        ensures images { LeavesOnly history_clock history_left self.old self.new Nothing }
+        ensures keeps { KeepsLeft history_clock history_left self.old self.new }
         ensures size { count_of self.new ≡ count_of self.old }
     {
         self.moment = self.moment.saturating_add(1);
@@ -64,16 +65,17 @@ impl History {
     /// it isn't kept.
     pub fn keep(&mut self, call: Call) -> Result<(), AllocError>
         requires { HasSize (count_of self.old) call }
-        ensures clock { clock self.new ≡ count_after (clock self.old) }
-        ensures rose { Rose (clock self.old) (clock self.new) }
-        ensures kept { OnOk result (state_now self.new ≡ after call (state_now self.old)) }
-        ensures images { LeavesOnly clock left_of self.old self.new (IsImage (after call (state_now self.old))) }
-        ensures here { OnOk result ((c : Image) → left_of self.new (clock self.new) c
-            → IsImage (after call (state_now self.old)) c) }
-        ensures unkept { OnErr result (state_now self.new ≡ state_now self.old) }
-        ensures keeps { KeepsLeft clock left_of self.old self.new }
+        ensures clock { history_clock self.new ≡ count_after (history_clock self.old) }
+        ensures rose { Rose (history_clock self.old) (history_clock self.new) }
+        ensures kept { OnOk result (torn_now self.new ≡ torn_next call (torn_now self.old)) }
+        ensures images { LeavesOnly history_clock history_left self.old self.new
+            (IsTornImage (torn_next call (torn_now self.old))) }
+        ensures here { OnOk result ((c : Image) → history_left self.new (history_clock self.new) c
+            → IsTornImage (torn_next call (torn_now self.old)) c) }
+        ensures unkept { OnErr result (torn_now self.new ≡ torn_now self.old) }
+        ensures keeps { KeepsLeft history_clock history_left self.old self.new }
         ensures size { count_of self.new ≡ count_of self.old }
-        ensures last { clock self.old ≡ 2 ^ 64 - 1 → IsErr result }
+        ensures last { history_clock self.old ≡ 2 ^ 64 - 1 → IsErr result }
     {
         if self.moment == u64::MAX {
             self.pass();
@@ -93,7 +95,7 @@ impl History {
 
     /// The content at the last barrier before this moment.
     pub fn base(&self, at: u64) -> Result<Vec<Block>, AllocError>
-        ensures { IfOk result (λ v. v.items ≡ (state_at self.now at).base) }
+        ensures { IfOk result (λ v. v.items ≡ (torn_state_at self.now at).base) }
     {
         let mut base = &self.first;
         for kept in &self.kept {
@@ -104,7 +106,7 @@ impl History {
 
     /// Whether a block was written since that barrier, done or not.
     pub fn is_torn(&self, at: u64, block: u32) -> bool
-        ensures { result ≡ (state_at self.now at).torn block }
+        ensures { result ≡ (torn_state_at self.now at).torn block }
     {
         let mut torn = false;
         for kept in &self.kept {
@@ -115,7 +117,7 @@ impl History {
 
     /// Whether all these blocks were.
     pub fn may_tear(&self, at: u64, picks: &[TornPick]) -> bool
-        ensures { result ≡ may_tear (state_at self.now at) picks.now }
+        ensures { result ≡ may_tear (torn_state_at self.now at) picks.now }
     {
         picks.iter().all(|pick| self.is_torn(at, pick.block))
     }

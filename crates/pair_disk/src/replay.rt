@@ -2,7 +2,7 @@
 ghost use Rattle.std.specs.Prelude.{◌≡◌, ◌<◌, IsTrue, length, set};
 ghost use Rattle.cfs_base.specs.Disk.{AreBlocks, IsBlock};
 ghost use Rattle.cfs_base.specs.Replay.{after_before};
-ghost use Rattle.pair_disk.specs.Replay.{IsImage, State, made, made_at, may_tear, picked};
+ghost use Rattle.pair_disk.specs.Replay.{IsTornImage, TornState, torn_by, call_moment, may_tear, picked};
 
 use crate::kept::{Call, KeptCall, TornPick};
 use crate::store::put;
@@ -10,8 +10,8 @@ use cfs_base::Block;
 
 /// The content at the last barrier, after this call where it was made before the moment.
 pub fn base_after<'a>(base: &'a Vec<Block>, kept: &'a KeptCall, at: u64) -> &'a Vec<Block>
-    ensures { (s : State) → base.now.items ≡ s.base
-        → result.now.items ≡ (after_before made_at made at kept.now s).base }
+    ensures { (s : TornState) → base.now.items ≡ s.base
+        → result.now.items ≡ (after_before call_moment torn_by at kept.now s).base }
 {
     match &kept.call {
         Call::Barrier(blocks) if kept.moment < at => blocks,
@@ -21,8 +21,8 @@ pub fn base_after<'a>(base: &'a Vec<Block>, kept: &'a KeptCall, at: u64) -> &'a 
 
 /// Whether a block was written since that barrier.
 pub fn torn_after(torn: bool, kept: &KeptCall, at: u64, block: u32) -> bool
-    ensures { (s : State) → torn ≡ s.torn block
-        → result ≡ (after_before made_at made at kept.now s).torn block }
+    ensures { (s : TornState) → torn ≡ s.torn block
+        → result ≡ (after_before call_moment torn_by at kept.now s).torn block }
 {
     if kept.moment >= at {
         return torn;
@@ -46,8 +46,8 @@ fn put_pick(content: &mut Vec<Block>, pick: &TornPick)
 /// Puts the picks into the content at the last barrier. Of two picks of a block the later one counts.
 pub fn tear(content: &mut Vec<Block>, picks: &[TornPick])
     ensures picked { content.new.items ≡ picked content.old.items picks.now }
-    ensures allowed { (s : State) → IsImage s content.old.items → IsTrue (may_tear s picks.now)
-        → IsImage s content.new.items }
+    ensures allowed { (s : TornState) → IsTornImage s content.old.items → IsTrue (may_tear s picks.now)
+        → IsTornImage s content.new.items }
     ensures size { length content.new.items ≡ length content.old.items }
     ensures blocks { AreBlocks content.old.items → AreBlocks content.new.items }
 {

@@ -3,7 +3,7 @@ ghost use Rattle.std.specs.Prelude.{◌≡◌, ◌≤◌, ℕ, IsTrue, true, fal
 ghost use Rattle.std.proofs.Common.{◌∙◌, sym};
 ghost use Rattle.cfs_base.specs.Disk.{AreBlocks, block_at};
 ghost use Rattle.cfs_base.specs.Outside.{Rose, count_after};
-ghost use Rattle.pair_disk.specs.History.{clock, left_of, count_of, state_at, state_now};
+ghost use Rattle.pair_disk.specs.History.{history_clock, history_left, count_of, torn_state_at, torn_now};
 ghost use Rattle.pair_disk.specs.Replay.{may_tear, picked};
 ghost use Rattle.pair_disk.specs.Stays.{stays_image};
 
@@ -29,8 +29,8 @@ pub struct TornMemory {
     ghost counted: { length content.items ≡ count },
     ghost size: { count_of history ≡ length content.items },
     ghost blocks: { AreBlocks content.items },
-    ghost held: { (n : ℕ) → (state_now history).torn n ≡ false
-        → block_at content.items n ≡ block_at (state_now history).base n },
+    ghost held: { (n : ℕ) → (torn_now history).torn n ≡ false
+        → block_at content.items n ≡ block_at (torn_now history).base n },
 }
 
 /// Counts a call that fails.
@@ -53,11 +53,11 @@ impl TornDisk for TornMemory {
 
     ghost tells_images = { λ d. true };
 
-    ghost left_since = { λ d. left_of d.history };
+    ghost left_since = { λ d. history_left d.history };
 
-    ghost moment = { λ d. clock d.history };
+    ghost moment = { λ d. history_clock d.history };
 
-    ghost calls = { λ d. clock d.history };
+    ghost calls = { λ d. history_clock d.history };
 
     ghost tries = { λ d. d.tries };
 
@@ -129,11 +129,11 @@ impl TornDisk for TornMemory {
 }
 
 impl TornMemory {
-    ghost use Rattle.pair_disk.specs.Memory.{IsMade, content_of, history_of};
+    ghost use Rattle.pair_disk.specs.Memory.{IsUncalledMemory, torn_content, history_of};
 
     /// Zero blocks. The call at each of these moments fails.
     pub fn new(alloc: Global, blocks: u32, calls: Vec<u64>) -> Result<TornMemory, NoMemory>
-        ensures { IfOk result (λ d. IsMade d (replicate blocks (replicate 512 0)) calls.items) }
+        ensures { IfOk result (λ d. IsUncalledMemory d (replicate blocks (replicate 512 0)) calls.items) }
     {
         let content = vec![in alloc; Block::zero(); blocks as usize]?;
         TornMemory::made(alloc, blocks, content, calls)
@@ -141,7 +141,7 @@ impl TornMemory {
 
     /// Whether all these blocks were written since the last barrier before this moment, by a write that failed too.
     pub fn may_tear(&self, at: u64, picks: &[TornPick]) -> bool
-        ensures { result ≡ may_tear (state_at (history_of self.now) at) picks.now }
+        ensures { result ≡ may_tear (torn_state_at (history_of self.now) at) picks.now }
     {
         self.history.may_tear(at, picks)
     }
@@ -149,10 +149,11 @@ impl TornMemory {
     /// The disk after a crash at this moment, which leaves these bytes of the blocks that were picked, and of each
     /// other block those at the last barrier. Of two picks of a block the later one counts. Its calls don't fail.
     pub fn image(&self, alloc: Global, at: u64, picks: &[TornPick]) -> Result<TornMemory, NoMemory>
-        requires in_time { at ≤ clock (history_of self.now) }
-        requires written { IsTrue (may_tear (state_at (history_of self.now) at) picks.now) }
-        ensures picked { IfOk result (λ d. IsMade d (picked (state_at (history_of self.now) at).base picks.now) []) }
-        ensures allowed { IfOk result (λ d. left_of (history_of self.now) at (content_of d)) }
+        requires in_time { at ≤ history_clock (history_of self.now) }
+        requires written { IsTrue (may_tear (torn_state_at (history_of self.now) at) picks.now) }
+        ensures picked { IfOk result
+            (λ d. IsUncalledMemory d (picked (torn_state_at (history_of self.now) at).base picks.now) []) }
+        ensures allowed { IfOk result (λ d. history_left (history_of self.now) at (torn_content d)) }
     {
         let mut content = self.history.base(at)?;
         tear(&mut content, picks);
@@ -168,7 +169,7 @@ impl TornMemory {
     ) -> Result<TornMemory, NoMemory>
         requires size { length content.items ≡ count }
         requires blocks { AreBlocks content.items }
-        ensures { IfOk result (λ d. IsMade d content.items listed.items) }
+        ensures { IfOk result (λ d. IsUncalledMemory d content.items listed.items) }
     {
         let first = copy(&content)?;
         let history = History::new(alloc, first);

@@ -1,31 +1,31 @@
 -- The kinds of a graph's objects, and what a graph's changes do to them.
 use Rattle.std.proofs.Common.{◌≡◌, List, [], ◌∷◌, refl, sym, ap, ◌∙◌, arith, Some, None, Bool, true, false, cond, not, ◌&&◌, ◌||◌, ℕ}
-use Rattle.puid_space.proofs.Words.{Equal, Greater, Kind, Less, Object, Puid, and_parts, filter, insert_entry, is_among, is_at, is_eq, is_lt, kept_by, keys_of, kind_in, kind_of, kinds_in, list_all, lookup, match_ordering, nat_tests, option_map, puid_cmp, rises, same_puid, taken_by}
+use Rattle.puid_space.proofs.Words.{Equal, Greater, Kind, Less, Object, Puid, and_parts, filter, insert_entry, is_among, is_at, is_eq, is_lt, kept_by, keys_of, directory_kind, object_kind, kinds_in, list_all, lookup, match_ordering, nat_tests, option_map, puid_cmp, rises, same_puid, taken_by}
 
 pub keys_of-kinds_in : (es : List (Puid × Object)) → keys_of (kinds_in es) ≡ keys_of es
 keys_of-kinds_in [] = refl
 keys_of-kinds_in (e ∷ es) = ap (λ ids. e.0 ∷ ids) (keys_of-kinds_in es)
 
-pub kind_in-kinds_in : (es : List (Puid × Object)) (id : Puid) → kind_in (kinds_in es) id ≡ option_map kind_of (lookup (is_at (puid_cmp id)) es)
-kind_in-kinds_in [] id = refl
-kind_in-kinds_in (e ∷ es) id =
-    elim (is_eq (puid_cmp id e.0)) as (λ t. cond t (Some (kind_of e.1)) (kind_in (kinds_in es) id) ≡ option_map kind_of (cond t (Some e.1) (lookup (is_at (puid_cmp id)) es))) [
+pub directory_kind-kinds_in : (es : List (Puid × Object)) (id : Puid) → directory_kind (kinds_in es) id ≡ option_map object_kind (lookup (is_at (puid_cmp id)) es)
+directory_kind-kinds_in [] id = refl
+directory_kind-kinds_in (e ∷ es) id =
+    elim (is_eq (puid_cmp id e.0)) as (λ t. cond t (Some (object_kind e.1)) (directory_kind (kinds_in es) id) ≡ option_map object_kind (cond t (Some e.1) (lookup (is_at (puid_cmp id)) es))) [
       | true ↦ refl
-      | false ↦ kind_in-kinds_in es id
+      | false ↦ directory_kind-kinds_in es id
     ]
 
-pub kinds_in-insert_entry : (es : List (Puid × Object)) (id : Puid) (o : Object) → kinds_in (insert_entry puid_cmp es id o) ≡ insert_entry puid_cmp (kinds_in es) id (kind_of o)
+pub kinds_in-insert_entry : (es : List (Puid × Object)) (id : Puid) (o : Object) → kinds_in (insert_entry puid_cmp es id o) ≡ insert_entry puid_cmp (kinds_in es) id (object_kind o)
 kinds_in-insert_entry [] id o = refl
 kinds_in-insert_entry (e ∷ es) id o =
     elim (puid_cmp id e.0) as (λ r. kinds_in (match_ordering r ((id, o) ∷ e ∷ es) ((e.0, o) ∷ es) (e ∷ insert_entry puid_cmp es id o))
-    ≡ match_ordering r ((id, kind_of o) ∷ (e.0, kind_of e.1) ∷ kinds_in es) ((e.0, kind_of o) ∷ kinds_in es) ((e.0, kind_of e.1) ∷ insert_entry puid_cmp (kinds_in es) id (kind_of o))) [
+    ≡ match_ordering r ((id, object_kind o) ∷ (e.0, object_kind e.1) ∷ kinds_in es) ((e.0, object_kind o) ∷ kinds_in es) ((e.0, object_kind e.1) ∷ insert_entry puid_cmp (kinds_in es) id (object_kind o))) [
       | Less ↦ refl
       | Equal ↦ refl
-      | Greater ↦ ap (λ rest. (e.0, kind_of e.1) ∷ rest) (kinds_in-insert_entry es id o)
+      | Greater ↦ ap (λ rest. (e.0, object_kind e.1) ∷ rest) (kinds_in-insert_entry es id o)
     ]
 
 -- nothing is found before the first
-not_found : (id x : Puid) (named : List (Puid × Kind)) → puid_cmp id x ≡ Less → list_all (λ y. is_lt (puid_cmp x y)) (keys_of named) ≡ true → kind_in named id ≡ None
+not_found : (id x : Puid) (named : List (Puid × Kind)) → puid_cmp id x ≡ Less → list_all (λ y. is_lt (puid_cmp x y)) (keys_of named) ≡ true → directory_kind named id ≡ None
 not_found id x [] less all = refl
 not_found id x (e ∷ named) less all =
     let both = and_parts (is_lt (puid_cmp x e.0)) (list_all (λ y. is_lt (puid_cmp x y)) (keys_of named)) all in
@@ -35,13 +35,13 @@ not_found id x (e ∷ named) less all =
     other a b c h k = grind (arith, nat_tests)
 
 -- where one of this kind is found already, all stays
-pub insert_entry-same : (named : List (Puid × Kind)) (id : Puid) (kind : Kind) → rises (keys_of named) ≡ true → kind_in named id ≡ Some kind → insert_entry puid_cmp named id kind ≡ named
+pub insert_entry-same : (named : List (Puid × Kind)) (id : Puid) (kind : Kind) → rises (keys_of named) ≡ true → directory_kind named id ≡ Some kind → insert_entry puid_cmp named id kind ≡ named
 insert_entry-same [] id kind sorted found = cc
 insert_entry-same (e ∷ named) id kind sorted found =
     elim (puid_cmp id e.0) as (λ r. puid_cmp id e.0 ≡ r → match_ordering r ((id, kind) ∷ e ∷ named) ((e.0, kind) ∷ named) (e ∷ insert_entry puid_cmp named id kind) ≡ e ∷ named) [
       | Less ↦ λ is.
           let none = not_found id e.0 named is (and_parts _ _ sorted).0 in
-          let found' : kind_in named id ≡ Some kind = rw is at found in absurd (cc)
+          let found' : directory_kind named id ≡ Some kind = rw is at found in absurd (cc)
       | Equal ↦ λ is. let found' : Some e.1 ≡ Some kind = rw is at found in let same : e.1 ≡ kind = cc in ap (λ k. (e.0, k) ∷ named) (sym same)
       | Greater ↦ λ is. ap (λ rest. e ∷ rest) (insert_entry-same named id kind (and_parts _ _ sorted).1 (rw is at found))
     ] refl
@@ -49,8 +49,8 @@ insert_entry-same (e ∷ named) id kind sorted found =
 pub kinds_in-filter : (p : Puid → Bool) (es : List (Puid × Object)) → kinds_in (filter (λ e. p e.0) es) ≡ filter (λ e. p e.0) (kinds_in es)
 kinds_in-filter p [] = refl
 kinds_in-filter p (e ∷ es) =
-    elim (p e.0) as (λ t. kinds_in (cond t (e ∷ filter (λ e. p e.0) es) (filter (λ e. p e.0) es)) ≡ cond t ((e.0, kind_of e.1) ∷ filter (λ e. p e.0) (kinds_in es)) (filter (λ e. p e.0) (kinds_in es))) [
-      | true ↦ ap (λ rest. (e.0, kind_of e.1) ∷ rest) (kinds_in-filter p es)
+    elim (p e.0) as (λ t. kinds_in (cond t (e ∷ filter (λ e. p e.0) es) (filter (λ e. p e.0) es)) ≡ cond t ((e.0, object_kind e.1) ∷ filter (λ e. p e.0) (kinds_in es)) (filter (λ e. p e.0) (kinds_in es))) [
+      | true ↦ ap (λ rest. (e.0, object_kind e.1) ∷ rest) (kinds_in-filter p es)
       | false ↦ kinds_in-filter p es
     ]
 

@@ -1,6 +1,6 @@
 -- What a table lists: the kind of an identifier, its root blocks, one more and one less.
 use Rattle.std.proofs.Common.{◌≡◌, ◌≢◌, ℕ, zero, suc, ◌+◌, ◌<◌, List, [], ◌∷◌, length, get_or, set, refl, sym, ap, ◌∙◌, arith, Option, Some, None, true, false, cond, eqb, is_some}
-use Rattle.puid_space.proofs.Words.{Cell, Greater, Kind, Less, Puid, has_root_in, insert_entry, kind_in, listed, nat_tests, puid_cmp, same_puid, without_id}
+use Rattle.puid_space.proofs.Words.{Cell, Greater, Kind, Less, Puid, has_root_in, insert_entry, directory_kind, listed, nat_tests, puid_cmp, same_puid, without_id}
 
 -- ---- two identifiers
 
@@ -23,14 +23,14 @@ abbrev pub kind_here : Option Cell → ℕ → Option Kind
 kind_here None word = None
 kind_here (Some cell) word = cond (eqb cell.word word) (Some cell.kind) None
 
-kind-above : (b : ℕ) (cells : List (Option Cell)) (id : Puid) → id.block < b → kind_in (listed b cells) id ≡ None
+kind-above : (b : ℕ) (cells : List (Option Cell)) (id : Puid) → id.block < b → directory_kind (listed b cells) id ≡ None
 kind-above b [] id h = refl
 kind-above b (None ∷ cells) id h = kind-above (b + 1) cells id (omega arith)
 kind-above b (Some cell ∷ cells) id h =
     rw (apart id (record { block = b; word = cell.word }) (omega arith)) (kind-above (b + 1) cells id (omega arith))
 
 pub kind-listed : (b : ℕ) (cells : List (Option Cell)) (i : ℕ) (id : Puid) → id.block ≡ b + i
-    → kind_in (listed b cells) id ≡ kind_here (get_or cells i None) id.word
+    → directory_kind (listed b cells) id ≡ kind_here (get_or cells i None) id.word
 kind-listed b [] i id h = refl
 kind-listed b (None ∷ cells) zero id h = kind-above (b + 1) cells id (omega arith)
 kind-listed b (None ∷ cells) (suc i) id h = kind-listed (b + 1) cells i id (omega arith)
@@ -93,14 +93,14 @@ listed-emptied b (Some cell ∷ cells) (suc i) id kind h there =
     rw (apart (record { block = b; word = cell.word }) id (omega arith)) (ap (λ rest. (record { block = b; word = cell.word }, cell.kind) ∷ rest) (listed-emptied (b + 1) cells i id kind (omega arith) there))
 
 -- what is not there is not missed
-pub without-absent : (named : List (Puid × Kind)) (id : Puid) → kind_in named id ≡ None → without_id named id ≡ named
+pub without-absent : (named : List (Puid × Kind)) (id : Puid) → directory_kind named id ≡ None → without_id named id ≡ named
 without-absent [] id none = refl
 without-absent (e ∷ named) id none =
     elim (same_puid id e.0) as (λ t. same_puid id e.0 ≡ t → without_id (e ∷ named) id ≡ e ∷ named) [
       | true ↦ λ is. absurd (let found : Some e.1 ≡ None = rw is at none in cc)
       | false ↦ λ is.
           let other : same_puid e.0 id ≡ false = swapped e.0 id ∙ is in
-          let rest : kind_in named id ≡ None = rw is at none in
+          let rest : directory_kind named id ≡ None = rw is at none in
           rw other (ap (λ rest. e ∷ rest) (without-absent named id rest))
     ] refl
   where
@@ -108,7 +108,7 @@ without-absent (e ∷ named) id none =
     swapped a c = grind (arith, nat_tests)
 
 -- where the identifier is listed its cell has its word and its kind
-pub cell-listed : (cells : List (Option Cell)) (id : Puid) (kind : Kind) → kind_in (listed 0 cells) id ≡ Some kind
+pub cell-listed : (cells : List (Option Cell)) (id : Puid) (kind : Kind) → directory_kind (listed 0 cells) id ≡ Some kind
     → get_or cells id.block None ≡ Some (record { word = id.word; kind = kind })
 cell-listed cells id kind is = at (get_or cells id.block None) refl (sym (kind-listed 0 cells id.block id (omega arith)) ∙ is)
   where

@@ -1,6 +1,6 @@
 -- A directory, opened: what its table shows, and the changes of one cell.
 use Rattle.std.proofs.Common.{◌≡◌, vec_len, ℕ, zero, suc, ◌+◌, ◌-◌, ◌^◌, ◌<◌, ◌≤◌, List, [], ◌∷◌, length, get_or, set, refl, sym, ap, ◌∙◌, arith, Option, Some, None, Bool, true, false, cond, eqb, ltb, is_some}
-use Rattle.puid_space.proofs.Words.{Cell, Inside, IsTable, Kind, Less, Listing, Puid, blocks_rise, get_or_default, has_root_in, insert_entry, is_listing, is_lt, keys_of, kind_in, list_all, listed, nat_tests, puid_cmp, rises, without_id}
+use Rattle.puid_space.proofs.Words.{Cell, Inside, IsTable, Kind, Less, Listing, Puid, blocks_rise, get_or_default, has_root_in, insert_entry, is_listing, is_lt, keys_of, directory_kind, list_all, listed, nat_tests, puid_cmp, rises, without_id}
 use Rattle.puid_space.proofs.Listed.{kind_here, kind-listed, root-listed, listed-filled, listed-emptied, below}
 use Rattle.puid_space.proofs.Tables.{length-listed, IsTable-filled, IsTable-emptied}
 
@@ -22,11 +22,11 @@ cell-of-kind (Some cell) word h =
       | false ↦ λ is some. cc
     ] refl h
 
-pub found-cell : (cells : List (Option Cell)) (named : List (Puid × Kind)) (id : Puid) → listed 0 cells ≡ named → is_some (kind_in named id) ≡ true
+pub found-cell : (cells : List (Option Cell)) (named : List (Puid × Kind)) (id : Puid) → listed 0 cells ≡ named → is_some (directory_kind named id) ≡ true
     → (kind : Kind) × (get_or cells id.block None ≡ Some (record { word = id.word; kind = kind })) × (id.block < length cells)
 found-cell cells named id is found =
     let cell = cell-of-kind (get_or cells id.block None) id.word
-    (ap is_some (sym (kind-listed 0 cells id.block id (omega arith))) ∙ ap (λ named. is_some (kind_in named id)) is ∙ found) in
+    (ap is_some (sym (kind-listed 0 cells id.block id (omega arith))) ∙ ap (λ named. is_some (directory_kind named id)) is ∙ found) in
     (cell.0, cell.1, within cells id.block (record { word = id.word; kind = cell.0 }) cell.1)
   where
     within : (cells : List (Option Cell)) (i : ℕ) (cell : Cell) → get_or cells i None ≡ Some cell → i < length cells
@@ -85,7 +85,7 @@ module _ (i : Inside) (d : Listing) (is : record { named = listed 0 i.cells.item
       let small = whole.room in
       (whole, listed-filled 0 i.cells.items id.block id kind (omega arith) inside none ∙ ap (λ named. insert_entry puid_cmp named id kind) named_is, omega arith)
 
-  pub removed : (id : Puid) → is_some (kind_in d.named id) ≡ true
+  pub removed : (id : Puid) → is_some (directory_kind d.named id) ≡ true
       → let cells = set i.cells.items id.block None in
       (id.block < vec_len i.cells) × IsTable cells (i.len - 1) × (listed 0 cells ≡ without_id d.named id)
   removed id there =

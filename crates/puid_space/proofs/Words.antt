@@ -2,8 +2,8 @@
 pub use Rattle.cfs_base.specs.declared.identifier.Puid.{Puid}
 pub use Rattle.cfs_base.specs.declared.kind.Kind.{Kind}
 pub use Rattle.puid_space.specs.Cells.{IsTable, listed}
-pub use Rattle.puid_space.specs.Directory.{Computes, Listing, blocks_rise, first_in, has_root_in, is_listing, kept_by, kind_in, number_of, taken_by, without_id}
-pub use Rattle.puid_space.specs.Kinds.{kind_of, kinds_in}
+pub use Rattle.puid_space.specs.Directory.{Computes, Listing, blocks_rise, first_in, has_root_in, is_listing, kept_by, directory_kind, number_of, taken_by, without_id}
+pub use Rattle.puid_space.specs.Kinds.{object_kind, kinds_in}
 pub use Rattle.puid_space.specs.declared.directory.Cell.{Cell}
 pub use Rattle.puid_space.specs.declared.directory.Directory.TheInside.{Inside}
 pub use Rattle.std.proofs.lemmas.Bool.{and_parts}

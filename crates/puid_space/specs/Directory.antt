@@ -14,8 +14,8 @@ pub record Listing : Type 0 where
   pub room : ℕ
 
 -- the kind of the object with this identifier
-abbrev pub kind_in : List (Puid × Kind) → Puid → Option Kind
-kind_in named id = lookup (is_at (puid_cmp id)) named
+abbrev pub directory_kind : List (Puid × Kind) → Puid → Option Kind
+directory_kind named id = lookup (is_at (puid_cmp id)) named
 
 -- an identifier has this root block
 abbrev pub has_root_in : List (Puid × Kind) → ℕ → Bool

@@ -14,13 +14,13 @@ kind_of_file file_kinds.Normal = kinds.Normal
 kind_of_file file_kinds.Special = kinds.Special
 
 -- what an object is
-abbrev pub kind_of : Object → Kind
-kind_of (objects.File f) = kind_of_file f.kind
-kind_of (objects.Index i) = kinds.Index
+abbrev pub object_kind : Object → Kind
+object_kind (objects.File f) = kind_of_file f.kind
+object_kind (objects.Index i) = kinds.Index
 
 -- the identifiers of these objects, in their order, each with what its object is
 abbrev pub kinds_in : List (Puid × Object) → List (Puid × Kind)
-kinds_in objects = map (λ e. (e.0, kind_of e.1)) objects
+kinds_in objects = map (λ e. (e.0, object_kind e.1)) objects
 
 abbrev pub kinds_of : Graph → List (Puid × Kind)
 kinds_of g = kinds_in g.objects

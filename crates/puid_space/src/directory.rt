@@ -5,7 +5,7 @@ ghost use Rattle.cfs_base.specs.declared.identifier.Puid.{Puid};
 ghost use Rattle.cfs_base.specs.declared.kind.Kind.{Kind};
 ghost use Rattle.std.specs.BTreeMap.{insert_entry};
 ghost use Rattle.ufs_model.specs.Identifier.{puid_cmp};
-ghost use Rattle.puid_space.specs.Directory.{is_listing, kind_in, has_root_in, without_id, first_in};
+ghost use Rattle.puid_space.specs.Directory.{is_listing, directory_kind, has_root_in, without_id, first_in};
 ghost use Rattle.puid_space.specs.Directory.{kept_by, taken_by, Computes};
 
 use cfs_base::{Kind, NoMemory, Puid};
@@ -98,7 +98,7 @@ impl Directory {
 
     /// Takes an identifier out, and says whether it was there. Takes no memory.
     pub fn remove(&mut self, id: Puid) -> bool
-        ensures there { result ≡ is_some (kind_in self.old.named id) }
+        ensures there { result ≡ is_some (directory_kind self.old.named id) }
         ensures named { self.new.named ≡ without_id self.old.named id }
         ensures room { self.new.room ≡ self.old.room }
     {
@@ -112,7 +112,7 @@ impl Directory {
 
     /// The kind of the object with this identifier.
     pub fn kind(&self, id: Puid) -> Option<Kind>
-        ensures { result ≡ kind_in self.now.named id }
+        ensures { result ≡ directory_kind self.now.named id }
     {
         let cell = cell_of(&self.cells, id.block)?;
         (cell.word == id.word).then_some(cell.kind)
@@ -121,7 +121,7 @@ impl Directory {
     /// The identifier with this root block, and the kind of its object.
     pub fn at(&self, block: u32) -> Option<(Puid, Kind)>
         ensures there { is_some result ≡ has_root_in self.now.named block }
-        ensures listed { (id : Puid) (kind : Kind) → kind_in self.now.named id ≡ Some kind → id.block ≡ block
+        ensures listed { (id : Puid) (kind : Kind) → directory_kind self.now.named id ≡ Some kind → id.block ≡ block
             → result ≡ Some (id, kind) }
     {
         let Cell { word, kind } = cell_of(&self.cells, block)?;

@@ -7,19 +7,19 @@ ghost use Rattle.cfs_base.specs.declared.kind.Kind.{Kind};
 ghost use Rattle.ufs_model.specs.declared.object.Object.{Object};
 ghost use Rattle.ufs_model.specs.Identifier.{puid_cmp, is_among, rises};
 ghost use Rattle.ufs_model.specs.Graph.{Graph, ids_of, object_at, with_object, without, has_block};
-ghost use Rattle.puid_space.specs.Kinds.{kind_of, kinds_of};
-ghost use Rattle.puid_space.specs.Directory.{kind_in, has_root_in, kept_by, taken_by};
+ghost use Rattle.puid_space.specs.Kinds.{object_kind, kinds_of};
+ghost use Rattle.puid_space.specs.Directory.{directory_kind, has_root_in, kept_by, taken_by};
 
 /// The kinds of a graph's objects: what is found in them, and how they change with the graph.
 pub fn kinds_follow_the_graph()
     ensures ids { (g : Graph) → keys_of (kinds_of g) ≡ ids_of g }
-    ensures kind { (g : Graph) (id : Puid) → kind_in (kinds_of g) id ≡ option_map kind_of (object_at g id) }
+    ensures kind { (g : Graph) (id : Puid) → directory_kind (kinds_of g) id ≡ option_map object_kind (object_at g id) }
     ensures root { (g : Graph) (block : ℕ) → has_root_in (kinds_of g) block ≡ has_block g.objects block }
     ensures added { (g : Graph) (id : Puid) (o : Object)
-        → kinds_of (with_object g id o) ≡ insert_entry puid_cmp (kinds_of g) id (kind_of o) }
+        → kinds_of (with_object g id o) ≡ insert_entry puid_cmp (kinds_of g) id (object_kind o) }
     // An object of the same kind in the place of one.
     ensures replaced { (g : Graph) (id : Puid) (o : Object) → IsTrue (rises (ids_of g))
-        → kind_in (kinds_of g) id ≡ Some (kind_of o)
+        → directory_kind (kinds_of g) id ≡ Some (object_kind o)
         → kinds_of (with_object g id o) ≡ kinds_of g }
     ensures gone { (g : Graph) (ids : List Puid)
         → kinds_of (without g ids) ≡ filter (λ e. not (is_among e.0 ids)) (kinds_of g) }

@@ -1,6 +1,6 @@
 -- A disk in the middle of a step of a draft: each object stands in every image, and only blocks of the draft changed.
 use Rattle.std.proofs.Common.{◌≡◌, ◌≢◌, inl, ⊎_elim, ℕ, ◌<◌, IsTrue, true, List, length, set, Ok, Some, sym, subst, arith}
-use Rattle.special_files.proofs.Words.{AreCounts, BlockNo, Carries, ChangesOnly, Enters, EntryWritten, Frames, Ghosts, Graph, Holds, IfOk, Image, IsEntry, IsLeastFree, IsSameDisk, Kept, Leaves, MapEntry, Nothing, Object, OnOk, OnlyReads, Opened, Puid, Refused, Result, Root, StoreHas, Written, carries_on, changes_begin, changes_then, frames_back, frames_hold, frames_then, frames_write, is_free_in, is_meant, is_meant_for, is_of, left_now, map_in_image, map_of, map_with, not_map, object_at, of_draft, still_tells, taken_apart, then, wider, with_entry}
+use Rattle.special_files.proofs.Words.{AreCounts, BlockNo, Carries, ChangesOnly, Enters, EntryWritten, Frames, Ghosts, Graph, Holds, IfOk, Image, IsEntry, IsLeastFree, IsSameDisk, Kept, Leaves, MapEntry, Nothing, Object, OnOk, OnlyReads, Opened, Puid, Refused, Result, Root, StoreHas, Written, carries_on, changes_begin, changes_then, frames_back, frames_hold, frames_then, frames_write, is_free_in, is_meant, is_meant_for, is_owned_by, left_now, map_in_image, map_of, map_with, not_map, object_at, of_draft, still_tells, taken_apart, then, wider, with_entry}
 use Rattle.special_files.proofs.Meant.{claim_changes, claim_framed, free_is, meant_changes, meant_is, meant_written}
 use Rattle.cyl_alloc.proofs.Counted.{counts_content}
 
@@ -63,7 +63,7 @@ module _ {D : Type 0} (g : Ghosts D) (graph : Graph) (ds : List Opened) (id : Pu
     pub claim_leaves : Leaves g start new (λ c. Holds c graph)
     claim_leaves = amid_leaves mid new kept amid (framed_holds g graph mid new amid.carries images)
 
-    pub claimed : (block : BlockNo) → result ≡ Ok block → is_of is_meant id.block (Some e) ≡ true → IsAmid g graph id start new after × IsLeastFree (g.content mid) block.0 × (g.content new ≡ with_entry (g.content mid) block.0 e)
+    pub claimed : (block : BlockNo) → result ≡ Ok block → is_owned_by is_meant id.block (Some e) ≡ true → IsAmid g graph id start new after × IsLeastFree (g.content mid) block.0 × (g.content new ≡ with_entry (g.content mid) block.0 e)
     claimed block done meant =
         let ok = subst (λ r. IfOk r (λ b. IsLeastFree (g.content mid) b.0 × (g.content new ≡ with_entry (g.content mid) b.0 e))) done (enters.entered amid.carries.tells amid.counts) in
         let told = subst (λ r. OnOk r ((n : ℕ) → IsTrue (g.told mid n) → IsTrue (g.told new n))) done enters.told in

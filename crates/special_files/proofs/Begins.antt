@@ -1,6 +1,6 @@
 -- A draft begun with its shadow root.
 use Rattle.std.proofs.Common.{◌≡◌, ◌≢◌, inl, inr, ℕ, ◌%◌, ◌^◌, ◌<◌, true, false, List, [], ◌∷◌, length, Ok, Some, refl, sym, ◌∙◌, ap, subst, eq-eqb, arith}
-use Rattle.special_files.proofs.Words.{BlockNo, Enters, Free, Ghosts, Graph, HasDrafts, Holds, Image, IsEntry, IsLeastFree, IsPlaced, IsRootBlock, Kept, Leaves, MapEntry, Object, OnlyReads, Opened, Puid, Refused, Result, Root, ShadowRoot, Steps, StoreHas, block_at, block_at-with_entry, both_ways, cases_Bool, drafts_of, entry_in, entry_in-with_entry_other, entry_in-with_entry_same, eqb-false, eqb-true, in_image, intended, is_meant, is_meant_for, is_of, lt-ltb, not_map, object_at, root_placed, same_Some, stands_for, taken_apart, with_entry, ◌==◌}
+use Rattle.special_files.proofs.Words.{BlockNo, Enters, Free, Ghosts, Graph, HasDrafts, Holds, Image, IsEntry, IsLeastFree, IsPlaced, IsRootBlock, Kept, Leaves, MapEntry, Object, OnlyReads, Opened, Puid, Refused, Result, Root, ShadowRoot, Steps, StoreHas, block_at, block_at-with_entry, both_ways, cases_Bool, drafts_of, entry_in, entry_in-with_entry_other, entry_in-with_entry_same, eqb-false, eqb-true, in_image, intended, is_meant, is_meant_for, is_owned_by, lt-ltb, not_map, object_at, root_placed, same_Some, stands_for, taken_apart, with_entry, ◌==◌}
 use Rattle.block_tree.specs.declared.root.Root as roots
 use Rattle.special_files.proofs.Amid.{IsAmid, amid_begins, amid_reads, claim_leaves, claimed}
 use Rattle.special_files.proofs.Begun.{begun_accounts, begun_as, begun_draft}
@@ -81,5 +81,5 @@ module _ {D : Type 0} (g : Ghosts D) (graph : Graph) (ds : List Opened) (id : Pu
       only : (n : ℕ) → is_meant_for (g.content d2) id.block n ≡ true → Some s.0 ≡ Some n
       only n meant = elim (cases_Bool (n == s.0)) [
         | inl same ↦ ap Some (sym (eqb-true n s.0 same))
-        | inr not ↦ absurd (both_ways _ (nothing n) (ap (is_of is_meant id.block) (sym (ap (λ (i : Image). entry_in i n) content ∙ entry_in-with_entry_other a s.0 e was.0 n was.1 (eqb-false n s.0 not))) ∙ meant))
+        | inr not ↦ absurd (both_ways _ (nothing n) (ap (is_owned_by is_meant id.block) (sym (ap (λ (i : Image). entry_in i n) content ∙ entry_in-with_entry_other a s.0 e was.0 n was.1 (eqb-false n s.0 not))) ∙ meant))
       ]

@@ -1,6 +1,6 @@
 -- The lists of what differs, node after node.
 use Rattle.std.proofs.Common.{◌≡◌, inl, inr, ℕ, zero, suc, ◌+◌, ◌*◌, ◌/◌, ◌%◌, ◌<◌, ◌≤◌, true, false, cond, List, [], ◌∷◌, ◌++◌, length, get_or, Option, Some, refl, sym, ◌∙◌, ap, subst, append_assoc, length-append, arith}
-use Rattle.special_files.proofs.Words.{All, Drafting, Ghosts, Graph, HasDraft, Image, IsChanged, IsNear, IsOpen, Kept, Object, OnlyReads, Opened, Puid, StoreHas, Tells, all_unlike, append-nil, cases_lt, created_of, drafts_of, get_or_past, has-append, has_number, here, in_node, leaves_at, node_of, object_at, opened_as, option_to_list, or_left, or_right, reads_then, same_puid, pointer_table, tells_on, unlike, ◌||◌}
+use Rattle.special_files.proofs.Words.{All, Drafting, Ghosts, Graph, HasDraft, Image, IsChanged, IsNear, IsOpen, Kept, Object, OnlyReads, Opened, Puid, StoreHas, Tells, all_unlike, append-nil, cases_lt, created_of, drafts_of, get_or_past, has-append, has_number, here, in_node, leaves_at, pointer_to_node, object_at, opened_as, option_to_list, or_left, or_right, reads_then, same_puid, pointer_table, tells_on, unlike, ◌||◌}
 use Rattle.block_tree.specs.declared.root.Root as roots
 use Rattle.ufs_model.specs.declared.object.Draft as models
 use Rattle.special_files.specs.Changed.{Adds}
@@ -50,21 +50,21 @@ pub adds_then : (size n m k : ℕ) (old mid new : List ℕ) → n + m ≡ k → 
 adds_then size n m k old mid new is one two = record { room = omega (arith, is, one.room, two.room); on_disk = λ had. two.on_disk (one.on_disk had) }
 
 -- the pointers of a node among those of its tree
-pub node_in_tree : (image : Image) (root : roots.Root) (number i : ℕ) → i < 129 → in_tree image root (129 * number + i) ≡ in_node image (node_of root number) i
+pub node_in_tree : (image : Image) (root : roots.Root) (number i : ℕ) → i < 129 → in_tree image root (129 * number + i) ≡ in_node image (pointer_to_node root number) i
 node_in_tree image root number i less =
     let node : (129 * number + i) / 129 ≡ number = omega (arith, less) in
     let place : (129 * number + i) % 129 ≡ i = omega (arith, less) in
-    λ j. in_node image (node_of root (node j)) (place j)
+    λ j. in_node image (pointer_to_node root (node j)) (place j)
 
 -- what one tree's first nodes have that the other's haven't
 abbrev pub unlike_to : Image → roots.Root → roots.Root → ℕ → List ℕ
 unlike_to image root other number = all_unlike (in_tree image root) (in_tree image other) (129 * number)
 
 pub unlike_then : (image : Image) (root other : roots.Root) (number : ℕ)
-    → unlike_to image root other (number + 1) ≡ unlike_to image root other number ++ all_unlike (in_node image (node_of root number)) (in_node image (node_of other number)) 129
+    → unlike_to image root other (number + 1) ≡ unlike_to image root other number ++ all_unlike (in_node image (pointer_to_node root number)) (in_node image (pointer_to_node other number)) 129
 unlike_then image root other number =
     let next : 129 * (number + 1) ≡ 129 * number + 129 = omega arith in
-    join_unlike (in_tree image root) (in_tree image other) (in_node image (node_of root number)) (in_node image (node_of other number)) (129 * number) 129 (129 * (number + 1)) next (node_in_tree image root number) (node_in_tree image other number)
+    join_unlike (in_tree image root) (in_tree image other) (in_node image (pointer_to_node root number)) (in_node image (pointer_to_node other number)) (129 * number) 129 (129 * (number + 1)) next (node_in_tree image root number) (node_in_tree image other number)
 
 -- what differs in the first so many nodes is listed
 pub record ListedTo {D : Type 0} (g : Ghosts D) (own root : roots.Root) (number : ℕ) (old now : D) (taken dropped : List ℕ) : Type 0 where
@@ -86,8 +86,8 @@ module _ {D : Type 0} (g : Ghosts D) (own root : roots.Root) (number : ℕ) (d0 
   still_tells tells = tells_on g d0 d1 d1 (2 * number) to.reads tells
 
   pub listed_then : (d2 : D) (more_taken more_dropped : List ℕ) → OnlyReads g 2 d1 d2 → Adds (g.blocks d1) 129 taken more_taken → Adds (g.blocks d1) 129 dropped more_dropped
-      → (Tells g d1 → more_taken ≡ taken ++ all_unlike (in_node (g.content d1) (node_of root number)) (in_node (g.content d1) (node_of own number)) 129)
-      → (Tells g d1 → more_dropped ≡ dropped ++ all_unlike (in_node (g.content d1) (node_of own number)) (in_node (g.content d1) (node_of root number)) 129)
+      → (Tells g d1 → more_taken ≡ taken ++ all_unlike (in_node (g.content d1) (pointer_to_node root number)) (in_node (g.content d1) (pointer_to_node own number)) 129)
+      → (Tells g d1 → more_dropped ≡ dropped ++ all_unlike (in_node (g.content d1) (pointer_to_node own number)) (in_node (g.content d1) (pointer_to_node root number)) 129)
       → ListedTo g own root (number + 1) d0 d2 more_taken more_dropped
   listed_then d2 more_taken more_dropped reads takes drops taken_is dropped_is = record {
     reads = reads_then g d0 d1 d2 (2 * number) 2 (2 * (number + 1)) to.reads reads (omega arith);
@@ -96,10 +96,10 @@ module _ {D : Type 0} (g : Ghosts D) (own root : roots.Root) (number : ℕ) (d0 
     told = λ tells.
         let before = to.told tells in
         let now = still_tells tells in
-        let one = subst (λ (i : Image). more_taken ≡ taken ++ all_unlike (in_node i (node_of root number)) (in_node i (node_of own number)) 129) to.reads.content (taken_is now) in
-        let two = subst (λ (i : Image). more_dropped ≡ dropped ++ all_unlike (in_node i (node_of own number)) (in_node i (node_of root number)) 129) to.reads.content (dropped_is now) in (
-          one ∙ ap (λ (ns : List ℕ). ns ++ all_unlike (in_node (g.content d0) (node_of root number)) (in_node (g.content d0) (node_of own number)) 129) before.0 ∙ sym (unlike_then (g.content d0) root own number),
-          two ∙ ap (λ (ns : List ℕ). ns ++ all_unlike (in_node (g.content d0) (node_of own number)) (in_node (g.content d0) (node_of root number)) 129) before.1 ∙ sym (unlike_then (g.content d0) own root number),
+        let one = subst (λ (i : Image). more_taken ≡ taken ++ all_unlike (in_node i (pointer_to_node root number)) (in_node i (pointer_to_node own number)) 129) to.reads.content (taken_is now) in
+        let two = subst (λ (i : Image). more_dropped ≡ dropped ++ all_unlike (in_node i (pointer_to_node own number)) (in_node i (pointer_to_node root number)) 129) to.reads.content (dropped_is now) in (
+          one ∙ ap (λ (ns : List ℕ). ns ++ all_unlike (in_node (g.content d0) (pointer_to_node root number)) (in_node (g.content d0) (pointer_to_node own number)) 129) before.0 ∙ sym (unlike_then (g.content d0) root own number),
+          two ∙ ap (λ (ns : List ℕ). ns ++ all_unlike (in_node (g.content d0) (pointer_to_node own number)) (in_node (g.content d0) (pointer_to_node root number)) 129) before.1 ∙ sym (unlike_then (g.content d0) own root number),
         );
   }
 
@@ -129,7 +129,7 @@ module _ {D : Type 0} (g : Ghosts D) (graph : Graph) (ds : List Opened) (space :
       let lists = subst (λ (n : ℕ). (taken ≡ unlike_to (g.content disk) was.root was.own n) × (dropped ≡ unlike_to (g.content disk) was.own was.root n)) is (to.told store.carries.tells) in
       rw (lists.0, lists.1) all_change
 
-  pub both_near : (size n : ℕ) → length (g.content disk) ≡ size → 0 < size → IsNear size (g.content disk) (node_of was.own n) × IsNear size (g.content disk) (node_of was.root n)
+  pub both_near : (size n : ℕ) → length (g.content disk) ≡ size → 0 < size → IsNear size (g.content disk) (pointer_to_node was.own n) × IsNear size (g.content disk) (pointer_to_node was.root n)
   both_near size n long some = (
     nodes_near (g.content disk) size id.block was.own o (its_tree (g.content disk) graph store.account.holds id o at (store.account.objects id o at) (opened_as id was d) draft_there) long some n,
     nodes_near (g.content disk) size id.block was.root d.object draft_there.tree long some n,

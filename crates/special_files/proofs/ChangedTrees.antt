@@ -1,6 +1,6 @@
 -- What differs between the tree of an object and that of its draft.
 use Rattle.std.proofs.Common.{◌≡◌, ◌≢◌, inl, inr, ℕ, zero, suc, ◌+◌, ◌*◌, ◌/◌, ◌%◌, ◌<◌, true, false, List, [], ◌∷◌, length, Some, refl, sym, ◌∙◌, ap, subst, arith}
-use Rattle.special_files.proofs.Words.{nothing_below, AreDropped, AreTaken, Fits, Graph, HasDraft, HasItsBlocks, Holds, Image, IsChanged, IsNear, IsTree, Object, Opened, Puid, StandsIn, all_unlike, and_left, below_is_path, block_at, both_ways, cases_Bool, content_of, entry_in, eqb-false, eqb-true, false_from_ne_true, had_not_meant, has_number, held, held_at, held_block, held_there, in_node, is_had, is_made, is_meant, is_meant_for, is_of, leaves_at, levels_of, meant_differs, node_of, not_meant_is_own, numbers_differ, object_at, one_path, owner_is, root_owner, root_spelling, shadow_apart, stands_some, tree_in, tree_of, ◌==◌}
+use Rattle.special_files.proofs.Words.{nothing_below, AreDropped, AreTaken, Fits, Graph, HasDraft, HasItsBlocks, Holds, Image, IsChanged, IsNear, IsTree, Object, Opened, Puid, StandsIn, all_unlike, and_left, below_is_path, block_at, both_ways, cases_Bool, content_of, entry_in, eqb-false, eqb-true, false_from_ne_true, had_not_meant, has_number, held, held_at, held_block, held_there, in_node, is_had, is_made, is_meant, is_meant_for, is_owned_by, leaves_at, levels_of, meant_differs, pointer_to_node, not_meant_is_own, numbers_differ, object_at, one_path, owner_is, root_owner, root_spelling, shadow_apart, stands_some, tree_in, tree_of, ◌==◌}
 use Rattle.block_tree.specs.declared.root.Root as roots
 use Rattle.vol_owners.proofs.Differing.{own_tree as blocks_of_own}
 use Rattle.vol_owners.proofs.Entries.{root_placed}
@@ -12,7 +12,7 @@ use Rattle.special_files.proofs.Unlike.{in_unlike, once_from, to_unlike, unlike_
 -- ---- the pointers of a tree, and its paths, in their order: 129 for each node
 
 abbrev pub in_tree : Image → roots.Root → ℕ → ℕ
-in_tree image root j = in_node image (node_of root (j / 129)) (j % 129)
+in_tree image root j = in_node image (pointer_to_node root (j / 129)) (j % 129)
 
 in_path : ℕ → ℕ → List ℕ
 in_path m zero = m ∷ []
@@ -55,9 +55,9 @@ pub in_tree_is : (image : Image) (root : roots.Root) → Fits root → (j : ℕ)
 unfolding path_of in_path
 in_tree_is image root fits j = by (j % 129)
   where
-    by : (i : ℕ) → in_node image (node_of root (j / 129)) i ≡ tree_of image (root_spelling root) (in_path (j / 129) i)
+    by : (i : ℕ) → in_node image (pointer_to_node root (j / 129)) i ≡ tree_of image (root_spelling root) (in_path (j / 129) i)
     by zero = sym (node_at image root fits (j / 129))
-    by (suc k) = sym (read_leaf_is image root fits (j / 129) k (leaves_at image (node_of root (j / 129))) refl)
+    by (suc k) = sym (read_leaf_is image root fits (j / 129) k (leaves_at image (pointer_to_node root (j / 129))) refl)
 
 -- ---- a tree against another
 
@@ -115,12 +115,12 @@ module _ (image : Image) (g : Graph) (holds : Holds image g) (id : Puid) (o : Ob
   its_tree = own_tree image (length image) id d.own o has (holds.objects id o at) draft.own
 
   -- what stands in the object's tree it has, and it isn't meant for it
-  pub own_had : (n : ℕ) → StandsIn (tree_in image (root_spelling d.own)) n → is_of is_had id.block (entry_in image n) ≡ true
+  pub own_had : (n : ℕ) → StandsIn (tree_in image (root_spelling d.own)) n → is_owned_by is_had id.block (entry_in image n) ≡ true
   own_had n s =
       let there : (tree_in image (block_at image id.block)).below s.path ≡ Some s.held = ap (λ (c : List ℕ). (tree_in image c).below s.path) draft.own.spelled ∙ s.there in
-      subst (λ (m : ℕ). is_of is_had id.block (entry_in image m) ≡ true) s.is (has.each s.held.block (blocks_of_own image g holds id o at has d draft s.path s.held there))
+      subst (λ (m : ℕ). is_owned_by is_had id.block (entry_in image m) ≡ true) s.is (has.each s.held.block (blocks_of_own image g holds id o at has d draft s.path s.held there))
 
-  pub had_unmeant : (n : ℕ) → is_of is_had id.block (entry_in image n) ≡ true → is_meant_for image id.block n ≡ true → ⊥
+  pub had_unmeant : (n : ℕ) → is_owned_by is_had id.block (entry_in image n) ≡ true → is_meant_for image id.block n ≡ true → ⊥
   had_unmeant n had meant = both_ways _ (and_left _ _ (had_not_meant id.block (entry_in image n) had)) meant
 
   -- what stands in the draft's tree and isn't meant stands in the object's, at the same path
@@ -199,10 +199,10 @@ module _ (image : Image) (g : Graph) (holds : Holds image g) (id : Puid) (o : Ob
 
 -- ---- the nodes of a tree are near
 
-pub nodes_near : (image : Image) (size owner : ℕ) (root : roots.Root) (o : Object) → IsTree (length image) owner (tree_in image (root_spelling root)) root o → length image ≡ size → 0 < size → (n : ℕ) → IsNear size image (node_of root n)
+pub nodes_near : (image : Image) (size owner : ℕ) (root : roots.Root) (o : Object) → IsTree (length image) owner (tree_in image (root_spelling root)) root o → length image ≡ size → 0 < size → (n : ℕ) → IsNear size image (pointer_to_node root n)
 nodes_near image size owner root o tree long some n = record {
   here = omega (arith, near (n ∷ []), node_at image root tree.spelled.good.0 n);
-  leaves = λ k. omega (arith, near (n ∷ k ∷ []), read_leaf_is image root tree.spelled.good.0 n k (leaves_at image (node_of root n)) refl);
+  leaves = λ k. omega (arith, near (n ∷ k ∷ []), read_leaf_is image root tree.spelled.good.0 n k (leaves_at image (pointer_to_node root n)) refl);
 }
   where
     below : (v : ℕ) (p : List ℕ) → tree_of image (root_spelling root) p ≡ v → v < size

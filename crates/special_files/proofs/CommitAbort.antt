@@ -1,6 +1,6 @@
 -- A draft whose blocks become Free.
 use Rattle.std.proofs.Common.{◌≡◌, ◌≢◌, inl, inr, ⊎_elim, ℕ, Bool, IsTrue, true, false, List, [], ◌∷◌, ◌++◌, length, Option, Some, None, Ok, Err, refl, sym, ◌∙◌, ap, subst}
-use Rattle.special_files.proofs.Words.{AbortEnds, Accounts, AreCounts, AreTaken, BlockState, ChangesOnly, Drafting, Dropped, Flip, Flips, Frame, Ghosts, Graph, HasDraft, HasDrafts, Holds, Image, IsMade, IsOn, IsOpen, IsOpenTo, IsSameDisk, IsTaken, Kept, Leaves, MapEntry, MayFlip, MayPut, Nothing, Object, OnOk, Opened, OwnsNothing, Puid, Result, Root, ShadowRoot, StoreHas, Trouble, Undo, and_from, and_parts, both_ways, carries_framed, carries_on, cases_Bool, changed, changes_begin, content_of, draft_goes_on, drafts_of, entry_in, entry_in_table, false_from_ne_true, flipped, flips, frames_begin, frames_hold, free_entry, free_unowned, given_all, had_not_meant, has_number, is_damage, is_free_entry, is_free_in, is_meant, is_meant_for, is_of, is_placed, is_taken, is_there, keeps_frame, list_all, making_goes_on, may_take_back, no_shadow_stands, not_map, object_at, of_draft, of_drafts, on_ok, opened_as, option_to_list, owner_is, placed_taken, same_Some, shadow_taken, stands_meant, taken_apart, then, undoing, undone, undone_in, undone_stands, undone_valid, wider, without_draft}
+use Rattle.special_files.proofs.Words.{AbortEnds, Accounts, AreCounts, AreTaken, BlockState, ChangesOnly, Drafting, Dropped, Flip, Flips, Frame, Ghosts, Graph, HasDraft, HasDrafts, Holds, Image, IsMadeRoot, IsOn, IsOpen, IsOpenTo, IsSameDisk, IsTaken, Kept, Leaves, MapEntry, MayFlip, MayPut, Nothing, Object, OnOk, Opened, OwnsNothing, Puid, Result, Root, ShadowRoot, StoreHas, Trouble, Undo, and_from, and_parts, both_ways, carries_framed, carries_on, cases_Bool, changed_entry, changes_begin, content_of, draft_goes_on, drafts_of, entry_in, entry_in_table, false_from_ne_true, flipped, flips, frames_begin, frames_hold, unheld_entry, free_unowned, given_all, had_not_meant, has_number, is_damage, is_free_entry, is_free_in, is_meant, is_meant_for, is_owned_by, is_placed, is_taken, is_there, keeps_frame, list_all, making_goes_on, may_take_back, no_shadow_stands, not_map, object_at, of_draft, of_drafts, on_ok, opened_as, option_to_list, owner_is, placed_taken, same_Some, shadow_taken, stands_meant, taken_apart, then, undoing, undone, undone_in, undone_stands, undone_valid, wider, without_draft}
 use Rattle.ufs_model.specs.declared.object.Draft as models
 use Rattle.vol_owners.proofs.Entries.{root_placed}
 use Rattle.special_files.proofs.CommitDraft.{without_created, without_here, without_others, without_stay}
@@ -28,7 +28,7 @@ module _ (a : Image) (g : Graph) (ds : List Opened) (id : Puid) (o : Object) (k0
   own_not_taken : (n : ℕ) → has_number n (option_to_list d.shadow) ≡ true → has_number n taken ≡ false
   own_not_taken n is = lists.no_shadow n (own_is n is)
 
-  may_undo : (n : ℕ) → is_meant_for a id.block n ≡ true → ((e : MapEntry) → entry_in a n ≡ Some e → e.place ≢ Some Root) → (e : MapEntry) × (entry_in a n ≡ Some e) × MayPut (Frame a g) n e (changed Undo e)
+  may_undo : (n : ℕ) → is_meant_for a id.block n ≡ true → ((e : MapEntry) → entry_in a n ≡ Some e → e.place ≢ Some Root) → (e : MapEntry) × (entry_in a n ≡ Some e) × MayPut (Frame a g) n e (changed_entry Undo e)
   may_undo n meant no_root =
       let t = (meant_is a id.block n meant).taken in
       let begun = changes_begin (λ e. of_draft id.block e) a g had.holds in
@@ -60,7 +60,7 @@ module _ (a : Image) (g : Graph) (ds : List Opened) (id : Puid) (o : Object) (k0
 
   -- ---- the root of an object that was to be made
 
-  made_is : (n : ℕ) → has_number n (option_to_list d.created) ≡ true → IsMade a n
+  made_is : (n : ℕ) → has_number n (option_to_list d.created) ≡ true → IsMadeRoot a n
   made_is n there = had.made n (created_there id d n ds alone (option_is d.created n there))
 
   made_at : (n : ℕ) → has_number n (option_to_list d.created) ≡ true → IsNewRoot a n
@@ -84,7 +84,7 @@ module _ (a : Image) (g : Graph) (ds : List Opened) (id : Puid) (o : Object) (k0
   may3 = may_flips (Frame a g) Undo (option_to_list d.created) b2 (option_once d.created) (λ n there.
       let root = (made_at n there).at in
       let e = root.taken.is in
-      let gone : undone e ≡ free_entry = ap (λ (s : BlockState). undone_in s e) (made_at n there).state in (
+      let gone : undone e ≡ unheld_entry = ap (λ (s : BlockState). undone_in s e) (made_at n there).state in (
         e,
         b2_made n there,
         (
@@ -154,12 +154,12 @@ module _ (a : Image) (g : Graph) (ds : List Opened) (id : Puid) (o : Object) (k0
 
   pub none_meant : (m : ℕ) → is_meant_for b3 id.block m ≡ false
   none_meant m = ⊎_elim (λ is. free_unowned is_meant refl id.block (entry_in b3 m) (freed_meant m is)) (λ none.
-      ⊎_elim (λ there. free_unowned is_meant refl id.block (entry_in b3 m) (freed_made m there)) (λ other. ap (is_of is_meant id.block) (kept m none other) ∙ none) (cases_Bool (has_number m (option_to_list d.created)))) (cases_Bool (is_meant_for a id.block m))
+      ⊎_elim (λ there. free_unowned is_meant refl id.block (entry_in b3 m) (freed_made m there)) (λ other. ap (is_owned_by is_meant id.block) (kept m none other) ∙ none) (cases_Bool (has_number m (option_to_list d.created)))) (cases_Bool (is_meant_for a id.block m))
 
   -- nothing is left of what was to be made
   pub none_left : (c : ℕ) → d.created ≡ Some c → OwnsNothing b3 c
   none_left c is m = ⊎_elim (λ meant. free_unowned is_taken refl c (entry_in b3 m) (freed_meant m meant)) (λ none.
-      ⊎_elim (λ there. free_unowned is_taken refl c (entry_in b3 m) (freed_made m there)) (λ other. ap (is_of is_taken c) (kept m none other) ∙ false_from_ne_true _ (λ of_c.
+      ⊎_elim (λ there. free_unowned is_taken refl c (entry_in b3 m) (freed_made m there)) (λ other. ap (is_owned_by is_taken c) (kept m none other) ∙ false_from_ne_true _ (λ of_c.
       both_ways _ other (subst (λ (k : ℕ). has_number k (option_to_list d.created) ≡ true) (sym ((made_is c (option_has d.created c is)).alone m of_c)) (option_has d.created c is)))) (cases_Bool (has_number m (option_to_list d.created)))) (cases_Bool (is_meant_for a id.block m))
 
   meant_of : (r m : ℕ) → is_meant_for a r m ≡ true → has_number r (id.block ∷ option_to_list d.created) ≡ true → IsOpenTo (λ e. of_drafts (id.block ∷ option_to_list d.created) e) (entry_in a m)

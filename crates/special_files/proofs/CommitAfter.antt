@@ -1,6 +1,6 @@
 -- The image that a commit ends with.
 use Rattle.std.proofs.Common.{◌≡◌, ◌≢◌, inl, inr, ⊎_elim, ℕ, ◌%◌, ◌<◌, Bool, true, false, List, [], ◌∷◌, length, Option, Some, refl, sym, ◌∙◌, ap, subst, length-set, arith}
-use Rattle.special_files.proofs.Words.{AreCounts, ClearBit, Finish, Frame, Graph, Image, IntendAllocate, IntendDeallocate, IsEntered, IsEntry, IsReady, IsTaken, Kept, MapEntry, Object, Puid, Release, Settles, StandsIn, Undo, after_giving, bit_valid, block_at, block_at-with_entry, both_ways, cases_Bool, counts_same, entry_in, entry_in_table, false_from_ne_true, finished, finished_part, flips, given_all, has_number, in_image, is_committed, is_free, is_free_entry, is_free_in, is_had, is_meant, is_meant_for, is_of, is_taken, length-with_entry, not_map, option_to_list, part_at, part_of, released, same_Some, same_or_not, same_tree, stands_meant, taken_apart, taken_of, tree_in, undone, with_bit, with_bit_at, without_bit}
+use Rattle.special_files.proofs.Words.{AreCounts, ClearBit, Finish, Frame, Graph, Image, IntendAllocate, IntendDeallocate, IsEntered, IsEntry, IsReady, IsTaken, Kept, MapEntry, Object, Puid, Release, Settles, StandsIn, Undo, after_giving, bit_valid, block_at, block_at-with_entry, both_ways, cases_Bool, counts_same, entry_in, entry_in_table, false_from_ne_true, finished, finished_part, flips, given_all, has_number, in_image, is_committed, is_free, is_free_entry, is_free_in, is_had, is_meant, is_meant_for, is_owned_by, is_taken, length-with_entry, not_map, option_to_list, part_at, part_of, released, same_Some, same_or_not, same_tree, stands_meant, taken_apart, taken_of, tree_in, undone, with_bit, with_bit_at, without_bit}
 use Rattle.std.proofs.lemmas.List.{get_or-set_other, get_or-set_same}
 use Rattle.special_files.proofs.CommitEntries.{bits_same, dropped_free, finished_free, finished_had, meant_not_free, no_bit, released_free, released_not_free, undone_free, with_bit_free}
 use Rattle.special_files.proofs.CommitFlips.{counts_given_all, counts_kept}
@@ -32,15 +32,15 @@ module _ {a : Image} {g : Graph} {id : Puid} {was o : Object} {s : ℕ} {taken d
   pub no_bit_now : is_committed (part_at (b4 ready) id.block) ≡ false
   no_bit_now = ap (λ (x : Option MapEntry). is_committed (part_of x)) b4_root ∙ no_bit (with_bit (root ready).taken.is)
 
-  taken_of_id : (n : ℕ) → IsTaken a n id.block → is_of is_taken id.block (entry_in a n) ≡ true
+  taken_of_id : (n : ℕ) → IsTaken a n id.block → is_owned_by is_taken id.block (entry_in a n) ≡ true
   taken_of_id n t = taken_of a n id.block t
 
-  pub new_taken : (m : ℕ) → StandsIn (tree_in a (block_at a s)) m → is_of is_taken id.block (entry_in a m) ≡ true
+  pub new_taken : (m : ℕ) → StandsIn (tree_in a (block_at a s)) m → is_owned_by is_taken id.block (entry_in a m) ≡ true
   new_taken m at = taken_of_id m ((new_inner ready) m at).taken
 
   role_root : Role a (b4 ready) id.block created (tree_in a (block_at a s)) id.block
   role_root = Now (taken_of_id id.block (root ready).taken)
-      (ap (is_of is_had id.block) b4_root ∙ bits_same is_had id.block (root ready).taken.is ∙ ap (is_of is_had id.block) (sym (root ready).taken.here) ∙ ready.has.each id.block (inl refl)) (inl refl)
+      (ap (is_owned_by is_had id.block) b4_root ∙ bits_same is_had id.block (root ready).taken.is ∙ ap (is_owned_by is_had id.block) (sym (root ready).taken.here) ∙ ready.has.each id.block (inl refl)) (inl refl)
 
   shadow_meant : is_meant_for a id.block s ≡ true
   shadow_meant = stands_meant id.block (entry_in a s) ready.draft.stands
@@ -56,8 +56,8 @@ module _ {a : Image} {g : Graph} {id : Puid} {was o : Object} {s : ℕ} {taken d
   role_taken m is =
       let t = (taken_inner ready) m is in
       Now (taken_of_id m t.taken)
-      (ap (is_of is_had id.block) (b4_entry_of m ((inner_root ready) m t) false false false true (not_only s m ((inner_shadow ready) m t)) ((no_made ready) m (λ made. (made_not_inner ready) m made t)) ((taken_not_dropped ready) m is) is ∙ ap (if_at true Finish) t.taken.here)
-      ∙ finished_had id.block t.taken.is (ap (is_of is_meant id.block) (sym t.taken.here) ∙ ready.meant m is))
+      (ap (is_owned_by is_had id.block) (b4_entry_of m ((inner_root ready) m t) false false false true (not_only s m ((inner_shadow ready) m t)) ((no_made ready) m (λ made. (made_not_inner ready) m made t)) ((taken_not_dropped ready) m is) is ∙ ap (if_at true Finish) t.taken.here)
+      ∙ finished_had id.block t.taken.is (ap (is_owned_by is_meant id.block) (sym t.taken.here) ∙ ready.meant m is))
       (inr (ready.stands m is))
 
   role_dropped : (m : ℕ) → has_number m dropped ≡ true → Role a (b4 ready) id.block created (tree_in a (block_at a s)) m
@@ -73,8 +73,8 @@ module _ {a : Image} {g : Graph} {id : Puid} {was o : Object} {s : ℕ} {taken d
       b4_entry_of m ((made_not_root ready) m is) false true false false (not_only s m ((made_not_shadow ready) m is)) (option_has created m is) ((made_not_dropped ready) m is) ((made_not_taken ready) m is)
       ∙ ap (if_at true Finish) ((made_root_at ready) m is).at.taken.here
 
-  made_had : (m : ℕ) → created ≡ Some m → is_of is_had m (entry_in (b4 ready) m) ≡ true
-  made_had m is = ap (is_of is_had m) (made_entry m is) ∙ finished_had m ((made_root_at ready) m is).at.taken.is (ap (is_of is_meant m) (sym ((made_root_at ready) m is).at.taken.here) ∙ (made_meant_at ready) m is)
+  made_had : (m : ℕ) → created ≡ Some m → is_owned_by is_had m (entry_in (b4 ready) m) ≡ true
+  made_had m is = ap (is_owned_by is_had m) (made_entry m is) ∙ finished_had m ((made_root_at ready) m is).at.taken.is (ap (is_owned_by is_meant m) (sym ((made_root_at ready) m is).at.taken.here) ∙ (made_meant_at ready) m is)
 
   role_other : (m : ℕ) → m ≢ id.block → m ≢ s → has_number m taken ≡ false → has_number m dropped ≡ false → has_number m (option_to_list created) ≡ false → Role a (b4 ready) id.block created (tree_in a (block_at a s)) m
   role_other m no_root no_shadow not_taken not_dropped not_made = Same

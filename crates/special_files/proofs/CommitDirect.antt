@@ -1,6 +1,6 @@
 -- A draft that takes its shadow root with its commit.
 use Rattle.std.proofs.Common.{◌≡◌, ◌≢◌, ℕ, ◌%◌, ◌<◌, true, false, IsTrue, List, [], length, length-set, set, Ok, Err, Some, None, refl, sym, ◌∙◌, ap, eq-eqb, arith}
-use Rattle.special_files.proofs.Words.{BlockNo, Drafting, Enters, Free, Ghosts, Graph, Holds, Image, IsChanged, IsEntry, IsLeastFree, IsOpen, IsPlaced, IsReady, IsSameDisk, Kept, Leaves, MapEntry, Object, Opened, Puid, Refused, Result, Root, ShadowRoot, StoreHas, Trouble, Written, block_at, block_at-with_entry, entry_in, entry_in-set, entry_in-with_entry_other, entry_in-with_entry_same, in_image, intended, is_damage, is_damaged, is_meant_for, left_now, length-with_entry, not_map, object_at, opened_as, refused_by, root_placed, root_spelling, same_Some, stands_for, stands_meant, taken_apart, tree_in, with_entry}
+use Rattle.special_files.proofs.Words.{BlockNo, Drafting, Enters, Free, Ghosts, Graph, Holds, Image, IsChanged, IsEntry, IsLeastFree, IsOpen, IsPlaced, IsReady, IsSameDisk, Kept, Leaves, MapEntry, Object, Opened, Puid, Refused, Result, Root, ShadowRoot, StoreHas, Trouble, Written, block_at, block_at-with_entry, entry_in, entry_in-set, entry_in-with_entry_other, entry_in-with_entry_same, in_image, intended, is_damage, has_met_damage, is_meant_for, left_now, length-with_entry, not_map, object_at, opened_as, refused_by, root_placed, root_spelling, same_Some, stands_for, stands_meant, taken_apart, tree_in, with_entry}
 use Rattle.std.proofs.lemmas.List.{get_or-set_other, get_or-set_same}
 use Rattle.cfs_base.specs.declared.refusal.Trouble.TheVariants as trouble
 use Rattle.ufs_model.specs.declared.object.Draft as models
@@ -14,7 +14,7 @@ use Rattle.special_files.proofs.PutStore.{the_draft}
 
 -- ---- the claim refused
 
-same_damage : (t : Trouble) → is_damaged (refused_by t) ≡ is_damage t
+same_damage : (t : Trouble) → has_met_damage (refused_by t) ≡ is_damage t
 same_damage (trouble.Disk tried) = refl
 same_damage (trouble.Damaged damage) = refl
 

@@ -1,10 +1,10 @@
 -- A commit from the release of what is dropped to the end.
 use Rattle.std.proofs.Common.{◌≡◌, inl, inr, ⊎_elim, ℕ, ◌≤◌, true, false, List, [], ◌∷◌, length, set, Ok, Some, refl, sym, ◌∙◌, ap, subst, arith, Option}
-use Rattle.special_files.proofs.Words.{AreCounts, Decided, Carries, ChangesBit, ChangesOnly, Flips, Frame, Ghosts, Graph, HasItsBlocks, Holds, IfErr, Image, IsEntered, IsMapTrouble, IsOldOrNew, IsOn, IsReady, IsSettled, Keeps, Kept, Leaves, MakesAtMost, MayFlip, Object, Puid, Release, Result, SetBit, Trouble, bit_set, block_at, carries_framed, entry_in, false_from_ne_true, flipped, flips, frames_hold, in_image, is_damage, is_fixed, is_free_in, is_meant_for, is_of, is_taken, keeps_frame, puid_at, not_label, not_map, of_owners, option_to_list, reserved, root_placed, same_or_not, taken_apart, the_entry, then, tree_in, trouble_after_try, wider, with_bit, with_entry, with_object}
+use Rattle.special_files.proofs.Words.{AreCounts, Decided, Carries, ChangesBit, ChangesOnly, Flips, Frame, Ghosts, Graph, HasItsBlocks, Holds, IfErr, Image, IsEntered, IsMapTrouble, IsOldOrNew, IsOn, IsReady, IsSettled, Keeps, Kept, Leaves, MakesAtMost, MayFlip, Object, Puid, Release, Result, SetBit, Trouble, bit_set, block_at, carries_framed, entry_in, false_from_ne_true, flipped, flips, frames_hold, in_image, is_damage, is_fixed, is_free_in, is_meant_for, is_owned_by, is_taken, keeps_frame, puid_at, not_label, not_map, of_owners, option_to_list, reserved, root_placed, same_or_not, taken_apart, the_entry, then, tree_in, trouble_after_try, wider, with_bit, with_entry, with_object}
 use Rattle.intentions.proofs.Flips.{flip_is, flipped_append}
 use Rattle.special_files.proofs.CommitRoles.{none_meant, now_has, only_owners}
 use Rattle.intentions.proofs.Flips.{no_damage}
-use Rattle.intentions.specs.Left.{AreOpen, coming, copied_if, end_of, plan}
+use Rattle.intentions.specs.Left.{AreOpen, coming, copied_if, final_image, plan}
 use Rattle.intentions.proofs.Courses.{on_holds}
 use Rattle.special_files.proofs.CommitOpens.{plan_open}
 use Rattle.finisher.proofs.Calls.{counts_alike}
@@ -74,7 +74,7 @@ module _ {D : Type 0} (g : Ghosts D) {graph full : Graph} {at word : ℕ} {was o
       abbrev b4 : Image
       b4 = whole.b4 ready
 
-      b4_is : end_of g d1 mid ≡ b4
+      b4_is : final_image g d1 mid ≡ b4
       b4_is = ap (coming (g.content d1)) left_is ∙ comes_to ready g d1 mid content_is settled counts1
 
       b4_holds : Holds b4 (with_object full (puid_at at word) o)
@@ -83,11 +83,11 @@ module _ {D : Type 0} (g : Ghosts D) {graph full : Graph} {at word : ℕ} {was o
       root_apart : is_fixed at ≡ false
       root_apart = taken_apart (g.content d0) full ready.holds at at (root_placed (g.content d0) (length (g.content d0)) (puid_at at word) was (ready.holds.objects (puid_at at word) was ready.at)).taken
 
-      fixed_unowned : (q m : ℕ) → is_fixed m ≡ true → is_of is_taken q (entry_in (g.content d0) m) ≡ false
+      fixed_unowned : (q m : ℕ) → is_fixed m ≡ true → is_owned_by is_taken q (entry_in (g.content d0) m) ≡ false
       fixed_unowned q m is = false_from_ne_true _ (λ h.
           let e = the_entry is_taken q (entry_in (g.content d0) m) h in
           let same = run.holds.fixed m (in_image (g.content d0) graph run.holds m e.0 e.1) is in
-          let no : is_of is_taken q (Some reserved) ≡ true = sym (ap (is_of is_taken q) same) ∙ h in cc)
+          let no : is_owned_by is_taken q (Some reserved) ≡ true = sym (ap (is_owned_by is_taken q) same) ∙ h in cc)
 
       -- the image with the root copied
       copied_is : copied_if false (left ready) (g.content d1) ≡ whole.a3 ready

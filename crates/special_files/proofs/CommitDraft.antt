@@ -1,6 +1,6 @@
 -- A draft whose root was written to its shadow root, and the drafts of the others.
 use Rattle.std.proofs.Common.{◌≡◌, ◌≢◌, inl, inr, ⊎_elim, ℕ, ◌%◌, ◌<◌, Bool, true, false, cond, IsTrue, List, [], ◌∷◌, ◌++◌, length, length-set, get_or, set, Option, Some, None, Ok, Err, refl, sym, ◌∙◌, ap, subst, arith, not}
-use Rattle.special_files.proofs.Words.{All, AreOnDisk, Drafting, Fails, FarRoot, Ghosts, Graph, HasDraft, HasItsBlocks, HasTried, Holds, IfErr, Image, IsChanged, IsOpen, IsPlaced, IsReady, IsRootBlock, IsSameDisk, IsTree, IsTrouble, Kept, Leaves, MakesAtMost, MapEntry, Object, Opened, Puid, Result, Root, SameAt, SameOthers, ShadowRoot, StandsIn, StoreHas, Tells, Tree, Trouble, Written, and_from, and_parts, block_at, both_ways, content_of, created_of, drafts_of, entry_in, entry_in-set, false≢true, far_root, fun_ext, had_not_meant, in_image, is_damage, is_meant, is_meant_for, is_of, is_some, is_there, left_now, levels_of, levels_standing, list_all, not_map, object_at, object_at-with_object, one_root_block, opened_as, option_to_list, part_of, root_placed, root_spelling, same_Some, same_or_not, same_puid, same_puid_is, same_tree, shadow_apart, shadow_taken, stands_for, stands_meant, taken_apart, tree_in, trouble_after_try, with_object, without_draft}
+use Rattle.special_files.proofs.Words.{All, AreOnDisk, Drafting, CommitFails, FarRoot, Ghosts, Graph, HasDraft, HasItsBlocks, HasTried, Holds, IfErr, Image, IsChanged, IsOpen, IsPlaced, IsReady, IsRootBlock, IsSameDisk, IsTree, IsDraftTrouble, Kept, Leaves, MakesAtMost, MapEntry, Object, Opened, Puid, Result, Root, SameAt, SameOthers, ShadowRoot, StandsIn, StoreHas, Tells, Tree, Trouble, Written, and_from, and_parts, block_at, both_ways, content_of, created_of, drafts_of, entry_in, entry_in-set, false≢true, far_root, fun_ext, had_not_meant, in_image, is_damage, is_meant, is_meant_for, is_owned_by, is_some, is_there, left_now, levels_of, levels_standing, list_all, not_map, object_at, object_at-with_object, one_root_block, opened_as, option_to_list, part_of, root_placed, root_spelling, same_Some, same_or_not, same_puid, same_puid_is, same_tree, shadow_apart, shadow_taken, stands_for, stands_meant, taken_apart, tree_in, trouble_after_try, with_object, without_draft, Top, still_top}
 use Rattle.std.proofs.lemmas.List.{get_or-set_other, get_or-set_same}
 use Rattle.cfs_base.specs.declared.refusal.Trouble.TheVariants as trouble
 use Rattle.special_files.proofs.Amid.{IsAmid, amid_begins, write_leaves, wrote}
@@ -12,6 +12,7 @@ use Rattle.special_files.proofs.Begun.{own_tree}
 use Rattle.special_files.proofs.CommitRuns.{fails_after}
 use Rattle.special_files.proofs.CommitWhole.{IsInner, tree_inner}
 use Rattle.special_files.proofs.Lists.{differs}
+use Rattle.special_files.proofs.Refusals.{still_as}
 
 -- ---- from the draft in memory to that on the disk
 
@@ -40,7 +41,7 @@ module _ (a b : Image) (g : Graph) (id : Puid) (was : Object) (d : Opened) (s : 
   -- the root isn't the shadow root
   not_root : id.block ≢ s
   not_root is =
-      let meant = subst (λ (n : ℕ). is_of is_meant id.block (entry_in b n) ≡ true) (sym is) (stands_meant id.block (entry_in b s) stands) in
+      let meant = subst (λ (n : ℕ). is_owned_by is_meant id.block (entry_in b n) ≡ true) (sym is) (stands_meant id.block (entry_in b s) stands) in
       both_ways _ (had_not_meant id.block (entry_in b id.block) (now_has.each id.block (inl refl))) (and_parts _ _ meant).0
 
   root_same : block_at b id.block ≡ block_at a id.block
@@ -50,7 +51,7 @@ module _ (a b : Image) (g : Graph) (id : Puid) (was : Object) (d : Opened) (s : 
   own_tree_now = ap (tree_in b) (root_same ∙ draft.own.spelled) ∙ same_tree_of (root_spelling d.own) d.own was own_is
 
   meant_same : (n : ℕ) → n ≢ s → is_meant_for b id.block n ≡ is_meant_for a id.block n
-  meant_same n other = ap (is_of is_meant id.block) (same n other)
+  meant_same n other = ap (is_owned_by is_meant id.block) (same n other)
 
   alone : (n : ℕ) → stands_for id.block (entry_in b n) ≡ true → n ≡ s
   alone n is = ⊎_elim (λ one. one) (λ other.
@@ -139,7 +140,7 @@ without_there g id o (f ∷ ds) all =
 
 module _ (a b : Image) (id : Puid) (d : Opened) (draft : HasDraft a id d) (size : length b ≡ length a) (entries : (m : ℕ) → entry_in b m ≡ entry_in a m) (root : block_at b id.block ≡ block_at a id.block) (tree : tree_in b (content_of d) ≡ tree_in a (content_of d)) where
   tests : is_meant_for a id.block ≡ is_meant_for b id.block
-  tests = fun_ext (λ n. ap (is_of is_meant id.block) (sym (entries n)))
+  tests = fun_ext (λ n. ap (is_owned_by is_meant id.block) (sym (entries n)))
 
   pub draft_same : HasDraft b id d
   draft_same = record {
@@ -149,7 +150,7 @@ module _ (a b : Image) (id : Puid) (d : Opened) (draft : HasDraft a id d) (size 
     tree = subst (λ (n : ℕ). IsTree n id.block (tree_in b (content_of d)) d.root d.draft.object) (sym size) (subst (λ (t : Tree). IsTree (length a) id.block t d.root d.draft.object) (sym tree) draft.tree);
     shadow = λ s is. ap (stands_for id.block) (entries s) ∙ draft.shadow s is;
     fresh = λ k. draft.fresh k ∙ (λ i. get_or (levels_standing (tests i) (sym tree i) (length (levels_of (content_of d)))) k []);
-    no_other = λ n meant. ⊎_elim (λ is. inl is) (λ at. inr (subst (λ (t : Tree). StandsIn t n) (sym tree) at)) (draft.no_other n (ap (is_of is_meant id.block) (sym (entries n)) ∙ meant));
+    no_other = λ n meant. ⊎_elim (λ is. inl is) (λ at. inr (subst (λ (t : Tree). StandsIn t n) (sym tree) at)) (draft.no_other n (ap (is_owned_by is_meant id.block) (sym (entries n)) ∙ meant));
   }
 
 module _ {D : Type 0} (g : Ghosts D) (graph : Graph) (ds : List Opened) (id : Puid) (o : Object) (d0 d1 d2 : D) (k0 : Kept) (drafting : Drafting) (m : models.Draft) (s : ℕ) (block : List ℕ)
@@ -231,8 +232,8 @@ module _ {D : Type 0} (g : Ghosts D) (graph : Graph) (ds : List Opened) (id : Pu
 
 -- ---- ends
 
-module _ {D : Type 0} (g : Ghosts D) (at : ℕ) (old new : D) (kept : Kept) where
-  pub fails_tried : HasTried g old new → (t : Trouble) → Fails g at old new kept t → IsTrouble g at old new kept t
+module _ {D : Type 0} (g : Ghosts D) (at : Top) (old new : D) (kept : Kept) where
+  pub fails_tried : HasTried g old new → (t : Trouble) → CommitFails g at old new kept t → IsDraftTrouble g at old new kept t
   fails_tried tried (trouble.Disk was) is = record { failed = is.1; tries = λ yes. tried; no_try = λ no. absurd (false≢true (sym no ∙ is.0)); untouched = λ no. absurd (false≢true (sym no ∙ is.0)) }
   fails_tried tried (trouble.Damaged damage) is = is
 
@@ -244,9 +245,9 @@ pub below_all : (size : ℕ) (ns : List ℕ) → AreOnDisk size ns → All (λ n
 below_all n ns all = λ k d less. (all k d less).1
 
 -- a call that was refused, after others of which the first tried something
-pub finish_tried : {D : Type 0} (g : Ghosts D) (at : ℕ) (old mid new : D) (kept : Kept) (n t m s : ℕ) → MakesAtMost g n t old mid → (Tells g old → Tells g mid) → MakesAtMost g m s mid new → HasTried g old new → (r : Result (Unit {0}) Trouble) → IfErr r (Fails g at mid new kept) → IfErr r (IsTrouble g at old new kept)
+pub finish_tried : {D : Type 0} (g : Ghosts D) (at : Top) (old mid new : D) (kept : Kept) (n t m s : ℕ) → MakesAtMost g n t old mid → (Tells g old → Tells g mid) → MakesAtMost g m s mid new → HasTried g old new → (r : Result (Unit {0}) Trouble) → IfErr r (CommitFails g (still_top at.block) mid new kept) → IfErr r (IsDraftTrouble g at old new kept)
 finish_tried g at old mid new kept n t m s first on second tried (Ok u) is = tt
-finish_tried g at old mid new kept n t m s first on second tried (Err e) is = fails_tried g at old new kept tried e (fails_after g at old mid new kept n t m s first on second e is)
+finish_tried g at old mid new kept n t m s first on second tried (Err e) is = still_as g at old new kept e (fails_tried g (still_top at.block) old new kept tried e (fails_after g (still_top at.block) old mid new kept n t m s first on second e is))
 
 -- ---- nothing is done
 
@@ -258,14 +259,14 @@ pub tried_apart : (t : Trouble) → trouble_after_try t ≢ trouble.Disk false
 tried_apart (trouble.Disk tried) same = cc
 tried_apart (trouble.Damaged damage) same = cc
 
-pub finish_apart : {D : Type 0} (g : Ghosts D) (at : ℕ) (old new : D) (kept : Kept) (r : Result (Unit {0}) Trouble) → IfErr r (Fails g at old new kept) → IfErr r (λ t. t ≢ trouble.Disk false)
+pub finish_apart : {D : Type 0} (g : Ghosts D) (at : ℕ) (old new : D) (kept : Kept) (r : Result (Unit {0}) Trouble) → IfErr r (CommitFails g (still_top at) old new kept) → IfErr r (λ t. t ≢ trouble.Disk false)
 finish_apart g at old new kept (Ok u) is = tt
 finish_apart g at old new kept (Err (trouble.Disk true)) is = λ same. cc
 finish_apart g at old new kept (Err (trouble.Disk false)) is = λ same. (let no : false ≡ true = is.0 in cc)
 finish_apart g at old new kept (Err (trouble.Damaged damage)) is = λ same. cc
 
-pub far_trouble : {D : Type 0} (g : Ghosts D) (at : ℕ) (d : D) (kept : Kept) (t : Trouble) → t ≡ far_root at → IsTrouble g at d d kept t
-far_trouble g at d kept t is = subst (IsTrouble g at d d kept) (sym is) (FarRoot refl refl)
+pub far_trouble : {D : Type 0} (g : Ghosts D) (at : Top) (d : D) (kept : Kept) (t : Trouble) → at.IsFar (g.blocks d) → t ≡ far_root at.block → IsDraftTrouble g at d d kept t
+far_trouble g at d kept t far is = subst (IsDraftTrouble g at d d kept) (sym is) (FarRoot refl refl far)
 
 -- ---- a call that failed had tried a write or a barrier
 

@@ -1,6 +1,6 @@
 -- What of a block's entry becomes in a commit.
 use Rattle.std.proofs.Common.{◌≡◌, ◌≢◌, ℕ, Bool, true, false, Option, Some, None, refl, sym, ◌∙◌, ap}
-use Rattle.special_files.proofs.Words.{Allocated, BlockState, Free, IntendAllocate, IntendDeallocate, Leaf, MapEntry, Node, Place, Root, ShadowRoot, and_parts, false≢true, finished, finished_in, is_committed, is_free, is_free_state, is_had, is_meant, is_of, is_some, part_in, part_of, released, released_at, released_in, undone, undone_in, with_bit, with_bit_at, without_bit, ◌&&◌, ◌==◌}
+use Rattle.special_files.proofs.Words.{Allocated, BlockState, Free, IntendAllocate, IntendDeallocate, Leaf, MapEntry, Node, Place, Root, ShadowRoot, and_parts, false≢true, finished, finished_in, is_committed, is_free, is_free_state, is_had, is_meant, is_owned_by, is_some, part_in, part_of, released, released_at, released_in, undone, undone_in, with_bit, with_bit_at, without_bit, ◌&&◌, ◌==◌}
 
 -- ---- whether a block is Free
 
@@ -41,17 +41,17 @@ module _ (e : MapEntry) (meant : e.state ≡ IntendAllocate) where
   pub undone_free : is_free (undone e) ≡ true
   undone_free = ap (λ (s : BlockState). is_free (undone_in s e)) meant
 
-pub finished_had : (r : ℕ) (e : MapEntry) → is_of is_meant r (Some e) ≡ true → is_of is_had r (Some (finished e)) ≡ true
+pub finished_had : (r : ℕ) (e : MapEntry) → is_owned_by is_meant r (Some e) ≡ true → is_owned_by is_had r (Some (finished e)) ≡ true
 finished_had r e h = at e.state h
   where
-    at : (s : BlockState) → is_of is_meant r (Some (record e { state = s })) ≡ true → is_of is_had r (Some (finished (record e { state = s }))) ≡ true
+    at : (s : BlockState) → is_owned_by is_meant r (Some (record e { state = s })) ≡ true → is_owned_by is_had r (Some (finished (record e { state = s }))) ≡ true
     at Free q = cc
     at Allocated q = cc
     at IntendAllocate q = q
     at IntendDeallocate q = cc
 
 -- a node or leaf that the object had is dropped
-module _ (r : ℕ) (e : MapEntry) (had : is_of is_had r (Some e) ≡ true) (no_root : e.place ≢ Some Root) (no_shadow : e.place ≢ Some ShadowRoot) where
+module _ (r : ℕ) (e : MapEntry) (had : is_owned_by is_had r (Some e) ≡ true) (no_root : e.place ≢ Some Root) (no_shadow : e.place ≢ Some ShadowRoot) where
   state_had : (s : BlockState) → is_had s ≡ true → s ≡ Allocated
   state_had Free h = cc
   state_had Allocated h = refl
@@ -82,10 +82,10 @@ module _ (r : ℕ) (e : MapEntry) (had : is_of is_had r (Some e) ≡ true) (no_r
 
 -- ---- the root
 
-pub bits_same : (test : BlockState → Bool) (r : ℕ) (e : MapEntry) → is_of test r (Some (without_bit (with_bit e))) ≡ is_of test r (Some e)
+pub bits_same : (test : BlockState → Bool) (r : ℕ) (e : MapEntry) → is_owned_by test r (Some (without_bit (with_bit e))) ≡ is_owned_by test r (Some e)
 bits_same test r e = at e.place
   where
-    at : (p : Option Place) → is_of test r (Some (without_bit (with_bit_at p e))) ≡ is_of test r (Some e)
+    at : (p : Option Place) → is_owned_by test r (Some (without_bit (with_bit_at p e))) ≡ is_owned_by test r (Some e)
     at None = refl
     at (Some Root) = refl
     at (Some ShadowRoot) = refl

@@ -11,7 +11,7 @@ use Rattle.cfs_base.specs.Run.{IsSettled}
 use Rattle.cfs_base.specs.declared.disk.Disk.{Ghosts}
 use Rattle.cfs_base.specs.declared.identifier.Puid.{Puid}
 use Rattle.cfs_base.specs.declared.kind.Place.TheVariants.{Root, ShadowRoot}
-use Rattle.cyl_alloc.specs.Left.{Left}
+use Rattle.cyl_alloc.specs.Left.{LeftCommit}
 use Rattle.cyl_alloc.specs.Space.{AreCounts, Kept}
 use Rattle.cyl_map.specs.declared.entry.MapEntry.{MapEntry}
 use Rattle.intentions.proofs.Flips.{flip_is, flipped_append, option_is}
@@ -67,7 +67,7 @@ module _ {a : Image} {full : Graph} {id : Puid} {was o : Object} {s : ℕ} {take
       let root = (made_root a ready.holds.own s (ready.made s (option_is created s there))).at in
       let no : Some Root ≡ Some ShadowRoot = sym root.place_is ∙ ap (λ (e : MapEntry). e.place) (same_Some _ _ (sym root.taken.here ∙ shadow.taken.here)) ∙ shadow.place_is in cc)
 
-  abbrev pub left : Left
+  abbrev pub left : LeftCommit
   left = record { root = id.block; shadow = s; rest = rest_of taken dropped created s; copied = false }
 
   last : to_flip s (s ∷ []) ≡ flips Undo (s ∷ [])
@@ -122,8 +122,8 @@ all_near size taken dropped created s near1 near2 near3 below =
     one (Some n) near = All-cons (λ m. m < size) n [] (near n refl) (All-nil (λ m. m < size))
 
 -- where none is unfinished nothing is owed
-pub none_unfinished : {D : Type 0} (g : Ghosts D) (old new : D) (left : Option Left) → left ≡ None → IsAtBit g old new left
+pub none_unfinished : {D : Type 0} (g : Ghosts D) (old new : D) (left : Option LeftCommit) → left ≡ None → IsAtBit g old new left
 none_unfinished g old new left none = record { tried = λ some. absurd (no some); settled = λ some. absurd (no some) }
   where
     no : IsSome left → ⊥
-    no some = let is = subst (λ (w : Option Left). IsSome w) none some in cc
+    no some = let is = subst (λ (w : Option LeftCommit). IsSome w) none some in cc

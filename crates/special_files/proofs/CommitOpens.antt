@@ -11,7 +11,7 @@ use Rattle.cyl_map.specs.declared.state.BlockState.{BlockState}
 use Rattle.cyl_map.specs.declared.state.BlockState.TheVariants.{Free, Allocated, IntendAllocate, IntendDeallocate}
 use Rattle.cyl_map.specs.declared.entry.MapEntry.{MapEntry}
 use Rattle.cyl_map.specs.Volume.{entry_in}
-use Rattle.intentions.specs.Entries.{changed, finished, released, released_at, released_in, undone, without_bit}
+use Rattle.intentions.specs.Entries.{changed_entry, finished, released, released_at, released_in, undone, without_bit}
 use Rattle.intentions.specs.declared.change.Change.{Change}
 use Rattle.intentions.specs.declared.change.Change.TheVariants.{ClearBit, Finish, Release, Undo}
 use Rattle.intentions.specs.Flips.{Flip, flip, flipped, flips}
@@ -32,22 +32,22 @@ use Rattle.vol_image.proofs.Parts.{IsPlaced, placed, root_placed, shadow_taken}
 use Rattle.vol_image.specs.Part.{part_at}
 use Rattle.vol_owners.specs.Account.{numbers_differ}
 use Rattle.vol_owners.specs.Change.{IsOpenTo, of_owners}
-use Rattle.vol_owners.specs.Owner.{is_of, is_taken}
+use Rattle.vol_owners.specs.Owner.{is_owned_by, is_taken}
 use Rattle.vol_owners.proofs.Entries.{taken_of}
 use Rattle.intentions.specs.Left.{AreOpen}
 
 -- ---- one entry
 
-pub released_taken : (r : ℕ) (e : MapEntry) → is_of is_taken r (Some e) ≡ true → is_of is_taken r (Some (released e)) ≡ true
+pub released_taken : (r : ℕ) (e : MapEntry) → is_owned_by is_taken r (Some e) ≡ true → is_owned_by is_taken r (Some (released e)) ≡ true
 released_taken r e is = at e.place is
   where
-    in_state : (p : Option Place) (s : BlockState) → is_of is_taken r (Some (record e { state = s; place = p })) ≡ true → is_of is_taken r (Some (released_in s (record e { state = s; place = p }))) ≡ true
+    in_state : (p : Option Place) (s : BlockState) → is_owned_by is_taken r (Some (record e { state = s; place = p })) ≡ true → is_owned_by is_taken r (Some (released_in s (record e { state = s; place = p }))) ≡ true
     in_state p Free h = h
     in_state p Allocated h = h
     in_state p IntendAllocate h = h
     in_state p IntendDeallocate h = h
 
-    at : (p : Option Place) → is_of is_taken r (Some (record e { place = p })) ≡ true → is_of is_taken r (Some (released_at p (record e { place = p }))) ≡ true
+    at : (p : Option Place) → is_owned_by is_taken r (Some (record e { place = p })) ≡ true → is_owned_by is_taken r (Some (released_at p (record e { place = p }))) ≡ true
     at None h = h
     at (Some Root) h = h
     at (Some ShadowRoot) h = h
@@ -58,22 +58,22 @@ module _ (r : ℕ) (owners : List ℕ) (among : has_number r owners ≡ true) wh
   abbrev T : Option MapEntry → Bool
   T entry = of_owners owners entry
 
-  taken_open : (e : MapEntry) → is_of is_taken r (Some e) ≡ true → IsOpenTo T (Some e)
+  taken_open : (e : MapEntry) → is_owned_by is_taken r (Some e) ≡ true → IsOpenTo T (Some e)
   taken_open e is = owners_open r owners (Some e) among is
 
-  finished_open : (e : MapEntry) → is_of is_taken r (Some e) ≡ true → IsOpenTo T (Some (finished e))
+  finished_open : (e : MapEntry) → is_owned_by is_taken r (Some e) ≡ true → IsOpenTo T (Some (finished e))
   finished_open e is = at e.state is
     where
-      at : (s : BlockState) → is_of is_taken r (Some (record e { state = s })) ≡ true → IsOpenTo T (Some (finished (record e { state = s })))
+      at : (s : BlockState) → is_owned_by is_taken r (Some (record e { state = s })) ≡ true → IsOpenTo T (Some (finished (record e { state = s })))
       at Free h = inl refl
       at Allocated h = taken_open (record e { state = Allocated }) h
       at IntendAllocate h = taken_open (record e { state = Allocated }) h
       at IntendDeallocate h = inl refl
 
-  undone_open : (e : MapEntry) → is_of is_taken r (Some e) ≡ true → IsOpenTo T (Some (undone e))
+  undone_open : (e : MapEntry) → is_owned_by is_taken r (Some e) ≡ true → IsOpenTo T (Some (undone e))
   undone_open e is = at e.state is
     where
-      at : (s : BlockState) → is_of is_taken r (Some (record e { state = s })) ≡ true → IsOpenTo T (Some (undone (record e { state = s })))
+      at : (s : BlockState) → is_owned_by is_taken r (Some (record e { state = s })) ≡ true → IsOpenTo T (Some (undone (record e { state = s })))
       at Free h = inl refl
       at Allocated h = taken_open (record e { state = Allocated }) h
       at IntendAllocate h = inl refl
@@ -83,7 +83,7 @@ module _ (r : ℕ) (owners : List ℕ) (among : has_number r owners ≡ true) wh
 
 module _ (T : Option MapEntry → Bool) where
   abbrev OpenAt : Change → Image → ℕ → Type 0
-  OpenAt how image n = (e : MapEntry) × (entry_in image n ≡ Some e) × IsOpenTo T (Some e) × IsOpenTo T (Some (changed how e))
+  OpenAt how image n = (e : MapEntry) × (entry_in image n ≡ Some e) × IsOpenTo T (Some e) × IsOpenTo T (Some (changed_entry how e))
 
   pub open_append : (xs ys : List Flip) (image : Image) → AreOpen T image xs → AreOpen T (flipped image xs) ys → AreOpen T image (xs ++ ys)
   open_append [] ys image a b = b
@@ -166,14 +166,14 @@ module _ {a : Image} {full : Graph} {id : Puid} {was o : Object} {s : ℕ} {take
   open1 n is =
       let t = inner_taken n is in
       let of_it = taken_of a n id.block t.taken in
-      let mine_is = subst (λ (x : Option MapEntry). is_of is_taken id.block x ≡ true) t.taken.here of_it in
+      let mine_is = subst (λ (x : Option MapEntry). is_owned_by is_taken id.block x ≡ true) t.taken.here of_it in
       (t.taken.is, stays n (λ same. not_root id.block id.block root (subst (IsInner a id.block) same t)) (taken_apart_dropped n is) ∙ t.taken.here, taken_open id.block owners mine t.taken.is mine_is, finished_open id.block owners mine t.taken.is mine_is)
 
   open2 : (n : ℕ) → has_number n dropped ≡ true → OpenAt O Finish (flipped (whole.a3 ready) (flips Finish taken)) n
   open2 n is =
       let t = inner_dropped n is in
       let of_it = taken_of a n id.block t.taken in
-      let mine_is = released_taken id.block t.taken.is (subst (λ (x : Option MapEntry). is_of is_taken id.block x ≡ true) t.taken.here of_it) in
+      let mine_is = released_taken id.block t.taken.is (subst (λ (x : Option MapEntry). is_owned_by is_taken id.block x ≡ true) t.taken.here of_it) in
       let other = λ (same : n ≡ id.block). not_root id.block id.block root (subst (IsInner a id.block) same t) in
       let none : has_number n taken ≡ false = false_from_ne_true _ (λ there. both_ways _ (taken_apart_dropped n there) is) in (
         released t.taken.is,
@@ -193,7 +193,7 @@ module _ {a : Image} {full : Graph} {id : Puid} {was o : Object} {s : ℕ} {take
       let is = option_is created n there in
       let at = new_at n is in
       let among : has_number n owners ≡ true = more_numbers id.block n (option_to_list created) there in
-      let mine_is = subst (λ (x : Option MapEntry). is_of is_taken n x ≡ true) at.taken.here (taken_of a n n at.taken) in (
+      let mine_is = subst (λ (x : Option MapEntry). is_owned_by is_taken n x ≡ true) at.taken.here (taken_of a n n at.taken) in (
         at.taken.is,
         there2 n (new_apart n is) (not_in taken n inner_taken (not_root n n at)) (not_in dropped n inner_dropped (not_root n n at)) ∙ at.taken.here,
         taken_open n owners among at.taken.is mine_is,
@@ -205,7 +205,7 @@ module _ {a : Image} {full : Graph} {id : Puid} {was o : Object} {s : ℕ} {take
 
   open4 : (n : ℕ) → has_number n (s ∷ []) ≡ true → OpenAt O Undo i3 n
   open4 n is = subst (OpenAt O Undo i3) (only_one s n is) (
-      let mine_is = subst (λ (x : Option MapEntry). is_of is_taken id.block x ≡ true) shadow.taken.here (taken_of a s id.block shadow.taken) in (
+      let mine_is = subst (λ (x : Option MapEntry). is_owned_by is_taken id.block x ≡ true) shadow.taken.here (taken_of a s id.block shadow.taken) in (
         shadow.taken.is,
         flipped_other Finish (option_to_list created) i2 s (false_from_ne_true _ (λ there. (let made = option_is created s there in roots_apart s s (new_at s made) refl)))
             ∙ there2 s (λ same. roots_apart id.block id.block root (sym same)) (not_in taken s inner_taken (not_shadow s refl)) (not_in dropped s inner_dropped (not_shadow s refl)) ∙ shadow.taken.here,
@@ -223,7 +223,7 @@ module _ {a : Image} {full : Graph} {id : Puid} {was o : Object} {s : ℕ} {take
   open5 n is = subst (OpenAt O ClearBit last) (only_one id.block n is) (
       let settles = flipped_on (whole.course ready) all (whole.a3 ready) (whole.copy ready).copied (whole.begins ready) (may_first (whole.course ready) all (flips ClearBit (id.block ∷ [])) (whole.a3 ready) (whole.all_may ready)) in
       let at = placed last id.block id.block Root (part_at last id.block) refl settles.part in
-      let mine_is = subst (λ (x : Option MapEntry). is_of is_taken id.block x ≡ true) at.taken.here (taken_of last id.block id.block at.taken) in
+      let mine_is = subst (λ (x : Option MapEntry). is_owned_by is_taken id.block x ≡ true) at.taken.here (taken_of last id.block id.block at.taken) in
       (at.taken.is, at.taken.here, taken_open id.block owners mine at.taken.is mine_is, taken_open id.block owners mine (without_bit at.taken.is) mine_is))
 
   pub plan_open : AreOpen O (whole.a3 ready) (all ++ flips ClearBit (id.block ∷ []))

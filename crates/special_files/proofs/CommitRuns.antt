@@ -1,22 +1,30 @@
 -- Entries changed by one call after another.
-use Rattle.std.proofs.Common.{◌≡◌, inl, ℕ, ◌+◌, ◌≤◌, false, List, [], ◌∷◌, ◌++◌, length, take, drop, get_or, Ok, Err, refl, sym, ◌∙◌, ap, subst, arith, ◌*◌, ◌<◌}
-use Rattle.special_files.proofs.Words.{Change, ChangesEntry, Course, Fails, Flip, Flips, Ghosts, Image, IsBadMap, IsCourse, IsErrAnd, IsMapTrouble, IsOn, Keeps, Kept, Leaves, MakesAtMost, MayFlip, NoMap, OnlyReads, Result, Tells, Trouble, changed, entry_in, flipped, flips, makes_then, map_of, some_entry, still_tells, take-append-drop, take_more, then, trouble_after_try, trouble_had_tried}
+use Rattle.std.proofs.Common.{◌≡◌, inl, ℕ, zero, suc, ◌+◌, ◌≤◌, false, true, List, [], ◌∷◌, ◌++◌, length, take, drop, get_or, set, Ok, Err, Some, refl, sym, ◌∙◌, ap, subst, arith, ◌*◌, ◌<◌}
+use Rattle.std.proofs.Math.Seq.{take-add}
+use Rattle.special_files.proofs.Words.{Change, ChangesEntry, Course, CommitFails, Flip, Flips, FlipsRun, Ghosts, Image, IsBadMap, IsCourse, IsErrAnd, IsMapTrouble, IsOn, Keeps, Kept, Leaves, MakesAtMost, MapEntry, MayFlip, NoMap, Nothing, OnlyReads, Result, Tells, Trouble, Written, changed_entry, entry_in, flipped, flips, is_damage, left_now, makes_then, map_in_image, map_of, reads_make, some_entry, still_tells, stopped_after_reads, take-append-drop, take_more, tells_on, then, trouble_after_try, trouble_had_tried, wider, Top, still_top}
+use Rattle.std.proofs.lemmas.List.{drop-drop, drop_more}
 use Rattle.cfs_base.specs.declared.refusal.Trouble.TheVariants as trouble
 use Rattle.cfs_base.proofs.Calls.{failed_since}
-use Rattle.intentions.proofs.Flips.{flip_is, flipped_append, flips_append, may_first, may_then, no_damage}
+use Rattle.cyl_alloc.specs.Maps.{IsMapOf}
+use Rattle.cyl_map.specs.Map.{SpellsMap, entries_of}
+use Rattle.intentions.proofs.Courses as courses
+use Rattle.intentions.proofs.Flips.{flip_is, flipped_append, flipped_on, flips_append, may_first, may_then, no_damage}
+use Rattle.intentions.proofs.Runs.{flipped_sets, flips_alike, run_some, runs_most}
+use Rattle.intentions.specs.Runs.{FlipsFirst, IsFirst, WritesMap, runs}
+use Rattle.intentions.specs.declared.run.Rule.TheVariants.{Alike}
 use Rattle.special_files.proofs.Refusals.{damage_since}
 
 -- ---- refusals
 
-module _ {D : Type 0} (g : Ghosts D) (at : ℕ) (old mid new : D) (kept : Kept) where
-  pub fails_after : (n t m s : ℕ) → MakesAtMost g n t old mid → (Tells g old → Tells g mid) → MakesAtMost g m s mid new → (e : Trouble) → Fails g at mid new kept e → Fails g at old new kept e
+module _ {D : Type 0} (g : Ghosts D) (at : Top) (old mid new : D) (kept : Kept) where
+  pub fails_after : (n t m s : ℕ) → MakesAtMost g n t old mid → (Tells g old → Tells g mid) → MakesAtMost g m s mid new → (e : Trouble) → CommitFails g at mid new kept e → CommitFails g at old new kept e
   fails_after n t m s first on second (trouble.Disk tried) is = (is.0, failed_since g old mid new first.later first.faults is.1)
   fails_after n t m s first on second (trouble.Damaged damage) is = damage_since g at old mid new kept damage on is
 
 -- a call on one map that fails, where something was tried before
-pub map_fails : {D : Type 0} (g : Ghosts D) (at n : ℕ) (old new : D) (kept : Kept) → n < g.blocks old → (t : Trouble) → IsMapTrouble g old new n t → (trouble_had_tried t ≡ false → OnlyReads g 1 old new) → Fails g at old new kept (trouble_after_try t)
+pub map_fails : {D : Type 0} (g : Ghosts D) (at : Top) (n : ℕ) (old new : D) (kept : Kept) → n < g.blocks old → (t : Trouble) → IsMapTrouble g old new n t → (trouble_had_tried t ≡ false → OnlyReads g 1 old new) → CommitFails g at old new kept (trouble_after_try t)
 map_fails g at n old new kept below (trouble.Disk tried) is only = (refl, is.failed)
-map_fails g at n old new kept below (trouble.Damaged damage) is only = NoMap is.code (omega (arith, is.block, below, (only refl).same.size))
+map_fails g at n old new kept below (trouble.Damaged damage) is only = NoMap is.code (omega (arith, is.block)) (omega (arith, is.block, below, (only refl).same.size))
     (λ tells. subst (λ (m : ℕ). IsBadMap (g.content new) m) (sym is.block) (subst (λ (i : Image). IsBadMap i (map_of n)) (sym (only refl).content) (bad (is.bad tells))))
   where
     bad : IsBadMap (g.content old) n → IsBadMap (g.content old) (map_of n)
@@ -49,7 +57,7 @@ module _ {D : Type 0} (g : Ghosts D) (xs ys : List Flip) (d0 d1 d2 : D) (n t m s
     keeps = λ w is keeps may. tt;
     leaves = both_leave (Err e) second;
     sound = λ w is keeps may. second.sound w is (first.keeps w is keeps (may_first w xs ys (g.content d0) may)) (second_keeps w keeps may);
-    fails = λ at kept. fails_after g at d0 d1 d2 kept n t m s first.calls first.tells second.calls e (second.fails at kept);
+    fails = λ at kept. fails_after g (still_top at) d0 d1 d2 kept n t m s first.calls first.tells second.calls e (second.fails at kept);
     calls = makes_then g d0 d1 d2 n m (n + m) t s (t + s) first.calls second.calls (omega arith) (omega arith);
   }
 
@@ -88,7 +96,7 @@ abbrev pub one : ℕ → Change → List Flip
 one n how = record { block = n; how = how } ∷ []
 
 module _ {D : Type 0} (g : Ghosts D) (n : ℕ) (how : Change) (old new : D) where
-  pub one_done : {A : Type 0} (x : A) → ChangesEntry g n (λ e. changed how e) old new (Ok x) → Flips g 2 1 (one n how) old new (Ok tt)
+  pub one_done : {A : Type 0} (x : A) → ChangesEntry g n (λ e. changed_entry how e) old new (Ok x) → Flips g 2 1 (one n how) old new (Ok tt)
   one_done x is = record {
     put = λ tells. (let e = some_entry (g.content old) n (is.whole tells) in is.put tells e.0 e.1 ∙ sym (flip_is (g.content old) (record { block = n; how = how }) e.0 e.1));
     tells = λ tells. still_tells g tells is.told is.calls.same;
@@ -99,14 +107,14 @@ module _ {D : Type 0} (g : Ghosts D) (n : ℕ) (how : Change) (old new : D) wher
     calls = is.calls;
   }
 
-  pub one_failed : (A : Type 0) → n < g.blocks old → (t : Trouble) → ChangesEntry {A = A} g n (λ e. changed how e) old new (Err t) → Flips g 2 1 (one n how) old new (Err (trouble_after_try t))
+  pub one_failed : (A : Type 0) → n < g.blocks old → (t : Trouble) → ChangesEntry {A = A} g n (λ e. changed_entry how e) old new (Err t) → Flips g 2 1 (one n how) old new (Err (trouble_after_try t))
   one_failed A below t is = record {
     put = λ tells. tt;
     tells = λ tells. tt;
     keeps = λ w fits keeps may. tt;
     leaves = λ w fits keeps may. is.leaves w may.0.0 fits keeps may.0.1 may.0.2;
     sound = λ w fits keeps may. no_damage g n how old new w fits keeps may.0.0 may.0.1 t is.refused;
-    fails = λ at kept. map_fails g at n old new kept below t is.refused is.unless_tried;
+    fails = λ at kept. map_fails g (still_top at) n old new kept below t is.refused is.unless_tried;
     calls = is.calls;
   }
 
@@ -129,6 +137,110 @@ module _ {D : Type 0} (g : Ghosts D) (how : Change) (blocks : List ℕ) (i : ℕ
       all =
           ap (flips how) (sym (take-append-drop (i + 1) blocks)) ∙ flips_append how (take (i + 1) blocks) (drop (i + 1) blocks)
           ∙ ap (λ (fs : List Flip). fs ++ flips how (drop (i + 1) blocks)) (ap (flips how) (take_more blocks i 0 below) ∙ flips_append how (take i blocks) (get_or blocks i 0 ∷ []))
+
+-- ---- the first of some blocks, which lie in one map, changed by one write of it
+
+first_take : (n i : ℕ) (ns : List ℕ) → 0 < i → IsFirst n ns → IsFirst n (take i ns)
+first_take n i [] some is = absurd is
+first_take n zero (m ∷ ms) some is = absurd (omega arith)
+first_take n (suc i) (m ∷ ms) some is = is
+
+-- the first entry is there
+first_entry : (w : Course) (how : Change) (n : ℕ) (ns : List ℕ) (a : Image) → IsFirst n ns → MayFlip w a (flips how ns) → (e : MapEntry) × (entry_in a n ≡ Some e)
+first_entry w how n [] a is may = absurd is
+first_entry w how n (m ∷ ms) a is may = (may.0.0, subst (λ (k : ℕ). entry_in a k ≡ Some may.0.0) is may.0.1)
+
+module _ {D : Type 0} (g : Ghosts D) (how : Change) (d0 d1 : D) (n : ℕ) (ns : List ℕ) (first : IsFirst n ns) (only : OnlyReads g 1 d0 d1) where
+  read_leaves : (w : Course) → Leaves g d0 d1 (IsOn w)
+  read_leaves w = wider g d0 d1 Nothing (IsOn w) only.images (λ c none. absurd none)
+
+  -- The map isn't read.
+  pub run_unread : n < g.blocks d0 → (t : Trouble) → IsMapTrouble g d0 d1 n t → FlipsRun g how ns d0 d1 (Err (trouble_after_try t))
+  run_unread below t refused = record {
+    put = λ tells. tt;
+    tells = λ tells. tt;
+    keeps = λ w fits keeps may. tt;
+    leaves = λ w fits keeps may. read_leaves w;
+    sound = λ w fits keeps may. (let here = first_entry w how n ns (g.content d0) first may in no_damage g n how d0 d1 w fits keeps here.0 here.1 t refused);
+    fails = λ at kept. map_fails g (still_top at) n d0 d1 kept below t refused (λ un. only);
+    calls = makes_then g d0 d1 d1 1 0 2 0 0 1 (reads_make g d0 d1 1 only) (no_flips g d1 0 0).calls (omega arith) (omega arith);
+  }
+
+  module _ (d2 : D) (i freed : ℕ) (was now : List ℕ) (map : Tells g d0 → IsMapOf (g.content d0) n (entries_of was)) (spells : SpellsMap was) (run : FlipsFirst (Alike how) n i freed ns was now) (count : 1 + runs (drop i ns) ≡ runs ns) where
+    abbrev here_flips : List Flip
+    here_flips = flips how (take i ns)
+
+    sets : Tells g d0 → flipped (g.content d0) here_flips ≡ set (g.content d0) (map_of n) now
+    sets tells =
+        ap (flipped (g.content d0)) (sym (flips_alike how (take i ns)))
+        ∙ flipped_sets (Alike how) (map_of n) (take i ns) (g.content d0) run.here
+        ∙ ap (set (g.content d0) (map_of n)) (run.changed (g.content d0) ((map tells).spelled ∙ sym spells.spelled))
+
+    module _ (w : Course) (fits : IsCourse w) (keeps : Keeps g w d0) (may : MayFlip w (g.content d0) here_flips) where
+      on_all : IsOn w (set (g.content d1) (map_of n) now)
+      on_all = subst (λ (a : Image). IsOn w (set a (map_of n) now)) (sym only.content) (subst (IsOn w) (sets keeps.tells) (flipped_on w here_flips (g.content d0) fits keeps.content may))
+
+      within : map_of n < length (g.content d1)
+      within =
+          let here = first_entry w how n (take i ns) (g.content d0) (first_take n i ns (run_some i ns count) first) may in
+          subst (λ (a : Image). map_of n < length a) (sym only.content) (map_in_image (g.content d0) n here.0 here.1)
+
+      keeps1 : Keeps g w d1
+      keeps1 = courses.reads g w d0 d1 1 keeps only
+
+      run_leaves : Leaves g d1 d2 (Written (left_now g d1) (map_of n) now) → Leaves g d0 d2 (IsOn w)
+      run_leaves images = then g d0 d1 d2 (IsOn w) (IsOn w) (read_leaves w) (courses.tried g w d1 d2 (map_of n) now keeps1 within on_all images) (λ c on. on)
+
+    pub run_written : WritesMap g (map_of n) now d1 d2 (Ok (tt {0})) → FlipsRun g how ns d0 d2 (Ok i)
+    run_written writes = (
+      run.within,
+      count,
+      record {
+        put = λ tells. writes.written ∙ ap (λ (a : Image). set a (map_of n) now) only.content ∙ sym (sets tells);
+        tells = λ tells. still_tells g (tells_on g d0 d1 d2 1 only tells) writes.told writes.calls.same;
+        keeps = λ w fits keeps may. courses.wrote g w d1 d2 (map_of n) now (keeps1 w fits keeps may) (within w fits keeps may) (on_all w fits keeps may) writes.images writes.calls.same writes.written writes.told;
+        leaves = λ w fits keeps may. run_leaves w fits keeps may writes.images;
+        sound = λ w fits keeps may. tt;
+        fails = λ at kept. tt;
+        calls = makes_then g d0 d1 d2 1 1 2 0 1 1 (reads_make g d0 d1 1 only) writes.calls (omega arith) (omega arith);
+      },
+    )
+
+    pub run_failed : (t : Trouble) → WritesMap g (map_of n) now d1 d2 (Err t) → FlipsRun g how ns d0 d2 (Err t)
+    run_failed t writes = record {
+      put = λ tells. tt;
+      tells = λ tells. tt;
+      keeps = λ w fits keeps may. tt;
+      leaves = λ w fits keeps may. run_leaves w fits keeps (may_first w here_flips (flips how (drop i ns)) (g.content d0) (subst (MayFlip w (g.content d0)) split may)) writes.images;
+      sound = λ w fits keeps may. ap is_damage writes.refused.0;
+      fails = λ at kept. subst (CommitFails g (still_top at) d0 d2 kept) (sym writes.refused.0) (refl, (stopped_after_reads g d0 d1 d2 1 true only writes.refused.1).failed);
+      calls = makes_then g d0 d1 d2 1 1 2 0 1 1 (reads_make g d0 d1 1 only) writes.calls (omega arith) (omega arith);
+    }
+      where
+        split : flips how ns ≡ here_flips ++ flips how (drop i ns)
+        split = ap (flips how) (sym (take-append-drop i ns)) ∙ flips_append how (take i ns) (drop i ns)
+
+-- one run after another, of which k were done
+module _ {D : Type 0} (g : Ghosts D) (how : Change) (blocks : List ℕ) (i k : ℕ) (d0 d1 d2 : D) (so_far : Flips g (2 * k) k (flips how (take i blocks)) d0 d1 (Ok tt)) (left_is : k + runs (drop i blocks) ≡ runs blocks) where
+  pub run_on : (m : ℕ) → FlipsRun g how (drop i blocks) d1 d2 (Ok m) → (j : ℕ) × (j + runs (drop (i + m) blocks) ≡ runs blocks) × Flips g (2 * j) j (flips how (take (i + m) blocks)) d0 d2 (Ok tt)
+  run_on m is = (
+    k + 1,
+    omega (arith, left_is, is.1, ap runs (drop-drop m i blocks)),
+    subst (λ (fs : List Flip). Flips g (2 * (k + 1)) (k + 1) fs d0 d2 (Ok tt)) (sym (ap (flips how) (take-add i m blocks) ∙ flips_append how (take i blocks) (take m (drop i blocks))))
+        (more_calls g d0 d2 (2 * k + 2) (k + 1) (2 * (k + 1)) (k + 1) _ (Ok tt) (omega arith) (omega arith) (flips_then g (flips how (take i blocks)) (flips how (take m (drop i blocks))) d0 d1 d2 (2 * k) k 2 1 so_far (Ok tt) is.2)),
+  )
+
+  pub run_fail : i < length blocks → (t : Trouble) → FlipsRun g how (drop i blocks) d1 d2 (Err t) → Flips g (2 * runs blocks) (runs blocks) (flips how blocks) d0 d2 (Err t)
+  run_fail below t is =
+      subst (λ (fs : List Flip). Flips g (2 * runs blocks) (runs blocks) fs d0 d2 (Err t)) (sym (flips_append how (take i blocks) (drop i blocks)) ∙ ap (flips how) (take-append-drop i blocks))
+      (more_calls g d0 d2 (2 * k + 2) (k + 1) (2 * runs blocks) (runs blocks) _ (Err t) (omega (arith, some)) (omega (arith, some)) (flips_then g (flips how (take i blocks)) (flips how (drop i blocks)) d0 d1 d2 (2 * k) k 2 1 so_far (Err t) is))
+    where
+      some : k + 1 ≤ runs blocks
+      some = omega (arith, left_is, ap runs (drop_more blocks i 0 below))
+
+-- by blocks
+pub by_length : {D : Type 0} (g : Ghosts D) (blocks : List ℕ) (xs : List Flip) (old new : D) (r : Result (Unit {0}) Trouble) → Flips g (2 * runs blocks) (runs blocks) xs old new r → Flips g (2 * length blocks) (length blocks) xs old new r
+by_length g blocks xs old new r is = more_calls g old new (2 * runs blocks) (runs blocks) (2 * length blocks) (length blocks) xs r (omega (arith, runs_most blocks)) (runs_most blocks) is
 
 -- what a `?` makes of a trouble
 pub flips_passed : {D : Type 0} (g : Ghosts D) (n t : ℕ) (xs : List Flip) (old new : D) (r : Result (Unit {0}) Trouble) (e : Trouble) → IsErrAnd r (λ k. k ≡ e) → Flips g n t xs old new (Err e) → Flips g n t xs old new r

@@ -1,6 +1,6 @@
 -- The store once a draft is its object, with what was made.
 use Rattle.std.proofs.Common.{◌⊎◌, inr, ◌≡◌, ◌≢◌, inl, ℕ, ◌%◌, ◌<◌, Bool, true, false, cond, List, [], ◌∷◌, length, Option, Some, None, Err, refl, sym, ◌∙◌, ap, subst}
-use Rattle.special_files.proofs.Words.{Accounts, AreParts, Decided, ChangesOnly, CommitEnds, Committed, Drafting, Finishes, Ghosts, Graph, HasDrafts, Holds, Image, IsBareRoot, IsLeastFree, IsMade, IsOldOrNew, IsOpen, IsReady, Kept, Leaves, Makes, Making, Nothing, Object, OnlyReads, Opened, Puid, ReadsAs, Result, StoreHas, TakesShadow, Tree, Trouble, and_from, and_parts, bare_object, bare_reads, block_at, changes_then, changes_wider, content_of, creation_goes_on, drafts_of, false_from_ne_true, frames_begin, has_number, in_image, is_damage, is_free_in, is_meant, is_placed, is_some, is_there, list_all, object_at, object_at-with_object, object_at_put, object_changes_on, object_made, of_draft, of_owners, on_ok, opened_as, option_to_list, owner_of, part_of, placed_taken, rises, rises-with_object, making_root, root_spelling, same_Some, same_puid, same_puid_is, sight, taken_apart, then, tree_in, wider, with_making, with_object, without_draft}
+use Rattle.special_files.proofs.Words.{Accounts, AreDraftParts, Decided, ChangesOnly, CommitEnds, Committed, Drafting, FinishesCommit, Ghosts, Graph, HasDrafts, Holds, Image, IsBareRoot, IsLeastFree, IsMadeRoot, IsOldOrNew, IsOpen, IsReady, Kept, Leaves, Makes, Making, Nothing, Object, OnlyReads, Opened, Puid, ReadsAs, Result, StoreHas, TakesShadow, Tree, Trouble, and_from, and_parts, bare_object, bare_reads, block_at, changes_then, changes_wider, content_of, creation_goes_on, drafts_of, false_from_ne_true, frames_begin, has_number, in_image, is_damage, is_free_in, is_meant, is_placed, is_some, is_there, list_all, object_at, object_at-with_object, object_at_put, object_changes_on, object_made, of_draft, of_owners, on_ok, opened_as, option_to_list, owner_of, part_of, placed_taken, rises, rises-with_object, making_root, root_spelling, same_Some, same_puid, same_puid_is, sight, taken_apart, then, tree_in, wider, with_making, with_object, without_draft}
 use Rattle.block_tree.specs.declared.root.Root as roots
 use Rattle.ufs_model.specs.declared.object.Draft as models
 use Rattle.special_files.proofs.Amid.{IsAmid}
@@ -8,11 +8,11 @@ use Rattle.special_files.proofs.CommitDraft.{there_still, without_created, witho
 use Rattle.intentions.proofs.Flips.{first_number, option_is}
 use Rattle.special_files.proofs.Made.{bare_has, bare_kept, bare_unmeant, content_kept, made_apart, made_kept, made_root, no_object, still_made}
 use Rattle.special_files.proofs.Making.{created_there, without_it}
-use Rattle.cyl_alloc.specs.Left.{Left}
+use Rattle.cyl_alloc.specs.Left.{LeftCommit}
 use Rattle.std.specs.Prelude.{◌==◌}
 use Rattle.ufs_model.specs.Graph.{ids_of}
 use Rattle.ufs_model.proofs.Reached.{same_puid_itself}
-use Rattle.intentions.specs.Left.{StoreIs, StoreWith, coming, end_of}
+use Rattle.intentions.specs.Left.{StoreIs, StoreWith, coming, final_image}
 use Rattle.std.proofs.lemmas.Bool.{both_ways, cases_Bool, eqb-true, or_cases}
 use Rattle.ufs_model.proofs.Graphs.{object_there}
 use Rattle.vol_image.proofs.Changes.{same_block}
@@ -42,7 +42,7 @@ draft_there g (f ∷ fs) x all =
     ]
 
 -- of the object whose commit is decided, and of one that is made with it, no draft is left
-module _ (a : Image) (graph : Graph) (ds : List Opened) (id : Puid) (was o : Object) (created : Option ℕ) (account : Accounts a graph ds) (at : object_at graph id ≡ Some was) (made : (c : ℕ) → created ≡ Some c → IsMade a c) where
+module _ (a : Image) (graph : Graph) (ds : List Opened) (id : Puid) (was o : Object) (created : Option ℕ) (account : Accounts a graph ds) (at : object_at graph id ≡ Some was) (made : (c : ℕ) → created ≡ Some c → IsMadeRoot a c) where
   before_it : (x : Puid) → same_puid x id ≡ false → is_there (with_object graph id o) x ≡ true → (p : Object) × (object_at graph x ≡ Some p)
   before_it x other there = object_there graph x (sym (ap (λ (r : Option Object). is_some r) (object_at-with_object graph id o x ∙ ap (λ (b : Bool). cond b (Some o) (object_at graph x)) other)) ∙ there)
 
@@ -62,15 +62,15 @@ module _ (a : Image) (graph : Graph) (ds : List Opened) (id : Puid) (was o : Obj
   ]
 
 -- the store, with what is left
-left_store : {D : Type 0} (g : Ghosts D) (full : Graph) (fs : List Opened) (id : Puid) (o : Object) (s : ℕ) (created : Option ℕ) (d1 d2 : D) (k2 : Kept) → Decided g full id o s created d1 d2 k2 → Accounts (end_of g d2 k2) (with_object full id o) fs
+left_store : {D : Type 0} (g : Ghosts D) (full : Graph) (fs : List Opened) (id : Puid) (o : Object) (s : ℕ) (created : Option ℕ) (d1 d2 : D) (k2 : Kept) → Decided g full id o s created d1 d2 k2 → Accounts (final_image g d2 k2) (with_object full id o) fs
     → ((x : Puid) → has_number x.block (id.block ∷ option_to_list created) ≡ true → drafts_of fs x ≡ []) → rises (ids_of (with_object full id o)) ≡ true → StoreIs g (with_object full id o) fs d2 k2
-left_store g full fs id o s created d1 d2 k2 done account shut ordered = subst (λ (w : Option Left). StoreWith g (with_object full id o) fs d2 k2 w) (sym done.kept.is) (record {
+left_store g full fs id o s created d1 d2 k2 done account shut ordered = subst (λ (w : Option LeftCommit). StoreWith g (with_object full id o) fs d2 k2 w) (sym done.kept.is) (record {
   going = done.going;
   owners = id.block ∷ option_to_list created;
   own = subst (λ (n : ℕ). has_number n (id.block ∷ option_to_list created) ≡ true) (sym (done.going.root_is ∙ done.kept.root)) (first_number id.block _);
   opens = done.opens;
   shut = shut;
-  account = subst (λ (w : Option Left). Accounts (coming (g.content d2) w) (with_object full id o) fs) done.kept.is account;
+  account = subst (λ (w : Option LeftCommit). Accounts (coming (g.content d2) w) (with_object full id o) fs) done.kept.is account;
   ordered = ordered;
 })
 
@@ -102,7 +102,7 @@ module _ {D : Type 0} (g : Ghosts D) (graph : Graph) (ds : List Opened) (id : Pu
       record { shadow = s; least = by.0; given_back = free; copied = left s by.1 by.2 ∙ sym copied }
 
   -- with the objects that there are then
-  ready_for : (full : Graph) → Holds (g.content d1) full → object_at full id ≡ Some was → ((c : ℕ) → created ≡ Some c → IsMade (g.content d1) c) → IsReady (g.content d1) full id was o s taken dropped created
+  ready_for : (full : Graph) → Holds (g.content d1) full → object_at full id ≡ Some was → ((c : ℕ) → created ≡ Some c → IsMadeRoot (g.content d1) c) → IsReady (g.content d1) full id was o s taken dropped created
   ready_for full holds at_full made = record {
     holds = holds;
     at = at_full;
@@ -128,7 +128,7 @@ module _ {D : Type 0} (g : Ghosts D) (graph : Graph) (ds : List Opened) (id : Pu
     abbrev full : Graph
     full = with_object graph m.id m.object
 
-    was_made : IsMade (g.content d0) m.id.block
+    was_made : IsMadeRoot (g.content d0) m.id.block
     was_made = store.account.made m.id.block (created_there id d m.id.block ds alone (created_is ∙ is))
 
     apart : m.id.block ≢ id.block
@@ -150,11 +150,11 @@ module _ {D : Type 0} (g : Ghosts D) (graph : Graph) (ds : List Opened) (id : Pu
     ready_made = ready_for full
         (object_made b b graph m.id m.object amid.carries.holds (frames_begin b graph amid.carries.holds) (subst (ReadsAs (length b) m.id (sight b c)) same (bare_reads b m.id root bare_now)))
         (other_at graph m.id id m.object was other at)
-        (λ n at_n. subst (IsMade b) (same_Some _ _ (sym is ∙ at_n)) (still_made a store.account.holds.own c was_made b id.block apart amid.only))
+        (λ n at_n. subst (IsMadeRoot b) (same_Some _ _ (sym is ∙ at_n)) (still_made a store.account.holds.own c was_made b id.block apart amid.only))
 
     store_made : (d2 : D) (k2 : Kept) → Decided g (with_object graph m.id m.object) id o s created d1 d2 k2 → Committed g graph ds id o (Some m) d0 d2 k2
     store_made d2 k2 done =
-        let e = end_of g d2 k2 in
+        let e = final_image g d2 k2 in
         let all = changes_then _ a b e (owners_change id.block (id.block ∷ c ∷ []) a b (first_number id.block (c ∷ [])) amid.only) (subst (λ (x : Option ℕ). ChangesOnly (λ e. of_owners (id.block ∷ option_to_list x) e) b e) is done.only) in
         let without = without_it id d c ds alone (created_is ∙ is) store.account.made_once in
         let reads = λ (x : Puid) (p : Object) (found : object_at (with_object full id o) x ≡ Some p). subst (λ (n : ℕ). ReadsAs n x (sight e x.block) p) all.size (done.holds.objects x p found) in
@@ -165,7 +165,7 @@ module _ {D : Type 0} (g : Ghosts D) (graph : Graph) (ds : List Opened) (id : Pu
               m.id m.object (no_object a graph ds store.account store.ordered c was_made) (reads m.id m.object (other_at full id m.id o m.object new_other (object_at_put graph m.id m.object)))
               (bare_has b e m.id root bare_now (done.made c is)) (bare_unmeant b e m.id root bare_now (done.made c is))
               all without.gone without.but (without_there full id o ds (all_there graph m.id m.object ds store.account.on_objects)))
-              (shut a graph ds id was o created store.account at (λ n at_n. subst (IsMade a) (same_Some _ _ (sym is ∙ at_n)) was_made))
+              (shut a graph ds id was o created store.account at (λ n at_n. subst (IsMadeRoot a) (same_Some _ _ (sym is ∙ at_n)) was_made))
               (rises-with_object full id o (rises-with_object graph m.id m.object store.ordered));
           settled = done.settled;
           only = all;
@@ -178,7 +178,7 @@ module _ {D : Type 0} (g : Ghosts D) (graph : Graph) (ds : List Opened) (id : Pu
 
   store_alone : created ≡ None → (d2 : D) (k2 : Kept) → Decided g graph id o s created d1 d2 k2 → Committed g graph ds id o None d0 d2 k2
   store_alone none d2 k2 done =
-      let e = end_of g d2 k2 in
+      let e = final_image g d2 k2 in
       let all = changes_then _ a b e (owners_change id.block (id.block ∷ []) a b (first_number id.block []) amid.only) (subst (λ (x : Option ℕ). ChangesOnly (λ e. of_owners (id.block ∷ option_to_list x) e) b e) none done.only) in
       record {
         store = left_store g graph (without_draft id ds) id o s created d1 d2 k2 done
@@ -204,9 +204,9 @@ module _ {D : Type 0} (g : Ghosts D) (graph : Graph) (ds : List Opened) (id : Pu
   committed None none d2 k2 done = store_alone none d2 k2 done
   committed (Some m) makes d2 k2 done = store_made m makes.0 makes.1.0 makes.1.1 makes.1.2 d2 k2 done
 
-  pub commit_ends : (made : Option Making) → Makes (g.content d0) created made → (n : ℕ) → id.block ≡ n → (d2 : D) (k2 : Kept) (r : Result (Unit {0}) Trouble) → Finishes g n s taken dropped created d1 d2 k1 k2 r → CommitEnds g graph ds id o made d0 d2 k2 r
+  pub commit_ends : (made : Option Making) → Makes (g.content d0) created made → (n : ℕ) → id.block ≡ n → (d2 : D) (k2 : Kept) (r : Result (Unit {0}) Trouble) → FinishesCommit g n s taken dropped created d1 d2 k1 k2 r → CommitEnds g graph ds id o made d0 d2 k2 r
   commit_ends made makes n root d2 k2 r finishes =
-      let f = subst (λ (x : ℕ). Finishes g x s taken dropped created d1 d2 k1 k2 r) (sym root) finishes in
+      let f = subst (λ (x : ℕ). FinishesCommit g x s taken dropped created d1 d2 k1 k2 r) (sym root) finishes in
       let full = with_making graph made in
       let stands = full_ready made makes in
       record {
@@ -230,9 +230,9 @@ commit_after g graph ds id o made d0 d1 d2 space n r reads ends = record {
   done = on_ok r ends.done (λ is. record {
     store = is.store;
     settled = is.settled;
-    only = subst (λ (a : Image). ChangesOnly (λ entry. of_owners (id.block ∷ option_to_list (making_root made)) entry) a (end_of g d2 space)) reads.content is.only;
+    only = subst (λ (a : Image). ChangesOnly (λ entry. of_owners (id.block ∷ option_to_list (making_root made)) entry) a (final_image g d2 space)) reads.content is.only;
     tree = λ d alone. is.tree d alone ∙ ap (λ (a : Image). tree_in a (content_of d)) reads.content;
-    order = λ d alone none. subst (λ (a : Image). TakesShadow id.block a (end_of g d2 space)) reads.content (is.order d alone none);
+    order = λ d alone none. subst (λ (a : Image). TakesShadow id.block a (final_image g d2 space)) reads.content (is.order d alone none);
     root = is.root;
   });
   leaves = then g d0 d1 d2 (IsOldOrNew graph (with_making graph made) id o) (IsOldOrNew graph (with_making graph made) id o) (wider g d0 d1 Nothing _ reads.images (λ c none. absurd none)) ends.leaves (λ c h. h);
@@ -246,7 +246,7 @@ made_below g graph ds id o d0 k0 drafting m c store opened is =
     in_image (g.content d0) graph store.account.holds c root.taken.is root.taken.here
 
 -- the parts of a draft
-pub parts_of : (was now : Drafting) → now ≡ was → AreParts was now.at now.shadow now.own now.root now.created
+pub parts_of : (was now : Drafting) → now ≡ was → AreDraftParts was now.at now.shadow now.own now.root now.created
 parts_of was now same = record {
   at_is = ap (λ (w : Drafting). w.at) (sym same);
   shadow_is = ap (λ (w : Drafting). w.shadow) (sym same);

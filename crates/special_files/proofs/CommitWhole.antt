@@ -1,6 +1,6 @@
 -- The images of a commit, one after another.
 use Rattle.std.proofs.Common.{◌≡◌, ◌≢◌, inl, inr, ℕ, ◌%◌, Bool, true, false, List, [], ◌∷◌, ◌++◌, length, set, Option, Some, None, refl, sym, ◌∙◌, ap, subst}
-use Rattle.special_files.proofs.Words.{ClearBit, Commits, Copies, Course, Finish, Flip, Frame, Free, Graph, Holds, Image, IntendAllocate, IntendDeallocate, IsDraft, IsEntry, IsOn, IsPlaced, IsReady, IsRootBlock, IsTaken, IsToFinish, IsTree, MapEntry, MayFlip, MayPut, Object, Place, Puid, Release, Root, Settling, ShadowRoot, StandsIn, Tree, Undo, bit_valid, block_at, changed, commits, committed, copied_settles, copies, entry_in, entry_in-with_entry_same, entry_in_table, eqb-true, false_from_ne_true, false≢true, flipped, flips, frames_begin, frames_hold, has_number, is_had, is_inner, is_meant_for, is_of, levels_of, may_clear, may_finish, may_finish_made, may_release, may_undo, ne_eqb, not_map, option_to_list, or_cases, part_at, part_of, place_inner, released, released_keeps, root_placed, same_Some, same_tree, settling, shadow_taken, sight, stands_for, still_to_finish, taken_apart, tree_in, tree_placed, with_bit, with_bit_at, with_entry, with_object, ◌==◌}
+use Rattle.special_files.proofs.Words.{ClearBit, Commits, Copies, Course, Finish, Flip, Frame, Free, Graph, Holds, Image, IntendAllocate, IntendDeallocate, IsDraft, IsEntry, IsOn, IsPlaced, IsReady, IsRootBlock, IsTaken, IsToFinish, IsTree, MapEntry, MayFlip, MayPut, Object, Place, Puid, Release, Root, Settling, ShadowRoot, StandsIn, Tree, Undo, bit_valid, block_at, changed_entry, commits, with_commit_bit, copied_settles, copies, entry_in, entry_in-with_entry_same, entry_in_table, eqb-true, false_from_ne_true, false≢true, flipped, flips, frames_begin, frames_hold, has_number, is_had, is_inner, is_meant_for, is_owned_by, levels_of, may_clear, may_finish, may_finish_made, may_release, may_undo, ne_eqb, not_map, option_to_list, or_cases, part_at, part_of, place_inner, released, released_keeps, root_placed, same_Some, same_tree, settling, shadow_taken, sight, stands_for, still_to_finish, taken_apart, tree_in, tree_placed, with_bit, with_bit_at, with_entry, with_object, ◌==◌}
 use Rattle.block_tree.specs.declared.root.Root as roots
 use Rattle.special_files.proofs.Begun.{own_tree}
 use Rattle.special_files.proofs.CommitEntries.{dropped_state}
@@ -70,7 +70,7 @@ module _ {a : Image} {g : Graph} {id : Puid} {was o : Object} {s : ℕ} {taken d
   pub dropped_inner : (n : ℕ) → has_number n dropped ≡ true → IsInner a id.block n
   dropped_inner n is = own_inner n (ready.own n is)
 
-  dropped_had : (n : ℕ) → has_number n dropped ≡ true → is_of is_had id.block (entry_in a n) ≡ true
+  dropped_had : (n : ℕ) → has_number n dropped ≡ true → is_owned_by is_had id.block (entry_in a n) ≡ true
   dropped_had n is = ready.has.each n (stands_block a id.block ready.has.no_bit n (inr (ready.own n is)))
 
   pub taken_not_dropped : (n : ℕ) → has_number n taken ≡ true → has_number n dropped ≡ false
@@ -84,7 +84,7 @@ module _ {a : Image} {g : Graph} {id : Puid} {was o : Object} {s : ℕ} {taken d
   abbrev pub a1 : Image
   a1 = flipped a (flips Release dropped)
 
-  may_drop : (h : Graph) (n : ℕ) → has_number n dropped ≡ true → (e : MapEntry) × (entry_in a n ≡ Some e) × MayPut (Frame a h) n e (changed Release e)
+  may_drop : (h : Graph) (n : ℕ) → has_number n dropped ≡ true → (e : MapEntry) × (entry_in a n ≡ Some e) × MayPut (Frame a h) n e (changed_entry Release e)
   may_drop h n is =
       let t = (dropped_inner n is).taken in
       (t.is, t.here, may_release a h n t.is (taken_apart a g ready.holds n id.block t) (entry_in_table a n t.is t.here) (ready.holds.own n t.is t.here))
@@ -168,7 +168,7 @@ module _ {a : Image} {g : Graph} {id : Puid} {was o : Object} {s : ℕ} {taken d
   a3_root = copy.entries id.block ∙ entry_in-with_entry_same a1 id.block (with_bit a1_root.taken.is) a1_root.taken.is a1_root.taken.here
       (subst IsEntry (sym with_bit_is) (bit_valid a1_root.taken.is a1_root.place_is (entry_in_table a1 id.block a1_root.taken.is a1_root.taken.here)))
     where
-      with_bit_is : with_bit a1_root.taken.is ≡ committed a1_root.taken.is
+      with_bit_is : with_bit a1_root.taken.is ≡ with_commit_bit a1_root.taken.is
       with_bit_is = ap (λ p. with_bit_at p a1_root.taken.is) a1_root.place_is
 
   -- ---- what is to be finished
@@ -180,8 +180,8 @@ module _ {a : Image} {g : Graph} {id : Puid} {was o : Object} {s : ℕ} {taken d
   pub a1_kept : (n : ℕ) → has_number n dropped ≡ false → entry_in a1 n ≡ entry_in a n
   a1_kept n is = a1_entry n ∙ ap (λ (b : Bool). if_at b Release (entry_in a n)) is
 
-  pub had_entry : (n : ℕ) → (is : has_number n dropped ≡ true) → is_of is_had id.block (Some (dropped_inner n is).taken.is) ≡ true
-  had_entry n is = ap (is_of is_had id.block) (sym (dropped_inner n is).taken.here) ∙ dropped_had n is
+  pub had_entry : (n : ℕ) → (is : has_number n dropped ≡ true) → is_owned_by is_had id.block (Some (dropped_inner n is).taken.is) ≡ true
+  had_entry n is = ap (is_owned_by is_had id.block) (sym (dropped_inner n is).taken.here) ∙ dropped_had n is
 
   pub meant_state : (n : ℕ) (e : MapEntry) → is_meant_for a id.block n ≡ true → entry_in a n ≡ Some e → e.state ≡ IntendAllocate
   meant_state n e meant here = let m = meant_is a id.block n meant in ap (λ (x : MapEntry). x.state) (same_Some _ _ (sym here ∙ m.taken.here)) ∙ m.state
@@ -211,7 +211,7 @@ module _ {a : Image} {g : Graph} {id : Puid} {was o : Object} {s : ℕ} {taken d
   now_to_finish : (n : ℕ) → IsToFinish a1 id.block (block_at a1 s) n → IsToFinish a3 id.block (block_at a3 id.block) n
   now_to_finish n to = still_to_finish a1 a2 a3 g id was o s n a1_holds ready.at bit copy to
 
-  may_end : (n : ℕ) → IsToFinish a1 id.block (block_at a1 s) n → (e : MapEntry) × (entry_in a3 n ≡ Some e) × MayPut course n e (changed Finish e)
+  may_end : (n : ℕ) → IsToFinish a1 id.block (block_at a1 s) n → (e : MapEntry) × (entry_in a3 n ≡ Some e) × MayPut course n e (changed_entry Finish e)
   may_end n to1 = let to = now_to_finish n to1 in (to.taken.is, to.taken.here, may_finish a3 after id o s copy.copied n to to.taken.is (inl refl))
 
   -- ---- one change after another
@@ -315,7 +315,7 @@ module _ {a : Image} {g : Graph} {id : Puid} {was o : Object} {s : ℕ} {taken d
   bm_shadow = bm_same s (λ is. made_not_shadow s is refl) ∙ b2_same s shadow_not_taken shadow_not_dropped ∙ a3_shadow
 
   pub may3 : MayFlip course bm (flips Undo (s ∷ []))
-  may3 = may_flips course Undo (s ∷ []) bm refl (λ n is. subst (λ (k : ℕ). (e : MapEntry) × (entry_in bm k ≡ Some e) × MayPut course k e (changed Undo e)) (only_one s n is)
+  may3 = may_flips course Undo (s ∷ []) bm refl (λ n is. subst (λ (k : ℕ). (e : MapEntry) × (entry_in bm k ≡ Some e) × MayPut course k e (changed_entry Undo e)) (only_one s n is)
       (shadow.taken.is, bm_shadow, may_undo a3 after id o s copy.copied copy.committed.stands shadow.taken.is a3_shadow))
 
   pub b3_entry : (m : ℕ) → entry_in b3 m ≡ if_at (has_number m (s ∷ [])) Undo (entry_in bm m)
@@ -328,7 +328,7 @@ module _ {a : Image} {g : Graph} {id : Puid} {was o : Object} {s : ℕ} {taken d
   b3_root = b3_entry id.block ∙ ap (λ (b : Bool). if_at b Undo (entry_in bm id.block)) (not_only s id.block root_shadow) ∙ bm_same id.block (λ is. made_not_root id.block is refl) ∙ b2_same id.block root_not_taken root_not_dropped ∙ a3_root
 
   pub may4 : MayFlip course b3 (flips ClearBit (id.block ∷ []))
-  may4 = may_flips course ClearBit (id.block ∷ []) b3 refl (λ n is. subst (λ (k : ℕ). (e : MapEntry) × (entry_in b3 k ≡ Some e) × MayPut course k e (changed ClearBit e)) (only_one id.block n is)
+  may4 = may_flips course ClearBit (id.block ∷ []) b3 refl (λ n is. subst (λ (k : ℕ). (e : MapEntry) × (entry_in b3 k ≡ Some e) × MayPut course k e (changed_entry ClearBit e)) (only_one id.block n is)
       (with_bit a1_root.taken.is, b3_root, may_clear a3 after id o s copy.copied b3 (with_bit a1_root.taken.is) b3_on b3_root))
 
   pub b4_entry : (m : ℕ) → entry_in b4 m ≡ if_at (has_number m (id.block ∷ [])) ClearBit (entry_in b3 m)

@@ -1,23 +1,23 @@
 -- How calls end that are made one after another.
 use Rattle.std.proofs.Common.{◌≡◌, ◌⊎◌, inl, inr, ℕ, zero, suc, ◌+◌, ◌-◌, ◌/◌, ◌≤◌, true, false, IsTrue, Ok, Err, List, [], ◌∷◌, length, get_or, set, refl, sym, ◌∙◌, ap, subst, arith, ◌<◌, Bool, ◌≢◌}
-use Rattle.special_files.proofs.Words.{AreCounts, BlockNo, Claims, Drafting, Ends, Enters, GetsNode, Ghosts, Had, HasTried, Image, IsBadMap, IsDamage, IsFindRefusal, IsRefusal, IsTrouble, Kept, MakesAtMost, MapEntry, Need, NoMap, Node, OnlyReads, OtherCount, Refused, Result, StaysBut, Tells, Trouble, WritesBlock, after_taking, after_try, had_tried, intended, is_damaged, is_fresh_node, is_full_refusal, makes_then, one_unless, reads_within, still_tells, stopped_after_try, sum, sum_by-cons, refusal_after, trouble_after_try}
+use Rattle.special_files.proofs.Words.{BlockNo, Claims, Drafting, EndsCall, Enters, GetsDraftNode, Ghosts, Had, HasTried, Image, IsBadMap, IsDraftDamage, IsFindRefusal, IsMiscounted, IsDraftRefusal, IsDraftTrouble, Kept, MakesAtMost, MapEntry, Need, NoMap, Node, OnlyReads, OtherCount, Refused, Result, StaysBut, Tells, Top, Trouble, WritesDraftBlock, after_taking, after_try, had_tried, intended, has_met_damage, is_fresh_node, is_full_refusal, makes_then, miscounted_as, one_unless, reads_within, still_tells, stopped_after_try, sum, sum_by-cons, refusal_after, top_of, trouble_after_try}
 use Rattle.cfs_base.specs.declared.refusal.Refused.TheVariants as refusals
 use Rattle.cfs_base.specs.declared.refusal.Trouble.TheVariants as trouble
-use Rattle.special_files.proofs.Refusals.{damage_since, if_err}
+use Rattle.special_files.proofs.Refusals.{damage_since, if_err, refusal_as}
 
 -- ---- after a call that tried something
 
-module _ {D : Type 0} (g : Ghosts D) (at floor : ℕ) (d0 d1 d2 : D) (kept : Kept) (n t : ℕ) (calls : MakesAtMost g n t d0 d1) (tried : HasTried g d0 d1) (told : (b : ℕ) → IsTrue (g.told d0 b) → IsTrue (g.told d1 b)) where
+module _ {D : Type 0} (g : Ghosts D) (at : Top) (floor : ℕ) (d0 d1 d2 : D) (kept : Kept) (n t : ℕ) (calls : MakesAtMost g n t d0 d1) (tried : HasTried g d0 d1) (told : (b : ℕ) → IsTrue (g.told d0 b) → IsTrue (g.told d1 b)) where
   on : Tells g d0 → Tells g d1
   on tells = still_tells g tells told calls.same
 
-  pub refused_after_try : (e : Refused) → IsRefusal g at floor d1 d2 kept e → IsRefusal g at floor d0 d2 kept (after_try e)
+  pub refused_after_try : (e : Refused) → IsDraftRefusal g at floor d1 d2 kept e → IsDraftRefusal g at floor d0 d2 kept (after_try e)
   refused_after_try (refusals.Full need) is = is
   refused_after_try (refusals.Disk was) is = stopped_after_try g d0 d1 d2 n t was calls tried is
   refused_after_try (refusals.Damaged damage) is = damage_since g at d0 d1 d2 kept damage on is
   refused_after_try refusals.Memory is = is
 
-  pub trouble_after_tried : (e : Trouble) → IsTrouble g at d1 d2 kept e → IsTrouble g at d0 d2 kept (trouble_after_try e)
+  pub trouble_after_tried : (e : Trouble) → IsDraftTrouble g at d1 d2 kept e → IsDraftTrouble g at d0 d2 kept (trouble_after_try e)
   trouble_after_tried (trouble.Disk was) is = stopped_after_try g d0 d1 d2 n t was calls tried is
   trouble_after_tried (trouble.Damaged damage) is = damage_since g at d0 d1 d2 kept damage on is
 
@@ -27,10 +27,10 @@ not_untried (refusals.Disk was) same = cc
 not_untried (refusals.Damaged damage) same = cc
 not_untried refusals.Memory same = cc
 
-module _ {D A B : Type 0} (g : Ghosts D) (at floor : ℕ) (d0 d1 d2 : D) (k0 k1 k2 : Kept) where
+module _ {D A B : Type 0} (g : Ghosts D) (at : Top) (floor : ℕ) (d0 d1 d2 : D) (k0 k1 k2 : Kept) where
   -- done, and then refused or done
-  pub ends_then_err : (x : A) (e : Refused) (n t k m s j : ℕ) → Ends g at floor n t k d0 d1 k0 k1 (Ok x) → HasTried g d0 d1 → Ends {A = B} g at floor m s j d1 d2 k1 k2 (Err e)
-      → (most tries blocks : ℕ) → n + m ≤ most → t + s ≤ tries → k + j ≤ blocks → Ends {A = B} g at floor most tries blocks d0 d2 k0 k2 (Err (after_try e))
+  pub ends_then_err : (x : A) (e : Refused) (n t k m s j : ℕ) → EndsCall g at floor n t k d0 d1 k0 k1 (Ok x) → HasTried g d0 d1 → EndsCall {A = B} g at floor m s j d1 d2 k1 k2 (Err e)
+      → (most tries blocks : ℕ) → n + m ≤ most → t + s ≤ tries → k + j ≤ blocks → EndsCall {A = B} g at floor most tries blocks d0 d2 k0 k2 (Err (after_try e))
   ends_then_err x e n t k m s j first tried then most tries blocks calls lt lk = record {
     told = tt;
     refused = refused_after_try g at floor d0 d1 d2 k2 n t first.calls tried first.told e then.refused;
@@ -41,8 +41,8 @@ module _ {D A B : Type 0} (g : Ghosts D) (at floor : ℕ) (d0 d1 d2 : D) (k0 k1 
     calls = makes_then g d0 d1 d2 n m most t s tries first.calls then.calls calls lt;
   }
 
-  pub ends_then_ok : (x : A) (y : B) (n t k m s j : ℕ) → Ends g at floor n t k d0 d1 k0 k1 (Ok x) → Ends g at floor m s j d1 d2 k1 k2 (Ok y)
-      → (most tries blocks : ℕ) → n + m ≤ most → t + s ≤ tries → k + j ≤ blocks → Ends g at floor most tries blocks d0 d2 k0 k2 (Ok y)
+  pub ends_then_ok : (x : A) (y : B) (n t k m s j : ℕ) → EndsCall g at floor n t k d0 d1 k0 k1 (Ok x) → EndsCall g at floor m s j d1 d2 k1 k2 (Ok y)
+      → (most tries blocks : ℕ) → n + m ≤ most → t + s ≤ tries → k + j ≤ blocks → EndsCall g at floor most tries blocks d0 d2 k0 k2 (Ok y)
   ends_then_ok x y n t k m s j first then most tries blocks calls lt lk = record {
     told = λ b was. then.told b (first.told b was);
     refused = tt;
@@ -54,7 +54,7 @@ module _ {D A B : Type 0} (g : Ghosts D) (at floor : ℕ) (d0 d1 d2 : D) (k0 k1 
   }
 
 -- a refusal is one of any call
-pub ends_err : {D A B : Type 0} (g : Ghosts D) (at floor n t k : ℕ) (old new : D) (before after : Kept) (e : Refused) → Ends {A = A} g at floor n t k old new before after (Err e) → Ends {A = B} g at floor n t k old new before after (Err e)
+pub ends_err : {D A B : Type 0} (g : Ghosts D) (at : Top) (floor n t k : ℕ) (old new : D) (before after : Kept) (e : Refused) → EndsCall {A = A} g at floor n t k old new before after (Err e) → EndsCall {A = B} g at floor n t k old new before after (Err e)
 ends_err g at floor n t k old new before after e is = record { told = tt; refused = is.refused; untried = is.untried; cylinders = is.cylinders; left = is.left; takes = is.takes; calls = is.calls }
 
 -- ---- the least Free block entered
@@ -70,7 +70,7 @@ one_less (x ∷ xs) (suc i) = omega (arith, sum_by-cons itself x xs, sum_by-cons
 sum_taken : (kept : Kept) (n : ℕ) → sum kept.free ≤ sum (after_taking kept n).free + 1
 sum_taken kept n = one_less kept.free (n / 64)
 
-pub enters_ends : {D : Type 0} (g : Ghosts D) (at floor : ℕ) (old new : D) (before after : Kept) (e : MapEntry) (result : Result BlockNo Refused) → Enters g e old new before after result → Ends g at floor 2 1 1 old new before after result
+pub enters_ends : {D : Type 0} (g : Ghosts D) (at : Top) (floor : ℕ) (old new : D) (before after : Kept) (e : MapEntry) (result : Result BlockNo Refused) → Enters g e old new before after result → EndsCall g at floor 2 1 1 old new before after result
 enters_ends g at floor old new before after e (Ok x) is = record {
   told = is.told;
   refused = tt;
@@ -90,17 +90,17 @@ enters_ends g at floor old new before after e (Err x) is = record {
   calls = is.calls;
 }
   where
-    why : (x : Refused) → IsFindRefusal g old new before x → (had_tried x ≡ false → OnlyReads g 1 old new) → after ≡ before → IsRefusal g at floor old new after x
-    why (refusals.Full need) is only same = omega (arith, is.0, is.1)
+    why : (x : Refused) → IsFindRefusal g old new before x → (had_tried x ≡ false → OnlyReads g 1 old new) → after ≡ before → IsDraftRefusal g at floor old new after x
+    why (refusals.Full need) is only same = (is.0 ∙ sym is.2 ∙ ap (λ (k : Kept). sum k.free) (sym same), omega (arith, is.0, is.1))
     why (refusals.Disk tried) is only same = is
     why (refusals.Damaged damage) is only same = by is.why
       where
         content : g.content new ≡ g.content old
         content = (only refl).content
 
-        by : ((damage.code ≡ 2) × (Tells g old → IsBadMap (g.content old) damage.block)) ⊎ ((damage.code ≡ 12) × (Tells g old → ¬ AreCounts (g.content old) before)) → IsDamage g at old new after damage
-        by (inl (code, bad)) = NoMap code (omega (arith, is.on_disk, (only refl).same.size)) (λ tells. subst (λ (c : Image). IsBadMap c damage.block) (sym content) (bad tells))
-        by (inr (code, other)) = OtherCount code (λ tells. subst (λ (k : Kept). ¬ AreCounts (g.content new) k) (sym same) (subst (λ (c : Image). ¬ AreCounts c before) (sym content) (other tells)))
+        by : ((damage.code ≡ 2) × (Tells g old → IsBadMap (g.content old) damage.block)) ⊎ ((damage.code ≡ 12) × IsMiscounted (Tells g old) (g.content old) before damage.block) → IsDraftDamage g at old new after damage
+        by (inl (code, bad)) = NoMap code is.block (omega (arith, is.on_disk, (only refl).same.size)) (λ tells. subst (λ (c : Image). IsBadMap c damage.block) (sym content) (bad tells))
+        by (inr (code, other)) = OtherCount code (miscounted_as (λ tells. tells) content same other)
     why refusals.Memory is only same = absurd is
 
 pub no_reads : {D : Type 0} (g : Ghosts D) (d : D) (n : ℕ) → OnlyReads g n d d
@@ -119,9 +119,9 @@ pub makes_none : {D : Type 0} (g : Ghosts D) (d : D) (n t : ℕ) → MakesAtMost
 makes_none g d n t = record { later = omega arith; keeps = λ at c before was. was; same = record { size = refl; honesty = refl; telling = refl }; faults = omega arith; calls = omega arith; tries = omega arith; no_fewer = omega arith }
 
 -- the node's block got
-pub gets_ends : {D : Type 0} (g : Ghosts D) (n floor : ℕ) (old new : D) (before after : Kept) (drafting : Drafting) (result : Result BlockNo Refused) → GetsNode g n old new before after drafting result
-    → Ends g drafting.at floor 2 1 (one_unless (is_fresh_node drafting n)) old new before after result
-gets_ends g n floor old new before after drafting result (Had fresh same kept is) = subst (Ends g drafting.at floor 2 1 (one_unless (is_fresh_node drafting n)) old new before after) (sym is) (record {
+pub gets_ends : {D : Type 0} (g : Ghosts D) (n floor : ℕ) (old new : D) (before after : Kept) (drafting : Drafting) (result : Result BlockNo Refused) → GetsDraftNode g n old new before after drafting result
+    → EndsCall g (top_of drafting) floor 2 1 (one_unless (is_fresh_node drafting n)) old new before after result
+gets_ends g n floor old new before after drafting result (Had fresh same kept is) = subst (EndsCall g (top_of drafting) floor 2 1 (one_unless (is_fresh_node drafting n)) old new before after) (sym is) (record {
   told = λ b is. subst (λ (d : _). IsTrue (g.told d b)) (sym same) is;
   refused = tt;
   untried = tt;
@@ -131,17 +131,17 @@ gets_ends g n floor old new before after drafting result (Had fresh same kept is
   calls = subst (λ (d : _). MakesAtMost g 2 1 old d) (sym same) (makes_none g old 2 1);
 })
 gets_ends g n floor old new before after drafting result (Claims stale enters) =
-    subst (λ (k : ℕ). Ends g drafting.at floor 2 1 k old new before after result) (ap one_unless (sym stale)) (enters_ends g drafting.at floor old new before after (intended (Node n) drafting.at) result enters)
+    subst (λ (k : ℕ). EndsCall g (top_of drafting) floor 2 1 k old new before after result) (ap one_unless (sym stale)) (enters_ends g (top_of drafting) floor old new before after (intended (Node n) drafting.at) result enters)
 
 -- ---- a block written
 
-module _ {D : Type 0} (g : Ghosts D) (at floor : ℕ) (old new : D) (kept : Kept) (n : ℕ) (block : List ℕ) where
-  pub write_done : WritesBlock g n block old new (Ok (tt {0})) → Ends {A = Unit {0}} g at floor 1 1 0 old new kept kept (Ok tt)
+module _ {D : Type 0} (g : Ghosts D) (at : Top) (floor : ℕ) (old new : D) (kept : Kept) (n : ℕ) (block : List ℕ) where
+  pub write_done : WritesDraftBlock g n block old new (Ok (tt {0})) → EndsCall {A = Unit {0}} g at floor 1 1 0 old new kept kept (Ok tt)
   write_done is = record { told = is.told; refused = tt; untried = tt; cylinders = refl; left = refl; takes = omega arith; calls = is.calls }
 
-  pub write_ends : (result : Result (Unit {0}) Refused) → WritesBlock g n block old new result → Ends g at floor 1 1 0 old new kept kept result
+  pub write_ends : (result : Result (Unit {0}) Refused) → WritesDraftBlock g n block old new result → EndsCall g at floor 1 1 0 old new kept kept result
   write_ends (Ok x) is = write_done is
-  write_ends (Err e) is = record { told = tt; refused = subst (IsRefusal g at floor old new kept) (sym is.refused) is.stopped; untried = λ same. (let no : refusals.Disk true ≡ refusals.Disk false = sym is.refused ∙ same in cc); cylinders = refl; left = refl; takes = omega arith; calls = is.calls }
+  write_ends (Err e) is = record { told = tt; refused = subst (IsDraftRefusal g at floor old new kept) (sym is.refused) is.stopped; untried = λ same. (let no : refusals.Disk true ≡ refusals.Disk false = sym is.refused ∙ same in cc); cylinders = refl; left = refl; takes = omega arith; calls = is.calls }
 
 -- ---- what stays
 
@@ -150,14 +150,14 @@ stays_itself was = record { at = refl; shadow = refl; own = refl; created = refl
 
 -- ---- with other bounds
 
-pub under_floor : {D : Type 0} (g : Ghosts D) (at floor : ℕ) (d0 d1 : D) (kept : Kept) (e : Refused) → IsRefusal g at 0 d0 d1 kept e → IsRefusal g at floor d0 d1 kept e
-under_floor g at floor d0 d1 kept (refusals.Full need) is = omega (arith, is)
+pub under_floor : {D : Type 0} (g : Ghosts D) (at : Top) (floor : ℕ) (d0 d1 : D) (kept : Kept) (e : Refused) → IsDraftRefusal g at 0 d0 d1 kept e → IsDraftRefusal g at floor d0 d1 kept e
+under_floor g at floor d0 d1 kept (refusals.Full need) is = (is.0, omega (arith, is.1))
 under_floor g at floor d0 d1 kept (refusals.Disk was) is = is
 under_floor g at floor d0 d1 kept (refusals.Damaged damage) is = is
 under_floor g at floor d0 d1 kept refusals.Memory is = is
 
 -- with a floor, more calls and more blocks; no more can be taken than is there
-pub ends_wider : {D A : Type 0} {g : Ghosts D} {at n t k : ℕ} {d0 d1 : D} {k0 k1 : Kept} {r : Result A Refused} (floor most tries blocks : ℕ) → Ends g at 0 n t k d0 d1 k0 k1 r → n ≤ most → t ≤ tries → sum k0.free ≤ sum k1.free + blocks → Ends g at floor most tries blocks d0 d1 k0 k1 r
+pub ends_wider : {D A : Type 0} {g : Ghosts D} {at : Top} {n t k : ℕ} {d0 d1 : D} {k0 k1 : Kept} {r : Result A Refused} (floor most tries blocks : ℕ) → EndsCall g at 0 n t k d0 d1 k0 k1 r → n ≤ most → t ≤ tries → sum k0.free ≤ sum k1.free + blocks → EndsCall g at floor most tries blocks d0 d1 k0 k1 r
 ends_wider {g = g} {at} {n} {t} {d0 = d0} {d1} {k1 = k1} {r} floor most tries blocks is le lt takes = record {
   told = is.told;
   refused = if_err r (λ e why. under_floor g at floor d0 d1 k1 e why) is.refused;
@@ -168,13 +168,25 @@ ends_wider {g = g} {at} {n} {t} {d0 = d0} {d1} {k1 = k1} {r} floor most tries bl
   calls = makes_then g d0 d0 d1 0 n most 0 t tries (makes_none g d0 0 0) is.calls (omega (arith, le)) (omega (arith, lt));
 }
 
+-- of another root at the block, which leads past the disk where this one does
+pub ends_at : {D A : Type 0} {g : Ghosts D} {at now : Top} {floor n t k : ℕ} {d0 d1 : D} {k0 k1 : Kept} {r : Result A Refused} → at.block ≡ now.block → (at.IsFar (g.blocks d1) → now.IsFar (g.blocks d1)) → EndsCall g at floor n t k d0 d1 k0 k1 r → EndsCall g now floor n t k d0 d1 k0 k1 r
+ends_at {g = g} {at} {now} {floor} {d0 = d0} {d1} {k1 = k1} {r} same on is = record {
+  told = is.told;
+  refused = if_err r (λ e why. refusal_as g at now same d0 d1 k1 on floor e why) is.refused;
+  untried = is.untried;
+  cylinders = is.cylinders;
+  left = is.left;
+  takes = is.takes;
+  calls = is.calls;
+}
+
 -- refused before any call
-pub full_ends : {D A : Type 0} (g : Ghosts D) (at floor n t k : ℕ) (d : D) (kept : Kept) (need : Need) → need.free < need.need + floor → Ends {A = A} g at floor n t k d d kept kept (Err (refusals.Full need))
-full_ends g at floor n t k d kept need less = record { told = tt; refused = less; untried = λ same. cc; cylinders = refl; left = refl; takes = omega arith; calls = makes_none g d n t }
+pub full_ends : {D A : Type 0} (g : Ghosts D) (at : Top) (floor n t k : ℕ) (d : D) (kept : Kept) (need : Need) → need.free ≡ sum kept.free → need.free < need.need + floor → EndsCall {A = A} g at floor n t k d d kept kept (Err (refusals.Full need))
+full_ends g at floor n t k d kept need free less = record { told = tt; refused = (free, less); untried = λ same. cc; cylinders = refl; left = refl; takes = omega arith; calls = makes_none g d n t }
 
 -- ---- refusals told after others
 
-pub still_sound : (tried : Bool) (e : Refused) → is_damaged e ≡ false → is_damaged (refusal_after tried e) ≡ false
+pub still_sound : (tried : Bool) (e : Refused) → has_met_damage e ≡ false → has_met_damage (refusal_after tried e) ≡ false
 still_sound false e is = is
 still_sound true (refusals.Full need) is = refl
 still_sound true (refusals.Disk was) is = refl

@@ -1,6 +1,6 @@
 -- A slot of an index in a draft, filled or emptied.
 use Rattle.std.proofs.Common.{◌≡◌, ◌⊎◌, inl, inr, ℕ, ◌+◌, ◌-◌, ◌*◌, ◌/◌, ◌%◌, ◌<◌, ◌≤◌, Bool, true, false, cond, List, [], ◌∷◌, length, get_or, set, replicate, Option, Some, None, Ok, Err, refl, sym, ◌∙◌, ap, subst, arith}
-use Rattle.special_files.proofs.Words.{Becomes, Draft, Drafting, Ends, Fill, FillsSlot, Fits, FitsLeaf, Ghosts, GivesIndex, HasDraft, Held, Image, Index, IsErrAnd, IsOpen, IsSlot, Kept, LeavesFit, NodeRead, Object, OnlyReads, Opened, Overwrite, Puid, PutsLeaf, Refused, Result, SetsFresh, StaysBut, Trouble, View, branches, bytes_held, changed_object, draft_in, drafts_with, empty_stays, filled, filled_draft, fresh_after, fresh_of, get_or-replicate, held_levels, index_to_leaves, is_empty_already, is_none, is_some, leaf_content, leaves_in, leaves_of, merged, ne_eqb, opened_as, range_with_len, refused_by, same_object, same_slot, slot_fit, slot_in, slot_object, slot_of, touched, with_slot, within, ◌&&◌, ◌==◌}
+use Rattle.special_files.proofs.Words.{DraftBecomes, Draft, Drafting, EndsCall, Fill, FillsSlot, Fits, FitsLeaf, Ghosts, GivesIndex, HasDraft, Held, Image, Index, IsErrAnd, IsOpen, IsSlot, Kept, LeavesFit, NodeRead, Object, OnlyReads, Opened, Overwrite, Puid, PutsLeaf, Refused, Result, SetsFresh, StaysBut, Trouble, DraftView, branches, bytes_held, changed_object, draft_in, drafts_with, empty_stays, filled, filled_draft, fresh_after, fresh_of, get_or-replicate, held_levels, index_to_leaves, is_empty_already, is_none, is_some, leaf_content, leaves_in, leaves_below, merged, ne_eqb, opened_as, range_with_len, refused_by, same_object, same_slot, slot_fit, slot_in, slot_object, slot_of, touched, with_slot, within, ◌&&◌, ◌==◌, Top}
 use Rattle.std.proofs.lemmas.Bool.{eq-eqb}
 use Rattle.block_tree.specs.declared.root.Root as roots
 use Rattle.ufs_model.specs.declared.object.Object.TheVariants as objects
@@ -95,13 +95,13 @@ pub none_is : (p : Option Puid) → is_none p ≡ true → p ≡ None
 none_is None h = refl
 none_is (Some x) h = cc
 
-pub put_fits : {D : Type 0} {g : Ghosts D} {d0 : D} {k0 : Kept} {was : Drafting} (v : View g d0 k0 was) (slot : ℕ) (what : Option Puid) → 8 * slot + 8 ≤ was.root.size → (content : List ℕ) → content ≡ leaf_content was.root.fill (leaves_of (g.content d0) was.root (slot / 64))
+pub put_fits : {D : Type 0} {g : Ghosts D} {d0 : D} {k0 : Kept} {was : Drafting} (v : DraftView g d0 k0 was) (slot : ℕ) (what : Option Puid) → 8 * slot + 8 ≤ was.root.size → (content : List ℕ) → content ≡ leaf_content was.root.fill (leaves_below (g.content d0) was.root (slot / 64))
     → FitsLeaf was.root (slot / 64) (with_slot (slot % 64) what content)
 put_fits {g = g} {d0} {was = was} v slot what inside content same =
     subst (λ (c : List ℕ). FitsLeaf was.root (slot / 64) (with_slot (slot % 64) what c)) (sym same)
-    (slot_fits was.root (leaves_of (g.content d0) was.root) slot what (record { within = (draft_of v).tree.within; filled = (draft_of v).tree.filled }) inside)
+    (slot_fits was.root (leaves_below (g.content d0) was.root) slot what (record { within = (draft_of v).tree.within; filled = (draft_of v).tree.filled }) inside)
 
-module _ {D : Type 0} {g : Ghosts D} {d0 d1 : D} {k0 : Kept} {was : Drafting} {n : ℕ} (v : View g d0 k0 was) (i : Index) (index : v.draft.object ≡ objects.Index i) (reads : OnlyReads g n d0 d1) (slot : ℕ) (what : Option Puid) (inside : 8 * slot + 8 ≤ was.root.size) where
+module _ {D : Type 0} {g : Ghosts D} {d0 d1 : D} {k0 : Kept} {was : Drafting} {n : ℕ} (v : DraftView g d0 k0 was) (i : Index) (index : v.draft.object ≡ objects.Index i) (reads : OnlyReads g n d0 d1) (slot : ℕ) (what : Option Puid) (inside : 8 * slot + 8 ≤ was.root.size) where
   abbrev a : Image
   a = g.content d0
 
@@ -109,7 +109,7 @@ module _ {D : Type 0} {g : Ghosts D} {d0 d1 : D} {k0 : Kept} {was : Drafting} {n
   before = draft_of v
 
   abbrev old : ℕ → Option Held
-  old = leaves_of a was.root
+  old = leaves_below a was.root
 
   fit : LeavesFit was.root old
   fit = record { within = before.tree.within; filled = before.tree.filled }
@@ -129,7 +129,7 @@ module _ {D : Type 0} {g : Ghosts D} {d0 d1 : D} {k0 : Kept} {was : Drafting} {n
     empty_is b is = ap (λ (p : Option Puid). is_none what && is_none p) (slot_is ∙ ap (λ (c : List ℕ). slot_in c (slot % 64)) (sym same)) ∙ sym is
 
     -- an empty slot that is emptied stays as it is
-    pub stays_empty : (b : Bool) → b ≡ (is_none what && is_none (slot_in content (slot % 64))) → b ≡ true → Becomes g v.graph v.ds v.id (filled_draft i slot what v.draft) d0 d1 k0 was
+    pub stays_empty : (b : Bool) → b ≡ (is_none what && is_none (slot_in content (slot % 64))) → b ≡ true → DraftBecomes g v.graph v.ds v.id (filled_draft i slot what v.draft) d0 d1 k0 was
     stays_empty b is true_now =
         let already = empty_is b is ∙ true_now in
         becomes_since reads (becomes_as g v.graph v.ds v.id v.object v.at d1 d1 k0 was v.draft (filled_draft i slot what v.draft) (becomes_begin g v.graph v.ds v.id v.object v.at d1 k0 was v.draft (view_reads v reads).store v.opened)
@@ -142,7 +142,7 @@ module _ {D : Type 0} {g : Ghosts D} {d0 d1 : D} {k0 : Kept} {was : Drafting} {n
 
     -- the leaf was put with the slot in it
     pub slot_put : (b : Bool) → b ≡ (is_none what && is_none (slot_in content (slot % 64))) → b ≡ false → IsSlot what → (d2 : D) (k2 : Kept) (now : Drafting) (next : NodeRead) (bytes : List ℕ) → bytes ≡ with_slot (slot % 64) what content → StaysBut was now
-        → PutsLeaf g v.graph v.ds v.id (slot / 64) bytes d1 d2 k2 was now next → Becomes g v.graph v.ds v.id (filled_draft i slot what v.draft) d0 d2 k2 now
+        → PutsLeaf g v.graph v.ds v.id (slot / 64) bytes d1 d2 k2 was now next → DraftBecomes g v.graph v.ds v.id (filled_draft i slot what v.draft) d0 d2 k2 now
     slot_put b is other good d2 k2 now after_read bytes spelled stays puts =
         becomes_since reads (becomes_as g v.graph v.ds v.id v.object v.at d1 d2 k2 now later (filled_draft i slot what v.draft) (record { steps = puts.steps; is_open = puts.is_open }) object
         (λ k. ap (λ (c : Bool). get_or (cond c v.draft.fresh (fresh_after (Fill slot what) v.draft.object v.draft.fresh)) k []) (empty_is b is ∙ other) ∙ fresh_filled (g.content d2) v.id es was now v.draft later v.ds v.opened puts.is_open after slot small puts.sets what (filled_index.0) (sym object ∙ filled_index.1) object k))
@@ -159,10 +159,10 @@ module _ {D : Type 0} {g : Ghosts D} {d0 d1 : D} {k0 : Kept} {was : Drafting} {n
         after : HasDraft (g.content d2) v.id (opened_as v.id now later)
         after = the_draft (g.content d2) es v.id now later puts.is_open (puts.steps.store.account.drafts v.id v.object v.at)
 
-        old1 : leaves_of (g.content d1) was.root ≡ old
-        old1 = ap (λ (im : Image). leaves_of im was.root) reads.content
+        old1 : leaves_below (g.content d1) was.root ≡ old
+        old1 = ap (λ (im : Image). leaves_below im was.root) reads.content
 
-        fills : FillsSlot was.root.fill slot what old (leaves_of (g.content d2) now.root)
+        fills : FillsSlot was.root.fill slot what old (leaves_below (g.content d2) now.root)
         fills = record {
           here = puts.leaves.here ∙ ap Some (spelled ∙ ap (with_slot (slot % 64) what) same);
           others = λ m other. puts.leaves.others m other ∙ ap (λ (f : ℕ → Option Held). bytes_held (f m)) old1;
@@ -178,8 +178,8 @@ module _ {D : Type 0} {g : Ghosts D} {d0 d1 : D} {k0 : Kept} {was : Drafting} {n
 
         object : changed_object (Fill slot what) v.draft.object ≡ later.object
         object = ap (changed_object (Fill slot what)) (sym before.tree.object)
-            ∙ sym (same_object was.root.size was.root now.root stays.root (leaves_of (g.content d2) now.root)
-            ∙ slot_object was.root old (leaves_of (g.content d2) now.root) slot what fit fills (omega (arith, inside)) good
+            ∙ sym (same_object was.root.size was.root now.root stays.root (leaves_below (g.content d2) now.root)
+            ∙ slot_object was.root old (leaves_below (g.content d2) now.root) slot what fit fills (omega (arith, inside)) good
             (held what (old (slot / 64)) (ap (λ (c : List ℕ). is_none what && is_none (slot_in c (slot % 64))) (sym same) ∙ sym is ∙ other)) gives.kind)
 
         filled_index : (j : Index) × (changed_object (Fill slot what) v.draft.object ≡ objects.Index j)
@@ -188,6 +188,6 @@ module _ {D : Type 0} {g : Ghosts D} {d0 d1 : D} {k0 : Kept} {was : Drafting} {n
 -- ---- how the call ends
 
 -- the result that a `?` made of a trouble
-pub ended_by : {D A : Type 0} (g : Ghosts D) (at n t k : ℕ) (d0 d2 : D) (k0 k2 : Kept) (result : Result A Refused) (e : Trouble) → IsErrAnd result (λ x. x ≡ refused_by e) → ((x : Refused) → x ≡ refused_by e → Ends {A = A} g at 0 n t k d0 d2 k0 k2 (Err x)) → Ends g at 0 n t k d0 d2 k0 k2 result
+pub ended_by : {D A : Type 0} (g : Ghosts D) (at : Top) (n t k : ℕ) (d0 d2 : D) (k0 k2 : Kept) (result : Result A Refused) (e : Trouble) → IsErrAnd result (λ x. x ≡ refused_by e) → ((x : Refused) → x ≡ refused_by e → EndsCall {A = A} g at 0 n t k d0 d2 k0 k2 (Err x)) → EndsCall g at 0 n t k d0 d2 k0 k2 result
 ended_by g at n t k d0 d2 k0 k2 (Ok x) e is ends = absurd is
 ended_by g at n t k d0 d2 k0 k2 (Err x) e is ends = ends x is

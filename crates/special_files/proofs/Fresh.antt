@@ -1,12 +1,12 @@
 -- What is fresh in a draft's tree is meant for the object, and stands below what is fresh.
 use Rattle.std.proofs.Common.{◌≡◌, ◌≢◌, ℕ, zero, suc, ◌<◌, ◌≤◌, Bool, true, false, List, [], ◌∷◌, length, get_or, inl, inr, Some, refl, sym, ◌∙◌, ap, arith, not}
-use Rattle.special_files.proofs.Words.{pointed, Fits, Graph, HasDraft, HasItsBlocks, Holds, Image, Object, Opened, Puid, block_at, cases_Bool, content_of, held, held_at, is_meant, is_meant_for, is_of, leaves_at, meant_differs, node_of, not_meant_is_own, object_at, passes, root_spelling, slice_index, tree_in, tree_of}
+use Rattle.special_files.proofs.Words.{pointed, Fits, Graph, HasDraft, HasItsBlocks, Holds, Image, Object, Opened, Puid, block_at, cases_Bool, content_of, held, held_at, is_meant, is_meant_for, is_owned_by, leaves_at, meant_differs, pointer_to_node, not_meant_is_own, object_at, passes, root_spelling, slice_index, tree_in, tree_of}
 use Rattle.block_tree.specs.declared.root.Root as roots
 use Rattle.special_files.proofs.Trees.{leaf_at, leaf_from, node_at}
 
 -- the leaf pointers that were read of a node are those of the tree
-pub read_leaf_is : (image : Image) (root : roots.Root) → Fits root → (n k : ℕ) (leaves : List ℕ) → leaves ≡ leaves_at image (node_of root n) → tree_of image (root_spelling root) (n ∷ k ∷ []) ≡ slice_index leaves k
-read_leaf_is image root fits n k leaves is = leaf_at image root fits n k ∙ pointed image (node_of root n) k ∙ ap (λ (ns : List ℕ). get_or ns k 0) (sym is)
+pub read_leaf_is : (image : Image) (root : roots.Root) → Fits root → (n k : ℕ) (leaves : List ℕ) → leaves ≡ leaves_at image (pointer_to_node root n) → tree_of image (root_spelling root) (n ∷ k ∷ []) ≡ slice_index leaves k
+read_leaf_is image root fits n k leaves is = leaf_at image root fits n k ∙ pointed image (pointer_to_node root n) k ∙ ap (λ (ns : List ℕ). get_or ns k 0) (sym is)
 
 -- what passes is there, and is meant
 pub passed_some : (test : ℕ → Bool) (image : Image) (v : ℕ) → passes test (held_at image v) ≡ true → (v ≢ 0) × (test v ≡ true)
@@ -19,7 +19,7 @@ small_image image g holds = omega (arith, holds.label.size_is, holds.label.is_la
 
 -- block 0 is nobody's
 zero_unmeant : (image : Image) (g : Graph) → Holds image g → (r : ℕ) → 0 < length image → is_meant_for image r 0 ≡ false
-zero_unmeant image g holds r some = ap (λ e. is_of is_meant r e) (holds.fixed 0 some refl)
+zero_unmeant image g holds r some = ap (λ e. is_owned_by is_meant r e) (holds.fixed 0 some refl)
 
 pub failed_none : (test : ℕ → Bool) (image : Image) (v : ℕ) → test 0 ≡ false → passes test (held_at image v) ≡ false → test v ≡ false
 failed_none test image zero none h = none

@@ -1,6 +1,6 @@
 -- The root of an object that is made with a commit.
 use Rattle.std.proofs.Common.{◌≡◌, ◌≢◌, inl, inr, ⊎_elim, ℕ, true, false, List, Option, Some, None, refl, sym, ◌∙◌, ap, subst, eq-eqb}
-use Rattle.special_files.proofs.Words.{Accounts, ChangesOnly, Graph, HasItsBlocks, Image, IntendAllocate, IsBareRoot, IsEntered, IsMade, IsOpenTo, IsPlaced, IsRootBlock, Leaf, MapEntry, Node, Opened, Place, Puid, Root, RootsOwnThemselves, SameAt, ShadowRoot, and_from, and_parts, below_none, block_at, both_ways, entry_in, false_from_ne_true, free_unowned, had_not_meant, has_block, ids_of, is_committed, is_fixed, is_had, is_leaving, is_made, is_meant, is_meant_for, is_of, is_placed, is_root_place, is_taken, node_pointers, none-some, object_of_block, of_draft, of_taken, owner_is, owner_of, part_at, pointers_of, rises, root_owner, same_Some}
+use Rattle.special_files.proofs.Words.{Accounts, ChangesOnly, Graph, HasItsBlocks, Image, IntendAllocate, IsBareRoot, IsEntered, IsMadeRoot, IsOpenTo, IsPlaced, IsRootBlock, Leaf, MapEntry, Node, Opened, Place, Puid, Root, RootsOwnThemselves, SameAt, ShadowRoot, and_from, and_parts, below_none, block_at, both_ways, entry_in, false_from_ne_true, free_unowned, had_not_meant, has_block, ids_of, is_committed, is_fixed, is_had, is_leaving, is_made, is_meant, is_meant_for, is_owned_by, is_placed, is_root_place, is_taken, node_pointers, none-some, object_of_block, of_draft, of_taken, owner_is, owner_of, part_at, pointers_of, rises, root_owner, same_Some}
 use Rattle.block_tree.specs.declared.root.Root as roots
 use Rattle.vol_owners.proofs.Entries.{root_placed}
 use Rattle.intentions.proofs.Flips.{option_is}
@@ -19,7 +19,7 @@ pub record IsNewRoot (a : Image) (c : ℕ) : Type 0 where
   pub at : IsPlaced a c c Root
   pub state : at.taken.is.state ≡ IntendAllocate
 
-module _ (a : Image) (own : RootsOwnThemselves a) (c : ℕ) (made : IsMade a c) where
+module _ (a : Image) (own : RootsOwnThemselves a) (c : ℕ) (made : IsMadeRoot a c) where
   -- it is meant for itself
   pub made_meant : is_meant_for a c c ≡ true
   made_meant = and_from _ _ (root_placed is_meant (entry_in a c) made.entered) (eq-eqb _ _ (sym (root_owner a own is_meant c made.entered)))
@@ -39,27 +39,27 @@ module _ (a : Image) (own : RootsOwnThemselves a) (c : ℕ) (made : IsMade a c) 
 
   -- a step of a draft of another object leaves it as it is
   module _ (b : Image) (r : ℕ) (other : c ≢ r) (only : ChangesOnly (λ e. of_draft r e) a b) where
-    open_owner : (n : ℕ) (entry : Option MapEntry) → is_of is_taken n entry ≡ true → IsOpenTo (λ e. of_draft r e) entry → n ≡ r
+    open_owner : (n : ℕ) (entry : Option MapEntry) → is_owned_by is_taken n entry ≡ true → IsOpenTo (λ e. of_draft r e) entry → n ≡ r
     open_owner n entry is (inl free) = absurd (both_ways _ (free_unowned is_taken refl n entry free) is)
     open_owner n entry is (inr two) = owner_is is_taken n entry is ∙ sym (same_Some _ _ (option_is (Some r) (owner_of entry) (and_parts (is_placed is_meant entry) _ two.1).1))
 
-    taken : is_of is_taken c (entry_in a c) ≡ true
+    taken : is_owned_by is_taken c (entry_in a c) ≡ true
     taken = of_taken is_meant refl c (entry_in a c) made_meant
 
     pub made_kept : entry_in b c ≡ entry_in a c
     made_kept = ⊎_elim (λ same. same) (λ two. absurd (other (open_owner c (entry_in a c) taken two.0))) (only.entries c)
 
-    pub still_made : IsMade b c
+    pub still_made : IsMadeRoot b c
     still_made = record {
       entered = ap is_made made_kept ∙ made.entered;
-      alone = λ n of_c. ⊎_elim (λ same. made.alone n (ap (is_of is_taken c) (sym same) ∙ of_c)) (λ two. absurd (other (open_owner c (entry_in b n) of_c two.1))) (only.entries n);
+      alone = λ n of_c. ⊎_elim (λ same. made.alone n (ap (is_owned_by is_taken c) (sym same) ∙ of_c)) (λ two. absurd (other (open_owner c (entry_in b n) of_c two.1))) (only.entries n);
     }
 
     pub content_kept : is_fixed c ≡ false → block_at b c ≡ block_at a c
     content_kept loose = ⊎_elim (λ same. same) (λ open_to. absurd (other (open_owner c (entry_in a c) taken open_to))) (only.contents c loose)
 
 -- no object has this root block yet
-pub no_object : (a : Image) (g : Graph) (ds : List Opened) → Accounts a g ds → rises (ids_of g) ≡ true → (c : ℕ) → IsMade a c → has_block g.objects c ≡ false
+pub no_object : (a : Image) (g : Graph) (ds : List Opened) → Accounts a g ds → rises (ids_of g) ≡ true → (c : ℕ) → IsMadeRoot a c → has_block g.objects c ≡ false
 no_object a g ds had ordered c made = false_from_ne_true _ (λ there.
     let x = object_of_block g ordered c there in
     made_apart a had.holds.own c made c (subst (HasItsBlocks a) x.3 (had.objects x.0 x.1 x.2)) refl)
@@ -85,16 +85,16 @@ module _ (a b : Image) (id : Puid) (root : roots.Root) (bare : IsBareRoot a id r
     pub bare_has : HasItsBlocks b id.block
     bare_has = record {
       no_bit = no_bit;
-      each = λ n block. ⊎_elim (λ root_is. subst (λ (k : ℕ). is_of is_had id.block (entry_in b k) ≡ true) (sym root_is) is.had)
+      each = λ n block. ⊎_elim (λ root_is. subst (λ (k : ℕ). is_owned_by is_had id.block (entry_in b k) ≡ true) (sym root_is) is.had)
           (λ at. absurd (none-some at.held (sym (below_none b (block_at b id.block) 120 now.no_node at.path) ∙ at.there))) (block_stands b id.block no_bit n block);
       no_other = λ n had. inl (is.alone n (of_taken is_had refl id.block (entry_in b n) had));
       none_leaves = λ n. false_from_ne_true _ (λ leaves. both_ways _ (had_not_leaving id.block (entry_in b n) (of_root n (of_taken is_leaving refl id.block (entry_in b n) leaves))) leaves);
     }
       where
-        of_root : (n : ℕ) → is_of is_taken id.block (entry_in b n) ≡ true → is_of is_had id.block (entry_in b n) ≡ true
-        of_root n of_c = subst (λ (k : ℕ). is_of is_had id.block (entry_in b k) ≡ true) (sym (is.alone n of_c)) is.had
+        of_root : (n : ℕ) → is_owned_by is_taken id.block (entry_in b n) ≡ true → is_owned_by is_had id.block (entry_in b n) ≡ true
+        of_root n of_c = subst (λ (k : ℕ). is_owned_by is_had id.block (entry_in b k) ≡ true) (sym (is.alone n of_c)) is.had
 
     pub bare_unmeant : (n : ℕ) → is_meant_for b id.block n ≡ false
     bare_unmeant n = false_from_ne_true _ (λ meant.
-        let had = subst (λ (k : ℕ). is_of is_had id.block (entry_in b k) ≡ true) (sym (is.alone n (of_taken is_meant refl id.block (entry_in b n) meant))) is.had in
+        let had = subst (λ (k : ℕ). is_owned_by is_had id.block (entry_in b k) ≡ true) (sym (is.alone n (of_taken is_meant refl id.block (entry_in b n) meant))) is.had in
         both_ways _ (had_not_meant id.block (entry_in b n) had) (and_parts _ _ meant).0)

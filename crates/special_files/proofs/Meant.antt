@@ -1,6 +1,6 @@
 -- What the entry of a block says that is meant for an object, and what may be written there.
 use Rattle.std.proofs.Common.{◌≡◌, ◌≢◌, inl, inr, ℕ, true, List, [], ◌∷◌, set, Option, Some, None, refl, sym, ◌∙◌, ap, subst}
-use Rattle.special_files.proofs.Words.{Accounts, Allocated, BlockState, ChangesOnly, Frames, Free, Graph, HasItsBlocks, Holds, Image, IntendAllocate, IntendDeallocate, IsEntry, IsLoose, IsOpenTo, IsTaken, MapEntry, Object, Opened, Place, Puid, Root, StandsForNone, and_from, and_parts, at_rest, blocks_kept, both_ways, changes_content, changes_entry, drafts_miss, entry_in, eqb-true, frames_begin, frames_content, free_is_loose, has_number, here, is_free_entry, is_free_in, is_had, is_leaving, is_meant, is_meant_for, is_of, is_some, is_taken, loose_entry, object_at, of_draft, rest_loose, taken_apart, the_entry, with_entry, ◌&&◌, ◌==◌}
+use Rattle.special_files.proofs.Words.{Accounts, Allocated, BlockState, ChangesOnly, Frames, Free, Graph, HasItsBlocks, Holds, Image, IntendAllocate, IntendDeallocate, IsEntry, IsLoose, IsOpenTo, IsTaken, MapEntry, Object, Opened, Place, Puid, Root, StandsForNone, and_from, and_parts, at_rest, blocks_kept, both_ways, changes_content, changes_entry, drafts_miss, entry_in, eqb-true, frames_begin, frames_content, free_is_loose, has_number, here, is_free_entry, is_free_in, is_had, is_leaving, is_meant, is_meant_for, is_owned_by, is_some, is_taken, loose_entry, object_at, of_draft, rest_loose, taken_apart, the_entry, with_entry, ◌&&◌, ◌==◌}
 
 -- ---- entries
 
@@ -21,7 +21,7 @@ pub record IsMeant (image : Image) (r n : ℕ) : Type 0 where
 pub meant_is : (image : Image) (r n : ℕ) → is_meant_for image r n ≡ true → IsMeant image r n
 meant_is image r n meant =
     let e = the_entry is_meant r (entry_in image n) meant in
-    let both = and_parts (is_meant e.0.state && is_some e.0.place) (r == e.0.owner) (sym (ap (is_of is_meant r) e.1) ∙ meant) in
+    let both = and_parts (is_meant e.0.state && is_some e.0.place) (r == e.0.owner) (sym (ap (is_owned_by is_meant r) e.1) ∙ meant) in
     let two = and_parts (is_meant e.0.state) (is_some e.0.place) both.0 in
     let state = state_meant e.0.state two.0 in
     record {
@@ -43,7 +43,7 @@ free_is image n free = by (entry_in image n) refl free
     by (Some e) is h = (e, is, state e.state e refl h)
 
 -- what a draft means is open to its steps
-pub meant_open : (r : ℕ) (entry : Option MapEntry) → is_of is_meant r entry ≡ true → IsOpenTo (λ e. of_draft r e) entry
+pub meant_open : (r : ℕ) (entry : Option MapEntry) → is_owned_by is_meant r entry ≡ true → IsOpenTo (λ e. of_draft r e) entry
 meant_open r None meant = cc
 meant_open r (Some e) meant =
     let both = and_parts (is_meant e.state && is_some e.place) (r == e.owner) meant in
@@ -79,7 +79,7 @@ module _ (a b : Image) (g : Graph) (ds : List Opened) (id : Puid) (o : Object) (
           let was = free_is b n free in
           loose_entry b g b n e was.0 holds (frames_begin b g holds) (free_is_loose b g holds n was.0 was.1 was.2) was.1 is (λ root. absurd (place root)) (no_shadow e) (no_shadow was.0)
 
-      pub claim_changes : is_of is_meant id.block (Some e) ≡ true → ChangesOnly (λ e. of_draft id.block e) b (with_entry b n e)
+      pub claim_changes : is_owned_by is_meant id.block (Some e) ≡ true → ChangesOnly (λ e. of_draft id.block e) b (with_entry b n e)
       claim_changes meant =
           let was = free_is b n free in
           changes_entry (λ e. of_draft id.block e) b n e was.0 holds.maps holds.own (free_is_loose b g holds n was.0 was.1 was.2).apart was.1 is (λ root. absurd (place root))

@@ -1,6 +1,6 @@
 -- A leaf is put: over the draft's own, or into blocks that were claimed.
 use Rattle.std.proofs.Common.{◌≡◌, ◌≢◌, ◌⊎◌, inl, inr, ℕ, ◌/◌, ◌%◌, ◌^◌, ◌<◌, true, false, List, [], ◌∷◌, length, get_or, set, Some, refl, sym, ◌∙◌, ap, subst, get_or-set_other, get_or-set_same, eq-eqb, arith}
-use Rattle.special_files.proofs.Words.{leaf_place, node_place, BelongsTo, Drafting, Free, Graph, HasDraft, HasItsBlocks, Holds, Image, IsEntry, Leaf, MapEntry, Node, Object, Place, Puid, block_at, block_at-with_entry, both_ways, entry_in, entry_in-set, entry_in-with_entry_other, entry_in-with_entry_same, free_is_loose, held, held_at, held_there, in_image, intended, is_free_entry, is_free_in, is_fresh_leaf, is_fresh_node, is_meant, is_meant_for, is_of, le-leb, leaf_pointers, leaves_at, length-with_entry, lt-ltb, node_of, not_map, object_at, one_path, opened_as, part_at, part_of, passes, pointer, pointers_of, root_spelling, set-get_or, slice_index, taken_apart, tree_in, tree_of, tree_placed, with_entry, leaves_there}
+use Rattle.special_files.proofs.Words.{leaf_place, node_place, BelongsTo, Drafting, Free, Graph, HasDraft, HasItsBlocks, Holds, Image, IsEntry, Leaf, MapEntry, Node, Object, Place, Puid, block_at, block_at-with_entry, both_ways, entry_in, entry_in-set, entry_in-with_entry_other, entry_in-with_entry_same, free_is_loose, held, held_at, held_there, in_image, intended, is_free_entry, is_free_in, is_fresh_leaf, is_fresh_node, is_meant, is_meant_for, is_owned_by, le-leb, leaf_pointers, leaves_at, length-with_entry, lt-ltb, pointer_to_node, not_map, object_at, one_path, opened_as, part_at, part_of, passes, pointer, pointers_of, root_spelling, set-get_or, slice_index, taken_apart, tree_in, tree_of, tree_placed, with_entry, leaves_there}
 use Rattle.std.proofs.Math.ListN.{length-set}
 use Rattle.ufs_model.specs.declared.object.Draft as models
 use Rattle.special_files.proofs.Fresh.{fresh_there, node_of_fresh, small_image, read_leaf_is, unfresh}
@@ -21,7 +21,7 @@ pub intended_part : (image : Image) (n r : ℕ) (p : Place) → entry_in image n
 intended_part image n r p here = record { is = record { committed = false; place = Some p; owner = r }; here = ap part_of here; owner_is = refl; place_is = refl }
 
 pub intended_meant : (image : Image) (n r : ℕ) (p : Place) → entry_in image n ≡ Some (intended p r) → is_meant_for image r n ≡ true
-intended_meant image n r p here = ap (is_of is_meant r) here ∙ eq-eqb r r refl
+intended_meant image n r p here = ap (is_owned_by is_meant r) here ∙ eq-eqb r r refl
 
 two_paths : (n k m : ℕ) → n ∷ k ∷ [] ≡ m ∷ [] → ⊥
 two_paths n k m same = cc
@@ -30,7 +30,7 @@ two_paths n k m same = cc
 
 -- the node of a leaf has these pointers, and the flags tell what is fresh
 pub record IsReadFor (a : Image) (id : Puid) (drafting : Drafting) (l : ℕ) (leaves : List ℕ) : Type 0 where
-  pub node : leaves ≡ leaves_at a (node_of drafting.root (l / 128))
+  pub node : leaves ≡ leaves_at a (pointer_to_node drafting.root (l / 128))
   pub leaf_flag : is_fresh_leaf drafting l ≡ passes (is_meant_for a id.block) ((tree_in a (root_spelling drafting.root)).below (l / 128 ∷ l % 128 ∷ []))
   pub node_flag : is_fresh_node drafting (l / 128) ≡ passes (is_meant_for a id.block) ((tree_in a (root_spelling drafting.root)).below (l / 128 ∷ []))
 
@@ -48,7 +48,7 @@ module _ (a : Image) (g : Graph) (holds : Holds a g) (id : Puid) (o : Object) (a
   leaf_read : (j : ℕ) → tree_of a old (n ∷ j ∷ []) ≡ slice_index leaves j
   leaf_read j = read_leaf_is a drafting.root draft.tree.spelled.good.0 n j leaves is.node
 
-  node_read : tree_of a old (n ∷ []) ≡ node_of drafting.root n
+  node_read : tree_of a old (n ∷ []) ≡ pointer_to_node drafting.root n
   node_read = node_at a drafting.root draft.tree.spelled.good.0 n
 
   abbrev pub x_of : ℕ
@@ -63,26 +63,26 @@ module _ (a : Image) (g : Graph) (holds : Holds a g) (id : Puid) (o : Object) (a
 
   -- ---- over the draft's own leaf
 
-  pub put_again : (content : List ℕ) → l < 15360 → is_fresh_leaf drafting l ≡ true → LeafPut a (set a x_of content) id (opened_as id drafting m) drafting.root l x_of (node_of drafting.root n) content
+  pub put_again : (content : List ℕ) → l < 15360 → is_fresh_leaf drafting l ≡ true → LeafPut a (set a x_of content) id (opened_as id drafting m) drafting.root l x_of (pointer_to_node drafting.root n) content
   put_again content most fresh =
       let leaf = fresh_at (n ∷ k ∷ []) (sym is.leaf_flag ∙ fresh) in
       let node = above_fresh fresh in
       let x_is = leaf_read k in
       let placed = λ (p : List ℕ) (v : ℕ) (there : tree_of a old p ≡ v) (real : v ≢ 0). tree_placed a (length a) id.block old drafting.root m.object draft.tree p (held a v) (ap (held_at a) there ∙ held_there a v real) in
       let x_real : x_of ≢ 0 = λ none. leaf.0 (x_is ∙ none) in
-      let y_real : node_of drafting.root n ≢ 0 = λ none. node.0 (node_read ∙ none) in
+      let y_real : pointer_to_node drafting.root n ≢ 0 = λ none. node.0 (node_read ∙ none) in
       let x_at = placed (n ∷ k ∷ []) x_of x_is x_real in
-      let y_at = placed (n ∷ []) (node_of drafting.root n) node_read y_real in
+      let y_at = placed (n ∷ []) (pointer_to_node drafting.root n) node_read y_real in
       let no_map = not_map x_of (taken_apart a g holds x_of id.block x_at.taken) in
       let entries = λ (v : ℕ). entry_in-set a x_of content v no_map in
       let x_below : x_of < length a = in_image a g holds x_of x_at.taken.is x_at.taken.here in
-      let y_below : node_of drafting.root n < length a = in_image a g holds (node_of drafting.root n) y_at.taken.is y_at.taken.here in
-      let apart : x_of ≢ node_of drafting.root n = λ same. two_paths n k n (one_path a (length a) id.block old drafting.root m.object draft.tree (n ∷ k ∷ []) (n ∷ []) (held a x_of) (held a (node_of drafting.root n))
-      (ap (held_at a) x_is ∙ held_there a x_of x_real) (ap (held_at a) node_read ∙ held_there a (node_of drafting.root n) y_real) same) in
+      let y_below : pointer_to_node drafting.root n < length a = in_image a g holds (pointer_to_node drafting.root n) y_at.taken.is y_at.taken.here in
+      let apart : x_of ≢ pointer_to_node drafting.root n = λ same. two_paths n k n (one_path a (length a) id.block old drafting.root m.object draft.tree (n ∷ k ∷ []) (n ∷ []) (held a x_of) (held a (pointer_to_node drafting.root n))
+      (ap (held_at a) x_is ∙ held_there a x_of x_real) (ap (held_at a) node_read ∙ held_there a (pointer_to_node drafting.root n) y_real) same) in
       let owned = λ (p : List ℕ) (v : ℕ) (there : tree_of a old p ≡ v) (real : v ≢ 0). draft.tree.owned p (held a v) (ap (held_at a) there ∙ held_there a v real) in
-      let pointers_at : (j : ℕ) → pointer leaf_pointers (block_at (set a x_of content) (node_of drafting.root n)) j ≡ slice_index leaves j = λ j.
-      ap (λ (c : List ℕ). pointer leaf_pointers c j) (get_or-set_other a x_of (node_of drafting.root n) content [] (λ e. apart (sym e)))
-      ∙ ap (λ (ns : List ℕ). get_or ns j 0) (sym (leaves_there a (node_of drafting.root n) y_real) ∙ sym is.node) in
+      let pointers_at : (j : ℕ) → pointer leaf_pointers (block_at (set a x_of content) (pointer_to_node drafting.root n)) j ≡ slice_index leaves j = λ j.
+      ap (λ (c : List ℕ). pointer leaf_pointers c j) (get_or-set_other a x_of (pointer_to_node drafting.root n) content [] (λ e. apart (sym e)))
+      ∙ ap (λ (ns : List ℕ). get_or ns j 0) (sym (leaves_there a (pointer_to_node drafting.root n) y_real) ∙ sym is.node) in
       record {
         size = length-set a x_of content;
         apart = apart;
@@ -93,10 +93,10 @@ module _ (a : Image) (g : Graph) (holds : Holds a g) (id : Puid) (o : Object) (a
         y_small = omega (arith, y_below, small_image a g holds);
         entries = λ v not_x not_y. entries v;
         contents = λ v real not_x not_y. get_or-set_other a x_of v content [] not_x;
-        x_meant = ap (is_of is_meant id.block) (entries x_of) ∙ ap (is_meant_for a id.block) (sym x_is) ∙ leaf.1;
-        y_meant = ap (is_of is_meant id.block) (entries (node_of drafting.root n)) ∙ ap (is_meant_for a id.block) (sym node_read) ∙ node.1;
+        x_meant = ap (is_owned_by is_meant id.block) (entries x_of) ∙ ap (is_meant_for a id.block) (sym x_is) ∙ leaf.1;
+        y_meant = ap (is_owned_by is_meant id.block) (entries (pointer_to_node drafting.root n)) ∙ ap (is_meant_for a id.block) (sym node_read) ∙ node.1;
         x_part = subst (BelongsTo id.block (Leaf l)) (ap part_of (sym (entries x_of))) (subst (λ pl. BelongsTo id.block pl (part_at a x_of)) (leaf_place old n k l (omega arith)) (owned (n ∷ k ∷ []) x_of x_is x_real));
-        y_part = subst (BelongsTo id.block (Node n)) (ap part_of (sym (entries (node_of drafting.root n)))) (subst (λ pl. BelongsTo id.block pl (part_at a (node_of drafting.root n))) (node_place old n) (owned (n ∷ []) (node_of drafting.root n) node_read y_real));
+        y_part = subst (BelongsTo id.block (Node n)) (ap part_of (sym (entries (pointer_to_node drafting.root n)))) (subst (λ pl. BelongsTo id.block pl (part_at a (pointer_to_node drafting.root n))) (node_place old n) (owned (n ∷ []) (pointer_to_node drafting.root n) node_read y_real));
         x_was = inr x_is;
         y_was = inr node_read;
         x_stays = λ meant. x_is;
@@ -115,10 +115,10 @@ module _ (a : Image) (g : Graph) (holds : Holds a g) (id : Puid) (o : Object) (a
       (meant, in_image a g holds x_of is.is is.here)
 
   -- the node that was read stays
-  pub node_again : (content : List ℕ) → l < 15360 → is_fresh_leaf drafting l ≡ true → leaves ≡ leaves_at (set a x_of content) (node_of drafting.root n)
+  pub node_again : (content : List ℕ) → l < 15360 → is_fresh_leaf drafting l ≡ true → leaves ≡ leaves_at (set a x_of content) (pointer_to_node drafting.root n)
   node_again content most fresh =
       let put = put_again content most fresh in
-      is.node ∙ leaves_there a (node_of drafting.root n) put.y_some ∙ ap (pointers_of leaf_pointers) (sym (get_or-set_other a x_of (node_of drafting.root n) content [] (λ e. put.apart (sym e)))) ∙ sym (leaves_there (set a x_of content) (node_of drafting.root n) put.y_some)
+      is.node ∙ leaves_there a (pointer_to_node drafting.root n) put.y_some ∙ ap (pointers_of leaf_pointers) (sym (get_or-set_other a x_of (pointer_to_node drafting.root n) content [] (λ e. put.apart (sym e)))) ∙ sym (leaves_there (set a x_of content) (pointer_to_node drafting.root n) put.y_some)
 
   -- ---- into a block that was claimed, below a node that is fresh or was claimed
 
@@ -163,7 +163,7 @@ module _ (a : Image) (g : Graph) (holds : Holds a g) (id : Puid) (o : Object) (a
     contents_one : (v : ℕ) → v % 64 ≢ 0 → block_at a1 v ≡ block_at a v
     contents_one v real = block_at-with_entry a x leaf_claim v (λ same. real (omega (arith, same)))
 
-    pub had_node : is_fresh_node drafting n ≡ true → y ≡ node_of drafting.root n → a2 ≡ a1 → HasBoth a2 x y
+    pub had_node : is_fresh_node drafting n ≡ true → y ≡ pointer_to_node drafting.root n → a2 ≡ a1 → HasBoth a2 x y
     had_node fresh here same =
         let node = fresh_at (n ∷ []) (sym is.node_flag ∙ fresh) in
         let y_is : tree_of a old (n ∷ []) ≡ y = node_read ∙ sym here in
@@ -182,7 +182,7 @@ module _ (a : Image) (g : Graph) (holds : Holds a g) (id : Puid) (o : Object) (a
           y_map = not_map y (taken_apart a g holds y id.block placed.taken);
           x_below = in_image a g holds x was.0 was.1;
           y_below = in_image a g holds y placed.taken.is placed.taken.here;
-          y_meant = ap (is_of is_meant id.block) y_entry ∙ ap (is_meant_for a id.block) (sym y_is) ∙ node.1;
+          y_meant = ap (is_owned_by is_meant id.block) y_entry ∙ ap (is_meant_for a id.block) (sym y_is) ∙ node.1;
           y_part = subst (BelongsTo id.block (Node n)) (ap part_of (sym y_entry)) (subst (λ pl. BelongsTo id.block pl (part_at a y)) (node_place old n) (draft.tree.owned (n ∷ []) (held a y) there));
           y_was = inr y_is;
           y_stays = λ meant. y_is;
@@ -230,7 +230,7 @@ module _ (a : Image) (g : Graph) (holds : Holds a g) (id : Puid) (o : Object) (a
           entries = λ v not_x not_y. entries v ∙ both.entries v not_x not_y;
           contents = λ v map not_x not_y. get_or-set_other b1 y v node [] not_y ∙ get_or-set_other a2 x v content [] not_x ∙ both.contents v map;
           x_meant = intended_meant (set b1 y node) x id.block (Leaf l) (entries x ∙ both.x_entry);
-          y_meant = ap (is_of is_meant id.block) (entries y) ∙ both.y_meant;
+          y_meant = ap (is_owned_by is_meant id.block) (entries y) ∙ both.y_meant;
           x_part = intended_part (set b1 y node) x id.block (Leaf l) (entries x ∙ both.x_entry);
           y_part = subst (BelongsTo id.block (Node n)) (ap part_of (sym (entries y))) both.y_part;
           x_was = inl free;

@@ -1,6 +1,6 @@
 -- The device calls of one leaf put, one after another.
 use Rattle.std.proofs.Common.{◌≡◌, ◌≢◌, ℕ, ◌/◌, ◌%◌, ◌^◌, ◌<◌, true, false, List, [], ◌∷◌, length, set, Ok, Some, refl, sym, ◌∙◌, ap, subst, eq-eqb, arith, if◌then◌else◌}
-use Rattle.special_files.proofs.Words.{AreClaimed, BlockNo, Claims, Drafting, Enters, GetsNode, Ghosts, Had, HasDraft, HasItsBlocks, Holds, Image, IsEntry, IsLeastFree, IsPlaced, Kept, Leaf, Leaves, Node, Place, Refused, Result, Root, SameEntries, View, WritesBlock, claimed_by, entry_in, entry_in-set, in_image, intended, is_free_in, is_fresh_leaf, is_fresh_node, is_meant, is_meant_for, is_of, leaf_claims, leaf_pointers, node_of, not_map, opened_as, pointers_of, root_placed, taken_apart, with_entry, written_same}
+use Rattle.special_files.proofs.Words.{AreClaimed, BlockNo, Claims, Drafting, Enters, GetsDraftNode, Ghosts, Had, HasDraft, HasItsBlocks, Holds, Image, IsEntry, IsLeastFree, IsPlaced, Kept, Leaf, Leaves, Node, Place, Refused, Result, Root, SameEntries, DraftView, WritesDraftBlock, claimed_by, entry_in, entry_in-set, in_image, intended, is_free_in, is_fresh_leaf, is_fresh_node, is_meant, is_meant_for, is_owned_by, leaf_claims, leaf_pointers, pointer_to_node, not_map, opened_as, pointers_of, root_placed, taken_apart, with_entry, written_same}
 use Rattle.std.proofs.Math.ListN.{length-set}
 use Rattle.special_files.proofs.Fresh.{small_image}
 use Rattle.special_files.proofs.Meant.{free_is}
@@ -15,7 +15,7 @@ not_root_leaf l same = cc
 pub not_root_node : (n : ℕ) → Some (Node n) ≢ Some Root
 not_root_node n same = cc
 
-module _ {D : Type 0} {g : Ghosts D} {d0 : D} {k0 : Kept} {was : Drafting} (v : View g d0 k0 was) (d1 d2 : D) (k1 k2 : Kept) (leaves : List ℕ) (leaf : ℕ) (most : leaf < 15360) where
+module _ {D : Type 0} {g : Ghosts D} {d0 : D} {k0 : Kept} {was : Drafting} (v : DraftView g d0 k0 was) (d1 d2 : D) (k1 k2 : Kept) (leaves : List ℕ) (leaf : ℕ) (most : leaf < 15360) where
   abbrev a : Image
   a = g.content d0
 
@@ -35,7 +35,7 @@ module _ {D : Type 0} {g : Ghosts D} {d0 : D} {k0 : Kept} {was : Drafting} (v : 
   pub node_is : IsEntry (intended (Node (leaf / 128)) was.at)
   node_is = node_entry (leaf / 128) was.at (omega arith) some small
 
-  pub mine : (p : Place) → is_of is_meant v.id.block (Some (intended p was.at)) ≡ true
+  pub mine : (p : Place) → is_owned_by is_meant v.id.block (Some (intended p was.at)) ≡ true
   mine p = eq-eqb v.id.block was.at v.opened.at
 
   pub amid0 : IsAmid g v.graph v.id d0 d0 k0
@@ -50,11 +50,11 @@ module _ {D : Type 0} {g : Ghosts D} {d0 : D} {k0 : Kept} {was : Drafting} (v : 
     claim1 = claimed g v.graph v.ds v.id v.object d0 k0 v.store v.at d0 d1 k0 k1 (intended (Leaf leaf) was.at) (Ok x) amid0 enters leaf_is (not_root_leaf leaf) x refl (mine (Leaf leaf))
 
     -- the node's block is got
-    pub node_claim_leaves : (result : Result BlockNo Refused) → GetsNode g (leaf / 128) d1 d2 k1 k2 was result → Leaves g d0 d2 (λ c. Holds c v.graph)
+    pub node_claim_leaves : (result : Result BlockNo Refused) → GetsDraftNode g (leaf / 128) d1 d2 k1 k2 was result → Leaves g d0 d2 (λ c. Holds c v.graph)
     node_claim_leaves result (Had fresh same kept is) = subst (λ (d : D). Leaves g d0 d (λ c. Holds c v.graph)) (sym same) claim1.0.leaves
     node_claim_leaves result (Claims stale gets) = claim_leaves g v.graph v.ds v.id v.object d0 k0 v.store v.at d1 d2 k1 k2 (intended (Node (leaf / 128)) was.at) result claim1.0 gets node_is (not_root_node (leaf / 128))
 
-    module _ (y : BlockNo) (gets : GetsNode g (leaf / 128) d1 d2 k1 k2 was (Ok y)) (is : IsReadFor a v.id was leaf leaves) where
+    module _ (y : BlockNo) (gets : GetsDraftNode g (leaf / 128) d1 d2 k1 k2 was (Ok y)) (is : IsReadFor a v.id was leaf leaves) where
       has : HasItsBlocks a v.id.block
       has = v.store.account.objects v.id v.object v.at
 
@@ -79,9 +79,9 @@ module _ {D : Type 0} {g : Ghosts D} {d0 : D} {k0 : Kept} {was : Drafting} (v : 
       both : IsAmid g v.graph v.id d0 d2 k2 × Both (g.content d2)
       both = by gets
         where
-          by : GetsNode g (leaf / 128) d1 d2 k1 k2 was (Ok y) → IsAmid g v.graph v.id d0 d2 k2 × Both (g.content d2)
+          by : GetsDraftNode g (leaf / 128) d1 d2 k1 k2 was (Ok y) → IsAmid g v.graph v.id d0 d2 k2 × Both (g.content d2)
           by (Had fresh same kept got) =
-              let there : y.0 ≡ node_of was.root (leaf / 128) = (let e : y ≡ record { 0 = node_of was.root (leaf / 128) } = cc in ap (λ (b : BlockNo). b.0) e) in (
+              let there : y.0 ≡ pointer_to_node was.root (leaf / 128) = (let e : y ≡ record { 0 = pointer_to_node was.root (leaf / 128) } = cc in ap (λ (b : BlockNo). b.0) e) in (
                 subst (λ (d : D). IsAmid g v.graph v.id d0 d k2) (sym same) (subst (IsAmid g v.graph v.id d0 d1) (sym kept) claim1.0),
                 had_node a v.graph v.store.account.holds v.id v.object v.at has was v.draft draft leaves leaf is some_blocks leaf_is' node_is' x.0 y.0 (g.content d2) claim1.1.free fresh there (ap g.content same ∙ one),
               )
@@ -103,23 +103,23 @@ module _ {D : Type 0} {g : Ghosts D} {d0 : D} {k0 : Kept} {was : Drafting} (v : 
         x_below : x.0 < length (g.content d2)
         x_below = omega (arith, both.1.x_below, both.1.size)
 
-        pub leaf_write_leaves : (result : Result (Unit {0}) Refused) → WritesBlock g x.0 content d2 d3 result → Leaves g d0 d3 (λ c. Holds c v.graph)
+        pub leaf_write_leaves : (result : Result (Unit {0}) Refused) → WritesDraftBlock g x.0 content d2 d3 result → Leaves g d0 d3 (λ c. Holds c v.graph)
         leaf_write_leaves result writes = write_leaves g v.graph v.ds v.id v.object d0 k0 v.store v.at d2 d3 k2 x.0 content both.0 x_meant x_below writes.images
 
-        module _ (leaf_writes : WritesBlock g x.0 content d2 d3 (Ok tt)) where
+        module _ (leaf_writes : WritesDraftBlock g x.0 content d2 d3 (Ok tt)) where
           amid3 : IsAmid g v.graph v.id d0 d3 k2
           amid3 = wrote g v.graph v.ds v.id v.object d0 k0 v.store v.at d2 d3 k2 x.0 content both.0 x_meant x_below leaf_writes.images leaf_writes.written leaf_writes.told leaf_writes.calls.same
 
           y_meant : is_meant_for (g.content d3) v.id.block y.0 ≡ true
-          y_meant = ap (λ (i : Image). is_meant_for i v.id.block y.0) leaf_writes.written ∙ ap (is_of is_meant v.id.block) (entry_in-set (g.content d2) x.0 content y.0 both.1.x_map) ∙ both.1.y_meant
+          y_meant = ap (λ (i : Image). is_meant_for i v.id.block y.0) leaf_writes.written ∙ ap (is_owned_by is_meant v.id.block) (entry_in-set (g.content d2) x.0 content y.0 both.1.x_map) ∙ both.1.y_meant
 
           y_below : y.0 < length (g.content d3)
           y_below = omega (arith, both.1.y_below, both.1.size, ap (length {A = List ℕ}) leaf_writes.written, length-set (g.content d2) x.0 content)
 
-          pub node_write_leaves : (result : Result (Unit {0}) Refused) → WritesBlock g y.0 node d3 d4 result → Leaves g d0 d4 (λ c. Holds c v.graph)
+          pub node_write_leaves : (result : Result (Unit {0}) Refused) → WritesDraftBlock g y.0 node d3 d4 result → Leaves g d0 d4 (λ c. Holds c v.graph)
           node_write_leaves result writes = write_leaves g v.graph v.ds v.id v.object d0 k0 v.store v.at d3 d4 k2 y.0 node amid3 y_meant y_below writes.images
 
-          module _ (writes : WritesBlock g y.0 node d3 d4 (Ok tt)) where
+          module _ (writes : WritesDraftBlock g y.0 node d3 d4 (Ok tt)) where
             pub amid4 : IsAmid g v.graph v.id d0 d4 k2
             amid4 = wrote g v.graph v.ds v.id v.object d0 k0 v.store v.at d3 d4 k2 y.0 node amid3 y_meant y_below writes.images writes.written writes.told writes.calls.same
 
@@ -133,7 +133,7 @@ module _ {D : Type 0} {g : Ghosts D} {d0 : D} {k0 : Kept} {was : Drafting} (v : 
             same : SameEntries (g.content d2) (g.content d4)
             same m = written_same (g.content d3) (g.content d4) y.0 node both.1.y_map writes.written m ∙ written_same (g.content d2) (g.content d3) x.0 content both.1.x_map leaf_writes.written m
 
-            node_claim : GetsNode g (leaf / 128) d1 d2 k1 k2 was (Ok y) → AreClaimed (if is_fresh_node was (leaf / 128) then [] else intended (Node (leaf / 128)) was.at ∷ []) (g.content d1) (g.content d4)
+            node_claim : GetsDraftNode g (leaf / 128) d1 d2 k1 k2 was (Ok y) → AreClaimed (if is_fresh_node was (leaf / 128) then [] else intended (Node (leaf / 128)) was.at ∷ []) (g.content d1) (g.content d4)
             node_claim (Had fresh old kept got) = rw fresh (λ m. same m ∙ ap (λ (d : D). entry_in (g.content d) m) old)
             node_claim (Claims stale enters2) =
                 let claim2 = claimed g v.graph v.ds v.id v.object d0 k0 v.store v.at d1 d2 k1 k2 (intended (Node (leaf / 128)) was.at) (Ok y) claim1.0 enters2 node_is (not_root_node (leaf / 128)) y refl (mine (Node (leaf / 128))) in

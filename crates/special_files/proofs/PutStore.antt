@@ -1,6 +1,6 @@
 -- The store after a leaf was put into a draft.
 use Rattle.std.proofs.Common.{◌≡◌, ℕ, ◌/◌, ◌<◌, Bool, true, List, [], ◌∷◌, length, Some, refl, sym, ◌∙◌, ap, subst, get_or}
-use Rattle.special_files.proofs.Words.{AreClaimed, Drafting, FitsLeaf, Ghosts, Graph, HasDraft, HasDrafts, Image, IsOpen, Kept, NodeRead, Object, Opened, Puid, PutsLeaf, SetsFresh, StaysBut, StoreHas, View, draft_goes_on, draft_in, drafts_of, fresh_of, is_meant_for, is_some, leaf_claims, leaves_at, node_of, object_at, opened_as, replaced, root_spelling, tree_in, Becomes}
+use Rattle.special_files.proofs.Words.{AreClaimed, Drafting, FitsLeaf, Ghosts, Graph, HasDraft, HasDrafts, Image, IsOpen, Kept, NodeRead, Object, Opened, Puid, PutsLeaf, SetsFresh, StaysBut, StoreHas, DraftView, draft_goes_on, draft_in, drafts_of, fresh_of, is_meant_for, is_some, leaf_claims, leaves_at, pointer_to_node, object_at, opened_as, replaced, root_spelling, tree_in, DraftBecomes}
 use Rattle.std.proofs.Math.ListN.{length-set}
 use Rattle.ufs_model.specs.declared.object.Draft as models
 use Rattle.special_files.proofs.Amid.{IsAmid}
@@ -33,7 +33,7 @@ module _ {D : Type 0} (g : Ghosts D) (graph : Graph) (ds : List Opened) (id : Pu
     ordered = store.ordered;
   }
 
-  pub becomes_now : HasDraft (g.content new) id now_open → now.at ≡ was.at → now.created ≡ was.created → length now.leaves ≡ 15360 → length now.nodes ≡ 120 → ((k : ℕ) → get_or next.fresh k [] ≡ get_or (fresh_of now) k []) → Becomes g graph ds id next old new after now
+  pub becomes_now : HasDraft (g.content new) id now_open → now.at ≡ was.at → now.created ≡ was.created → length now.leaves ≡ 15360 → length now.nodes ≡ 120 → ((k : ℕ) → get_or next.fresh k [] ≡ get_or (fresh_of now) k []) → DraftBecomes g graph ds id next old new after now
   becomes_now draft same_at created leaves nodes fresh = record {
     steps = record { store = store_goes_on draft created; only = amid.only };
     is_open = record { at = opened.at ∙ sym same_at; alone = alone_now; leaf_flags = leaves; node_flags = nodes; fresh = fresh };
@@ -45,7 +45,7 @@ module _ {D : Type 0} (g : Ghosts D) (graph : Graph) (ds : List Opened) (id : Pu
 pub flags_of : (image : Image) (ds : List Opened) (id : Puid) (was : Drafting) (m : models.Draft) → IsOpen ds id was m → HasDraft image id (opened_as id was m) → Tell (is_meant_for image id.block) (tree_in image (root_spelling was.root)) was.leaves was.nodes
 flags_of image ds id was m opened draft = flags_tell (is_meant_for image id.block) (tree_in image (root_spelling was.root)) was m.fresh opened.leaf_flags opened.node_flags draft.fresh opened.fresh
 
-module _ {D : Type 0} {g : Ghosts D} {old new : D} {before after : Kept} {was now : Drafting} (v : View g old before was) (read : NodeRead) (leaf x y : ℕ) (content : List ℕ) (fits : FitsLeaf was.root leaf content) (most : leaf < 15360)
+module _ {D : Type 0} {g : Ghosts D} {old new : D} {before after : Kept} {was now : Drafting} (v : DraftView g old before was) (read : NodeRead) (leaf x y : ℕ) (content : List ℕ) (fits : FitsLeaf was.root leaf content) (most : leaf < 15360)
     (amid : IsAmid g v.graph v.id old new after) (put : LeafPut (g.content old) (g.content new) v.id (opened_as v.id was v.draft) now.root leaf x y content) (stays : StaysBut was now) (sets : SetsFresh leaf was now) where
   abbrev a : Image
   a = g.content old
@@ -80,10 +80,10 @@ module _ {D : Type 0} {g : Ghosts D} {old new : D} {before after : Kept} {was no
       subst (HasDraft b v.id) same (put_draft_stands a b v.graph v.store.account.holds v.id (opened_as v.id was v.draft) now.root leaf x y content draft put most v.object v.at fits.within fits.filled (fresh_of now)
       (told_levels (is_meant_for b v.id.block) (tree_in b (root_spelling now.root)) now long_leaves long_nodes tell))
 
-  now_is : Becomes g v.graph v.ds v.id later old new after now
+  now_is : DraftBecomes g v.graph v.ds v.id later old new after now
   now_is = becomes_now g v.graph v.ds v.id v.object old new before after was now v.draft later v.store v.at v.opened amid stands stays.at stays.created long_leaves long_nodes (λ k. refl)
 
-  pub leaf_put : (read.number < 120 → read.node.leaves ≡ leaves_at b (node_of now.root read.number)) → AreClaimed (leaf_claims was.at was.leaves was.nodes leaf) a b → PutsLeaf g v.graph v.ds v.id leaf content old new after was now read
+  pub leaf_put : (read.number < 120 → read.node.leaves ≡ leaves_at b (pointer_to_node now.root read.number)) → AreClaimed (leaf_claims was.at was.leaves was.nodes leaf) a b → PutsLeaf g v.graph v.ds v.id leaf content old new after was now read
   leaf_put node order = record {
     steps = now_is.steps;
     is_open = now_is.is_open;

@@ -1,6 +1,6 @@
 -- One leaf of a draft is put into a block of its own, below a node in a block of its own.
 use Rattle.std.proofs.Common.{◌≡◌, ◌≢◌, ◌⊎◌, inl, inr, ℕ, zero, suc, ◌+◌, ◌*◌, ◌/◌, ◌%◌, ◌^◌, ◌<◌, ◌≤◌, true, List, [], ◌∷◌, ◌++◌, length, get_or, set, Option, Some, None, refl, sym, ◌∙◌, ap, subst, get_or-set_other, get_or-set_same, arith, IsTrue}
-use Rattle.special_files.proofs.Words.{leaf_place, node_place, nothing_below, two_levels, Allocated, BelongsTo, BlockState, Fits, Free, Graph, HasDraft, Held, Holds, Image, IntendAllocate, IntendDeallocate, IsGoodRoot, IsPlaced, IsRootBlock, IsTaken, IsTree, Leaf, LeavesFit, MapEntry, Node, Object, Opened, Puid, PutsAt, Root, SameAt, SameBeside, StandsIn, below_apart, block_at, bytes_held, cases_Bool, content_of, end_is, entry_in, eqb-false, eqb-true, held, held_at, held_block, held_there, is_free_entry, is_free_in, is_free_state, is_meant, is_meant_for, is_of, is_some, leaf_pointers, leaves_in, leaves_of, levels_of, levels_standing, not_map, object_at, object_of, one_path, part_at, part_of, passes, path_is, place_at, pointer, root_placed, root_spelling, same_Some, same_levels, shadow_apart, shadow_taken, slice_index, stands_for, taken_apart, tree_in, tree_of, tree_placed, ◌==◌}
+use Rattle.special_files.proofs.Words.{leaf_place, node_place, nothing_below, two_levels, Allocated, BelongsTo, BlockState, Fits, Free, Graph, HasDraft, Held, Holds, Image, IntendAllocate, IntendDeallocate, IsGoodRoot, IsPlaced, IsRootBlock, IsTaken, IsTree, Leaf, LeavesFit, MapEntry, Node, Object, Opened, Puid, PutsAt, Root, SameAt, SameBeside, StandsIn, below_apart, block_at, bytes_held, cases_Bool, content_of, end_is, entry_in, eqb-false, eqb-true, held, held_at, held_block, held_there, is_free_entry, is_free_in, is_free_state, is_meant, is_meant_for, is_owned_by, is_some, leaf_pointers, leaves_in, leaves_below, levels_of, levels_standing, not_map, object_at, object_below, one_path, part_at, part_of, passes, path_is, place_at, pointer, root_placed, root_spelling, same_Some, same_levels, shadow_apart, shadow_taken, slice_index, stands_for, taken_apart, tree_in, tree_of, tree_placed, ◌==◌}
 use Rattle.block_tree.specs.declared.root.Root as roots
 use Rattle.special_files.proofs.Levels.{fresh_leaf, fresh_node}
 use Rattle.special_files.proofs.Trees.{fits_with, good_with, leaf_at, leaf_from, node_at}
@@ -153,7 +153,7 @@ module _ (a b : Image) (g : Graph) (holds : Holds a g) (id : Puid) (d : Opened) 
   -- ---- which blocks are meant
 
   entry_of : (m : ℕ) → m ≢ x → m ≢ y → is_meant_for b id.block m ≡ is_meant_for a id.block m
-  entry_of m not_x not_y = ap (is_of is_meant id.block) (put.entries m not_x not_y)
+  entry_of m not_x not_y = ap (is_owned_by is_meant id.block) (put.entries m not_x not_y)
 
   -- a path that leads on as before leads to a block that is fresh or not, as before
   passes_as : (p : List ℕ) → p ≢ n ∷ [] → p ≢ n ∷ k ∷ [] → (tree_in b new).below p ≡ (tree_in a old).below p
@@ -172,10 +172,10 @@ module _ (a b : Image) (g : Graph) (holds : Holds a g) (id : Puid) (d : Opened) 
 
   -- ---- the leaves
 
-  leaf_path : (m : ℕ) → leaves_of b root m ≡ (tree_in b new).below (m / 128 ∷ m % 128 ∷ [])
+  leaf_path : (m : ℕ) → leaves_below b root m ≡ (tree_in b new).below (m / 128 ∷ m % 128 ∷ [])
   leaf_path m = ap (λ (p : List ℕ). (tree_in b new).below p) (path_is new m)
 
-  leaf_was : (m : ℕ) → leaves_of a d.root m ≡ (tree_in a old).below (m / 128 ∷ m % 128 ∷ [])
+  leaf_was : (m : ℕ) → leaves_below a d.root m ≡ (tree_in a old).below (m / 128 ∷ m % 128 ∷ [])
   leaf_was m = ap (λ (p : List ℕ). (tree_in a old).below p) (path_is old m)
 
   other_leaf : (m : ℕ) → m ≢ l → (m / 128 ∷ m % 128 ∷ []) ≢ n ∷ k ∷ []
@@ -190,7 +190,7 @@ module _ (a b : Image) (g : Graph) (holds : Holds a g) (id : Puid) (d : Opened) 
   pub other_nodes : (m : ℕ) → m ≢ n → fresh_node (is_meant_for b id.block) (tree_in b new) m ≡ fresh_node (is_meant_for a id.block) (tree_in a old) m
   other_nodes m apart = passes_as (m ∷ []) (λ e. apart (cc)) (λ e. cc) (elim (seen (m ∷ [])) [ inl is ↦ absurd (apart (cc)) | inr (inl is) ↦ cc | inr (inr is) ↦ is ])
 
-  pub leaf_puts : PutsAt l content (leaves_of a d.root) (leaves_of b root)
+  pub leaf_puts : PutsAt l content (leaves_below a d.root) (leaves_below b root)
   leaf_puts = record {
     here = ap bytes_held (leaf_path l ∙ leaf_there) ∙ ap Some put.x_content;
     others = λ m apart. ap bytes_held (leaf_path m ∙ stays_at m apart ∙ sym (leaf_was m));
@@ -213,7 +213,7 @@ module _ (a b : Image) (g : Graph) (holds : Holds a g) (id : Puid) (d : Opened) 
     heads : {X : Type 0} (f : roots.Root → X) → f (record d.root { nodes = set d.root.nodes n y }) ≡ f d.root → f root ≡ f d.root
     heads f same = ap f put.root_is ∙ same
 
-    fit : LeavesFit root (leaves_of b root)
+    fit : LeavesFit root (leaves_below b root)
     fit = record {
       within = λ m h is. elim (cases_Bool (m == l)) [
         | inl same ↦ rw (eqb-true m l same, heads (λ (r : roots.Root). r.size) refl) inside
@@ -221,7 +221,7 @@ module _ (a b : Image) (g : Graph) (holds : Holds a g) (id : Puid) (d : Opened) 
       ];
       filled = λ m i h is small past. elim (cases_Bool (m == l)) [
         | inl same ↦
-            let here : h.content ≡ content = same_Some _ _ (ap bytes_held (sym is) ∙ ap (λ (z : ℕ). bytes_held (leaves_of b root z)) (eqb-true m l same) ∙ leaf_puts.here) in
+            let here : h.content ≡ content = same_Some _ _ (ap bytes_held (sym is) ∙ ap (λ (z : ℕ). bytes_held (leaves_below b root z)) (eqb-true m l same) ∙ leaf_puts.here) in
             ap (λ (c : List ℕ). get_or c i 0) here ∙ filled i small (omega (arith, past, heads (λ (r : roots.Root). r.size) refl, eqb-true m l same)) ∙ sym (heads (λ (r : roots.Root). r.fill) refl)
         | inr not ↦ draft.tree.filled m i h (leaf_was m ∙ sym (stays_at m (eqb-false m l not)) ∙ sym (leaf_path m) ∙ is) small (omega (arith, past, heads (λ (r : roots.Root). r.size) refl))
             ∙ sym (heads (λ (r : roots.Root). r.fill) refl)
@@ -245,7 +245,7 @@ module _ (a b : Image) (g : Graph) (holds : Holds a g) (id : Puid) (d : Opened) 
           | inr (inr same) ↦ record { path = s.path; held = s.held; there = same ∙ s.there; is = s.is }
         ]
 
-    tree : IsTree (length b) id.block (tree_in b new) root (object_of b root)
+    tree : IsTree (length b) id.block (tree_in b new) root (object_below b root)
     tree = record {
       spelled = record { good = subst IsGoodRoot (sym put.root_is) (good_with d.root n y draft.tree.spelled.good put.y_small); spelled = refl };
       object = refl;
@@ -271,7 +271,7 @@ module _ (a b : Image) (g : Graph) (holds : Holds a g) (id : Puid) (d : Opened) 
         shadow_apart a (length a) id.block s old d.root d.draft.object draft.tree stood (record { path = q; held = held a z; there = ap (held_at a) there ∙ held_there a z some; is = sym same })
 
     pub put_draft_stands : (fresh : List (List ℕ)) → ((j : ℕ) → get_or fresh j [] ≡ get_or (levels_standing (is_meant_for b id.block) (tree_in b new) (length (levels_of new))) j [])
-        → HasDraft b id (record d { root = root; draft = record { object = object_of b root; fresh = fresh } })
+        → HasDraft b id (record d { root = root; draft = record { object = object_below b root; fresh = fresh } })
     put_draft_stands fresh is_fresh = record {
       own = subst (λ (c : List ℕ). IsRootBlock c d.own) (sym root_kept) draft.own;
       same_kind = heads (λ (r : roots.Root). r.kind) refl ∙ draft.same_kind;

@@ -1,6 +1,6 @@
 -- A resize to less, as the model has it: which blocks it writes anew, and what it takes.
 use Rattle.std.proofs.Common.{◌≡◌, ◌≢◌, ◌⊎◌, inl, inr, ℕ, ◌+◌, ◌-◌, ◌*◌, ◌/◌, ◌%◌, ◌<◌, ◌≤◌, Bool, true, false, List, [], ◌∷◌, length, get_or, Option, Some, None, refl, sym, ◌∙◌, ap, subst, arith, ◌++◌, not, if◌then◌else◌}
-use Rattle.special_files.proofs.Words.{Draft, Drafting, HasDraft, Held, Image, IsBorder, IsCutHere, IsOpen, Leaf, Node, Opened, Puid, SetSize, both_ways, cases_Bool, cases_lt, claims_anew, cut_leaf, eqb-false, eqb-true, filter, filter-rises, first_level, has_number, held_at, held_in, held_leaves, held_of, held_there, here, in_all, in_cons, in_filter, in_held, in_map, in_withs, intended, is_fresh_leaf, is_fresh_node, is_some, is_stale_cut, lacking, le-leb, leaves_at, leaves_in, leaves_of, leb-true, lt-ltb, ltb-true, map, missing, nat_le, nat_lt, need_beside, next_levels, node_of, numbers_rise, one_unless, opened_as, parents, path_is, resize_anew, root_spelling, same_numbers, set_in, shadow_need, shared, shrink_takes, size_of, slice_index, to_all, to_filter, to_held, to_map, to_withs, tree_of, with_numbers, with_numbers-rise, written_anew, ◌&&◌, ◌==◌, ◌||◌}
+use Rattle.special_files.proofs.Words.{Draft, Drafting, HasDraft, Held, Image, IsBorder, IsCutHere, IsOpen, Leaf, Node, Opened, Puid, SetSize, both_ways, cases_Bool, cases_lt, claims_anew, cut_leaf, eqb-false, eqb-true, filter, filter-rises, first_level, has_number, held_at, held_in, held_leaves, held_of, held_there, here, in_all, in_cons, in_filter, in_held, in_map, in_withs, intended, is_fresh_leaf, is_fresh_node, is_some, is_stale_cut, lacking, le-leb, leaves_at, leaves_in, leaves_below, leb-true, lt-ltb, ltb-true, map, missing, nat_le, nat_lt, need_beside, next_levels, pointer_to_node, numbers_rise, one_unless, opened_as, parents, path_is, resize_anew, root_spelling, same_numbers, set_in, shadow_need, shared, shrink_takes, size_of, slice_index, to_all, to_filter, to_held, to_map, to_withs, tree_of, with_numbers, with_numbers-rise, written_anew, ◌&&◌, ◌==◌, ◌||◌}
 use Rattle.std.proofs.lemmas.Bool.{eq-eqb}
 use Rattle.special_files.proofs.Fresh.{read_leaf_is}
 use Rattle.special_files.proofs.Marks.{first_is, next_is}
@@ -23,18 +23,18 @@ to_only : (b : Bool) (n : ℕ) → b ≡ true → has_number n (only_if b n) ≡
 to_only b n is = ap (λ (c : Bool). has_number n (only_if c n)) is ∙ here n []
 
 -- a pointer of a node that was read tells whether the leaf is held
-module _ (a : Image) (id : Puid) (was : Drafting) (d : Draft) (draft : HasDraft a id (opened_as id was d)) (leaves : List ℕ) (n : ℕ) (read : leaves ≡ leaves_at a (node_of was.root n)) (j : ℕ) (small : j < 128) where
-  at_slot : leaves_of a was.root (128 * n + j) ≡ held_at a (slice_index leaves j)
+module _ (a : Image) (id : Puid) (was : Drafting) (d : Draft) (draft : HasDraft a id (opened_as id was d)) (leaves : List ℕ) (n : ℕ) (read : leaves ≡ leaves_at a (pointer_to_node was.root n)) (j : ℕ) (small : j < 128) where
+  at_slot : leaves_below a was.root (128 * n + j) ≡ held_at a (slice_index leaves j)
   at_slot =
       let one : (128 * n + j) / 128 ≡ n = omega (arith, small) in
       let two : (128 * n + j) % 128 ≡ j = omega (arith, small) in
       ap (λ (p : List ℕ). held_at a (tree_of a (root_spelling was.root) p)) (path_is (root_spelling was.root) (128 * n + j) ∙ (λ i. one i ∷ two i ∷ []))
       ∙ ap (held_at a) (read_leaf_is a was.root draft.tree.spelled.good.0 n j leaves read)
 
-  pub none_of_slot : slice_index leaves j ≡ 0 → leaves_of a was.root (128 * n + j) ≡ None
+  pub none_of_slot : slice_index leaves j ≡ 0 → leaves_below a was.root (128 * n + j) ≡ None
   none_of_slot none = at_slot ∙ ap (held_at a) none
 
-  pub held_of_slot : slice_index leaves j ≢ 0 → is_some (leaves_of a was.root (128 * n + j)) ≡ true
+  pub held_of_slot : slice_index leaves j ≢ 0 → is_some (leaves_below a was.root (128 * n + j)) ≡ true
   held_of_slot some = ap is_some (at_slot ∙ held_there a (slice_index leaves j) some)
 
 -- of a draft's leaves and nodes those that a resize to less writes anew
@@ -51,7 +51,7 @@ abbrev pub anew_nodes : ℕ → Draft → List ℕ
 anew_nodes size d = shared (parents (kept_leaves size d)) (parents (with_numbers (gone_leaves size d) (lacking (anew_leaves size d) (first_level d.fresh))))
 
 module _ (a : Image) (ds : List Opened) (id : Puid) (was : Drafting) (d : Draft) (opened : IsOpen ds id was d) (draft : HasDraft a id (opened_as id was d)) (size : ℕ) (less : size < was.root.size)
-    (leaves : List ℕ) (read : leaves ≡ leaves_at a (node_of was.root ((leaves_in size - 1) / 128))) (from : ℕ) (border : IsBorder leaves ((leaves_in size - 1) / 128) (leaves_in size) from)
+    (leaves : List ℕ) (read : leaves ≡ leaves_at a (pointer_to_node was.root ((leaves_in size - 1) / 128))) (from : ℕ) (border : IsBorder leaves ((leaves_in size - 1) / 128) (leaves_in size) from)
     (cut : Bool) (cuts : IsCutHere size leaves cut) where
   abbrev to : ℕ
   to = leaves_in size
@@ -63,7 +63,7 @@ module _ (a : Image) (ds : List Opened) (id : Puid) (was : Drafting) (d : Draft)
   e = size / 512
 
   abbrev old : ℕ → Option Held
-  old = leaves_of a was.root
+  old = leaves_below a was.root
 
   abbrev H : List ℕ
   H = held_leaves d.object

@@ -1,7 +1,7 @@
 -- A draft whose leaves from one on are dropped: what was its own of them is meant for no one then. Where the first lies within a
 -- node, this node is written anew.
 use Rattle.std.proofs.Common.{◌≡◌, ◌≢◌, ◌⊎◌, inl, inr, ℕ, zero, suc, ◌+◌, ◌*◌, ◌/◌, ◌%◌, ◌<◌, ◌≤◌, true, false, IsTrue, List, [], ◌∷◌, ◌++◌, length, get_or, Option, Some, None, refl, sym, ◌∙◌, ap, subst, arith}
-use Rattle.special_files.proofs.Words.{node_place, nothing_below, two_levels, BelongsTo, Drafting, Fits, Forgets, Graph, HasDraft, Held, Holds, Image, IsPast, IsPlaced, IsRootBlock, IsShed, IsTaken, IsTree, Node, Object, Opened, Puid, Root, SameAt, StandsIn, below_apart, block_at, both_ways, cases_Bool, cases_lt, content_of, end_is, entry_in, eqb-false, eqb-true, held, held_at, held_block, held_there, is_free_in, is_meant, is_meant_for, is_of, is_some, leaf_pointers, leaves_of, levels_of, levels_standing, not_map, object_at, object_of, one_path, part_at, part_of, passes, path_is, place_at, pointer, root_placed, root_spelling, same_Some, same_levels, shadow_apart, shadow_taken, slice_index, stands_for, taken_apart, tree_in, tree_of, tree_placed, ◌==◌}
+use Rattle.special_files.proofs.Words.{node_place, nothing_below, two_levels, BelongsTo, Drafting, Fits, Forgets, Graph, HasDraft, Held, Holds, Image, IsPathPast, IsPlaced, IsRootBlock, IsShed, IsTaken, IsTree, Node, Object, Opened, Puid, Root, SameAt, StandsIn, below_apart, block_at, both_ways, cases_Bool, cases_lt, content_of, end_is, entry_in, eqb-false, eqb-true, held, held_at, held_block, held_there, is_free_in, is_meant, is_meant_for, is_owned_by, is_some, leaf_pointers, leaves_below, levels_of, levels_standing, not_map, object_at, object_below, one_path, part_at, part_of, passes, path_is, place_at, pointer, root_placed, root_spelling, same_Some, same_levels, shadow_apart, shadow_taken, slice_index, stands_for, taken_apart, tree_in, tree_of, tree_placed, ◌==◌}
 use Rattle.block_tree.specs.declared.root.Root as roots
 use Rattle.special_files.proofs.Levels.{Tell, fresh_node}
 use Rattle.special_files.proofs.Meant.{meant_is}
@@ -58,9 +58,9 @@ module _ (a b : Image) (g : Graph) (holds : Holds a g) (id : Puid) (d : Opened) 
   real : (p : List ℕ) (h : Held) → (tree_in a old).below p ≡ Some h → h.block % 64 ≢ 0
   real p h v = not_map h.block (taken_apart a g holds h.block id.block (stands_taken p h v))
 
-  not_shed : (p : List ℕ) (h : Held) → (tree_in a old).below p ≡ Some h → (IsPast f p → ⊥) → IsShed a id d f h.block → ⊥
+  not_shed : (p : List ℕ) (h : Held) → (tree_in a old).below p ≡ Some h → (IsPathPast f p → ⊥) → IsShed a id d f h.block → ⊥
   not_shed p h v kept shed =
-      kept (subst (IsPast f) (sym (one_path a (length a) id.block old d.root d.draft.object draft.tree p shed.path h (held a h.block) v (ap (held_at a) shed.there ∙ held_there a h.block some) refl)) shed.past)
+      kept (subst (IsPathPast f) (sym (one_path a (length a) id.block old d.root d.draft.object draft.tree p shed.path h (held a h.block) v (ap (held_at a) shed.there ∙ held_there a h.block some) refl)) shed.past)
     where
       some : h.block ≢ 0
       some none = real p h v (omega (arith, none))
@@ -72,10 +72,10 @@ module _ (a b : Image) (g : Graph) (holds : Holds a g) (id : Puid) (d : Opened) 
     | inr at ↦ apart (within, one_path a (length a) id.block old d.root d.draft.object draft.tree p (n ∷ []) h (held a y) v (ap (held_at a) at ∙ held_there a y (short.node within).some) same)
   ]
 
-  entry_kept : (p : List ℕ) (h : Held) → (tree_in a old).below p ≡ Some h → (IsBorderNode f p → ⊥) → (IsPast f p → ⊥) → entry_in b h.block ≡ entry_in a h.block
+  entry_kept : (p : List ℕ) (h : Held) → (tree_in a old).below p ≡ Some h → (IsBorderNode f p → ⊥) → (IsPathPast f p → ⊥) → entry_in b h.block ≡ entry_in a h.block
   entry_kept p h v apart kept = elim (short.each h.block (not_node p h v apart)) [ inl shed ↦ absurd (not_shed p h v kept shed) | inr same ↦ same ]
 
-  on : (p : List ℕ) → tree_of b new p ≡ tree_of a old p → (IsBorderNode f p → ⊥) → (IsPast f p → ⊥) → (tree_in b new).below p ≡ (tree_in a old).below p
+  on : (p : List ℕ) → tree_of b new p ≡ tree_of a old p → (IsBorderNode f p → ⊥) → (IsPathPast f p → ⊥) → (tree_in b new).below p ≡ (tree_in a old).below p
   on p same apart kept = ap (held_at b) same ∙ same_held a b (tree_of a old p) (λ h v. record { part = ap part_of (entry_kept p h v apart kept); content = short.contents h.block (real p h v) (not_node p h v apart) })
 
   -- ---- the new tree
@@ -89,10 +89,10 @@ module _ (a b : Image) (g : Graph) (holds : Holds a g) (id : Puid) (d : Opened) 
   early_node : (m : ℕ) → 128 * m + 128 ≤ f → IsBorderNode f (m ∷ []) → ⊥
   early_node m early is = let same : m ≡ f / 128 = (let e = is.1 in cc) in omega (arith, early, same)
 
-  early_past : (m : ℕ) → 128 * m + 128 ≤ f → IsPast f (m ∷ []) → ⊥
+  early_past : (m : ℕ) → 128 * m + 128 ≤ f → IsPathPast f (m ∷ []) → ⊥
   early_past m early late = omega (arith, early, late)
 
-  early_leaf : (m k : ℕ) → 128 * m + 128 ≤ f → IsPast f (m ∷ k ∷ []) → ⊥
+  early_leaf : (m k : ℕ) → 128 * m + 128 ≤ f → IsPathPast f (m ∷ k ∷ []) → ⊥
   early_leaf m k early (inl late) = omega (arith, early, late)
   early_leaf m k early (inr late) = omega (arith, early, late.0)
 
@@ -117,7 +117,7 @@ module _ (a b : Image) (g : Graph) (holds : Holds a g) (id : Puid) (d : Opened) 
 
   -- a path leads to the node, to nothing now, or to what it led to
   abbrev Seen : List ℕ → Type 0
-  Seen p = IsBorderNode f p ⊎ ((IsPast f p × ((tree_in b new).below p ≡ None)) ⊎ ((IsBorderNode f p → ⊥) × (IsPast f p → ⊥) × ((tree_in b new).below p ≡ (tree_in a old).below p)))
+  Seen p = IsBorderNode f p ⊎ ((IsPathPast f p × ((tree_in b new).below p ≡ None)) ⊎ ((IsBorderNode f p → ⊥) × (IsPathPast f p → ⊥) × ((tree_in b new).below p ≡ (tree_in a old).below p)))
 
   seen : (p : List ℕ) → Seen p
   seen [] = inr (inr ((λ is. nowhere is), (λ late. late), refl))
@@ -141,17 +141,17 @@ module _ (a b : Image) (g : Graph) (holds : Holds a g) (id : Puid) (d : Opened) 
           let at_n = ap (λ (z : ℕ). z ∷ k ∷ []) same in
           elim (cases_lt k (f % 128)) [
             | inl early ↦
-                let not_past : IsPast f (n ∷ k ∷ []) → ⊥ = λ late. early_place k early late in
+                let not_past : IsPathPast f (n ∷ k ∷ []) → ⊥ = λ late. early_place k early late in
                 subst Seen (sym at_n) (inr (inr (node_of_path n k, not_past, on (n ∷ k ∷ []) (leaf_new within k ∙ (short.node within).kept k early) (node_of_path n k) not_past)))
             | inr late ↦ subst Seen (sym at_n) (inr (inl (inr (refl, late), ap (held_at b) (leaf_new within k ∙ (short.node within).past k late))))
           ]
     ]
   ]
     where
-      at_or_after : f ≤ 128 * m → IsPast f (m ∷ k ∷ [])
+      at_or_after : f ≤ 128 * m → IsPathPast f (m ∷ k ∷ [])
       at_or_after late = elim (cases_lt (f / 128) m) [ inl after ↦ inl after | inr at ↦ inr (omega (arith, late, at), omega (arith, late, at)) ]
 
-      early_place : (k : ℕ) → k < f % 128 → IsPast f (n ∷ k ∷ []) → ⊥
+      early_place : (k : ℕ) → k < f % 128 → IsPathPast f (n ∷ k ∷ []) → ⊥
       early_place k early (inl late) = omega (arith, late)
       early_place k early (inr late) = omega (arith, early, late.1)
   seen (m ∷ k ∷ i ∷ q) = inr (inr ((λ is. nowhere is), (λ late. late), ap (held_at b) (nothing_below b new m k i q) ∙ ap (held_at a) (sym (nothing_below a old m k i q))))
@@ -169,30 +169,30 @@ module _ (a b : Image) (g : Graph) (holds : Holds a g) (id : Puid) (d : Opened) 
 
   -- ---- the leaves
 
-  leaf_path : (l : ℕ) → leaves_of b root l ≡ (tree_in b new).below (l / 128 ∷ l % 128 ∷ [])
+  leaf_path : (l : ℕ) → leaves_below b root l ≡ (tree_in b new).below (l / 128 ∷ l % 128 ∷ [])
   leaf_path l = ap (λ (p : List ℕ). (tree_in b new).below p) (path_is new l)
 
-  leaf_was : (l : ℕ) → leaves_of a d.root l ≡ (tree_in a old).below (l / 128 ∷ l % 128 ∷ [])
+  leaf_was : (l : ℕ) → leaves_below a d.root l ≡ (tree_in a old).below (l / 128 ∷ l % 128 ∷ [])
   leaf_was l = ap (λ (p : List ℕ). (tree_in a old).below p) (path_is old l)
 
-  leaf_seen : (l : ℕ) → ((f ≤ l) × (leaves_of b root l ≡ None)) ⊎ ((l < f) × (IsPast f (l / 128 ∷ l % 128 ∷ []) → ⊥) × (leaves_of b root l ≡ leaves_of a d.root l))
+  leaf_seen : (l : ℕ) → ((f ≤ l) × (leaves_below b root l ≡ None)) ⊎ ((l < f) × (IsPathPast f (l / 128 ∷ l % 128 ∷ []) → ⊥) × (leaves_below b root l ≡ leaves_below a d.root l))
   leaf_seen l = elim (seen (l / 128 ∷ l % 128 ∷ [])) [
     | inl is ↦ absurd (node_of_path (l / 128) (l % 128) is)
     | inr (inl gone) ↦ inl (elim gone.0 [ inl late ↦ omega (arith, late) | inr late ↦ omega (arith, late.0, late.1) ], leaf_path l ∙ gone.1)
     | inr (inr kept) ↦ inr (elim (cases_lt l f) [ inl less ↦ less | inr late ↦ absurd (kept.1 (is_past late)) ], kept.1, leaf_path l ∙ kept.2 ∙ sym (leaf_was l))
   ]
     where
-      is_past : f ≤ l → IsPast f (l / 128 ∷ l % 128 ∷ [])
+      is_past : f ≤ l → IsPathPast f (l / 128 ∷ l % 128 ∷ [])
       is_past late = elim (cases_lt (f / 128) (l / 128)) [ inl after ↦ inl after | inr at ↦ inr (omega (arith, late, at), omega (arith, late, at)) ]
 
   -- those from the one on are gone, and all before are as they were
-  pub leaves_gone : (l : ℕ) → f ≤ l → leaves_of b root l ≡ None
+  pub leaves_gone : (l : ℕ) → f ≤ l → leaves_below b root l ≡ None
   leaves_gone l late = elim (leaf_seen l) [ inl gone ↦ gone.1 | inr kept ↦ absurd (omega (arith, late, kept.0)) ]
 
-  pub leaves_kept : (l : ℕ) → l < f → leaves_of b root l ≡ leaves_of a d.root l
+  pub leaves_kept : (l : ℕ) → l < f → leaves_below b root l ≡ leaves_below a d.root l
   leaves_kept l less = elim (leaf_seen l) [ inl gone ↦ absurd (omega (arith, less, gone.0)) | inr kept ↦ kept.2 ]
 
-  leaf_stood : (l : ℕ) (h : Held) → leaves_of b root l ≡ Some h → leaves_of a d.root l ≡ Some h
+  leaf_stood : (l : ℕ) (h : Held) → leaves_below b root l ≡ Some h → leaves_below a d.root l ≡ Some h
   leaf_stood l h is = elim (leaf_seen l) [
     | inl gone ↦ let no : None ≡ Some h = sym gone.1 ∙ is in cc
     | inr kept ↦ sym kept.2 ∙ is
@@ -200,12 +200,12 @@ module _ (a b : Image) (g : Graph) (holds : Holds a g) (id : Puid) (d : Opened) 
 
   -- ---- the flags
 
-  passes_as : (p : List ℕ) → (IsBorderNode f p → ⊥) → (IsPast f p → ⊥) → (tree_in b new).below p ≡ (tree_in a old).below p → passes (is_meant_for b id.block) ((tree_in b new).below p) ≡ passes (is_meant_for a id.block) ((tree_in a old).below p)
+  passes_as : (p : List ℕ) → (IsBorderNode f p → ⊥) → (IsPathPast f p → ⊥) → (tree_in b new).below p ≡ (tree_in a old).below p → passes (is_meant_for b id.block) ((tree_in b new).below p) ≡ passes (is_meant_for a id.block) ((tree_in a old).below p)
   passes_as p apart kept same = ap (passes (is_meant_for b id.block)) same ∙ by ((tree_in a old).below p) refl
     where
       by : (h : Option Held) → (tree_in a old).below p ≡ h → passes (is_meant_for b id.block) h ≡ passes (is_meant_for a id.block) h
       by None is = refl
-      by (Some h) is = ap (is_of is_meant id.block) (entry_kept p h is apart kept)
+      by (Some h) is = ap (is_owned_by is_meant id.block) (entry_kept p h is apart kept)
 
   -- each flag tells what is fresh
   pub tell_short : (was now : Drafting) → Forgets f y was now → Tell (is_meant_for a id.block) (tree_in a old) was.leaves was.nodes → Tell (is_meant_for b id.block) (tree_in b new) now.leaves now.nodes
@@ -227,7 +227,7 @@ module _ (a b : Image) (g : Graph) (holds : Holds a g) (id : Puid) (d : Opened) 
     ];
   }
     where
-      whole : (m : ℕ) → (IsBorderNode f (m ∷ []) → ⊥) → (IsPast f (m ∷ []) → ⊥) → 128 * m + 128 ≤ f
+      whole : (m : ℕ) → (IsBorderNode f (m ∷ []) → ⊥) → (IsPathPast f (m ∷ []) → ⊥) → 128 * m + 128 ≤ f
       whole m apart kept = elim (cases_lt f (128 * m + 128)) [
         | inr early ↦ early
         | inl less ↦ elim (cases_lt (128 * m) f) [
@@ -279,7 +279,7 @@ module _ (a b : Image) (g : Graph) (holds : Holds a g) (id : Puid) (d : Opened) 
     own_kept : block_at b id.block ≡ block_at a id.block
     own_kept = short.contents id.block (not_map id.block (taken_apart a g holds id.block id.block root_place.taken)) root_apart
 
-    tree : IsTree (length b) id.block (tree_in b new) root (object_of b root)
+    tree : IsTree (length b) id.block (tree_in b new) root (object_below b root)
     tree = record {
       spelled = record { good = (fits_new, record { fill = draft.tree.spelled.good.1.fill; size = draft.tree.spelled.good.1.size }); spelled = refl };
       object = refl;
@@ -309,7 +309,7 @@ module _ (a b : Image) (g : Graph) (holds : Holds a g) (id : Puid) (d : Opened) 
         ]
 
     pub short_stands : (fresh : List (List ℕ)) → ((k : ℕ) → get_or fresh k [] ≡ get_or (levels_standing (is_meant_for b id.block) (tree_in b new) (length (levels_of new))) k [])
-        → HasDraft b id (record d { root = root; draft = record { object = object_of b root; fresh = fresh } })
+        → HasDraft b id (record d { root = root; draft = record { object = object_below b root; fresh = fresh } })
     short_stands fresh is_fresh = record {
       own = subst (λ (c : List ℕ). IsRootBlock c d.own) (sym own_kept) draft.own;
       same_kind = draft.same_kind;
@@ -332,6 +332,6 @@ module _ (a b : Image) (g : Graph) (holds : Holds a g) (id : Puid) (d : Opened) 
         other m meant apart = elim (short.each m apart) [
           | inl shed ↦ absurd (both_ways _ (short.freed m shed) meant)
           | inr same ↦
-              let was : is_meant_for a id.block m ≡ true = ap (is_of is_meant id.block) (sym same) ∙ meant in
+              let was : is_meant_for a id.block m ≡ true = ap (is_owned_by is_meant id.block) (sym same) ∙ meant in
               elim (draft.no_other m was) [ inl shadow ↦ inl shadow | inr s ↦ inr (still_stands m meant was apart s) ]
         ]

@@ -1,6 +1,6 @@
 -- The draft's own blocks that are dropped, listed node after node.
 use Rattle.std.proofs.Common.{◌≡◌, ℕ, ◌+◌, ◌-◌, ◌*◌, ◌/◌, ◌<◌, ◌≤◌, Bool, true, false, List, ◌++◌, length, sym, ◌∙◌, ap, subst, length-append, arith, get_or}
-use Rattle.special_files.proofs.Words.{All, AreShed, Drafting, Ghosts, HasParts, Image, IsNear, IsReadIn, Kept, NodeRead, OnlyReads, Tells, View, fresh_in, in_image, is_meant_for, leaves_at, list_if, opened_as, reads_then, root_placed, root_spelling, slice_index, tells_on, tree_in, ◌==◌}
+use Rattle.special_files.proofs.Words.{All, AreShed, Drafting, Ghosts, HasParts, Image, IsNear, IsReadIn, Kept, NodeRead, OnlyReads, Tells, DraftView, fresh_in, in_image, is_meant_for, leaves_at, list_if, opened_as, reads_then, root_placed, root_spelling, slice_index, tells_on, tree_in, ◌==◌}
 use Rattle.block_tree.specs.declared.root.Root as roots
 use Rattle.special_files.proofs.Levels.{Tell}
 use Rattle.special_files.proofs.PutStore.{flags_of}
@@ -9,7 +9,7 @@ use Rattle.special_files.proofs.View.{draft_of, view_tree}
 use Rattle.special_files.proofs.Endings.{no_reads}
 use Rattle.special_files.proofs.ShedLists.{Lists, Upto, all_listed, length-fresh_in, length-one_if, node_below, node_listed, node_skipped}
 
-module _ {D : Type 0} {g : Ghosts D} {d0 : D} {space : Kept} {was : Drafting} (v : View g d0 space was) where
+module _ {D : Type 0} {g : Ghosts D} {d0 : D} {space : Kept} {was : Drafting} (v : DraftView g d0 space was) where
   abbrev a : Image
   a = g.content d0
 
@@ -29,7 +29,7 @@ pub record ListRun {D : Type 0} (g : Ghosts D) (root : roots.Root) (leaves nodes
   pub reads : OnlyReads g (n - f / 128) d0 d1
   pub room : length ns ≤ 129 * (n - f / 128)
   pub below : All (λ b. b < g.blocks d0) ns
-  pub lists : (space : Kept) (was : Drafting) (v : View g d0 space was) → HasParts was root leaves nodes → IsReadIn (g.content d0) root read → Listing v f n ns
+  pub lists : (space : Kept) (was : Drafting) (v : DraftView g d0 space was) → HasParts was root leaves nodes → IsReadIn (g.content d0) root read → Listing v f n ns
 
 module _ {D : Type 0} {g : Ghosts D} {root : roots.Root} {leaves nodes : List Bool} {read : NodeRead} {f n : ℕ} {d0 d1 : D} {ns : List ℕ} (run : ListRun g root leaves nodes read f n d0 d1 ns) where
   pub run_skips : n < 120 → get_or nodes n false ≡ false → ListRun g root leaves nodes read f (n + 1) d0 d1 ns
@@ -72,7 +72,7 @@ module _ {D : Type 0} {g : Ghosts D} {root : roots.Root} {leaves nodes : List Bo
           ∙ (λ i. ns ++ (list_if ((f - 128 * n) == 0) (slice_index ((sym parts.root_is i).nodes) n) ++ fresh_in (sym parts.leaves_is i) node n (f - 128 * n) (128 - (f - 128 * n)))))) list;
     }
 
-  module _ {space : Kept} {was : Drafting} (v : View g d0 space was) (parts : HasParts was root leaves nodes) where
+  module _ {space : Kept} {was : Drafting} (v : DraftView g d0 space was) (parts : HasParts was root leaves nodes) where
     pub run_all : n ≡ 120 → IsReadIn (g.content d0) root read → AreShed (g.content d0) v.id (opened_as v.id was v.draft) f ns
     run_all is is_read =
         all_listed (g.content d0) v.graph v.store.account.holds v.id v.object v.at (v.store.account.objects v.id v.object v.at) was v.draft (draft_of v) f (some_block v) (told_by v) ns

@@ -1,6 +1,6 @@
 -- The blocks of a draft's own at paths that are dropped, listed one after another.
 use Rattle.std.proofs.Common.{◌≡◌, ◌≢◌, ◌⊎◌, inl, inr, ℕ, zero, suc, ◌+◌, ◌-◌, ◌*◌, ◌/◌, ◌%◌, ◌<◌, ◌≤◌, Bool, true, false, List, [], ◌∷◌, ◌++◌, length, get_or, Some, refl, sym, ◌∙◌, ap, subst, append_assoc, length-append, arith}
-use Rattle.special_files.proofs.Words.{All, All-append, All-cons, All-nil, AreShed, Differ, Drafting, Graph, HasDraft, HasItsBlocks, Holds, Image, IsPast, Object, Opened, Puid, append-nil, append_differ, both_ways, cases_Bool, cases_lt, content_of, eqb-false, eqb-true, fresh_in, get_or_past, has-append, has_number, held, held_at, held_there, here, is_fresh_node, is_meant_for, leaves_at, node_of, not_map, object_at, list_if, one_path, opened_as, or_cases, or_left, or_right, passes, slice_index, taken_apart, tree_in, tree_of, ◌==◌, length-leaves}
+use Rattle.special_files.proofs.Words.{All, All-append, All-cons, All-nil, AreShed, Differ, Drafting, Graph, HasDraft, HasItsBlocks, Holds, Image, IsPathPast, Object, Opened, Puid, append-nil, append_differ, both_ways, cases_Bool, cases_lt, content_of, eqb-false, eqb-true, fresh_in, get_or_past, has-append, has_number, held, held_at, held_there, here, is_fresh_node, is_meant_for, leaves_at, pointer_to_node, not_map, object_at, list_if, one_path, opened_as, or_cases, or_left, or_right, passes, slice_index, taken_apart, tree_in, tree_of, ◌==◌, length-leaves}
 use Rattle.ufs_model.specs.declared.object.Draft as models
 use Rattle.special_files.proofs.Fresh.{fresh_there, node_of_fresh, read_leaf_is, unfresh}
 use Rattle.special_files.proofs.Levels.{Tell}
@@ -75,7 +75,7 @@ module _ (size : ℕ) where
 
 -- the paths past the leaf f, up to a node
 abbrev pub Upto : ℕ → ℕ → List ℕ → Type 0
-Upto f n p = IsPast f p × (IsPast (128 * n) p → ⊥)
+Upto f n p = IsPathPast f p × (IsPathPast (128 * n) p → ⊥)
 
 module _ (a : Image) (g : Graph) (holds : Holds a g) (id : Puid) (o : Object) (at : object_at g id ≡ Some o) (has : HasItsBlocks a id.block) (was : Drafting) (m : models.Draft) (draft : HasDraft a id (opened_as id was m)) where
   abbrev d : Opened
@@ -137,7 +137,7 @@ module _ (a : Image) (g : Graph) (holds : Holds a g) (id : Puid) (o : Object) (a
     passes_meant p meant = ap (passes (is_meant_for a id.block)) (held_there a (tree p) (real_block (tree p) meant)) ∙ meant
 
     -- past the node is past the one before it
-    sooner : (n : ℕ) (r : List ℕ) → IsPast (128 * (n + 1)) r → IsPast (128 * n) r
+    sooner : (n : ℕ) (r : List ℕ) → IsPathPast (128 * (n + 1)) r → IsPathPast (128 * n) r
     sooner n [] past = past
     sooner n (k ∷ []) past = omega (arith, past)
     sooner n (k ∷ j ∷ []) (inl past) = inl (omega (arith, past))
@@ -182,7 +182,7 @@ module _ (a : Image) (g : Graph) (holds : Holds a g) (id : Puid) (o : Object) (a
         by r meant (Node is from) = absurd (none (subst (λ (q : List ℕ). Meant (tree q)) is meant))
         by r meant (Leaf j is from) = absurd (both_ways _ stale (tell.node n few ∙ node_of_fresh a g holds id o at has d draft n j (passes_meant (n ∷ j ∷ []) (subst (λ (q : List ℕ). Meant (tree q)) is meant))))
 
-    module _ (n : ℕ) (few : n < 120) (reached : f < 128 * (n + 1)) (leaves : List ℕ) (read : leaves ≡ leaves_at a (node_of was.root n)) (fresh : is_fresh_node was n ≡ true) (ns : List ℕ) (lists : Lists (Upto f n) ns) where
+    module _ (n : ℕ) (few : n < 120) (reached : f < 128 * (n + 1)) (leaves : List ℕ) (read : leaves ≡ leaves_at a (pointer_to_node was.root n)) (fresh : is_fresh_node was n ≡ true) (ns : List ℕ) (lists : Lists (Upto f n) ns) where
       abbrev place : ℕ
       place = f - 128 * n
 
@@ -190,17 +190,17 @@ module _ (a : Image) (g : Graph) (holds : Holds a g) (id : Puid) (o : Object) (a
       abbrev Done : ℕ → List ℕ → Type 0
       Done k r = (Upto f n r ⊎ ((r ≡ n ∷ []) × (place ≡ 0))) ⊎ ((j : ℕ) × (j < k) × (r ≡ n ∷ (place + j) ∷ []))
 
-      first : Lists (Done 0) (ns ++ list_if (place == 0) (node_of was.root n))
+      first : Lists (Done 0) (ns ++ list_if (place == 0) (pointer_to_node was.root n))
       first = elim (cases_Bool (place == 0)) [
         | inl whole ↦
             let zero_place = eqb-true place 0 whole in
             let fresh_is = fresh_meant (n ∷ []) true (sym fresh ∙ tell.node n few) in
-            subst (λ (b : Bool). Lists (Done 0) (ns ++ list_if b (node_of was.root n))) (sym whole) (subst (λ (v : ℕ). Lists (Done 0) (ns ++ v ∷ [])) (node_at a was.root draft.tree.spelled.good.0 n)
+            subst (λ (b : Bool). Lists (Done 0) (ns ++ list_if b (pointer_to_node was.root n))) (sym whole) (subst (λ (v : ℕ). Lists (Done 0) (ns ++ v ∷ [])) (node_at a was.root draft.tree.spelled.good.0 n)
             (lists_add (Upto f n) (Done 0) ns (n ∷ []) true lists (λ is. is.1 (omega arith)) fresh_is.0 fresh_is.1 (λ r is. inl (inl is)) (inl (inr (refl, zero_place)))
             (λ r is meant. elim is [ inl one ↦ elim one [ inl was_done ↦ inl was_done | inr here_is ↦ inr here_is.0 ] | inr j ↦ absurd (omega (arith, j.1)) ])))
         | inr inside ↦
             let some_place = eqb-false place 0 inside in
-            subst (λ (b : Bool). Lists (Done 0) (ns ++ list_if b (node_of was.root n))) (sym inside) (subst (Lists (Done 0)) (sym (append-nil ns))
+            subst (λ (b : Bool). Lists (Done 0) (ns ++ list_if b (pointer_to_node was.root n))) (sym inside) (subst (Lists (Done 0)) (sym (append-nil ns))
             (lists_as (Upto f n) (Done 0) ns lists (λ r is. inl (inl is)) (λ r is meant. elim is [ inl one ↦ elim one [ inl was_done ↦ was_done | inr here_is ↦ absurd (some_place here_is.1) ] | inr j ↦ absurd (omega (arith, j.1)) ])))
       ]
 
@@ -213,15 +213,15 @@ module _ (a : Image) (g : Graph) (holds : Holds a g) (id : Puid) (o : Object) (a
       leaf_is : (j : ℕ) → tree (n ∷ j ∷ []) ≡ slice_index leaves j
       leaf_is j = read_leaf_is a was.root draft.tree.spelled.good.0 n j leaves read
 
-      leaves_done : (k : ℕ) → place + k ≤ 128 → Lists (Done k) ((ns ++ list_if (place == 0) (node_of was.root n)) ++ fresh_in was.leaves leaves n place k)
-      leaves_done zero room = subst (Lists (Done 0)) (sym (ap (λ (xs : List ℕ). (ns ++ list_if (place == 0) (node_of was.root n)) ++ xs) (none_in was.leaves leaves n place) ∙ append-nil (ns ++ list_if (place == 0) (node_of was.root n)))) first
+      leaves_done : (k : ℕ) → place + k ≤ 128 → Lists (Done k) ((ns ++ list_if (place == 0) (pointer_to_node was.root n)) ++ fresh_in was.leaves leaves n place k)
+      leaves_done zero room = subst (Lists (Done 0)) (sym (ap (λ (xs : List ℕ). (ns ++ list_if (place == 0) (pointer_to_node was.root n)) ++ xs) (none_in was.leaves leaves n place) ∙ append-nil (ns ++ list_if (place == 0) (pointer_to_node was.root n)))) first
       leaves_done (suc k) room =
           let b = get_or was.leaves (128 * n + (place + k)) false in
-          let so_far = (ns ++ list_if (place == 0) (node_of was.root n)) ++ fresh_in was.leaves leaves n place k in
+          let so_far = (ns ++ list_if (place == 0) (pointer_to_node was.root n)) ++ fresh_in was.leaves leaves n place k in
           let fresh_is = fresh_meant (n ∷ (place + k) ∷ []) b (leaf_flag (place + k) (omega (arith, room))) in
           let added = lists_add (Done k) (Done (suc k)) so_far (n ∷ (place + k) ∷ []) b (leaves_done k (omega (arith, room))) (λ is. not_done k is) fresh_is.0 fresh_is.1 (λ r is. further k r is) (inr (k, omega arith, refl)) (λ r is meant. last k r is) in
-          subst (Lists (Done (suc k))) ((λ i. so_far ++ list_if b (leaf_is (place + k) i)) ∙ append_assoc (ns ++ list_if (place == 0) (node_of was.root n)) (fresh_in was.leaves leaves n place k) (list_if b (slice_index leaves (place + k)))
-          ∙ ap (λ (xs : List ℕ). (ns ++ list_if (place == 0) (node_of was.root n)) ++ xs) (sym (more_in was.leaves leaves n place k (suc k) (omega arith)))) added
+          subst (Lists (Done (suc k))) ((λ i. so_far ++ list_if b (leaf_is (place + k) i)) ∙ append_assoc (ns ++ list_if (place == 0) (pointer_to_node was.root n)) (fresh_in was.leaves leaves n place k) (list_if b (slice_index leaves (place + k)))
+          ∙ ap (λ (xs : List ℕ). (ns ++ list_if (place == 0) (pointer_to_node was.root n)) ++ xs) (sym (more_in was.leaves leaves n place k (suc k) (omega arith)))) added
         where
           not_done : (k : ℕ) → Done k (n ∷ (place + k) ∷ []) → ⊥
           not_done k (inl (inl is)) = is.1 (inr (omega arith, omega arith))
@@ -239,8 +239,8 @@ module _ (a : Image) (g : Graph) (holds : Holds a g) (id : Puid) (o : Object) (a
             | inr more ↦ let same : j.0 ≡ k = omega (arith, more, j.1) in inr (j.2 ∙ ap (λ (i : ℕ). n ∷ (place + i) ∷ []) same)
           ]
 
-      pub node_listed : Lists (Upto f (n + 1)) (ns ++ (list_if (place == 0) (node_of was.root n) ++ fresh_in was.leaves leaves n place (128 - place)))
-      node_listed = subst (Lists (Upto f (n + 1))) (append_assoc ns (list_if (place == 0) (node_of was.root n)) (fresh_in was.leaves leaves n place (128 - place)))
+      pub node_listed : Lists (Upto f (n + 1)) (ns ++ (list_if (place == 0) (pointer_to_node was.root n) ++ fresh_in was.leaves leaves n place (128 - place)))
+      node_listed = subst (Lists (Upto f (n + 1))) (append_assoc ns (list_if (place == 0) (pointer_to_node was.root n)) (fresh_in was.leaves leaves n place (128 - place)))
           (lists_as (Done (128 - place)) (Upto f (n + 1)) _ (leaves_done (128 - place) (omega (arith, reached))) (λ r is. upto r is) (λ r is meant. by r meant (within n r is)))
         where
           upto : (r : List ℕ) → Done (128 - place) r → Upto f (n + 1) r
@@ -257,7 +257,7 @@ module _ (a : Image) (g : Graph) (holds : Holds a g) (id : Puid) (o : Object) (a
           by r meant (Leaf j is from) = elim (cases_lt j 128) [
             | inl less ↦ let here_is : j ≡ place + (j - place) = omega (arith, from) in inr (j - place, omega (arith, less, from, reached), is ∙ ap (λ (i : ℕ). n ∷ i ∷ []) here_is)
             | inr past ↦
-                let none : tree (n ∷ j ∷ []) ≡ 0 = leaf_is j ∙ get_or_past leaves j 0 (omega (arith, past, ap (length {A = ℕ}) read, length-leaves a (node_of was.root n))) in
+                let none : tree (n ∷ j ∷ []) ≡ 0 = leaf_is j ∙ get_or_past leaves j 0 (omega (arith, past, ap (length {A = ℕ}) read, length-leaves a (pointer_to_node was.root n))) in
                 absurd (real_block (tree r) meant (ap tree is ∙ none))
           ]
 
@@ -273,7 +273,7 @@ module _ (a : Image) (g : Graph) (holds : Holds a g) (id : Puid) (o : Object) (a
         no_node : (k : ℕ) → 120 ≤ k → slice_index was.root.nodes k ≡ 0
         no_node k far = get_or_past was.root.nodes k 0 (omega (arith, far, draft.tree.spelled.good.0.count))
 
-        nowhere : (p : List ℕ) → IsPast (128 * 120) p → tree p ≡ 0
+        nowhere : (p : List ℕ) → IsPathPast (128 * 120) p → tree p ≡ 0
         nowhere [] far = absurd far
         nowhere (k ∷ []) far = node_at a was.root draft.tree.spelled.good.0 k ∙ no_node k (omega (arith, far))
         nowhere (k ∷ j ∷ []) far = leaf_at a was.root draft.tree.spelled.good.0 k j ∙ ap (λ (p : ℕ). leaf_from a p j) (no_node k (elim far [ inl more ↦ omega (arith, more) | inr at_end ↦ omega (arith, at_end.0) ]))

@@ -1,6 +1,6 @@
 -- The device calls that drop leaves from a draft: the node of the first is written without them, and claims are taken back.
 use Rattle.std.proofs.Common.{◌≡◌, ◌≢◌, ◌⊎◌, inl, inr, ℕ, ◌/◌, ◌%◌, ◌^◌, ◌<◌, ◌≤◌, Bool, true, false, List, [], ◌∷◌, length, Ok, Some, refl, sym, ◌∙◌, ap, subst, get_or-set_other, get_or-set_same, arith}
-use Rattle.special_files.proofs.Words.{node_place, AreClaimed, AreCounts, AreShed, BelongsTo, BlockNo, ChangesOnly, Claims, ClaimsAndDrops, Course, Drafting, Flips, Frame, GetsNode, Ghosts, Graph, Had, HasDraft, Holds, IfErr, Image, IsOn, IsPast, IsShed, Kept, Leaves, MapEntry, MayFlip, Node, Object, Opened, Puid, Refused, Result, Root, StoreHas, Trouble, Undo, View, WritesBlock, block_at, block_at-with_entry, both_ways, carries_framed, cases_Bool, changes_then, claimed_by, content_of, entry_in, entry_in-set, entry_in-with_entry_other, entry_in-with_entry_same, entry_in_table, false_from_ne_true, flipped, flips, frames_begin, frames_hold, free_is_loose, free_unowned, given_all, has_number, held, held_at, held_there, in_image, intended, is_damage, is_free_entry, is_free_in, is_meant, is_meant_for, is_of, keeps_frame, leaf_pointers, leaves_at, length-with_entry, may_take_back, node_claims, node_of, not_map, numbers_differ, object_at, of_draft, one_path, opened_as, part_at, part_of, pointer, root_spelling, same_Some, slice_index, taken_apart, tree_in, tree_of, tree_placed, undone, wider}
+use Rattle.special_files.proofs.Words.{node_place, AreClaimed, AreCounts, AreShed, BelongsTo, BlockNo, ChangesOnly, Claims, ClaimsAndDrops, Course, Drafting, Flips, Frame, GetsDraftNode, Ghosts, Graph, Had, HasDraft, Holds, IfErr, Image, IsOn, IsPathPast, IsShed, Kept, Leaves, MapEntry, MayFlip, Node, Object, Opened, Puid, Refused, Result, Root, StoreHas, Trouble, Undo, DraftView, WritesDraftBlock, block_at, block_at-with_entry, both_ways, carries_framed, cases_Bool, changes_then, claimed_by, content_of, entry_in, entry_in-set, entry_in-with_entry_other, entry_in-with_entry_same, entry_in_table, false_from_ne_true, flipped, flips, frames_begin, frames_hold, free_is_loose, free_unowned, given_all, has_number, held, held_at, held_there, in_image, intended, is_damage, is_free_entry, is_free_in, is_meant, is_meant_for, is_owned_by, keeps_frame, leaf_pointers, leaves_at, length-with_entry, may_take_back, node_claims, pointer_to_node, not_map, numbers_differ, object_at, of_draft, one_path, opened_as, part_at, part_of, pointer, root_spelling, same_Some, slice_index, taken_apart, tree_in, tree_of, tree_placed, undone, wider}
 use Rattle.std.proofs.Math.ListN.{length-set}
 use Rattle.special_files.proofs.Amid.{IsAmid, amid_leaves, claim_leaves, claimed, write_leaves, wrote}
 use Rattle.special_files.proofs.CommitEntries.{meant_not_free, undone_free}
@@ -100,7 +100,7 @@ pub record IsPut (a b : Image) (id : Puid) (d : Opened) (f y : ℕ) : Type 0 whe
 pub put_none : (a : Image) (id : Puid) (d : Opened) (f y : ℕ) → f % 128 ≡ 0 → IsPut a a id d f y
 put_none a id d f y whole = record { size = refl; entries = λ v apart. refl; contents = λ v real apart. refl; node = λ within. absurd (within whole) }
 
-module _ {D : Type 0} {g : Ghosts D} {d0 : D} {k0 : Kept} {was : Drafting} (u : View g d0 k0 was) (d1 : D) (k1 : Kept) (leaves : List ℕ) (f : ℕ) (most : f < 15360) where
+module _ {D : Type 0} {g : Ghosts D} {d0 : D} {k0 : Kept} {was : Drafting} (u : DraftView g d0 k0 was) (d1 : D) (k1 : Kept) (leaves : List ℕ) (f : ℕ) (most : f < 15360) where
   abbrev a : Image
   a = g.content d0
 
@@ -122,7 +122,7 @@ module _ {D : Type 0} {g : Ghosts D} {d0 : D} {k0 : Kept} {was : Drafting} (u : 
   start : IsAmid g u.graph u.id d0 d0 k0
   start = amid0 u d1 d1 k1 k1 leaves f most
 
-  pub get_leaves : (result : Result BlockNo Refused) → GetsNode g n d0 d1 k0 k1 was result → Leaves g d0 d1 (λ c. Holds c u.graph)
+  pub get_leaves : (result : Result BlockNo Refused) → GetsDraftNode g n d0 d1 k0 k1 was result → Leaves g d0 d1 (λ c. Holds c u.graph)
   get_leaves result (Had fresh same kept is) = subst (λ (e : D). Leaves g d0 e (λ c. Holds c u.graph)) (sym same) start.leaves
   get_leaves result (Claims stale gets) = claim_leaves g u.graph u.ds u.id u.object d0 k0 u.store u.at d0 d1 k0 k1 (intended (Node n) was.at) result start gets (node_is u d1 d1 k1 k1 leaves f most) (not_root_node n)
 
@@ -138,9 +138,9 @@ module _ {D : Type 0} {g : Ghosts D} {d0 : D} {k0 : Kept} {was : Drafting} (u : 
     was_there : (is_free_in a y ≡ true) ⊎ (tree_of a old (n ∷ []) ≡ y)
     stays : is_meant_for a u.id.block (tree_of a old (n ∷ [])) ≡ true → tree_of a old (n ∷ []) ≡ y
 
-  got : (y : BlockNo) → GetsNode g n d0 d1 k0 k1 was (Ok y) → IsAmid g u.graph u.id d0 d1 k1 × Got (g.content d1) y.0
+  got : (y : BlockNo) → GetsDraftNode g n d0 d1 k0 k1 was (Ok y) → IsAmid g u.graph u.id d0 d1 k1 × Got (g.content d1) y.0
   got y (Had fresh same kept is) =
-      let y_is : y.0 ≡ node_of was.root n = (let e : y ≡ record { 0 = node_of was.root n } = cc in ap (λ (b : BlockNo). b.0) e) in
+      let y_is : y.0 ≡ pointer_to_node was.root n = (let e : y ≡ record { 0 = pointer_to_node was.root n } = cc in ap (λ (b : BlockNo). b.0) e) in
       let two = fresh_there a u.graph u.store.account.holds u.id u.object u.at (u.store.account.objects u.id u.object u.at) d draft (n ∷ []) (sym (tell.node n (omega (arith, most))) ∙ fresh) in
       let there : tree_of a old (n ∷ []) ≡ y.0 = node_at a was.root draft.tree.spelled.good.0 n ∙ sym y_is in
       let real : y.0 ≢ 0 = λ none. two.0 (there ∙ none) in
@@ -181,14 +181,14 @@ module _ {D : Type 0} {g : Ghosts D} {d0 : D} {k0 : Kept} {was : Drafting} (u : 
         },
       )
 
-  module _ (y : BlockNo) (gets : GetsNode g n d0 d1 k0 k1 was (Ok y)) (d2 : D) (node : List ℕ) where
+  module _ (y : BlockNo) (gets : GetsDraftNode g n d0 d1 k0 k1 was (Ok y)) (d2 : D) (node : List ℕ) where
     y_below : y.0 < length (g.content d1)
     y_below = let is = (got y gets).1 in omega (arith, is.below, is.size)
 
-    pub put_leaves : (result : Result (Unit {0}) Refused) → WritesBlock g y.0 node d1 d2 result → Leaves g d0 d2 (λ c. Holds c u.graph)
+    pub put_leaves : (result : Result (Unit {0}) Refused) → WritesDraftBlock g y.0 node d1 d2 result → Leaves g d0 d2 (λ c. Holds c u.graph)
     put_leaves result writes = write_leaves g u.graph u.ds u.id u.object d0 k0 u.store u.at d1 d2 k1 y.0 node (got y gets).0 (got y gets).1.meant y_below writes.images
 
-    module _ (writes : WritesBlock g y.0 node d1 d2 (Ok (tt {0}))) where
+    module _ (writes : WritesDraftBlock g y.0 node d1 d2 (Ok (tt {0}))) where
       pub put_amid : IsAmid g u.graph u.id d0 d2 k1
       put_amid = wrote g u.graph u.ds u.id u.object d0 k0 u.store u.at d1 d2 k1 y.0 node (got y gets).0 (got y gets).1.meant y_below writes.images writes.written writes.told writes.calls.same
 
@@ -201,14 +201,14 @@ module _ {D : Type 0} {g : Ghosts D} {d0 : D} {k0 : Kept} {was : Drafting} (u : 
       content : block_at (g.content d2) y.0 ≡ node
       content = ap (λ (i : Image). block_at i y.0) writes.written ∙ get_or-set_same (g.content d1) y.0 node [] y_below
 
-      pub put_claims : GetsNode g n d0 d1 k0 k1 was (Ok y) → AreClaimed (node_claims was.at was.nodes n) a (g.content d2)
+      pub put_claims : GetsDraftNode g n d0 d1 k0 k1 was (Ok y) → AreClaimed (node_claims was.at was.nodes n) a (g.content d2)
       put_claims (Had fresh same kept is) = rw fresh (λ v. entry v ∙ ap (λ (d : D). entry_in (g.content d) v) same)
       put_claims (Claims stale enters) =
           let is = node_is u d1 d1 k1 k1 leaves f most in
           let claim = claimed g u.graph u.ds u.id u.object d0 k0 u.store u.at d0 d1 k0 k1 (intended (Node n) was.at) (Ok y) start enters is (not_root_node n) y refl (mine u d1 d1 k1 k1 leaves f most (Node n)) in
           rw stale (g.content d1, claimed_by _ a (g.content d1) y.0 is claim.1 claim.2, entry)
 
-      pub put_is : f % 128 ≢ 0 → leaves ≡ leaves_at a (node_of was.root n) → ((j : ℕ) → j < f % 128 → pointer leaf_pointers node j ≡ slice_index leaves j) → ((j : ℕ) → f % 128 ≤ j → pointer leaf_pointers node j ≡ 0)
+      pub put_is : f % 128 ≢ 0 → leaves ≡ leaves_at a (pointer_to_node was.root n) → ((j : ℕ) → j < f % 128 → pointer leaf_pointers node j ≡ slice_index leaves j) → ((j : ℕ) → f % 128 ≤ j → pointer leaf_pointers node j ≡ 0)
           → (j : ℕ) × (j < f % 128) × (slice_index leaves j ≢ 0) → IsPut a (g.content d2) u.id d f y.0
       put_is within read kept past one =
           let is = (got y gets).1 in
@@ -221,7 +221,7 @@ module _ {D : Type 0} {g : Ghosts D} {d0 : D} {k0 : Kept} {was : Drafting} (u : 
             node = λ w. record {
               some = λ none. is.map (omega (arith, none));
               below = omega (arith, y_below, long);
-              meant = ap (is_of is_meant u.id.block) (entry y.0) ∙ is.meant;
+              meant = ap (is_owned_by is_meant u.id.block) (entry y.0) ∙ is.meant;
               part = subst (BelongsTo u.id.block (Node n)) (ap part_of (sym (entry y.0))) is.part;
               was = is.was_there;
               stays = is.stays;
@@ -233,7 +233,7 @@ module _ {D : Type 0} {g : Ghosts D} {d0 : D} {k0 : Kept} {was : Drafting} (u : 
 
 -- ---- and then the claims taken back
 
-module _ {D : Type 0} {g : Ghosts D} {d0 d2 : D} {k0 k2 : Kept} {was : Drafting} {f y : ℕ} {ns : List ℕ} (u : View g d0 k0 was) (amid : IsAmid g u.graph u.id d0 d2 k2)
+module _ {D : Type 0} {g : Ghosts D} {d0 d2 : D} {k0 k2 : Kept} {was : Drafting} {f y : ℕ} {ns : List ℕ} (u : DraftView g d0 k0 was) (amid : IsAmid g u.graph u.id d0 d2 k2)
     (put : IsPut (g.content d0) (g.content d2) u.id (opened_as u.id was u.draft) f y) (shed : AreShed (g.content d0) u.id (opened_as u.id was u.draft) f ns) (d3 : D) (n t : ℕ) where
   abbrev base : Image
   base = g.content d0
@@ -255,14 +255,14 @@ module _ {D : Type 0} {g : Ghosts D} {d0 d2 : D} {k0 k2 : Kept} {was : Drafting}
         | inl free ↦ taken_not_free base v u.id.block (meant_is base u.id.block v is.meant).taken (subst (λ (k : ℕ). is_free_in base k ≡ true) (sym same) free)
         | inr there ↦
             let path : is.path ≡ f / 128 ∷ [] = one_path base (length base) u.id.block (content_of mine_d) was.root u.draft.object base_draft.tree is.path (f / 128 ∷ []) (held base y) (held base y) (ap (held_at base) (is.there ∙ same) ∙ held_there base y node.some) (ap (held_at base) there ∙ held_there base y node.some) refl in
-            omega (arith, within, subst (IsPast f) path is.past)
+            omega (arith, within, subst (IsPathPast f) path is.past)
       ]
 
   same_entry : (v : ℕ) → IsShed base u.id mine_d f v → entry_in b v ≡ entry_in base v
   same_entry v is = put.entries v (not_y v is)
 
   meant : (v : ℕ) → has_number v ns ≡ true → is_meant_for b u.id.block v ≡ true
-  meant v has = let is = shed.each v has in ap (is_of is_meant u.id.block) (same_entry v is) ∙ is.meant
+  meant v has = let is = shed.each v has in ap (is_owned_by is_meant u.id.block) (same_entry v is) ∙ is.meant
 
   no_root : (v : ℕ) → has_number v ns ≡ true → (e : MapEntry) → entry_in b v ≡ Some e → e.place ≢ Some Root
   no_root v has e here root =
@@ -324,7 +324,7 @@ module _ {D : Type 0} {g : Ghosts D} {d0 d2 : D} {k0 k2 : Kept} {was : Drafting}
           record {
             some = node.some;
             below = omega (arith, node.below, long_end);
-            meant = ap (is_of is_meant u.id.block) here ∙ node.meant;
+            meant = ap (is_owned_by is_meant u.id.block) here ∙ node.meant;
             part = subst (BelongsTo u.id.block (Node (f / 128))) (ap part_of (sym here)) node.part;
             was = node.was;
             stays = node.stays;

@@ -1,6 +1,6 @@
 -- The store after leaves were dropped from a draft.
 use Rattle.std.proofs.Common.{◌≡◌, ◌≢◌, ℕ, ◌+◌, ◌*◌, ◌/◌, ◌%◌, ◌^◌, ◌<◌, ◌≤◌, inl, inr, List, length, refl, sym, ◌∙◌, ap, subst, arith}
-use Rattle.special_files.proofs.Words.{All-from_get_or, All-get_or, ClaimsAndDrops, Drafting, DropsFrom, Fits, Forgets, Ghosts, HasDraft, Image, Kept, View, border_claims, cases_lt, draft_in, fresh_of, is_meant_for, leaves_of, object_of, opened_as, root_spelling, slice_index, tree_in, Becomes}
+use Rattle.special_files.proofs.Words.{All-from_get_or, All-get_or, ClaimsAndDrops, Drafting, DropsFrom, Fits, Forgets, Ghosts, HasDraft, Image, Kept, DraftView, border_claims, cases_lt, draft_in, fresh_of, is_meant_for, leaves_below, object_below, opened_as, root_spelling, slice_index, tree_in, DraftBecomes}
 use Rattle.block_tree.specs.declared.root.Root as roots
 use Rattle.ufs_model.specs.declared.object.Draft as models
 use Rattle.special_files.proofs.Amid.{IsAmid}
@@ -27,7 +27,7 @@ short_fits root nodes f y fits small long before past here = record {
   ]);
 }
 
-module _ {D : Type 0} {g : Ghosts D} {old new : D} {before after : Kept} {was now : Drafting} {f y : ℕ} (v : View g old before was) (amid : IsAmid g v.graph v.id old new after)
+module _ {D : Type 0} {g : Ghosts D} {old new : D} {before after : Kept} {was now : Drafting} {f y : ℕ} (v : DraftView g old before was) (amid : IsAmid g v.graph v.id old new after)
     (short : IsShort (g.content old) (g.content new) v.id (opened_as v.id was v.draft) f y) (small : f % 128 ≢ 0 → y < 2 ^ 32) (forgets : Forgets f y was now) where
   abbrev a : Image
   a = g.content old
@@ -57,13 +57,13 @@ module _ {D : Type 0} {g : Ghosts D} {old new : D} {before after : Kept} {was no
   stands =
       let same : record (opened_as v.id was v.draft) { root = now.root; draft = later } ≡ opened_as v.id now later =
       λ i. record { id = v.id; shadow = sym forgets.stays.shadow i; own = sym forgets.stays.own i; root = now.root; draft = later; created = sym forgets.stays.created i } in
-      subst (HasDraft b v.id) same (subst (λ (r : roots.Root). HasDraft b v.id (record (opened_as v.id was v.draft) { root = r; draft = record { object = object_of b r; fresh = fresh_of now } })) (sym root)
+      subst (HasDraft b v.id) same (subst (λ (r : roots.Root). HasDraft b v.id (record (opened_as v.id was v.draft) { root = r; draft = record { object = object_below b r; fresh = fresh_of now } })) (sym root)
       (short_stands a b v.graph v.store.account.holds v.id (opened_as v.id was v.draft) f y draft short now.root.nodes fits (λ k early. (forgets.before k early).1) (λ k late. (forgets.past k late).1) (λ within. (forgets.here within).1) v.object v.at (fresh_of now)
       (λ k. told_levels (is_meant_for b v.id.block) (tree_in b (root_spelling (record was.root { nodes = now.root.nodes }))) now long_leaves long_nodes
       (tell_short a b v.graph v.store.account.holds v.id (opened_as v.id was v.draft) f y draft short now.root.nodes fits (λ k early. (forgets.before k early).1) (λ k late. (forgets.past k late).1) (λ within. (forgets.here within).1)
       was now forgets (flags_of a v.ds v.id was v.draft v.opened draft)) k)))
 
-  now_is : Becomes g v.graph v.ds v.id later old new after now
+  now_is : DraftBecomes g v.graph v.ds v.id later old new after now
   now_is = becomes_now g v.graph v.ds v.id v.object old new before after was now v.draft later v.store v.at v.opened amid stands forgets.stays.at forgets.stays.created long_leaves long_nodes (λ k. refl)
 
   pub shed_drops : ClaimsAndDrops v.id.block (border_claims was f) a b → DropsFrom g v.graph v.ds v.id f old new after was now
@@ -73,8 +73,8 @@ module _ {D : Type 0} {g : Ghosts D} {old new : D} {before after : Kept} {was no
     is_open = now_is.is_open;
     block = y;
     forgets = forgets;
-    gone = λ l late. ap (λ (r : roots.Root). leaves_of b r l) root
+    gone = λ l late. ap (λ (r : roots.Root). leaves_below b r l) root
         ∙ leaves_gone a b v.graph v.store.account.holds v.id (opened_as v.id was v.draft) f y draft short now.root.nodes fits (λ k early. (forgets.before k early).1) (λ k late. (forgets.past k late).1) (λ within. (forgets.here within).1) l late;
-    kept = λ l less. ap (λ (r : roots.Root). leaves_of b r l) root
+    kept = λ l less. ap (λ (r : roots.Root). leaves_below b r l) root
         ∙ leaves_kept a b v.graph v.store.account.holds v.id (opened_as v.id was v.draft) f y draft short now.root.nodes fits (λ k early. (forgets.before k early).1) (λ k late. (forgets.past k late).1) (λ within. (forgets.here within).1) l less;
   }

@@ -1,16 +1,17 @@
 -- The size of a draft set to less: the model's need, and the model's draft, of the call as it is made.
 use Rattle.std.proofs.Common.{◌≡◌, inl, inr, ℕ, ◌+◌, ◌/◌, ◌%◌, ◌<◌, ◌≤◌, Bool, true, false, List, [], ◌∷◌, Ok, refl, sym, ◌∙◌, ap, subst, arith, Err, ◌≢◌, ◌++◌, if◌then◌else◌, not}
-use Rattle.special_files.proofs.Words.{AreClaimed, ClaimsAndDrops, Cuts, CutsIf, Drafting, DropCall, DropsFrom, Ends, File, Ghosts, Goes, Holds, IfErr, Image, IsFullFor, IsPlan, IsRead, IsTrouble, KeepsOne, Kept, Leaf, Leaves, MapEntry, Node, NodeRead, OnlyReads, Plan, Refused, ResizeCall, Resized, Result, SetSize, Spares, Trouble, View, and_parts, border_claims, both_ways, cases_Bool, claims_anew, claims_then, cut_takes, eqb-false, file_to_leaves, intended, is_damaged, is_fresh_leaf, is_fresh_node, is_full_refusal, last_node, leaf_claims, draft_takes, leaves_at, leaves_of, map, need_beside, node_claims, node_of, opened_as, plan_needs, refused_by, size_of, sized, sum, then, refusal_after, written_anew, ◌&&◌, ◌==◌, ◌||◌}
+use Rattle.special_files.proofs.Words.{AreClaimed, ClaimsAndDrops, Cuts, CutsIf, Drafting, DropCall, DropsFrom, EndsCall, File, Ghosts, GoesHolding, Holds, IfErr, Image, IsFullFor, IsPlan, IsRead, IsDraftTrouble, KeepsOne, Kept, Leaf, Leaves, MapEntry, Node, NodeRead, OnlyReads, Plan, Refused, ResizeCall, Resized, Result, SetSize, Spares, Trouble, DraftView, and_parts, border_claims, both_ways, cases_Bool, claims_anew, claims_then, cut_takes, eqb-false, file_to_leaves, intended, has_met_damage, is_fresh_leaf, is_fresh_node, is_full_refusal, last_draft_node, leaf_claims, draft_takes, leaves_at, leaves_below, map, need_beside, node_claims, pointer_to_node, opened_as, plan_needs, refused_by, size_of, sized, sum, then, refusal_after, written_anew, ◌&&◌, ◌==◌, ◌||◌, top_of}
 use Rattle.ufs_model.specs.declared.object.Object.TheVariants as objects
 use Rattle.special_files.proofs.Fresh.{node_of_fresh}
 use Rattle.special_files.proofs.PutStore.{flags_of}
 use Rattle.special_files.proofs.Recut.{only_if, recut_claims, recut_need}
 use Rattle.special_files.proofs.ShrinkRun.{cut_to, keeps_one, CutDone, both_take, cut_done, cut_images, cut_less, node_read, told_by_nodes}
 use Rattle.special_files.proofs.Shrunk.{CutTo, shrunk_becomes}
-use Rattle.special_files.proofs.Endings.{stays_itself, ends_then_err, ends_then_ok, ends_wider, not_untried, stays_then, still_room, still_sound}
+use Rattle.special_files.proofs.Endings.{stays_itself, ends_then_err, ends_then_ok, ends_wider, not_untried, stays_then, still_room, still_sound, ends_at}
 use Rattle.special_files.proofs.View.{draft_of, view, view_reads}
 use Rattle.cfs_base.specs.declared.refusal.Refused.TheVariants as refusals
 use Rattle.special_files.proofs.WriteLeaf.{images_since, read_since, becomes_since, ends_since, ends_trouble, not_full}
+use Rattle.special_files.proofs.Refusals.{near_at}
 
 -- a leaf that is cut, and then the node that loses leaves, take no block twice
 one_after_other : (c l w f m : Bool) (e n at : ℕ) → ((c && not l) ≡ true → m ≡ true) → ((c && not l) ≡ false → m ≡ f)
@@ -30,11 +31,12 @@ one_after_other false l false false m e n at stale same = ap (λ (b : Bool). if 
 
 -- ---- refused before anything was tried
 
-pub resize_stopped : {D : Type 0} {g : Ghosts D} {d0 d1 : D} (reads : OnlyReads g 1 d0 d1) (size floor : ℕ) (was : Drafting) (k0 : Kept) (t : Trouble) (e : Refused) → e ≡ refused_by t → IsTrouble g was.at d0 d1 k0 t → ResizeCall g size floor d0 d1 k0 k0 was was (Err e)
+pub resize_stopped : {D : Type 0} {g : Ghosts D} {d0 d1 : D} (reads : OnlyReads g 1 d0 d1) (size floor : ℕ) (was : Drafting) (k0 : Kept) (t : Trouble) (e : Refused) → e ≡ refused_by t → IsDraftTrouble g (top_of was) d0 d1 k0 t → ResizeCall g size floor d0 d1 k0 k0 was was (Err e)
 resize_stopped reads size floor was k0 t e is why = record {
   stays = stays_itself was;
   spared = λ full. absurd (both_ways _ (ap is_full_refusal is ∙ not_full t) full);
   told = λ none. tt;
+  near = λ far. far;
   ends = ends_trouble reads 15486 (sum k0.free) 31092 t e is (omega arith) why;
   kept = λ untried. refl;
 }
@@ -53,7 +55,7 @@ module _ {D : Type 0} {g : Ghosts D} {size : ℕ} {d0 d1 : D} {was : Drafting} {
   e = size / 512
 
   abbrev n : ℕ
-  n = last_node size
+  n = last_draft_node size
 
   at_leaf : cut ≡ true → e / 128 ≡ n
   at_leaf is = let within = (p.cuts.is is).0 in omega (arith, within)
@@ -63,18 +65,18 @@ module _ {D : Type 0} {g : Ghosts D} {size : ℕ} {d0 d1 : D} {was : Drafting} {
 
   -- ---- the model's need
 
-  module _ {k0 : Kept} (v : View g d0 k0 was) where
-    abbrev u : View g d1 k0 was
+  module _ {k0 : Kept} (v : DraftView g d0 k0 was) where
+    abbrev u : DraftView g d1 k0 was
     u = view_reads v p.reads
 
     read1 : IsRead (g.content d1) was read
     read1 = read_since p.reads was read (p.read_is v.store.carries.tells)
 
-    node1 : read.node.leaves ≡ leaves_at (g.content d1) (node_of was.root n)
+    node1 : read.node.leaves ≡ leaves_at (g.content d1) (pointer_to_node was.root n)
     node1 = node_read u read read1 p.less p.limit p.number
 
     whole_size : (f : File) → v.draft.object ≡ objects.File f → size_of v.draft.object ≡ was.root.size
-    whole_size f file = ap size_of file ∙ (file_to_leaves was.root (leaves_of (g.content d1) was.root) f ((draft_of u).tree.object ∙ file)).size
+    whole_size f file = ap size_of file ∙ (file_to_leaves was.root (leaves_below (g.content d1) was.root) f ((draft_of u).tree.object ∙ file)).size
 
     pub call_need : (f : File) → v.draft.object ≡ objects.File f → need_beside (SetSize size) v.draft was ≡ plan_needs size was plan
     call_need f file = recut_need (g.content d1) u.ds u.id was u.draft u.opened (draft_of u) size p.less read.node.leaves node1 from p.border cut p.cuts (whole_size f file)
@@ -87,7 +89,7 @@ module _ {D : Type 0} {g : Ghosts D} {size : ℕ} {d0 d1 : D} {was : Drafting} {
   -- ---- the cut
 
   module _ (floor : ℕ) (k0 : Kept) (room : plan_needs size was plan + floor ≤ sum k0.free) where
-    after_read : {d3 : D} {k3 : Kept} {n t k : ℕ} {r : Result (Unit {0}) Refused} → Ends g was.at 0 n t k d1 d3 k0 k3 r → n ≤ 31091 → t ≤ 15486 → Ends g was.at floor 31092 15486 (sum k0.free) d0 d3 k0 k3 r
+    after_read : {d3 : D} {k3 : Kept} {n t k : ℕ} {r : Result (Unit {0}) Refused} → EndsCall g (top_of was) 0 n t k d1 d3 k0 k3 r → n ≤ 31091 → t ≤ 15486 → EndsCall g (top_of was) floor 31092 15486 (sum k0.free) d0 d3 k0 k3 r
     after_read ends le lt = ends_since p.reads 31092 (ends_wider floor 31091 15486 (sum k0.free) ends le lt (omega arith)) (omega arith)
 
     enough : cut_takes was cut e ≤ sum k0.free
@@ -107,14 +109,15 @@ module _ {D : Type 0} {g : Ghosts D} {size : ℕ} {d0 d1 : D} {was : Drafting} {
             stays = calls.stays;
             spared = λ full. absurd (both_ways _ (cut_room x cuts) full);
             told = λ none. tt;
+            near = calls.near;
             ends = after_read calls.ends (omega arith) (omega arith);
             kept = calls.kept;
           }
 
-      pub cut_err_goes : {P : Type 0} (v : View g d0 k0 was) (x : Refused) → CutsIf g size cut d1 d2 k0 k2 was mid read next (Err x) → Goes {A = Unit {0}} g v.graph P d0 d2 (Err x)
+      pub cut_err_goes : {P : Type 0} (v : DraftView g d0 k0 was) (x : Refused) → CutsIf g size cut d1 d2 k0 k2 was mid read next (Err x) → GoesHolding {A = Unit {0}} g v.graph P d0 d2 (Err x)
       cut_err_goes v x cuts = record { done = tt; leaves = images_since p.reads d2 _ (cut_images (u v) (read1 v) p.less p.limit (Err x) cuts); sound = by cuts }
         where
-          by : CutsIf g size cut d1 d2 k0 k2 was mid read next (Err x) → is_damaged x ≡ false
+          by : CutsIf g size cut d1 d2 k0 k2 was mid read next (Err x) → has_met_damage x ≡ false
           by (Spares not ok same kept still again) = cc
           by (Cuts is goes calls) = (goes (u v) (read1 v) p.less).sound
 
@@ -127,7 +130,7 @@ module _ {D : Type 0} {g : Ghosts D} {size : ℕ} {d0 d1 : D} {was : Drafting} {
         abbrev cd : CutDone g size cut d1 d2 k0 k2 was mid read next
         cd = cut_done cuts
 
-        abbrev done : (v : View g d0 k0 was) → CutTo g v.graph v.ds v.id size cut d1 d2 k2 was mid next
+        abbrev done : (v : DraftView g d0 k0 was) → CutTo g v.graph v.ds v.id size cut d1 d2 k2 was mid next
         done v = cut_to (u v) (read1 v) p.less p.limit cuts
 
         next_is : next.number ≡ n
@@ -136,17 +139,17 @@ module _ {D : Type 0} {g : Ghosts D} {size : ℕ} {d0 d1 : D} {was : Drafting} {
           | inr whole ↦ ap (λ (r : NodeRead). r.number) (cd.whole whole).3 ∙ p.number
         ]
 
-        abbrev there : (v : View g d0 k0 was) → View g d2 k2 mid
+        abbrev there : (v : DraftView g d0 k0 was) → DraftView g d2 k2 mid
         there v = view (done v).becomes.steps.store v.at (done v).becomes.is_open
 
         module _ (d3 : D) (k3 : Kept) (now : Drafting) where
           abbrev DropsSo : Result (Unit {0}) Refused → Type 0
-          DropsSo r = (w : View g d2 k2 mid) → IsRead (g.content d2) mid next → KeepsOne from next → Goes g w.graph (DropsFrom g w.graph w.ds w.id from d2 d3 k3 mid now) d2 d3 r
+          DropsSo r = (w : DraftView g d2 k2 mid) → IsRead (g.content d2) mid next → KeepsOne from next → GoesHolding g w.graph (DropsFrom g w.graph w.ds w.id from d2 d3 k3 mid now) d2 d3 r
 
-          drop_goes : (v : View g d0 k0 was) (r : Result (Unit {0}) Refused) → DropsSo r → Goes g v.graph (DropsFrom g v.graph (there v).ds v.id from d2 d3 k3 mid now) d2 d3 r
+          drop_goes : (v : DraftView g d0 k0 was) (r : Result (Unit {0}) Refused) → DropsSo r → GoesHolding g v.graph (DropsFrom g v.graph (there v).ds v.id from d2 d3 k3 mid now) d2 d3 r
           drop_goes v r drops = drops (there v) (done v).read_is (keeps_one (u v) read (read1 v) p.less p.limit p.number from p.border p.cuts (done v) next_is)
 
-          drop_images : (v : View g d0 k0 was) (r : Result (Unit {0}) Refused) → DropsSo r → Leaves g d0 d3 (λ c. Holds c v.graph)
+          drop_images : (v : DraftView g d0 k0 was) (r : Result (Unit {0}) Refused) → DropsSo r → Leaves g d0 d3 (λ c. Holds c v.graph)
           drop_images v r drops = images_since p.reads d3 _ ((then) g d1 d2 d3 _ _ (cut_images (u v) (read1 v) p.less p.limit (Ok tt) cuts) (drop_goes v r drops).leaves (λ c h. h))
 
           drop_room : {r : Result (Unit {0}) Refused} → DropCall g from d2 d3 k2 k3 mid now r → IfErr r (λ x. is_full_refusal x ≡ false)
@@ -162,26 +165,27 @@ module _ {D : Type 0} {g : Ghosts D} {size : ℕ} {d0 d1 : D} {was : Drafting} {
             pub drop_err_full : {A : Type 0} → is_full_refusal told ≡ true → A
             drop_err_full full = absurd (both_ways _ (ap is_full_refusal is ∙ still_room cut x (drop_room calls)) full)
 
-            pub drop_err_goes : {P : Type 0} (v : View g d0 k0 was) → DropsSo (Err x) → Goes {A = Unit {0}} g v.graph P d0 d3 (Err told)
-            drop_err_goes v drops = record { done = tt; leaves = drop_images v (Err x) drops; sound = ap is_damaged is ∙ still_sound cut x (drop_goes v (Err x) drops).sound }
+            pub drop_err_goes : {P : Type 0} (v : DraftView g d0 k0 was) → DropsSo (Err x) → GoesHolding {A = Unit {0}} g v.graph P d0 d3 (Err told)
+            drop_err_goes v drops = record { done = tt; leaves = drop_images v (Err x) drops; sound = ap has_met_damage is ∙ still_sound cut x (drop_goes v (Err x) drops).sound }
 
             pub drop_err_call : ResizeCall g size floor d0 d3 k0 k3 was now (Err told)
             drop_err_call = record {
               stays = stays_then was mid now cd.stays calls.stays;
               spared = drop_err_full;
               told = λ none. tt;
-              ends = subst (λ (y : Refused). Ends {A = Unit {0}} g was.at floor 31092 15486 (sum k0.free) d0 d3 k0 k3 (Err y)) (sym is) (ends cut refl);
+              near = λ far. near_at mid.root was.root calls.ends.calls.same.size cd.near (calls.near far);
+              ends = subst (λ (y : Refused). EndsCall {A = Unit {0}} g (top_of was) floor 31092 15486 (sum k0.free) d0 d3 k0 k3 (Err y)) (sym is) (ends cut refl);
               kept = λ untried. kept cut refl (sym is ∙ untried);
             }
               where
-                here : Ends {A = Unit {0}} g was.at 0 31083 15482 (sum k2.free) d2 d3 k2 k3 (Err x)
-                here = subst (λ (at : ℕ). Ends {A = Unit {0}} g at 0 31083 15482 (sum k2.free) d2 d3 k2 k3 (Err x)) cd.stays.at calls.ends
+                here : EndsCall {A = Unit {0}} g (top_of was) 0 31083 15482 (sum k2.free) d2 d3 k2 k3 (Err x)
+                here = ends_at {at = top_of mid} {now = top_of was} cd.stays.at (near_at mid.root was.root calls.ends.calls.same.size cd.near) calls.ends
 
-                ends : (b : Bool) → cut ≡ b → Ends {A = Unit {0}} g was.at floor 31092 15486 (sum k0.free) d0 d3 k0 k3 (Err (refusal_after b x))
-                ends true so = let c = cut_takes was cut e in after_read (ends_then_err g was.at 0 d1 d2 d3 k0 k2 k3 (tt {0}) x 8 4 c 31083 15482 (sum k2.free) cd.ends (cd.tried so) here 31091 15486 (c + sum k2.free) (omega arith) (omega arith) (omega arith)) (omega arith) (omega arith)
+                ends : (b : Bool) → cut ≡ b → EndsCall {A = Unit {0}} g (top_of was) floor 31092 15486 (sum k0.free) d0 d3 k0 k3 (Err (refusal_after b x))
+                ends true so = let c = cut_takes was cut e in after_read (ends_then_err g (top_of was) 0 d1 d2 d3 k0 k2 k3 (tt {0}) x 8 4 c 31083 15482 (sum k2.free) cd.ends (cd.tried so) here 31091 15486 (c + sum k2.free) (omega arith) (omega arith) (omega arith)) (omega arith) (omega arith)
                 ends false not =
                     let two = cd.whole not in
-                    after_read (subst (λ (k : Kept). Ends {A = Unit {0}} g was.at 0 31083 15482 (sum k2.free) d1 d3 k k3 (Err x)) two.1 (subst (λ (d : D). Ends {A = Unit {0}} g was.at 0 31083 15482 (sum k2.free) d d3 k2 k3 (Err x)) two.0 here)) (omega arith) (omega arith)
+                    after_read (subst (λ (k : Kept). EndsCall {A = Unit {0}} g (top_of was) 0 31083 15482 (sum k2.free) d1 d3 k k3 (Err x)) two.1 (subst (λ (d : D). EndsCall {A = Unit {0}} g (top_of was) 0 31083 15482 (sum k2.free) d d3 k2 k3 (Err x)) two.0 here)) (omega arith) (omega arith)
 
                 kept : (b : Bool) → cut ≡ b → refusal_after cut x ≡ refusals.Disk false → now ≡ was
                 kept true so untried = absurd (not_untried x ((λ i. refusal_after (sym so i) x) ∙ untried))
@@ -194,14 +198,15 @@ module _ {D : Type 0} {g : Ghosts D} {size : ℕ} {d0 d1 : D} {was : Drafting} {
               stays = let stays = stays_then was mid now cd.stays calls.stays in record { at = stays.at; shadow = stays.shadow; own = stays.own; created = stays.created; word = stays.word; root = record { kind = stays.root.kind; fill = stays.root.fill; size = refl } };
               spared = tt;
               told = λ none. told_by_nodes none p cd calls;
+              near = λ far. near_at mid.root was.root calls.ends.calls.same.size cd.near (calls.near far);
               ends =
                   let c = cut_takes was cut e in
-                  let here = subst (λ (at : ℕ). Ends {A = Unit {0}} g at 0 31083 15482 (sum k2.free) d2 d3 k2 k3 (Ok tt)) cd.stays.at calls.ends in
-                  after_read (ends_then_ok g was.at 0 d1 d2 d3 k0 k2 k3 (tt {0}) (tt {0}) 8 4 c 31083 15482 (sum k2.free) cd.ends here 31091 15486 (c + sum k2.free) (omega arith) (omega arith) (omega arith)) (omega arith) (omega arith);
+                  let here = ends_at {at = top_of mid} {now = top_of was} cd.stays.at (near_at mid.root was.root calls.ends.calls.same.size cd.near) calls.ends in
+                  after_read (ends_then_ok g (top_of was) 0 d1 d2 d3 k0 k2 k3 (tt {0}) (tt {0}) 8 4 c 31083 15482 (sum k2.free) cd.ends here 31091 15486 (c + sum k2.free) (omega arith) (omega arith) (omega arith)) (omega arith) (omega arith);
               kept = tt;
             }
 
-            pub drop_ok_goes : (v : View g d0 k0 was) → DropsSo (Ok (tt {0})) → Goes {A = Unit {0}} g v.graph ((f : File) → v.draft.object ≡ objects.File f → Resized g v.graph v.ds v.id v.draft size floor d0 d3 k0 k3 was (sized now size)) d0 d3 (Ok tt)
+            pub drop_ok_goes : (v : DraftView g d0 k0 was) → DropsSo (Ok (tt {0})) → GoesHolding {A = Unit {0}} g v.graph ((f : File) → v.draft.object ≡ objects.File f → Resized g v.graph v.ds v.id v.draft size floor d0 d3 k0 k3 was (sized now size)) d0 d3 (Ok tt)
             drop_ok_goes v drops = record {
               done = λ f file. record {
                 becomes = becomes_since p.reads (shrunk_becomes g v.graph v.ds v.id v.object v.at d1 k0 was v.draft (u v).store v.opened f file size p.less p.limit read.node.leaves (node1 v) from p.border cut p.cuts d2 d3 k2 k3 mid now next (done v) (drop_goes v (Ok tt) drops).done);
@@ -213,11 +218,11 @@ module _ {D : Type 0} {g : Ghosts D} {size : ℕ} {d0 d1 : D} {was : Drafting} {
             }
               where
                 -- the claims in their order
-                marked : (v : View g d0 k0 was) → cut ≡ true → is_fresh_node mid n ≡ true
+                marked : (v : DraftView g d0 k0 was) → cut ≡ true → is_fresh_node mid n ≡ true
                 marked v is = subst (λ (k : ℕ). is_fresh_node mid k ≡ true) (at_leaf is) ((done v).node_marks.new e (omega arith) (rw is (omega arith)))
 
                 -- a leaf that was fresh has a fresh node
-                above : (v : View g d0 k0 was) → cut ≡ true → is_fresh_leaf was e ≡ true → is_fresh_node was n ≡ true
+                above : (v : DraftView g d0 k0 was) → cut ≡ true → is_fresh_leaf was e ≡ true → is_fresh_node was n ≡ true
                 above v is fresh =
                     let w = u v in
                     let draft = draft_of w in
@@ -225,7 +230,7 @@ module _ {D : Type 0} {g : Ghosts D} {size : ℕ} {d0 d1 : D} {was : Drafting} {
                     subst (λ (k : ℕ). is_fresh_node was k ≡ true) (at_leaf is) (tell.node (e / 128) (omega (arith, p.less, p.limit))
                     ∙ node_of_fresh (g.content d1) w.graph w.store.account.holds w.id w.object w.at (w.store.account.objects w.id w.object w.at) (opened_as w.id was w.draft) draft (e / 128) (e % 128) (sym (tell.leaf e (omega (arith, p.less, p.limit))) ∙ fresh))
 
-                still : (v : View g d0 k0 was) (b l : Bool) → cut ≡ b → is_fresh_leaf was e ≡ l → (b && not l) ≡ false → is_fresh_node mid n ≡ is_fresh_node was n
+                still : (v : DraftView g d0 k0 was) (b l : Bool) → cut ≡ b → is_fresh_leaf was e ≡ l → (b && not l) ≡ false → is_fresh_node mid n ≡ is_fresh_node was n
                 still v true true is fresh not_stale = marked v is ∙ sym (above v is fresh)
                 still v true false is stale not_stale = cc
                 still v false l whole any not_stale = ap (λ (w : Drafting). is_fresh_node w n) (cd.whole whole).2
@@ -238,7 +243,7 @@ module _ {D : Type 0} {g : Ghosts D} {size : ℕ} {d0 d1 : D} {was : Drafting} {
                 then_node true is = rw is refl
                 then_node false is = let k : from / 128 ≡ n = at_border (eqb-false (from % 128) 0 is) in (λ i. if from % 128 == 0 then [] else node_claims (cd.stays.at i) mid.nodes (k i))
 
-                order : (v : View g d0 k0 was) → DropsFrom g v.graph (there v).ds v.id from d2 d3 k3 mid now → (f : File) → v.draft.object ≡ objects.File f
+                order : (v : DraftView g d0 k0 was) → DropsFrom g v.graph (there v).ds v.id from d2 d3 k3 mid now → (f : File) → v.draft.object ≡ objects.File f
                     → ClaimsAndDrops v.id.block (claims_anew was.at (written_anew (SetSize size) v.draft.object v.draft.fresh) v.draft.fresh) (g.content d0) (g.content d3)
                 order v drops f file =
                     let w = u v in

@@ -1,6 +1,6 @@
 -- The size of a draft set to less, as the call does it: a node is read, a leaf cut, and leaves are dropped.
 use Rattle.std.proofs.Common.{◌≡◌, ◌≢◌, inl, inr, ℕ, ◌+◌, ◌*◌, ◌/◌, ◌%◌, ◌<◌, ◌≤◌, Bool, true, false, List, length, get_or, set, Ok, Err, refl, sym, ◌∙◌, ap, subst, get_or-set_same, arith, IsTrue, not, if◌then◌else◌}
-use Rattle.special_files.proofs.Words.{Cuts, CutsIf, Drafting, DropCall, Ends, Forgets, Ghosts, HasNoneFresh, HasTried, Holds, IfErr, IsBorder, IsCutHere, IsPlan, IsRead, IsSafe, IsToldByNodes, KeepsOne, Kept, Leaves, MakesAtMost, NodeRead, OnOk, OnlyReads, Plan, Refused, ResizeCall, Result, SetsFlags, Spares, StaysBut, View, border_takes, both_ways, cases_Bool, cases_lt, cut_takes, eqb-false, eqb-true, held_is, is_fresh_leaf, is_fresh_node, is_some, last_node, draft_takes, leaves_at, leaves_in, leaves_of, node_of, one_unless, reads_make, same_held, shadow_need, shrink_takes, sized, sum, then_tried, tried_then, ◌&&◌, ◌==◌, ◌||◌}
+use Rattle.special_files.proofs.Words.{Cuts, CutsIf, Drafting, DropCall, EndsCall, Forgets, Ghosts, HasNoneFresh, HasTried, Holds, IfErr, IsBorder, IsCutHere, IsPlan, IsRead, IsSafe, IsToldByNodes, KeepsOne, Kept, Leaves, MakesAtMost, NodeRead, OnOk, OnlyReads, Plan, Refused, ResizeCall, Result, SetsFlags, Spares, StaysBut, DraftView, border_takes, both_ways, cases_Bool, cases_lt, cut_takes, eqb-false, eqb-true, held_is, is_fresh_leaf, is_fresh_node, is_some, last_draft_node, draft_takes, leaves_at, leaves_in, leaves_below, pointer_to_node, one_unless, reads_make, same_held, shadow_need, shrink_takes, sized, sum, then_tried, tried_then, ◌&&◌, ◌==◌, ◌||◌, IsFarRoot, top_of}
 use Rattle.cfs_base.specs.declared.refusal.Refused.TheVariants as refusals
 use Rattle.special_files.proofs.Endings.{makes_none, stays_itself, full_ends, no_reads}
 use Rattle.special_files.proofs.PutStore.{the_draft}
@@ -75,7 +75,8 @@ cut_less was cut from leaf node at_leaf = by cut (is_fresh_leaf was leaf) refl r
 -- what was done then
 pub record CutDone {D : Type 0} (g : Ghosts D) (size : ℕ) (cut : Bool) (d1 d2 : D) (k1 k2 : Kept) (was mid : Drafting) (read next : NodeRead) : Type 0 where
   pub stays : StaysBut was mid
-  pub ends : Ends {A = Unit {0}} g was.at 0 8 4 (cut_takes was cut (size / 512)) d1 d2 k1 k2 (Ok tt)
+  pub near : IsFarRoot (g.blocks d2) mid.root → IsFarRoot (g.blocks d2) was.root
+  pub ends : EndsCall {A = Unit {0}} g (top_of was) 0 8 4 (cut_takes was cut (size / 512)) d1 d2 k1 k2 (Ok tt)
   pub tried : cut ≡ true → HasTried g d1 d2
   pub whole : cut ≡ false → (d2 ≡ d1) × (k2 ≡ k1) × (mid ≡ was) × (next ≡ read)
   pub flags : cut ≡ true → SetsFlags (size / 512) was mid
@@ -85,6 +86,7 @@ pub record CutDone {D : Type 0} (g : Ghosts D) (size : ℕ) (cut : Bool) (d1 d2 
 pub cut_done : {D : Type 0} {g : Ghosts D} {size : ℕ} {cut : Bool} {d1 d2 : D} {k1 k2 : Kept} {was mid : Drafting} {read next : NodeRead} → CutsIf g size cut d1 d2 k1 k2 was mid read next (Ok tt) → CutDone g size cut d1 d2 k1 k2 was mid read next
 cut_done {g = g} {size} {cut} {d1} {d2} {k1} {k2} {was} {mid} {read} {next} (Spares not ok same kept still again) = record {
   stays = subst (StaysBut was) (sym still) (stays_itself was);
+  near = λ far. subst (λ (w : Drafting). IsFarRoot (g.blocks d2) w.root) still far;
   ends = record {
     told = λ b h. subst (λ d. IsTrue (g.told d b)) (sym same) h;
     refused = tt;
@@ -102,7 +104,8 @@ cut_done {g = g} {size} {cut} {d1} {d2} {k1} {k2} {was} {mid} {read} {next} (Spa
 }
 cut_done {g = g} {size} {cut} {d1} {d2} {k1} {k2} {was} (Cuts is goes calls) = record {
   stays = calls.stays;
-  ends = subst (λ (k : ℕ). Ends {A = Unit {0}} g was.at 0 8 4 k d1 d2 k1 k2 (Ok tt)) (sym (ap (λ (b : Bool). if b then draft_takes was (size / 512) else 0) is)) calls.ends;
+  near = calls.near;
+  ends = subst (λ (k : ℕ). EndsCall {A = Unit {0}} g (top_of was) 0 8 4 k d1 d2 k1 k2 (Ok tt)) (sym (ap (λ (b : Bool). if b then draft_takes was (size / 512) else 0) is)) calls.ends;
   tried = λ any. calls.tried;
   whole = λ not. absurd (both_ways cut not is);
   flags = λ any. calls.flags;
@@ -111,7 +114,7 @@ cut_done {g = g} {size} {cut} {d1} {d2} {k1} {k2} {was} (Cuts is goes calls) = r
 }
 
 -- the draft then, and the images on the way
-module _ {D : Type 0} {g : Ghosts D} {size : ℕ} {cut : Bool} {d1 d2 : D} {k1 k2 : Kept} {was mid : Drafting} {read next : NodeRead} (u : View g d1 k1 was) (is : IsRead (g.content d1) was read) (less : size < was.root.size) (limit : was.root.size ≤ 7864320) where
+module _ {D : Type 0} {g : Ghosts D} {size : ℕ} {cut : Bool} {d1 d2 : D} {k1 k2 : Kept} {was mid : Drafting} {read next : NodeRead} (u : DraftView g d1 k1 was) (is : IsRead (g.content d1) was read) (less : size < was.root.size) (limit : was.root.size ≤ 7864320) where
   pub cut_to : CutsIf g size cut d1 d2 k1 k2 was mid read next (Ok tt) → CutTo g u.graph u.ds u.id size cut d1 d2 k2 was mid next
   cut_to (Spares not ok same kept still again) = subst (λ (b : Bool). CutTo g u.graph u.ds u.id size b d1 d2 k2 was mid next) (sym not)
       (cut_none g u.graph u.ds u.id u.object u.at d1 k1 was u.draft u.store u.opened size d2 k2 mid next same kept still (subst (IsRead (g.content d1) was) (sym again) is))
@@ -122,15 +125,15 @@ module _ {D : Type 0} {g : Ghosts D} {size : ℕ} {cut : Bool} {d1 d2 : D} {k1 k
   cut_images r (Spares not ok same kept still again) = subst (λ d. Leaves g d1 d (λ c. Holds c u.graph)) (sym same) (record { later = omega arith; since = λ t c le h. inl h; now = λ c h. inl h })
   cut_images r (Cuts is_cut goes calls) = (goes u is less).leaves
 
-module _ {D : Type 0} {g : Ghosts D} {size : ℕ} {d1 : D} {k1 : Kept} {was : Drafting} (u : View g d1 k1 was) (read : NodeRead) (is : IsRead (g.content d1) was read) (less : size < was.root.size) (limit : was.root.size ≤ 7864320) (number : read.number ≡ last_node size) where
+module _ {D : Type 0} {g : Ghosts D} {size : ℕ} {d1 : D} {k1 : Kept} {was : Drafting} (u : DraftView g d1 k1 was) (read : NodeRead) (is : IsRead (g.content d1) was read) (less : size < was.root.size) (limit : was.root.size ≤ 7864320) (number : read.number ≡ last_draft_node size) where
   abbrev n : ℕ
-  n = last_node size
+  n = last_draft_node size
 
   few : n < 120
   few = omega (arith, less, limit)
 
-  pub node_read : read.node.leaves ≡ leaves_at (g.content d1) (node_of was.root n)
-  node_read = is (omega (arith, few, number)) ∙ ap (λ (m : ℕ). leaves_at (g.content d1) (node_of was.root m)) number
+  pub node_read : read.node.leaves ≡ leaves_at (g.content d1) (pointer_to_node was.root n)
+  node_read = is (omega (arith, few, number)) ∙ ap (λ (m : ℕ). leaves_at (g.content d1) (pointer_to_node was.root m)) number
 
   module _ {cut : Bool} {d2 : D} {k2 : Kept} {mid : Drafting} {next : NodeRead} where
     -- the node still keeps a leaf
@@ -142,17 +145,17 @@ module _ {D : Type 0} {g : Ghosts D} {size : ℕ} {d1 : D} {k1 : Kept} {was : Dr
         let small : k < 128 = omega (arith, keeps.0, keeps.1.1, border.high) in
         let draft = draft_of u in
         let now = the_draft (g.content d2) _ u.id mid done.draft done.becomes.is_open (done.becomes.steps.store.account.drafts u.id u.object u.at) in
-        let leaves = done.read_is (omega (arith, few, still)) ∙ ap (λ (m : ℕ). leaves_at (g.content d2) (node_of mid.root m)) still in
-        let had : is_some (leaves_of (g.content d1) was.root l) ≡ true = held_of_slot (g.content d1) u.id was u.draft draft read.node.leaves n node_read k small keeps.1.2 in
-        let has : is_some (leaves_of (g.content d2) mid.root l) ≡ true = held_still l done had in
+        let leaves = done.read_is (omega (arith, few, still)) ∙ ap (λ (m : ℕ). leaves_at (g.content d2) (pointer_to_node mid.root m)) still in
+        let had : is_some (leaves_below (g.content d1) was.root l) ≡ true = held_of_slot (g.content d1) u.id was u.draft draft read.node.leaves n node_read k small keeps.1.2 in
+        let has : is_some (leaves_below (g.content d2) mid.root l) ≡ true = held_still l done had in
         (k, omega (arith, keeps.0, keeps.1.1, border.low, within), λ none. both_ways _ (ap is_some (none_of_slot (g.content d2) u.id mid done.draft now next.node.leaves n leaves k small none)) has)
       where
-        held_still : (l : ℕ) → CutTo g u.graph u.ds u.id size cut d1 d2 k2 was mid next → is_some (leaves_of (g.content d1) was.root l) ≡ true → is_some (leaves_of (g.content d2) mid.root l) ≡ true
+        held_still : (l : ℕ) → CutTo g u.graph u.ds u.id size cut d1 d2 k2 was mid next → is_some (leaves_below (g.content d1) was.root l) ≡ true → is_some (leaves_below (g.content d2) mid.root l) ≡ true
         held_still l done had = elim (cases_Bool (l == size / 512)) [
           | inr apart ↦ same_held _ _ (done.same l (λ same. absurd (eqb-false l (size / 512) apart same))) ∙ had
           | inl here ↦ elim (cases_Bool cut) [
             | inr whole ↦ same_held _ _ (done.same l (λ same. whole)) ∙ had
-            | inl is_cut ↦ ap (λ (m : ℕ). is_some (leaves_of (g.content d2) mid.root m)) (eqb-true l (size / 512) here) ∙ ap is_some (held_is _ _ (done.here is_cut)).1
+            | inl is_cut ↦ ap (λ (m : ℕ). is_some (leaves_below (g.content d2) mid.root m)) (eqb-true l (size / 512) here) ∙ ap is_some (held_is _ _ (done.here is_cut)).1
           ]
         ]
 
@@ -223,6 +226,7 @@ grown_call g d0 k0 size floor was now (Ok t) is kept short = record {
   stays = subst (StaysBut (sized was size)) (sym is) (stays_itself (sized was size));
   spared = tt;
   told = λ none. record { tried = λ n fresh. absurd (both_ways _ (ap (λ (w : Drafting). is_fresh_node w n) is ∙ none.nodes n) fresh); untried = λ stale. (refl, no_reads g d0 1) };
+  near = λ far. subst (λ (w : Drafting). IsFarRoot (g.blocks d0) w.root) is far;
   ends = record { told = λ b h. h; refused = tt; untried = tt; cylinders = refl; left = refl; takes = omega arith; calls = makes_none g d0 31092 15486 };
   kept = tt;
 }
@@ -230,6 +234,7 @@ grown_call g d0 k0 size floor was now (Err e) is kept short = record {
   stays = subst (StaysBut was) (sym kept) (stays_itself was);
   spared = λ full. (no_reads g d0 1, refl, kept);
   told = λ none. tt;
-  ends = subst (λ (e : Refused). Ends {A = Unit {0}} g was.at floor 31092 15486 (sum k0.free) d0 d0 k0 k0 (Err e)) (sym short.0) (full_ends g was.at floor 31092 15486 (sum k0.free) d0 k0 (record { free = sum k0.free; need = shadow_need was }) short.1);
+  near = λ far. subst (λ (w : Drafting). IsFarRoot (g.blocks d0) w.root) kept far;
+  ends = subst (λ (e : Refused). EndsCall {A = Unit {0}} g (top_of was) floor 31092 15486 (sum k0.free) d0 d0 k0 k0 (Err e)) (sym short.0) (full_ends g (top_of was) floor 31092 15486 (sum k0.free) d0 k0 (record { free = sum k0.free; need = shadow_need was }) refl short.1);
   kept = λ untried. kept;
 }

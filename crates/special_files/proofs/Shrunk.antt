@@ -1,6 +1,6 @@
 -- A draft whose last leaf was cut, and whose leaves past it were dropped, is the model's draft of that size.
 use Rattle.std.proofs.Common.{◌≡◌, ◌≢◌, ◌⊎◌, inl, inr, ℕ, zero, suc, ◌+◌, ◌-◌, ◌*◌, ◌/◌, ◌%◌, ◌<◌, ◌≤◌, Bool, true, false, List, [], ◌∷◌, get_or, Option, Some, None, refl, sym, ◌∙◌, ap, subst, arith, if◌then◌else◌, not}
-use Rattle.special_files.proofs.Words.{AreClaimed, Becomes, Draft, Drafting, DropsFrom, File, Ghosts, Graph, HasDraft, Held, Image, IsBorder, IsCutHere, IsOpen, IsRead, IsRoot, Kept, LeavesFit, NodeRead, Object, Opened, Puid, PutsLeaf, SetSize, SetsSize, Shrinks, StaysBut, StoreHas, all-rise, both_ways, bytes_held, cases_Bool, cases_lt, changed_draft, changed_object, cut_fit, cut_held, cut_object, draft_in, file_to_leaves, filter-rises, fresh_after, fresh_of, fun_ext, has_number, held_leaves, held_levels, held_nodes, held_of, in_all, in_filter, in_held, in_map, in_withs, is_fresh_leaf, is_fresh_node, is_meant_for, is_some, leaf_claims, leaf_content, leaves_at, leaves_in, leaves_of, map, merged, next_levels, node_of, object_at, object_of, object_with, opened_as, replaced, root_spelling, same_numbers, same_object, set_in, shared, size_of, sized, to_all, to_filter, tree_in, with_numbers, within, ◌&&◌}
+use Rattle.special_files.proofs.Words.{AreClaimed, DraftBecomes, Draft, Drafting, DropsFrom, File, Ghosts, Graph, HasDraft, Held, Image, IsBorder, IsCutHere, IsOpen, IsRead, IsRoot, Kept, LeavesFit, NodeRead, Object, Opened, Puid, PutsLeaf, SetSize, SetsSize, Shrinks, StaysBut, StoreHas, all-rise, both_ways, bytes_held, cases_Bool, cases_lt, changed_draft, changed_object, cut_fit, cut_held, cut_object, draft_in, file_to_leaves, filter-rises, fresh_after, fresh_of, fun_ext, has_number, held_leaves, held_levels, held_nodes, held_of, in_all, in_filter, in_held, in_map, in_withs, is_fresh_leaf, is_fresh_node, is_meant_for, is_some, leaf_claims, leaf_content, leaves_at, leaves_in, leaves_below, map, merged, next_levels, pointer_to_node, object_at, object_below, object_with, opened_as, replaced, root_spelling, same_numbers, same_object, set_in, shared, size_of, sized, to_all, to_filter, tree_in, with_numbers, within, ◌&&◌}
 use Rattle.cfs_base.specs.declared.kind.Kind.TheVariants as kinds
 use Rattle.leaf_changes.specs.Bytes as changes
 use Rattle.ufs_model.specs.declared.object.Object.TheVariants as objects
@@ -23,10 +23,10 @@ upto cut leaf = if cut then leaf + 1 else leaf
 -- the draft once the leaf within which the size ends is cut, where it is to be
 pub record CutTo {D : Type 0} (g : Ghosts D) (graph : Graph) (ds : List Opened) (id : Puid) (size : ℕ) (cut : Bool) (d0 d2 : D) (k2 : Kept) (was mid : Drafting) (read : NodeRead) : Type 0 where
   pub draft : Draft
-  pub becomes : Becomes g graph ds id draft d0 d2 k2 mid
+  pub becomes : DraftBecomes g graph ds id draft d0 d2 k2 mid
   pub stays : StaysBut was mid
-  pub same : (l : ℕ) → (l ≡ size / 512 → cut ≡ false) → bytes_held (leaves_of (g.content d2) mid.root l) ≡ bytes_held (leaves_of (g.content d0) was.root l)
-  pub here : cut ≡ true → bytes_held (leaves_of (g.content d2) mid.root (size / 512)) ≡ Some (changes.cut size was.root.fill (leaf_content was.root.fill (leaves_of (g.content d0) was.root (size / 512))))
+  pub same : (l : ℕ) → (l ≡ size / 512 → cut ≡ false) → bytes_held (leaves_below (g.content d2) mid.root l) ≡ bytes_held (leaves_below (g.content d0) was.root l)
+  pub here : cut ≡ true → bytes_held (leaves_below (g.content d2) mid.root (size / 512)) ≡ Some (changes.cut size was.root.fill (leaf_content was.root.fill (leaves_below (g.content d0) was.root (size / 512))))
   pub leaf_marks : Marks (λ l. l) (size / 512) (upto cut (size / 512)) was.leaves mid.leaves
   pub node_marks : Marks (λ l. l / 128) (size / 512) (upto cut (size / 512)) was.nodes mid.nodes
   pub read_is : IsRead (g.content d2) mid read
@@ -49,7 +49,7 @@ module _ {D : Type 0} (g : Ghosts D) (graph : Graph) (ds : List Opened) (id : Pu
       })))
 
   pub cut_some : size < 7864320 → StaysBut was mid
-      → PutsLeaf g graph ds id (size / 512) (changes.cut size was.root.fill (leaf_content was.root.fill (leaves_of (g.content d0) was.root (size / 512)))) d0 d2 k2 was mid read → CutTo g graph ds id size true d0 d2 k2 was mid read
+      → PutsLeaf g graph ds id (size / 512) (changes.cut size was.root.fill (leaf_content was.root.fill (leaves_below (g.content d0) was.root (size / 512)))) d0 d2 k2 was mid read → CutTo g graph ds id size true d0 d2 k2 was mid read
   cut_some small stays puts =
       let begun = becomes_begin g graph ds id o at d0 k0 was d store opened in
       record {
@@ -65,8 +65,8 @@ module _ {D : Type 0} (g : Ghosts D) (graph : Graph) (ds : List Opened) (id : Pu
       }
 
 -- the draft's root gets another size, which its leaves fit
-module _ {D : Type 0} (g : Ghosts D) (graph : Graph) (ds : List Opened) (id : Puid) (o : Object) (at : object_at graph id ≡ Some o) (d0 d1 : D) (k1 : Kept) (now : Drafting) (m : Draft) (is : Becomes g graph ds id m d0 d1 k1 now) (size : ℕ)
-    (good : IsRoot (sized now size).root) (fit : LeavesFit (sized now size).root (leaves_of (g.content d1) now.root)) where
+module _ {D : Type 0} (g : Ghosts D) (graph : Graph) (ds : List Opened) (id : Puid) (o : Object) (at : object_at graph id ≡ Some o) (d0 d1 : D) (k1 : Kept) (now : Drafting) (m : Draft) (is : DraftBecomes g graph ds id m d0 d1 k1 now) (size : ℕ)
+    (good : IsRoot (sized now size).root) (fit : LeavesFit (sized now size).root (leaves_below (g.content d1) now.root)) where
   abbrev es : List Opened
   es = replaced (opened_as id now m) ds
 
@@ -74,12 +74,12 @@ module _ {D : Type 0} (g : Ghosts D) (graph : Graph) (ds : List Opened) (id : Pu
   image = g.content d1
 
   abbrev next : Draft
-  next = record { object = object_of image (sized now size).root; fresh = m.fresh }
+  next = record { object = object_below image (sized now size).root; fresh = m.fresh }
 
   was_there : HasDraft image id (opened_as id now m)
   was_there = the_draft image es id now m is.is_open (is.steps.store.account.drafts id o at)
 
-  pub becomes_sized : Becomes g graph ds id next d0 d1 k1 (sized now size)
+  pub becomes_sized : DraftBecomes g graph ds id next d0 d1 k1 (sized now size)
   becomes_sized = becomes_again g graph ds id o at d0 d1 k1 now (sized now size) m next is (sized_draft image now.root size was_there.tree.spelled.good.0 id now m refl was_there good fit) refl refl refl refl is.is_open.fresh
 
 none_held : (p : Option Held) → bytes_held p ≡ None → p ≡ None
@@ -90,7 +90,7 @@ none_held (Some h) is = cc
 
 module _ {D : Type 0} (g : Ghosts D) (graph : Graph) (ds : List Opened) (id : Puid) (o : Object) (at : object_at graph id ≡ Some o) (d0 : D) (k0 : Kept) (was : Drafting) (d : Draft) (store : StoreHas g graph ds d0 k0) (opened : IsOpen ds id was d)
     (f : File) (file : d.object ≡ objects.File f) (size : ℕ) (less : size < was.root.size) (limit : was.root.size ≤ 7864320)
-    (leaves : List ℕ) (read : leaves ≡ leaves_at (g.content d0) (node_of was.root ((leaves_in size - 1) / 128))) (from : ℕ) (border : IsBorder leaves ((leaves_in size - 1) / 128) (leaves_in size) from)
+    (leaves : List ℕ) (read : leaves ≡ leaves_at (g.content d0) (pointer_to_node was.root ((leaves_in size - 1) / 128))) (from : ℕ) (border : IsBorder leaves ((leaves_in size - 1) / 128) (leaves_in size) from)
     (cut : Bool) (cuts : IsCutHere size leaves cut)
     (d2 d3 : D) (k2 k3 : Kept) (mid now : Drafting) (next : NodeRead) (done : CutTo g graph ds id size cut d0 d2 k2 was mid next)
     (drops : DropsFrom g graph (replaced (opened_as id mid done.draft) ds) id from d2 d3 k3 mid now) where
@@ -110,10 +110,10 @@ module _ {D : Type 0} (g : Ghosts D) (graph : Graph) (ds : List Opened) (id : Pu
   n = (to - 1) / 128
 
   abbrev old : ℕ → Option Held
-  old = leaves_of a was.root
+  old = leaves_below a was.root
 
   abbrev gets : ℕ → Option Held
-  gets = leaves_of b now.root
+  gets = leaves_below b now.root
 
   abbrev small : Drafting
   small = sized now size
@@ -183,7 +183,7 @@ module _ {D : Type 0} (g : Ghosts D) (graph : Graph) (ds : List Opened) (id : Pu
   pub size_is : size_of d.object ≡ was.root.size
   size_is = ap size_of file ∙ (file_to_leaves was.root old f gives).size
 
-  dropped : Becomes g graph ds id (draft_in b now) d0 d3 k3 now
+  dropped : DraftBecomes g graph ds id (draft_in b now) d0 d3 k3 now
   dropped = becomes_then g graph ds id o at d0 d2 d3 k2 k3 mid now done.draft (draft_in b now) done.becomes drops.steps drops.is_open
 
   had : HasDraft b id (opened_as id now (draft_in b now))
@@ -193,15 +193,15 @@ module _ {D : Type 0} (g : Ghosts D) (graph : Graph) (ds : List Opened) (id : Pu
   good = record { fill = had.tree.spelled.good.1.fill; size = record { limit = omega (arith, less, limit); slots = λ is. absurd (not_index (sym root.kind ∙ is)) } }
 
   abbrev E : Draft
-  E = record { object = object_of b small.root; fresh = fresh_of now }
+  E = record { object = object_below b small.root; fresh = fresh_of now }
 
-  first : Becomes g graph ds id E d0 d3 k3 small
+  first : DraftBecomes g graph ds id E d0 d3 k3 small
   first = becomes_sized g graph ds id o at d0 d3 k3 now (draft_in b now) dropped size good fit
 
   stands : HasDraft b id (opened_as id small E)
   stands = the_draft b _ id small E first.is_open (first.steps.store.account.drafts id o at)
 
-  same_below : leaves_of b small.root ≡ gets
+  same_below : leaves_below b small.root ≡ gets
   same_below = fun_ext (λ l. same_leaf b now.root size had.tree.spelled.good.0 l)
 
   object : changed_object (SetSize size) d.object ≡ E.object
@@ -231,7 +231,7 @@ module _ {D : Type 0} (g : Ghosts D) (graph : Graph) (ds : List Opened) (id : Pu
   in_H l h = elim (cases_lt l from) [
     | inl before ↦ before
     | inr past ↦ absurd (both_ways _ (ap is_some (drops.gone l past))
-        (ap is_some (sym (same_leaf b now.root size had.tree.spelled.good.0 l)) ∙ (in_held small.root (leaves_of b small.root) l (sym (ap (has_number l) (held_of small.root (leaves_of b small.root))) ∙ h)).0))
+        (ap is_some (sym (same_leaf b now.root size had.tree.spelled.good.0 l)) ∙ (in_held small.root (leaves_below b small.root) l (sym (ap (has_number l) (held_of small.root (leaves_below b small.root))) ∙ h)).0))
   ]
 
   abbrev a0 : List ℕ
@@ -324,5 +324,5 @@ module _ {D : Type 0} (g : Ghosts D) (graph : Graph) (ds : List Opened) (id : Pu
       by (suc zero) = ap (λ (ns : List ℕ). shared (with_numbers a1 ns) (held_nodes E.object)) (first_is (next_levels d.fresh) ∙ next_is d.fresh 0 ∙ opened.fresh 1) ∙ second_fresh
       by (suc (suc j)) = within_none (next_levels (next_levels d.fresh)) j
 
-  pub shrunk_becomes : Becomes g graph ds id (changed_draft (SetSize size) d) d0 d3 k3 small
+  pub shrunk_becomes : DraftBecomes g graph ds id (changed_draft (SetSize size) d) d0 d3 k3 small
   shrunk_becomes = becomes_as g graph ds id o at d0 d3 k3 small E (changed_draft (SetSize size) d) first object all_fresh

@@ -1,6 +1,6 @@
 -- The size of a draft changed, while its leaves stay.
 use Rattle.std.proofs.Common.{◌≡◌, ◌≢◌, inl, inr, ℕ, zero, suc, ◌+◌, ◌/◌, ◌%◌, ◌<◌, ◌≤◌, Bool, true, false, if◌then◌else◌, IsTrue, List, [], ◌∷◌, ◌++◌, length, get_or, refl, sym, ◌∙◌, ap, subst, arith}
-use Rattle.special_files.proofs.Words.{nothing_below, Becomes, BelongsTo, Draft, Drafting, File, Fits, Ghosts, HasDraft, Image, IsFullFor, IsRoot, IsTree, Kept, LeavesFit, Object, Opened, Puid, Refused, Resized, SetSize, View, bytes_held, changed_draft, changed_object, file_to_leaves, filter, filter-rises, first_level, fresh_after, fun_ext, grown_fit, grown_object, has_number, held_at, held_leaves, held_levels, held_nodes, in_filter, inner_levels, is_meant_for, is_some, le-leb, leaves_of, levels_of, levels_standing, merged, missing, need_beside, next_levels, object_of, object_with, opened_as, passes, path_is, place_at, range_with_len, replaced, resize_anew, root_spelling, same_levels, same_numbers, set_in, shadow_need, shared, size_of, standing_at, sum, to_filter, tree_in, tree_of, within, written_anew}
+use Rattle.special_files.proofs.Words.{nothing_below, DraftBecomes, BelongsTo, Draft, Drafting, File, Fits, Ghosts, HasDraft, Image, IsFullFor, IsRoot, IsTree, Kept, LeavesFit, Object, Opened, Puid, Refused, Resized, SetSize, DraftView, bytes_held, changed_draft, changed_object, file_to_leaves, filter, filter-rises, first_level, fresh_after, fun_ext, grown_fit, grown_object, has_number, held_at, held_leaves, held_levels, held_nodes, in_filter, inner_levels, is_meant_for, is_some, le-leb, leaves_below, levels_of, levels_standing, merged, missing, need_beside, next_levels, object_below, object_with, opened_as, passes, path_is, place_at, range_with_len, replaced, resize_anew, root_spelling, same_levels, same_numbers, set_in, shadow_need, shared, size_of, standing_at, sum, to_filter, tree_in, tree_of, within, written_anew}
 use Rattle.cfs_base.specs.declared.kind.Kind.TheVariants as kinds
 use Rattle.block_tree.specs.declared.root.Root as roots
 use Rattle.ufs_model.specs.declared.object.Object.TheVariants as objects
@@ -31,7 +31,7 @@ module _ (image : Image) (root : roots.Root) (size : ℕ) (fits : Fits root) whe
   pub same_below : (p : List ℕ) → (tree_in image (root_spelling resized_root)).below p ≡ (tree_in image (root_spelling root)).below p
   same_below p = ap (held_at image) (same_tree p)
 
-  pub same_leaf : (n : ℕ) → leaves_of image resized_root n ≡ leaves_of image root n
+  pub same_leaf : (n : ℕ) → leaves_below image resized_root n ≡ leaves_below image root n
   same_leaf n =
       ap (λ (p : List ℕ). (tree_in image (root_spelling resized_root)).below p) (path_is (root_spelling resized_root) n) ∙ same_below (n / 128 ∷ n % 128 ∷ [])
       ∙ sym (ap (λ (p : List ℕ). (tree_in image (root_spelling root)).below p) (path_is (root_spelling root) n))
@@ -45,8 +45,8 @@ module _ (image : Image) (root : roots.Root) (size : ℕ) (fits : Fits root) whe
       let nodes : standing_at test old 1 ≡ standing_at test new 1 = node_level test old ∙ ap (λ (P : ℕ → Bool). filter P (range_with_len 0 120)) (fun_ext (λ n. ap (passes test) (sym (same_below (n ∷ []))))) ∙ sym (node_level test new) in
       ap (λ (ls : List (List ℕ)). get_or ls k []) (levels_are test old ∙ (λ i. leaves i ∷ nodes i ∷ []) ∙ sym (levels_are test new))
 
-  pub sized_tree : (n owner : ℕ) (o : Object) → IsTree n owner (tree_in image (root_spelling root)) root o → IsRoot resized_root → LeavesFit resized_root (leaves_of image root)
-      → IsTree n owner (tree_in image (root_spelling resized_root)) resized_root (object_of image resized_root)
+  pub sized_tree : (n owner : ℕ) (o : Object) → IsTree n owner (tree_in image (root_spelling root)) root o → IsRoot resized_root → LeavesFit resized_root (leaves_below image root)
+      → IsTree n owner (tree_in image (root_spelling resized_root)) resized_root (object_below image resized_root)
   sized_tree n owner o tree good fit = record {
     spelled = record { good = (fits_still, good); spelled = refl };
     object = refl;
@@ -60,8 +60,8 @@ module _ (image : Image) (root : roots.Root) (size : ℕ) (fits : Fits root) whe
   }
 
   -- a draft whose root has another size, which its leaves fit
-  pub sized_draft : (id : Puid) (was : Drafting) (d : Draft) → was.root ≡ root → HasDraft image id (opened_as id was d) → IsRoot resized_root → LeavesFit resized_root (leaves_of image root)
-      → HasDraft image id (opened_as id (record was { root = resized_root }) (record { object = object_of image resized_root; fresh = d.fresh }))
+  pub sized_draft : (id : Puid) (was : Drafting) (d : Draft) → was.root ≡ root → HasDraft image id (opened_as id was d) → IsRoot resized_root → LeavesFit resized_root (leaves_below image root)
+      → HasDraft image id (opened_as id (record was { root = resized_root }) (record { object = object_below image resized_root; fresh = d.fresh }))
   sized_draft id was d here draft good fit =
       let had = subst (λ (r : roots.Root). HasDraft image id (opened_as id (record was { root = r }) d)) here draft in
       record {
@@ -96,7 +96,7 @@ within_next (ns ∷ levels) there k = refl
 
 -- ---- to more, or to the same
 
-module _ {D : Type 0} {g : Ghosts D} {d0 : D} {k0 : Kept} {was : Drafting} (v : View g d0 k0 was) (f : File) (file : v.draft.object ≡ objects.File f) (size : ℕ) (more : was.root.size ≤ size) (limit : size ≤ 7864320) where
+module _ {D : Type 0} {g : Ghosts D} {d0 : D} {k0 : Kept} {was : Drafting} (v : DraftView g d0 k0 was) (f : File) (file : v.draft.object ≡ objects.File f) (size : ℕ) (more : was.root.size ≤ size) (limit : size ≤ 7864320) where
   abbrev a : Image
   a = g.content d0
 
@@ -104,7 +104,7 @@ module _ {D : Type 0} {g : Ghosts D} {d0 : D} {k0 : Kept} {was : Drafting} (v : 
   now = record was { root = record was.root { size = size } }
 
   abbrev e : Draft
-  e = record { object = object_of a now.root; fresh = v.draft.fresh }
+  e = record { object = object_below a now.root; fresh = v.draft.fresh }
 
   abbrev es : List Opened
   es = replaced (opened_as v.id now e) v.ds
@@ -112,31 +112,31 @@ module _ {D : Type 0} {g : Ghosts D} {d0 : D} {k0 : Kept} {was : Drafting} (v : 
   draft : HasDraft a v.id (opened_as v.id was v.draft)
   draft = draft_of v
 
-  gives : object_with was.root (leaves_of a was.root) ≡ objects.File f
+  gives : object_with was.root (leaves_below a was.root) ≡ objects.File f
   gives = draft.tree.object ∙ file
 
   not_index : was.root.kind ≢ kinds.Index
-  not_index = no_index was.root (leaves_of a was.root) f gives
+  not_index = no_index was.root (leaves_below a was.root) f gives
 
-  fit : LeavesFit was.root (leaves_of a was.root)
+  fit : LeavesFit was.root (leaves_below a was.root)
   fit = record { within = draft.tree.within; filled = draft.tree.filled }
 
   good : IsRoot now.root
   good = record { fill = draft.tree.spelled.good.1.fill; size = record { limit = limit; slots = λ is. absurd (not_index is) } }
 
   stands : HasDraft a v.id (opened_as v.id now e)
-  stands = sized_draft a was.root size draft.tree.spelled.good.0 v.id was v.draft refl draft good (grown_fit was.root (leaves_of a was.root) (leaves_of a was.root) size fit (λ n. refl) more)
+  stands = sized_draft a was.root size draft.tree.spelled.good.0 v.id was v.draft refl draft good (grown_fit was.root (leaves_below a was.root) (leaves_below a was.root) size fit (λ n. refl) more)
 
-  first : Becomes g v.graph v.ds v.id e d0 d0 k0 now
+  first : DraftBecomes g v.graph v.ds v.id e d0 d0 k0 now
   first = becomes_now g v.graph v.ds v.id v.object d0 d0 k0 k0 was now v.draft e v.store v.at v.opened (amid_begins g v.graph v.ds v.id v.object d0 k0 v.store v.at) stands refl refl v.opened.leaf_flags v.opened.node_flags v.opened.fresh
 
   object : changed_object (SetSize size) v.draft.object ≡ e.object
   object =
       ap (changed_object (SetSize size)) (sym draft.tree.object)
-      ∙ sym (grown_object was.root (leaves_of a was.root) (leaves_of a now.root) size fit (λ n. ap bytes_held (same_leaf a was.root size draft.tree.spelled.good.0 n)) more not_index)
+      ∙ sym (grown_object was.root (leaves_below a was.root) (leaves_below a now.root) size fit (λ n. ap bytes_held (same_leaf a was.root size draft.tree.spelled.good.0 n)) more not_index)
 
   size_is : size_of v.draft.object ≡ was.root.size
-  size_is = ap size_of file ∙ (file_to_leaves was.root (leaves_of a was.root) f gives).size
+  size_is = ap size_of file ∙ (file_to_leaves was.root (leaves_below a was.root) f gives).size
 
   nothing_anew : written_anew (SetSize size) v.draft.object v.draft.fresh ≡ []
   nothing_anew = ap (λ (b : Bool). if b then [] else resize_anew (inner_levels v.draft.object) size (held_leaves v.draft.object) v.draft.fresh) (le-leb (size_of v.draft.object) size (omega (arith, size_is, more)))

@@ -1,6 +1,6 @@
 -- How many blocks a slot of the draft of an index takes: as the flags have it, and as the model does.
 use Rattle.std.proofs.Common.{◌≡◌, ℕ, ◌+◌, ◌*◌, ◌/◌, ◌%◌, ◌<◌, ◌≤◌, Bool, true, false, cond, not, List, [], ◌∷◌, length, None, refl, sym, ◌∙◌, ap, arith, inl, inr, if◌then◌else◌}
-use Rattle.special_files.proofs.Words.{Drafting, Fill, Ghosts, Kept, View, cases_Bool, first_level, has_number, is_fresh_leaf, is_fresh_node, lacking, draft_takes, missing, next_levels, one_unless, opened_as, written_anew}
+use Rattle.special_files.proofs.Words.{Drafting, Fill, Ghosts, Kept, DraftView, cases_Bool, first_level, has_number, is_fresh_leaf, is_fresh_node, lacking, draft_takes, missing, next_levels, one_unless, opened_as, written_anew}
 use Rattle.special_files.proofs.Fresh.{node_of_fresh}
 use Rattle.special_files.proofs.Marks.{first_is, next_is}
 use Rattle.special_files.proofs.Needs.{has_is}
@@ -15,7 +15,7 @@ one_lacks n ns = by (has_number n ns)
     by false = refl
 
 -- a leaf that is fresh stands below a node that is
-pub slot_need_is : {D : Type 0} {g : Ghosts D} {d0 : D} {k0 : Kept} {was : Drafting} (v : View g d0 k0 was) (slot : ℕ) → 8 * slot + 8 ≤ was.root.size
+pub slot_need_is : {D : Type 0} {g : Ghosts D} {d0 : D} {k0 : Kept} {was : Drafting} (v : DraftView g d0 k0 was) (slot : ℕ) → 8 * slot + 8 ≤ was.root.size
     → draft_takes was (slot / 64) ≡ missing (written_anew (Fill slot None) v.draft.object v.draft.fresh) v.draft.fresh
 slot_need_is {g = g} {d0} {was = was} v slot inside = elim (cases_Bool (is_fresh_leaf was (slot / 64))) [
   | inl fresh ↦ omega (arith, one, two, ap one_unless fresh, ap one_unless (node_fresh fresh), ap takes fresh)

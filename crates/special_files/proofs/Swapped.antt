@@ -1,6 +1,6 @@
 -- A draft that was its object until one leaf was put: what its commit takes and drops.
 use Rattle.std.proofs.Common.{◌≡◌, ◌≢◌, ℕ, zero, suc, ◌+◌, ◌*◌, ◌/◌, ◌%◌, ◌<◌, List, [], ◌∷◌, ◌++◌, get_or, Option, Some, None, refl, sym, ◌∙◌, ap, subst, arith}
-use Rattle.special_files.proofs.Words.{Accounts, Becomes, ChangesOnly, Draft, Drafting, Fits, Ghosts, Graph, HasDraft, Held, Image, IsChanged, IsNearSwap, IsOpen, IsRead, IsSafe, IsSwapped, Kept, NodeRead, Object, Opened, Puid, SameBeside, StoreHas, Swap, Tree, all_unlike, block_kept, drafts_miss, dropped_by, held_at, is_had, leaves_at, node_of, object_at, of_draft, opened_as, own_tree, replaced, root_spelling, same_tree, tree_in, tree_of, unlike}
+use Rattle.special_files.proofs.Words.{Accounts, DraftBecomes, ChangesOnly, Draft, Drafting, Fits, Ghosts, Graph, HasDraft, Held, Image, IsChanged, IsNearSwap, IsOpen, IsRead, IsSafe, IsSwapped, Kept, NodeRead, Object, Opened, Puid, SameBeside, StoreHas, Swap, Tree, all_unlike, block_kept, drafts_miss, dropped_by, held_at, is_had, leaves_at, pointer_to_node, object_at, of_draft, opened_as, own_tree, replaced, root_spelling, same_tree, tree_in, tree_of, unlike}
 use Rattle.block_tree.specs.declared.root.Root as roots
 use Rattle.special_files.proofs.PutStore.{the_draft}
 use Rattle.special_files.proofs.ChangedRun.{all_change, node_in_tree, table_below}
@@ -29,7 +29,7 @@ in_below : (i : Image) (r : roots.Root) → Fits r → (j : ℕ) → in_tree i r
 in_below i r fits j = in_tree_is i r fits j ∙ sym (block_is i (tree_of i (root_spelling r) (path_of j)))
 
 module _ (a b : Image) (own root : roots.Root) (fits_own : Fits own) (fits : Fits root) (l : ℕ) (few : l < 15360) (kept : tree_in b (root_spelling own) ≡ tree_in a (root_spelling own))
-    (beside : SameBeside l (tree_in a (root_spelling own)) (tree_in b (root_spelling root))) (was is : ℕ) (was_is : was ≡ get_or (leaves_at a (node_of own (l / 128))) (l % 128) 0) (is_is : is ≡ get_or (leaves_at b (node_of root (l / 128))) (l % 128) 0) where
+    (beside : SameBeside l (tree_in a (root_spelling own)) (tree_in b (root_spelling root))) (was is : ℕ) (was_is : was ≡ get_or (leaves_at a (pointer_to_node own (l / 128))) (l % 128) 0) (is_is : is ≡ get_or (leaves_at b (pointer_to_node root (l / 128))) (l % 128) 0) where
   -- where the node and the leaf are among the pointers
   abbrev p : ℕ
   p = 129 * (l / 128) + 0
@@ -53,16 +53,16 @@ module _ (a b : Image) (own root : roots.Root) (fits_own : Fits own) (fits : Fit
   own_leaf : in_tree b own q ≡ was
   own_leaf = own_same q ∙ node_in_tree a own (l / 128) (suc (l % 128)) (omega arith) ∙ sym was_is
 
-  new_node : in_tree b root p ≡ node_of root (l / 128)
+  new_node : in_tree b root p ≡ pointer_to_node root (l / 128)
   new_node = node_in_tree b root (l / 128) 0 (omega arith)
 
-  own_node : in_tree b own p ≡ node_of own (l / 128)
+  own_node : in_tree b own p ≡ pointer_to_node own (l / 128)
   own_node = node_in_tree b own (l / 128) 0 (omega arith)
 
-  pub taken_two : all_unlike (in_tree b root) (in_tree b own) 15480 ≡ unlike (node_of root (l / 128)) (node_of own (l / 128)) ++ unlike is was
+  pub taken_two : all_unlike (in_tree b root) (in_tree b own) 15480 ≡ unlike (pointer_to_node root (l / 128)) (pointer_to_node own (l / 128)) ++ unlike is was
   taken_two = two_unlike (in_tree b root) (in_tree b own) p q 15480 (omega arith) (omega (arith, few)) (λ j less. others j) ∙ (λ i. unlike (new_node i) (own_node i) ++ unlike (new_leaf i) (own_leaf i))
 
-  pub dropped_two : all_unlike (in_tree b own) (in_tree b root) 15480 ≡ unlike (node_of own (l / 128)) (node_of root (l / 128)) ++ unlike was is
+  pub dropped_two : all_unlike (in_tree b own) (in_tree b root) 15480 ≡ unlike (pointer_to_node own (l / 128)) (pointer_to_node root (l / 128)) ++ unlike was is
   dropped_two = two_unlike (in_tree b own) (in_tree b root) p q 15480 (omega arith) (omega (arith, few)) (λ j less not_p not_q. sym (others j not_p not_q)) ∙ (λ i. unlike (own_node i) (new_node i) ++ unlike (own_leaf i) (new_leaf i))
 
 -- ---- what was put
@@ -85,11 +85,11 @@ module _ (was now : Drafting) (l : ℕ) (few : l < 15360) (first next : NodeRead
     leaf = few;
     was = table_below size 0 first.node.leaves some some (one first_read).1 (suc (l % 128));
     is = table_below size 0 next.node.leaves some some (two next_read).1 (suc (l % 128));
-    own = (let is : node_of now.own (l / 128) ≡ node_of was.root first.number = λ i. node_of (own_root i) (sym first_is i) in omega (arith, (one first_read).0, is));
-    node = omega (arith, (two next_read).0, ap (node_of now.root) (sym next_is));
+    own = (let is : pointer_to_node now.own (l / 128) ≡ pointer_to_node was.root first.number = λ i. pointer_to_node (own_root i) (sym first_is i) in omega (arith, (one first_read).0, is));
+    node = omega (arith, (two next_read).0, ap (pointer_to_node now.root) (sym next_is));
   }
 
-  pub is_swapped : {D : Type 0} (g : Ghosts D) (graph : Graph) (ds : List Opened) (id : Puid) (o : Object) (d0 d1 : D) (k0 k1 : Kept) (d e : Draft) → StoreHas g graph ds d0 k0 → object_at graph id ≡ Some o → IsOpen ds id was d → Becomes g graph ds id e d0 d1 k1 now
+  pub is_swapped : {D : Type 0} (g : Ghosts D) (graph : Graph) (ds : List Opened) (id : Puid) (o : Object) (d0 d1 : D) (k0 k1 : Kept) (d e : Draft) → StoreHas g graph ds d0 k0 → object_at graph id ≡ Some o → IsOpen ds id was d → DraftBecomes g graph ds id e d0 d1 k1 now
       → SameBeside l (tree_in (g.content d0) (root_spelling was.root)) (tree_in (g.content d1) (root_spelling now.root)) → IsRead (g.content d0) was first → IsRead (g.content d1) now next → IsSwapped (g.content d1) id now e swap
   is_swapped g graph ds id o d0 d1 k0 k1 d e store at opened becomes beside read0 read1 =
       let a = g.content d0 in
@@ -98,8 +98,8 @@ module _ (was now : Drafting) (l : ℕ) (few : l < 15360) (first next : NodeRead
       let after = the_draft b (replaced (opened_as id now e) ds) id now e becomes.is_open (becomes.steps.store.account.drafts id o at) in
       let kept = subst (λ (r : roots.Root). tree_in b (root_spelling r) ≡ tree_in a (root_spelling r)) (sym own_is) (own_kept a b graph ds id o (opened_as id was d) store.account at before becomes.steps.only) in
       let same = subst (λ (r : roots.Root). SameBeside l (tree_in a (root_spelling r)) (tree_in b (root_spelling now.root))) (sym own_root) beside in
-      let was_is = ap (λ (ns : List ℕ). get_or ns (l % 128) 0) (read0 first_read ∙ (λ i. leaves_at a (node_of (sym own_root i) (first_is i)))) in
-      let is_is = ap (λ (ns : List ℕ). get_or ns (l % 128) 0) (read1 next_read ∙ (λ i. leaves_at b (node_of now.root (next_is i)))) in
+      let was_is = ap (λ (ns : List ℕ). get_or ns (l % 128) 0) (read0 first_read ∙ (λ i. leaves_at a (pointer_to_node (sym own_root i) (first_is i)))) in
+      let is_is = ap (λ (ns : List ℕ). get_or ns (l % 128) 0) (read1 next_read ∙ (λ i. leaves_at b (pointer_to_node now.root (next_is i)))) in
       let change = all_change g graph (replaced (opened_as id now e) ds) k1 id o now e d1 becomes.steps.store at becomes.is_open in
       subst (λ (ns : List ℕ). IsChanged b id (opened_as id now e) ns (dropped_by now swap)) (taken_two a b now.own now.root after.own.good.0 after.tree.spelled.good.0 l few kept same swap.was swap.is was_is is_is)
       (subst (IsChanged b id (opened_as id now e) (all_unlike (in_tree b now.root) (in_tree b now.own) 15480)) (dropped_two a b now.own now.root after.own.good.0 after.tree.spelled.good.0 l few kept same swap.was swap.is was_is is_is) change)

@@ -4,7 +4,7 @@ use Rattle.intentions.proofs.Drafts.{draft_there}
 use Rattle.intentions.proofs.Shown.{store_tells}
 use Rattle.intentions.specs.Left.{StoreIs}
 use Rattle.special_files.specs.View.{HasTree}
-use Rattle.special_files.proofs.Words.{Draft, Drafting, Ghosts, Image, IsTree, root_spelling, tells_on, tree_in, Graph, HasDraft, IsOpen, Kept, Object, OnlyReads, Opened, Puid, StoreHas, View, object_at, opened_as, File, Held, FileKind, kind_of, object_with, file_to_leaves}
+use Rattle.special_files.proofs.Words.{Draft, Drafting, Ghosts, Image, IsTree, root_spelling, tells_on, tree_in, Graph, HasDraft, IsOpen, Kept, Object, OnlyReads, Opened, Puid, StoreHas, DraftView, object_at, opened_as, File, Held, FileKind, kind_of, object_with, file_to_leaves}
 use Rattle.special_files.proofs.Begun.{store_reads}
 use Rattle.cfs_base.specs.declared.kind.Kind.TheVariants as kinds
 use Rattle.cfs_base.specs.declared.kind.FileKind.TheVariants as file_kinds
@@ -12,19 +12,19 @@ use Rattle.ufs_model.specs.declared.object.Object.TheVariants as objects
 use Rattle.block_tree.specs.declared.root.Root as roots
 use Rattle.special_files.proofs.PutStore.{the_draft}
 
-abbrev pub view : {D : Type 0} {g : Ghosts D} {graph : Graph} {ds : List Opened} {id : Puid} {o : Object} {d : Draft} {disk : D} {space : Kept} {was : Drafting} → StoreHas g graph ds disk space → object_at graph id ≡ Some o → IsOpen ds id was d → View g disk space was
+abbrev pub view : {D : Type 0} {g : Ghosts D} {graph : Graph} {ds : List Opened} {id : Puid} {o : Object} {d : Draft} {disk : D} {space : Kept} {was : Drafting} → StoreHas g graph ds disk space → object_at graph id ≡ Some o → IsOpen ds id was d → DraftView g disk space was
 view {graph} {ds} {id} {o} {d} store at opened = record { graph = graph; ds = ds; id = id; object = o; draft = d; store = store; at = at; opened = opened }
 
-module _ {D : Type 0} {g : Ghosts D} {d0 : D} {space : Kept} {was : Drafting} (v : View g d0 space was) where
+module _ {D : Type 0} {g : Ghosts D} {d0 : D} {space : Kept} {was : Drafting} (v : DraftView g d0 space was) where
   pub draft_of : HasDraft (g.content d0) v.id (opened_as v.id was v.draft)
   draft_of = the_draft (g.content d0) v.ds v.id was v.draft v.opened (v.store.account.drafts v.id v.object v.at)
 
-  abbrev pub view_reads : {d1 : D} {n : ℕ} → OnlyReads g n d0 d1 → View g d1 space was
+  abbrev pub view_reads : {d1 : D} {n : ℕ} → OnlyReads g n d0 d1 → DraftView g d1 space was
   view_reads {d1} {n} reads = record { graph = v.graph; ds = v.ds; id = v.id; object = v.object; draft = v.draft; store = store_reads g v.graph v.ds d0 d1 space n v.store reads; at = v.at; opened = v.opened }
 
 -- ---- its tree
 
-pub view_tree : {D : Type 0} {g : Ghosts D} {disk : D} {space : Kept} {was : Drafting} → View g disk space was → HasTree g disk was
+pub view_tree : {D : Type 0} {g : Ghosts D} {disk : D} {space : Kept} {was : Drafting} → DraftView g disk space was → HasTree g disk was
 view_tree v = record { tells = v.store.carries.tells; owner = v.id.block; object = v.draft.object; tree = (draft_of v).tree }
 
 -- also while a commit is unfinished, which is of another object

@@ -27,9 +27,10 @@ pub use Rattle.claims.proofs.Claims.{claimed_by, claims_then, written_same}
 pub use Rattle.claims.specs.Claims.{AreClaimed, SameEntries}
 pub use Rattle.cyl_alloc.proofs.Counted.{counts_given, counts_same}
 pub use Rattle.cyl_alloc.proofs.Entries.{some_entry}
+pub use Rattle.cyl_alloc.proofs.Miscounts.{miscounted_as}
 pub use Rattle.cyl_alloc.specs.Enters.{Enters, EntryWritten}
 pub use Rattle.cyl_alloc.specs.Refusals.{IsFindRefusal, IsMapTrouble}
-pub use Rattle.cyl_alloc.specs.Space.{AreCounts, IsBadMap, IsLeastFree, Kept, after_giving, after_taking, free_entry, intended}
+pub use Rattle.cyl_alloc.specs.Space.{AreCounts, IsBadMap, IsLeastFree, IsMiscounted, Kept, after_giving, after_taking, unheld_entry, intended}
 unfoldable pub use Rattle.cyl_alloc.specs.Space.{free_in_cylinder}
 pub use Rattle.cyl_map.proofs.Volumes.{block_at-with_entry, entry_in-set, entry_in-with_entry_other, entry_in-with_entry_same, entry_in_table, length-with_entry, map_in_image, same_or_not}
 pub use Rattle.cyl_map.specs.Entry.{IsEntry}
@@ -47,7 +48,7 @@ pub use Rattle.intentions.proofs.Valid.{bit_valid, finished_part, no_shadow_stan
 pub use Rattle.intentions.specs.Calls.{ChangesBit, ChangesEntry}
 pub use Rattle.intentions.specs.Commit.{Commits, Copies, IsCommitted, IsToFinish}
 pub use Rattle.intentions.specs.Course.{Course, Frame, IsCourse, IsOn, Keeps, MayPut, Settling}
-pub use Rattle.intentions.specs.Entries.{changed, finished, finished_in, released, released_at, released_in, undone, undone_in, with_bit, with_bit_at, without_bit}
+pub use Rattle.intentions.specs.Entries.{changed_entry, finished, finished_in, released, released_at, released_in, undone, undone_in, with_bit, with_bit_at, without_bit}
 pub use Rattle.intentions.specs.Flips.{Flip, MayFlip, flip, flip_in, flipped, flips}
 pub use Rattle.intentions.specs.Store.{StoreHas}
 pub use Rattle.intentions.specs.declared.change.Change.{Change}
@@ -62,30 +63,31 @@ pub use Rattle.leaf_changes.proofs.Resized.{cut_fit, cut_object, grown_fit, grow
 pub use Rattle.leaf_changes.proofs.SlotBytes.{same_slot}
 pub use Rattle.leaf_changes.proofs.Slotted.{empty_stays, slot_fit, slot_object}
 pub use Rattle.leaf_changes.proofs.Written.{writes_begin, writes_more, writes_object}
-pub use Rattle.leaf_changes.specs.Bytes.{IsSlot, patched, with_leaf, with_slot}
+pub use Rattle.leaf_changes.specs.Bytes.{IsSlot, patched, with_leaf_copied, with_slot}
 unfoldable pub use Rattle.leaf_changes.specs.Bytes.{cut, overlaid}
 pub use Rattle.leaf_changes.specs.Changes.{SetsSize}
 pub use Rattle.leaf_changes.specs.Gives.{GivesIndex, kind_of}
 pub use Rattle.leaf_changes.specs.Leaves.{FillsSlot, IsReadTo, LeavesFit, Shrinks, WritesTo, bytes_held, cut_held}
-pub use Rattle.special_files.specs.Becomes.{Becomes}
-pub use Rattle.special_files.specs.Calls.{Claims, GetsNode, Had, SetsFlags, SetsFresh, WritesBlock}
+pub use Rattle.special_files.specs.Becomes.{DraftBecomes}
+pub use Rattle.special_files.specs.Calls.{Claims, GetsDraftNode, Had, SetsFlags, SetsFresh, WritesDraftBlock}
 pub use Rattle.special_files.specs.Changed.{AreDropped, AreOnDisk, AreTaken, IsChanged, in_node, pointer_table, unlike}
 unfoldable pub use Rattle.special_files.specs.Changed.{all_unlike}
-pub use Rattle.special_files.specs.Committing.{AbortEnds, AreParts, Decided, CommitEnds, Committed, Dropped, Fails, Finishes, Flips, IsEntered, IsOldOrNew, IsReady, Makes, Making, TakesShadow, bit_set, far_root, given_all, puid_at, making_root, settling, undoing, with_making}
-pub use Rattle.special_files.specs.Drafting.{Drafting, HasNoneFresh, IsOpen, begun_at, fresh_of, is_fresh_leaf, is_fresh_node, draft_takes, leaves_take, need_beside, node_of, number_if, one_unless, opened_as, shadow_count, shadow_need}
+pub use Rattle.special_files.specs.Committing.{AbortEnds, AreDraftParts, Decided, CommitEnds, Committed, Dropped, CommitFails, FinishesCommit, Flips, FlipsRun, IsEntered, IsOldOrNew, IsReady, Makes, Making, TakesShadow, bit_set, far_root, given_all, puid_at, making_root, settling, undoing, with_making, FarMade, FarRoots, FarShadow, IsFar, IsFarPart, draft_top, made_top, parts_top}
+pub use Rattle.special_files.specs.Drafting.{Drafting, HasNoneFresh, IsOpen, begun_at, fresh_of, is_fresh_leaf, is_fresh_node, draft_takes, leaves_take, need_beside, pointer_to_node, number_if, one_unless, opened_as, shadow_count, shadow_need}
 unfoldable pub use Rattle.special_files.specs.Drafting.{none_of, set_in, unset_in}
-pub use Rattle.special_files.specs.Ends.{Ends}
+pub use Rattle.special_files.specs.Ends.{EndsCall}
 pub use Rattle.special_files.specs.Fills.{IsNearSwap, IsSwapped, dropped_by, filled_draft, is_empty_already}
-pub use Rattle.special_files.specs.Leaves.{PutsAt, SameBeside, draft_in, leaves_of, object_of}
+pub use Rattle.special_files.specs.Leaves.{PutsAt, SameBeside, draft_in, leaves_below, object_below}
 pub use Rattle.special_files.specs.Nodes.{IsRead, IsSafe}
 pub use Rattle.special_files.specs.Order.{ClaimsAndDrops, claims_anew, claims_by_leaf, leaf_claims, node_claims}
 pub use Rattle.special_files.specs.Puts.{FitsLeaf, LeafCall, PutsLeaf, StaysBut, drafts_with}
 pub use Rattle.block_tree.specs.Reads.{HasStoppedBy, Far, FarLeaf, IsNear, IsNodeTrouble, IsRootTrouble, is_damage, leaves_at}
-pub use Rattle.special_files.specs.Refusal.{FarNode, FarRoot, IsDamage, IsRefusal, IsTrouble, NoMap, NoRoot, OpenMap, OtherCount, is_damaged, is_full_refusal, refusal_after}
-pub use Rattle.special_files.specs.Shed.{AreShed, Cuts, CutsIf, DropCall, DropsFrom, Forgets, HasParts, IsBorder, IsCutHere, IsFullFor, IsPast, IsPlan, IsReadIn, IsShed, IsShortNode, IsToldByNodes, KeepsOne, NoBlock, NoWrite, Put, PutsWithin, ResizeCall, Resized, Spares, Whole, Within, border_claims, border_takes, cut_takes, is_stale_cut, last_node, list_if, plan_needs, shrink_takes, sized}
+pub use Rattle.special_files.specs.Refusal.{FarNode, FarRoot, IsDraftDamage, IsDraftRefusal, IsDraftTrouble, NoMap, NoRoot, OpenMap, OtherCount, has_met_damage, is_full_refusal, nodes_top, roots_top, refusal_after, top_of}
+pub use Rattle.leaf_changes.specs.Tops.{IsFarRoot, Top, root_top, still_top}
+pub use Rattle.special_files.specs.Shed.{AreShed, Cuts, CutsIf, DropCall, DropsFrom, Forgets, HasParts, IsBorder, IsCutHere, IsFullFor, IsPathPast, IsPlan, IsReadIn, IsShed, IsShortNode, IsToldByNodes, KeepsOne, NoBlock, NoWrite, Put, PutsWithin, ResizeCall, Resized, Spares, Whole, Within, border_claims, border_takes, cut_takes, is_stale_cut, last_draft_node, list_if, plan_needs, shrink_takes, sized}
 unfoldable pub use Rattle.special_files.specs.Shed.{fresh_in}
 pub use Rattle.special_files.specs.Store.{Steps, replaced, without_draft}
-pub use Rattle.special_files.specs.View.{Goes, View}
+pub use Rattle.special_files.specs.View.{GoesHolding, DraftView}
 pub use Rattle.special_files.specs.declared.fill.Swap.{Swap}
 pub use Rattle.special_files.specs.declared.node.NodeRead.{NodeRead}
 pub use Rattle.special_files.specs.declared.shrink.Plan.{Plan}
@@ -130,7 +132,7 @@ pub use Rattle.vol_image.proofs.Rising.{filter-rises, here, in_cons, in_filter, 
 pub use Rattle.vol_image.proofs.Steps.{frames_back, frames_begin, frames_content, frames_then, frames_write, not_label, not_map}
 pub use Rattle.vol_image.proofs.Unique.{one_root_block}
 pub use Rattle.vol_image.proofs.Views.{held, held_block, same_tree}
-pub use Rattle.vol_image.specs.Commit.{IsDraft, Settles, committed}
+pub use Rattle.vol_image.specs.Commit.{IsDraft, Settles, with_commit_bit}
 pub use Rattle.vol_image.specs.Count.{held_at_depth, levels_held}
 pub use Rattle.vol_image.specs.Frame.{Frames, IsBlockOf, IsLoose, StandsForNone}
 pub use Rattle.vol_image.specs.Part.{BelongsTo, IsTaken, RootsOwnThemselves, SameAt, is_committed, is_fixed, part_at, part_in, part_of, reserved, stands_for}
@@ -150,6 +152,6 @@ pub use Rattle.vol_owners.proofs.Keys.{object_of_block}
 pub use Rattle.vol_owners.proofs.Owned.{same_sums, shadow_apart}
 pub use Rattle.vol_owners.proofs.Owners.{drafts_miss}
 pub use Rattle.vol_owners.proofs.Steps.{creation_goes_on, draft_goes_on, making_goes_on, object_changes_on}
-pub use Rattle.vol_owners.specs.Account.{Accounts, HasDraft, HasDrafts, HasItsBlocks, IsMade, Opened, StandsIn, content_of, created_of, drafts_of, is_meant_for, levels_standing, numbers_differ, passes, standing_at}
+pub use Rattle.vol_owners.specs.Account.{Accounts, HasDraft, HasDrafts, HasItsBlocks, IsMadeRoot, Opened, StandsIn, content_of, created_of, drafts_of, is_meant_for, levels_standing, numbers_differ, passes, standing_at}
 pub use Rattle.vol_owners.specs.Change.{ChangesOnly, IsOpenTo, OwnsNothing, SameBut, SameOthers, of_draft, of_drafts, of_owners}
-pub use Rattle.vol_owners.specs.Owner.{is_had, is_leaving, is_made, is_meant, is_of, is_placed, is_root_place, is_taken, owner_of}
+pub use Rattle.vol_owners.specs.Owner.{is_had, is_leaving, is_made, is_meant, is_owned_by, is_placed, is_root_place, is_taken, owner_of}

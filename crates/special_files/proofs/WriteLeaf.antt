@@ -1,6 +1,6 @@
 -- Bytes written into one leaf of a draft: what was read is laid under them, and they are put.
 use Rattle.std.proofs.Common.{◌≡◌, ℕ, ◌+◌, ◌-◌, ◌*◌, ◌/◌, ◌%◌, ◌<◌, ◌≤◌, List, ◌++◌, length, get_or, take, replicate, slice_range, Err, refl, sym, ◌∙◌, ap, subst, arith, false, Ok}
-use Rattle.special_files.proofs.Words.{AreClaimed, Becomes, ChangesOnly, Drafting, Ends, FitsLeaf, Ghosts, Goes, Graph, HasDraft, Holds, Image, IsNear, IsRead, IsTrouble, Kept, LeafCall, Leaves, LeavesFit, NodeRead, Nothing, OnlyReads, Opened, Puid, PutsAt, PutsLeaf, Refused, Result, SameBeside, Tells, Trouble, View, cut, drop_all, get_or-append_right, get_or-replicate, is_damage, is_damaged, is_full_refusal, leaf_claims, leaf_content, draft_takes, leaves_at, leaves_in, leaves_of, length-leaf_content, length-take, makes_then, node_of, of_draft, opened_as, over_byte, over_past, overlaid, past_size, patched, reads_make, reads_then, reads_within, refused_by, root_spelling, sum, then, then_tried, tree_in, wider}
+use Rattle.special_files.proofs.Words.{AreClaimed, DraftBecomes, ChangesOnly, Drafting, EndsCall, FitsLeaf, Ghosts, GoesHolding, Graph, HasDraft, Holds, Image, IsNear, IsRead, IsDraftTrouble, Kept, LeafCall, Leaves, LeavesFit, NodeRead, Nothing, OnlyReads, Opened, Puid, PutsAt, PutsLeaf, Refused, Result, SameBeside, Tells, Trouble, DraftView, cut, drop_all, get_or-append_right, get_or-replicate, is_damage, has_met_damage, is_full_refusal, leaf_claims, leaf_content, draft_takes, leaves_at, leaves_in, leaves_below, length-leaf_content, length-take, makes_then, pointer_to_node, of_draft, opened_as, over_byte, over_past, overlaid, past_size, patched, reads_make, reads_then, reads_within, refused_by, root_spelling, sum, then, then_tried, tree_in, wider, Top, top_of}
 use Rattle.block_tree.specs.declared.root.Root as roots
 use Rattle.ufs_model.specs.declared.object.Draft as models
 use Rattle.special_files.proofs.ReadLeaves.{node_near}
@@ -25,16 +25,16 @@ covered leaf offset bytes xs ys long_xs long_ys from to =
 
 -- bytes within the size leave fill bytes past it
 pub patched_fits : (image : Image) (id : Puid) (was : Drafting) (d : models.Draft) → HasDraft image id (opened_as id was d) → (leaf offset : ℕ) (bytes : List ℕ) → leaf < leaves_in was.root.size → offset + length bytes ≤ was.root.size
-    → FitsLeaf was.root leaf (patched leaf offset bytes (leaf_content was.root.fill (leaves_of image was.root leaf)))
+    → FitsLeaf was.root leaf (patched leaf offset bytes (leaf_content was.root.fill (leaves_below image was.root leaf)))
 patched_fits image id was d draft leaf offset bytes inside within =
-    let content = leaf_content was.root.fill (leaves_of image was.root leaf) in
-    let fit : LeavesFit was.root (leaves_of image was.root) = record { within = draft.tree.within; filled = draft.tree.filled } in
+    let content = leaf_content was.root.fill (leaves_below image was.root leaf) in
+    let fit : LeavesFit was.root (leaves_below image was.root) = record { within = draft.tree.within; filled = draft.tree.filled } in
     record {
       within = inside;
       filled = λ i small past.
-          over_byte (512 * leaf) content offset bytes i (omega (arith, small, length-leaf_content was.root.fill (leaves_of image was.root leaf)))
+          over_byte (512 * leaf) content offset bytes i (omega (arith, small, length-leaf_content was.root.fill (leaves_below image was.root leaf)))
           ∙ over_past offset bytes (512 * leaf + i) (get_or content i 0) (omega (arith, within, past))
-          ∙ past_size was.root (leaves_of image was.root) fit leaf i small past;
+          ∙ past_size was.root (leaves_below image was.root) fit leaf i small past;
     }
 
 -- a leaf that is cut has fill bytes from there on
@@ -51,7 +51,7 @@ cut_fits root size content long less = record {
 
 -- what was read last, seen from the image before
 pub read_since : {D : Type 0} {g : Ghosts D} {d0 d1 : D} {n : ℕ} (reads : OnlyReads g n d0 d1) (was : Drafting) (read : NodeRead) → IsRead (g.content d0) was read → IsRead (g.content d1) was read
-read_since {g} reads was read is = λ few. is few ∙ ap (λ (i : Image). leaves_at i (node_of was.root read.number)) (sym reads.content)
+read_since {g} reads was read is = λ few. is few ∙ ap (λ (i : Image). leaves_at i (pointer_to_node was.root read.number)) (sym reads.content)
 
 -- reads leave nothing more
 pub leaves_read : {D : Type 0} (g : Ghosts D) (graph : Graph) (n : ℕ) (d0 d1 : D) → OnlyReads g n d0 d1 → Leaves g d0 d1 (λ c. Holds c graph)
@@ -68,27 +68,27 @@ module _ {D : Type 0} {g : Ghosts D} {d0 d1 : D} {n : ℕ} (reads : OnlyReads g 
     steps = record { store = puts.steps.store; only = subst (λ (i : Image). ChangesOnly (λ e. of_draft id.block e) i (g.content d2)) reads.content puts.steps.only };
     is_open = puts.is_open;
     sets = puts.sets;
-    leaves = subst (λ (i : Image). PutsAt leaf content (leaves_of i was.root) (leaves_of (g.content d2) now.root)) reads.content puts.leaves;
+    leaves = subst (λ (i : Image). PutsAt leaf content (leaves_below i was.root) (leaves_below (g.content d2) now.root)) reads.content puts.leaves;
     read_is = puts.read_is;
     order = subst (λ (i : Image). AreClaimed (leaf_claims was.at was.leaves was.nodes leaf) i (g.content d2)) reads.content puts.order;
     beside = subst (λ (i : Image). SameBeside leaf (tree_in i (root_spelling was.root)) (tree_in (g.content d2) (root_spelling now.root))) reads.content puts.beside;
   }
 
-  pub becomes_since : {d2 : D} {graph : Graph} {ds : List Opened} {id : Puid} {e : models.Draft} {k2 : Kept} {now : Drafting} → Becomes g graph ds id e d1 d2 k2 now → Becomes g graph ds id e d0 d2 k2 now
+  pub becomes_since : {d2 : D} {graph : Graph} {ds : List Opened} {id : Puid} {e : models.Draft} {k2 : Kept} {now : Drafting} → DraftBecomes g graph ds id e d1 d2 k2 now → DraftBecomes g graph ds id e d0 d2 k2 now
   becomes_since {d2} {id = id} is = record { steps = record { store = is.steps.store; only = subst (λ (i : Image). ChangesOnly (λ e. of_draft id.block e) i (g.content d2)) reads.content is.steps.only }; is_open = is.is_open }
 
   pub images_since : (d2 : D) (P : Image → Type 0) → Leaves g d1 d2 P → Leaves g d0 d2 P
   images_since d2 P images = then g d0 d1 d2 P P (wider g d0 d1 Nothing P reads.images (λ c none. absurd none)) images (λ c h. h)
 
   -- the call goes on
-  pub goes_since : {A : Type 0} {graph : Graph} {P Q : Type 0} {d2 : D} {r : Result A Refused} → (P → Q) → Goes g graph P d1 d2 r → Goes g graph Q d0 d2 r
+  pub goes_since : {A : Type 0} {graph : Graph} {P Q : Type 0} {d2 : D} {r : Result A Refused} → (P → Q) → GoesHolding g graph P d1 d2 r → GoesHolding g graph Q d0 d2 r
   goes_since {d2 = d2} {r = r} f goes = record { done = on_ok r f goes.done; leaves = images_since d2 _ goes.leaves; sound = goes.sound }
 
   -- the call stopped there
-  pub goes_stopped : {A : Type 0} {graph : Graph} {P : Type 0} (t : Trouble) (e : Refused) → e ≡ refused_by t → is_damage t ≡ false → Goes {A = A} g graph P d0 d1 (Err e)
-  goes_stopped {graph = graph} t e is sound = record { done = tt; leaves = leaves_read g graph n d0 d1 reads; sound = ap is_damaged is ∙ damaged_by t sound }
+  pub goes_stopped : {A : Type 0} {graph : Graph} {P : Type 0} (t : Trouble) (e : Refused) → e ≡ refused_by t → is_damage t ≡ false → GoesHolding {A = A} g graph P d0 d1 (Err e)
+  goes_stopped {graph = graph} t e is sound = record { done = tt; leaves = leaves_read g graph n d0 d1 reads; sound = ap has_met_damage is ∙ damaged_by t sound }
 
-  pub ends_since : {A : Type 0} {at floor m t k : ℕ} {d2 : D} {k1 k2 : Kept} {r : Result A Refused} (most : ℕ) → Ends g at floor m t k d1 d2 k1 k2 r → n + m ≤ most → Ends g at floor most t k d0 d2 k1 k2 r
+  pub ends_since : {A : Type 0} {at : Top} {floor m t k : ℕ} {d2 : D} {k1 k2 : Kept} {r : Result A Refused} (most : ℕ) → EndsCall g at floor m t k d1 d2 k1 k2 r → n + m ≤ most → EndsCall g at floor most t k d0 d2 k1 k2 r
   ends_since {at = at} {floor = floor} {m = m} {t = t} {d2 = d2} {k2 = k2} {r = r} most is le = record {
     told = on_ok r (λ told b was. told b (reads.told b was)) is.told;
     refused = if_err r (λ e why. refusal_after_reads g at d0 d1 d2 k2 floor n e reads why) is.refused;
@@ -100,8 +100,8 @@ module _ {D : Type 0} {g : Ghosts D} {d0 d1 : D} {n : ℕ} (reads : OnlyReads g 
   }
 
   -- only reads, and then a trouble
-  pub ends_trouble : {A : Type 0} {at floor : ℕ} {kept : Kept} (t k most : ℕ) (trouble : Trouble) (e : Refused) → e ≡ refused_by trouble → n ≤ most → IsTrouble g at d0 d1 kept trouble → Ends {A = A} g at floor most t k d0 d1 kept kept (Err e)
-  ends_trouble {A = A} {at = at} {floor = floor} {kept = kept} t k most trouble e same le is = subst (λ (x : Refused). Ends {A = A} g at floor most t k d0 d1 kept kept (Err x)) (sym same) (record {
+  pub ends_trouble : {A : Type 0} {at : Top} {floor : ℕ} {kept : Kept} (t k most : ℕ) (trouble : Trouble) (e : Refused) → e ≡ refused_by trouble → n ≤ most → IsDraftTrouble g at d0 d1 kept trouble → EndsCall {A = A} g at floor most t k d0 d1 kept kept (Err e)
+  ends_trouble {A = A} {at = at} {floor = floor} {kept = kept} t k most trouble e same le is = subst (λ (x : Refused). EndsCall {A = A} g at floor most t k d0 d1 kept kept (Err x)) (sym same) (record {
     told = tt;
     refused = refusal_of g at floor d0 d1 kept trouble is;
     untried = λ same. (refl, reads_within g d0 d1 n most le reads);
@@ -113,9 +113,9 @@ module _ {D : Type 0} {g : Ghosts D} {d0 d1 : D} {n : ℕ} (reads : OnlyReads g 
 
 -- ---- one leaf put
 
-pub leaf_refused : {D : Type 0} {g : Ghosts D} {n leaf : ℕ} {d0 d1 : D} {k0 k1 : Kept} {was : Drafting} (read : NodeRead) {e : Refused} → Ends {A = Unit {0}} g was.at 0 n 4 (draft_takes was leaf) d0 d1 k0 k1 (Err e) → (draft_takes was leaf ≤ sum k0.free → is_full_refusal e ≡ false)
+pub leaf_refused : {D : Type 0} {g : Ghosts D} {n leaf : ℕ} {d0 d1 : D} {k0 k1 : Kept} {was : Drafting} (read : NodeRead) {e : Refused} → EndsCall {A = Unit {0}} g (top_of was) 0 n 4 (draft_takes was leaf) d0 d1 k0 k1 (Err e) → (draft_takes was leaf ≤ sum k0.free → is_full_refusal e ≡ false)
     → LeafCall g n leaf d0 d1 k0 k1 was was read (Err e)
-leaf_refused {was = was} read ends room = record { stays = stays_itself was; flags = tt; number = tt; safe = tt; ends = ends; tried = tt; kept = λ same. refl; room = room }
+leaf_refused {was = was} read ends room = record { stays = stays_itself was; flags = tt; number = tt; safe = tt; near = λ far. far; ends = ends; tried = tt; kept = λ same. refl; room = room }
 
 module _ {D : Type 0} {g : Ghosts D} {d0 d1 : D} {n : ℕ} (reads : OnlyReads g n d0 d1) where
   pub leaf_since : {m leaf : ℕ} {d2 : D} {k0 k2 : Kept} {was now : Drafting} {read : NodeRead} {r : Result (Unit {0}) Refused} (most : ℕ) → LeafCall g m leaf d1 d2 k0 k2 was now read r → n + m ≤ most → LeafCall g most leaf d0 d2 k0 k2 was now read r
@@ -124,27 +124,28 @@ module _ {D : Type 0} {g : Ghosts D} {d0 d1 : D} {n : ℕ} (reads : OnlyReads g 
     flags = is.flags;
     number = is.number;
     safe = is.safe;
+    near = is.near;
     ends = ends_since reads most is.ends le;
     tried = on_ok r (λ tried. then_tried g d0 d1 d2 n 0 (reads_make g d0 d1 n reads) tried) is.tried;
     kept = is.kept;
     room = is.room;
   }
 
-  pub leaf_stopped : {leaf : ℕ} {kept : Kept} {was : Drafting} (read : NodeRead) (most : ℕ) (t : Trouble) (e : Refused) → e ≡ refused_by t → n ≤ most → IsTrouble g was.at d0 d1 kept t → LeafCall g most leaf d0 d1 kept kept was was read (Err e)
+  pub leaf_stopped : {leaf : ℕ} {kept : Kept} {was : Drafting} (read : NodeRead) (most : ℕ) (t : Trouble) (e : Refused) → e ≡ refused_by t → n ≤ most → IsDraftTrouble g (top_of was) d0 d1 kept t → LeafCall g most leaf d0 d1 kept kept was was read (Err e)
   leaf_stopped {leaf} read most t e same le is = leaf_refused read (ends_trouble reads 4 _ most t e same le is) (λ enough. ap is_full_refusal same ∙ not_full t)
 
   -- content that was read, and then put
-  pub leaf_changed : {k0 k2 : Kept} {was now : Drafting} {d2 : D} {r : Result (Unit {0}) Refused} (v : View g d0 k0 was) (read mid next : NodeRead) (leaf : ℕ) (content whole : List ℕ) → (Tells g d0 → IsRead (g.content d0) was read → IsRead (g.content d0) was mid) → IsRead (g.content d0) was read
-      → content ≡ whole → FitsLeaf was.root leaf whole → ((w : View g d1 k0 was) → IsRead (g.content d1) was mid → FitsLeaf was.root leaf content → Goes g w.graph (PutsLeaf g w.graph w.ds w.id leaf content d1 d2 k2 was now next) d1 d2 r)
-      → Goes g v.graph (PutsLeaf g v.graph v.ds v.id leaf whole d0 d2 k2 was now next) d0 d2 r
+  pub leaf_changed : {k0 k2 : Kept} {was now : Drafting} {d2 : D} {r : Result (Unit {0}) Refused} (v : DraftView g d0 k0 was) (read mid next : NodeRead) (leaf : ℕ) (content whole : List ℕ) → (Tells g d0 → IsRead (g.content d0) was read → IsRead (g.content d0) was mid) → IsRead (g.content d0) was read
+      → content ≡ whole → FitsLeaf was.root leaf whole → ((w : DraftView g d1 k0 was) → IsRead (g.content d1) was mid → FitsLeaf was.root leaf content → GoesHolding g w.graph (PutsLeaf g w.graph w.ds w.id leaf content d1 d2 k2 was now next) d1 d2 r)
+      → GoesHolding g v.graph (PutsLeaf g v.graph v.ds v.id leaf whole d0 d2 k2 was now next) d0 d2 r
   leaf_changed {k2 = k2} {was = was} {now = now} {d2 = d2} v read mid next leaf content whole node is same fits put =
       goes_since reads (λ puts. subst (λ (c : List ℕ). PutsLeaf g v.graph v.ds v.id leaf c d0 d2 k2 was now next) same (puts_since reads puts))
       (put (view_reads v reads) (read_since reads was mid (node v.store.carries.tells is)) (subst (FitsLeaf was.root leaf) (sym same) fits))
 
 -- on an honest disk the node is near
-pub near_there : {D : Type 0} {g : Ghosts D} {d0 : D} {was : Drafting} (v : HasTree g d0 was) → length (g.content d0) ≡ g.blocks d0 → 0 < g.blocks d0 → (n : ℕ) → IsNear (g.blocks d0) (g.content d0) (node_of was.root n)
+pub near_there : {D : Type 0} {g : Ghosts D} {d0 : D} {was : Drafting} (v : HasTree g d0 was) → length (g.content d0) ≡ g.blocks d0 → 0 < g.blocks d0 → (n : ℕ) → IsNear (g.blocks d0) (g.content d0) (pointer_to_node was.root n)
 near_there {g = g} {d0 = d0} {was = was} v size some n = node_near (g.content d0) (g.blocks d0) v.owner was v.object v.tree size some n
 
 -- the same, done with another answer
-pub ends_as : {D A B : Type 0} {g : Ghosts D} {at floor n t k : ℕ} {d0 d1 : D} {k0 k1 : Kept} {x : A} (y : B) → Ends g at floor n t k d0 d1 k0 k1 (Ok x) → Ends g at floor n t k d0 d1 k0 k1 (Ok y)
+pub ends_as : {D A B : Type 0} {g : Ghosts D} {at : Top} {floor n t k : ℕ} {d0 d1 : D} {k0 k1 : Kept} {x : A} (y : B) → EndsCall g at floor n t k d0 d1 k0 k1 (Ok x) → EndsCall g at floor n t k d0 d1 k0 k1 (Ok y)
 ends_as y is = record { told = is.told; refused = tt; untried = tt; cylinders = is.cylinders; left = is.left; takes = is.takes; calls = is.calls }

@@ -1,50 +1,55 @@
 -- Bytes written into a draft, leaf after leaf, on any disk.
 use Rattle.std.proofs.Common.{◌≡◌, inl, inr, ℕ, ◌+◌, ◌-◌, ◌*◌, ◌/◌, ◌<◌, ◌≤◌, Bool, true, false, List, length, set, Ok, Err, refl, sym, ◌∙◌, ap, subst, arith}
-use Rattle.special_files.proofs.Words.{Becomes, Draft, Drafting, Ends, File, Ghosts, Goes, HasTried, IsOpen, IsRead, IsSafe, Kept, LeafCall, NodeRead, Opened, Overwrite, Puid, PutsLeaf, Refused, Result, StaysBut, View, cases_lt, changed_draft, is_damaged, is_full_refusal, leaf_content, draft_takes, leaves_in, leaves_of, leaves_take, ltb-false, ltb-true, nat_lt, need_beside, patched, shadow_need, sum, then, then_tried, refusal_after}
+use Rattle.special_files.proofs.Words.{DraftBecomes, Draft, Drafting, EndsCall, File, Ghosts, GoesHolding, HasTried, IsOpen, IsRead, IsSafe, Kept, LeafCall, NodeRead, Opened, Overwrite, Puid, PutsLeaf, Refused, Result, StaysBut, DraftView, cases_lt, changed_draft, has_met_damage, is_full_refusal, leaf_content, draft_takes, leaves_in, leaves_below, leaves_take, ltb-false, ltb-true, nat_lt, need_beside, patched, shadow_need, sum, then, then_tried, refusal_after, IsFarRoot, top_of}
 use Rattle.std.proofs.Math.ListN.{length-set}
 use Rattle.cfs_base.specs.declared.refusal.Refused.TheVariants as refusals
 use Rattle.ufs_model.specs.declared.object.Object.TheVariants as objects
-use Rattle.special_files.proofs.Endings.{ends_then_err, ends_then_ok, makes_none, not_untried, ends_wider, stays_itself, stays_then, still_room, still_sound}
+use Rattle.special_files.proofs.Endings.{ends_then_err, ends_then_ok, makes_none, not_untried, ends_wider, stays_itself, stays_then, still_room, still_sound, ends_at}
 use Rattle.special_files.proofs.Needs.{need_is, no_need, takes_less}
 use Rattle.special_files.proofs.View.{view}
 use Rattle.special_files.proofs.Writes.{WrittenTo, written_begin, written_end, written_more}
+use Rattle.special_files.proofs.Refusals.{near_at}
 
 -- ---- leaf after leaf
 
--- the leaves from the one at the offset on and before this one are written, and Free blocks are left for those before another
+-- the leaves from the one at the offset on and before this one are written, and Free blocks are left for those before another, and for a shadow root
 pub record WriteRun {D : Type 0} (g : Ghosts D) (offset : ℕ) (bytes : List ℕ) (leaf to : ℕ) (d0 d1 : D) (k0 k1 : Kept) (was now : Drafting) (read : NodeRead) : Type 0 where
   pub from : offset / 512 ≤ leaf
   pub upto : leaf ≤ to
   pub most : to ≤ 15360
-  pub ends : Ends {A = Unit {0}} g was.at 0 (8 * (leaf - offset / 512)) (4 * (leaf - offset / 512)) (sum k0.free) d0 d1 k0 k1 (Ok tt)
+  pub ends : EndsCall {A = Unit {0}} g (top_of was) 0 (8 * (leaf - offset / 512)) (4 * (leaf - offset / 512)) (sum k0.free) d0 d1 k0 k1 (Ok tt)
   pub stays : StaysBut was now
+  pub near : IsFarRoot (g.blocks d1) now.root → IsFarRoot (g.blocks d1) was.root
   pub safe : IsSafe (g.blocks d1) now read
   pub long_leaves : length now.leaves ≡ 15360
   pub long_nodes : length now.nodes ≡ 120
-  pub room : leaf < to → leaves_take now leaf to ≤ sum k1.free
+  pub room : leaf < to → leaves_take now leaf to + shadow_need was ≤ sum k1.free
+  pub spare : shadow_need was ≤ sum k1.free
   pub begun : leaf ≡ offset / 512 → (d1 ≡ d0) × (k1 ≡ k0) × (now ≡ was)
   pub tried : offset / 512 < leaf → HasTried g d0 d1
-  pub model : (v : View g d0 k0 was) → offset + length bytes ≤ was.root.size → WrittenTo g v.graph v.ds v.id offset bytes leaf d0 d1 k1 was now read
+  pub model : (v : DraftView g d0 k0 was) → offset + length bytes ≤ was.root.size → WrittenTo g v.graph v.ds v.id offset bytes leaf d0 d1 k1 was now read
 
 pub run_begin : {D : Type 0} (g : Ghosts D) (offset : ℕ) (bytes : List ℕ) (to : ℕ) (d0 : D) (k0 : Kept) (was : Drafting) (read : NodeRead) → offset / 512 ≤ to → to ≤ 15360 → read.number ≡ 120 → length was.leaves ≡ 15360 → length was.nodes ≡ 120
-    → (offset / 512 < to → leaves_take was (offset / 512) to ≤ sum k0.free) → WriteRun g offset bytes (offset / 512) to d0 d0 k0 k0 was was read
-run_begin g offset bytes to d0 k0 was read order most none leaves nodes room = record {
+    → (offset / 512 < to → leaves_take was (offset / 512) to + shadow_need was ≤ sum k0.free) → shadow_need was ≤ sum k0.free → WriteRun g offset bytes (offset / 512) to d0 d0 k0 k0 was was read
+run_begin g offset bytes to d0 k0 was read order most none leaves nodes room spare = record {
   from = omega arith;
   upto = order;
   most = most;
   ends = record { told = λ b is. is; refused = tt; untried = tt; cylinders = refl; left = refl; takes = omega arith; calls = makes_none g d0 (8 * (offset / 512 - offset / 512)) (4 * (offset / 512 - offset / 512)) };
   stays = stays_itself was;
+  near = λ far. far;
   safe = λ few. absurd (omega (arith, none, few));
   long_leaves = leaves;
   long_nodes = nodes;
   room = room;
+  spare = spare;
   begun = λ same. (refl, refl, refl);
   tried = λ late. absurd (omega (arith, late));
   model = λ v within. written_begin g v.graph v.ds v.id v.object v.at d0 k0 was v.draft v.store v.opened offset bytes read (λ few. absurd (omega (arith, none, few))) (stays_itself was);
 }
 
-room_left : (takes rest all before after : ℕ) → takes + rest ≤ all → all ≤ before → before ≤ after + takes → rest ≤ after
-room_left takes rest all before after less has left = omega (arith, less, has, left)
+room_left : (takes rest all spare before after : ℕ) → takes + rest ≤ all → all + spare ≤ before → before ≤ after + takes → (rest + spare ≤ after) × (spare ≤ after)
+room_left takes rest all spare before after less has left = (omega (arith, less, has, left), omega (arith, less, has, left))
 
 module _ {D : Type 0} {g : Ghosts D} {offset : ℕ} {bytes : List ℕ} {leaf to : ℕ} {d0 d1 : D} {k0 k1 : Kept} {was mid : Drafting} {read : NodeRead} (run : WriteRun g offset bytes leaf to d0 d1 k0 k1 was mid read) (more : leaf < to) where
   below_leaves : leaf < length mid.leaves
@@ -58,28 +63,28 @@ module _ {D : Type 0} {g : Ghosts D} {offset : ℕ} {bytes : List ℕ} {leaf to 
   leaf_room =
       let now : Drafting = record mid { leaves = set mid.leaves leaf true; nodes = set mid.nodes (leaf / 128) true } in
       let less = takes_less leaf to mid now more below_nodes below_leaves (record { leaves = refl; nodes = inr refl }) in
-      whole (draft_takes mid leaf) (leaves_take now (leaf + 1) to) (leaves_take mid leaf to) (sum k1.free) less (run.room more)
+      whole (draft_takes mid leaf) (leaves_take now (leaf + 1) to) (leaves_take mid leaf to) (shadow_need was) (sum k1.free) less (run.room more)
     where
-      whole : (takes rest all before : ℕ) → takes + rest ≤ all → all ≤ before → takes ≤ before
-      whole takes rest all before less has = omega (arith, less, has)
+      whole : (takes rest all spare before : ℕ) → takes + rest ≤ all → all + spare ≤ before → takes ≤ before
+      whole takes rest all spare before less has = omega (arith, less, has)
 
   -- the draft then, and how the call on the leaf goes
-  abbrev there : (v : View g d0 k0 was) → offset + length bytes ≤ was.root.size → View g d1 k1 mid
+  abbrev there : (v : DraftView g d0 k0 was) → offset + length bytes ≤ was.root.size → DraftView g d1 k1 mid
   there v within = let done = run.model v within in view done.becomes.steps.store v.at done.becomes.is_open
 
   abbrev Writes : (D → Kept → Drafting → NodeRead → Result (Unit {0}) Refused → Type 0)
-  Writes d2 k2 now next result = (w : View g d1 k1 mid) → IsRead (g.content d1) mid read → leaf < leaves_in mid.root.size → offset + length bytes ≤ mid.root.size
-      → Goes g w.graph (PutsLeaf g w.graph w.ds w.id leaf (patched leaf offset bytes (leaf_content mid.root.fill (leaves_of (g.content d1) mid.root leaf))) d1 d2 k2 mid now next) d1 d2 result
+  Writes d2 k2 now next result = (w : DraftView g d1 k1 mid) → IsRead (g.content d1) mid read → leaf < leaves_in mid.root.size → offset + length bytes ≤ mid.root.size
+      → GoesHolding g w.graph (PutsLeaf g w.graph w.ds w.id leaf (patched leaf offset bytes (leaf_content mid.root.fill (leaves_below (g.content d1) mid.root leaf))) d1 d2 k2 mid now next) d1 d2 result
 
-  leaf_goes : (v : View g d0 k0 was) (within : offset + length bytes ≤ was.root.size) (d2 : D) (k2 : Kept) (now : Drafting) (next : NodeRead) (result : Result (Unit {0}) Refused) → Writes d2 k2 now next result → to ≡ leaves_in (offset + length bytes)
-      → Goes g v.graph (PutsLeaf g v.graph (there v within).ds v.id leaf (patched leaf offset bytes (leaf_content mid.root.fill (leaves_of (g.content d1) mid.root leaf))) d1 d2 k2 mid now next) d1 d2 result
+  leaf_goes : (v : DraftView g d0 k0 was) (within : offset + length bytes ≤ was.root.size) (d2 : D) (k2 : Kept) (now : Drafting) (next : NodeRead) (result : Result (Unit {0}) Refused) → Writes d2 k2 now next result → to ≡ leaves_in (offset + length bytes)
+      → GoesHolding g v.graph (PutsLeaf g v.graph (there v within).ds v.id leaf (patched leaf offset bytes (leaf_content mid.root.fill (leaves_below (g.content d1) mid.root leaf))) d1 d2 k2 mid now next) d1 d2 result
   leaf_goes v within d2 k2 now next result writes end =
       let done = run.model v within in
       let size : mid.root.size ≡ was.root.size = done.stays.root.size in
       writes (there v within) done.read_is (omega (arith, more, end, within, size)) (omega (arith, within, size))
 
-  here : {d2 : D} {k2 : Kept} {now : Drafting} {next : NodeRead} {result : Result (Unit {0}) Refused} → LeafCall g 8 leaf d1 d2 k1 k2 mid now next result → Ends g was.at 0 8 4 (draft_takes mid leaf) d1 d2 k1 k2 result
-  here {d2} {k2} {result = result} calls = subst (λ (at : ℕ). Ends g at 0 8 4 (draft_takes mid leaf) d1 d2 k1 k2 result) run.stays.at calls.ends
+  here : {d2 : D} {k2 : Kept} {now : Drafting} {next : NodeRead} {result : Result (Unit {0}) Refused} → LeafCall g 8 leaf d1 d2 k1 k2 mid now next result → EndsCall g (top_of was) 0 8 4 (draft_takes mid leaf) d1 d2 k1 k2 result
+  here calls = ends_at {at = top_of mid} {now = top_of was} run.stays.at (near_at mid.root was.root calls.ends.calls.same.size run.near) calls.ends
 
   -- the leaf was written
   pub run_more : {d2 : D} {k2 : Kept} {now : Drafting} {next : NodeRead} → LeafCall g 8 leaf d1 d2 k1 k2 mid now next (Ok tt) → Writes d2 k2 now next (Ok tt) → to ≡ leaves_in (offset + length bytes) → WriteRun g offset bytes (leaf + 1) to d0 d2 k0 k2 was now next
@@ -87,16 +92,18 @@ module _ {D : Type 0} {g : Ghosts D} {offset : ℕ} {bytes : List ℕ} {leaf to 
     from = omega (arith, run.from);
     upto = omega (arith, more);
     most = run.most;
-    ends = let all = ends_then_ok g was.at 0 d0 d1 d2 k0 k1 k2 (tt {0}) (tt {0}) (8 * (leaf - offset / 512)) (4 * (leaf - offset / 512)) (sum k0.free) 8 4 (draft_takes mid leaf) run.ends (here calls)
+    ends = let all = ends_then_ok g (top_of was) 0 d0 d1 d2 k0 k1 k2 (tt {0}) (tt {0}) (8 * (leaf - offset / 512)) (4 * (leaf - offset / 512)) (sum k0.free) 8 4 (draft_takes mid leaf) run.ends (here calls)
         (8 * (leaf + 1 - offset / 512)) (4 * (leaf + 1 - offset / 512)) (sum k0.free + draft_takes mid leaf) (omega (arith, run.from)) (omega (arith, run.from)) (omega arith) in ends_wider 0 _ _ (sum k0.free) all (omega arith) (omega arith) (omega arith);
     stays = all_stays;
+    near = λ far. near_at mid.root was.root calls.ends.calls.same.size run.near (calls.near far);
     safe = calls.safe;
     long_leaves = ap (length {A = Bool}) calls.flags.leaves ∙ length-set mid.leaves leaf true ∙ run.long_leaves;
     long_nodes = elim calls.flags.nodes [
       | inl same ↦ ap (length {A = Bool}) same.1 ∙ run.long_nodes
       | inr set_now ↦ ap (length {A = Bool}) set_now ∙ length-set mid.nodes (leaf / 128) true ∙ run.long_nodes
     ];
-    room = λ further. room_left (draft_takes mid leaf) (leaves_take now (leaf + 1) to) (leaves_take mid leaf to) (sum k1.free) (sum k2.free) (takes_less leaf to mid now more below_nodes below_leaves calls.flags) (run.room more) calls.ends.takes;
+    room = λ further. left.0;
+    spare = left.1;
     begun = λ same. absurd (omega (arith, same, run.from));
     tried = λ late. then_tried g d0 d1 d2 (8 * (leaf - offset / 512)) (4 * (leaf - offset / 512)) run.ends.calls calls.tried;
     model = λ v within.
@@ -105,6 +112,9 @@ module _ {D : Type 0} {g : Ghosts D} {offset : ℕ} {bytes : List ℕ} {leaf to 
         written_more g v.graph v.ds v.id v.object v.at d0 k0 was v.draft v.store v.opened offset bytes leaf d1 d2 k1 k2 mid now read next run.from (omega (arith, more, run.most)) done goes.done goes.leaves calls.stays all_stays;
   }
     where
+      left : (leaves_take now (leaf + 1) to + shadow_need was ≤ sum k2.free) × (shadow_need was ≤ sum k2.free)
+      left = room_left (draft_takes mid leaf) (leaves_take now (leaf + 1) to) (leaves_take mid leaf to) (shadow_need was) (sum k1.free) (sum k2.free) (takes_less leaf to mid now more below_nodes below_leaves calls.flags) (run.room more) calls.ends.takes
+
       all_stays : StaysBut was now
       all_stays = stays_then was mid now run.stays calls.stays
 
@@ -116,29 +126,32 @@ module _ {D : Type 0} {g : Ghosts D} {offset : ℕ} {bytes : List ℕ} {leaf to 
     pub err_stays : StaysBut was now
     err_stays = stays_then was mid now run.stays calls.stays
 
+    pub err_near : IsFarRoot (g.blocks d2) now.root → IsFarRoot (g.blocks d2) was.root
+    err_near far = near_at mid.root was.root calls.ends.calls.same.size run.near (calls.near far)
+
     pub err_full : is_full_refusal error ≡ false
     err_full = ap is_full_refusal same ∙ still_room _ e (calls.room leaf_room)
 
-    pub err_goes : (v : View g d0 k0 was) → offset + length bytes ≤ was.root.size → Writes d2 k2 now next (Err e) → to ≡ leaves_in (offset + length bytes) → Goes {A = Unit {0}} g v.graph (Unit {0}) d0 d2 (Err error)
+    pub err_goes : (v : DraftView g d0 k0 was) → offset + length bytes ≤ was.root.size → Writes d2 k2 now next (Err e) → to ≡ leaves_in (offset + length bytes) → GoesHolding {A = Unit {0}} g v.graph (Unit {0}) d0 d2 (Err error)
     err_goes v within writes end =
         let goes = leaf_goes v within d2 k2 now next (Err e) writes end in
-        record { done = tt; leaves = then g d0 d1 d2 _ _ (run.model v within).images goes.leaves (λ c h. h); sound = ap is_damaged same ∙ still_sound _ e goes.sound }
+        record { done = tt; leaves = then g d0 d1 d2 _ _ (run.model v within).images goes.leaves (λ c h. h); sound = ap has_met_damage same ∙ still_sound _ e goes.sound }
 
     abbrev EndsBy : ℕ → Refused → Type 0
-    EndsBy floor x = Ends {A = Unit {0}} g was.at floor (8 * (leaves_in (offset + length bytes) - offset / 512)) (4 * (leaves_in (offset + length bytes) - offset / 512)) (sum k0.free) d0 d2 k0 k2 (Err x)
+    EndsBy floor x = EndsCall {A = Unit {0}} g (top_of was) floor (8 * (leaves_in (offset + length bytes) - offset / 512)) (4 * (leaves_in (offset + length bytes) - offset / 512)) (sum k0.free) d0 d2 k0 k2 (Err x)
 
     pub err_ends : (floor : ℕ) → to ≡ leaves_in (offset + length bytes) → EndsBy floor error
     err_ends floor end = subst (EndsBy floor) (sym same) (by (nat_lt (offset / 512) leaf) refl)
       where
         by : (b : Bool) → nat_lt (offset / 512) leaf ≡ b → EndsBy floor (refusal_after b e)
         by true is =
-            let all = ends_then_err g was.at 0 d0 d1 d2 k0 k1 k2 (tt {0}) e (8 * (leaf - offset / 512)) (4 * (leaf - offset / 512)) (sum k0.free) 8 4 (draft_takes mid leaf) run.ends (run.tried (ltb-true (offset / 512) leaf is)) (here calls)
+            let all = ends_then_err g (top_of was) 0 d0 d1 d2 k0 k1 k2 (tt {0}) e (8 * (leaf - offset / 512)) (4 * (leaf - offset / 512)) (sum k0.free) 8 4 (draft_takes mid leaf) run.ends (run.tried (ltb-true (offset / 512) leaf is)) (here calls)
             (8 * (leaf + 1 - offset / 512)) (4 * (leaf + 1 - offset / 512)) (sum k0.free + draft_takes mid leaf) (omega (arith, run.from)) (omega (arith, run.from)) (omega arith) in
             ends_wider floor _ _ (sum k0.free) all (omega (arith, more, end)) (omega (arith, more, end)) (omega arith)
         by false is =
             let begun = run.begun (first is) in
-            let from_d0 = subst (λ (d : D). Ends {A = Unit {0}} g was.at 0 8 4 (draft_takes mid leaf) d d2 k1 k2 (Err e)) begun.0 (here calls) in
-            let from_k0 = subst (λ (k : Kept). Ends {A = Unit {0}} g was.at 0 8 4 (draft_takes mid leaf) d0 d2 k k2 (Err e)) begun.1 from_d0 in
+            let from_d0 = subst (λ (d : D). EndsCall {A = Unit {0}} g (top_of was) 0 8 4 (draft_takes mid leaf) d d2 k1 k2 (Err e)) begun.0 (here calls) in
+            let from_k0 = subst (λ (k : Kept). EndsCall {A = Unit {0}} g (top_of was) 0 8 4 (draft_takes mid leaf) d0 d2 k k2 (Err e)) begun.1 from_d0 in
             ends_wider floor _ _ (sum k0.free) from_k0 (omega (arith, more, end, first is)) (omega (arith, more, end, first is)) (omega arith)
 
     pub err_kept : error ≡ refusals.Disk false → now ≡ was
@@ -163,10 +176,10 @@ need_told ds id was d offset bytes to n opened is some none = elim (cases_lt (of
 -- ---- all leaves
 
 module _ {D : Type 0} {g : Ghosts D} {offset : ℕ} {bytes : List ℕ} {leaf to : ℕ} {d0 d1 : D} {k0 k1 : Kept} {was now : Drafting} {read : NodeRead} (run : WriteRun g offset bytes leaf to d0 d1 k0 k1 was now read) (over : to ≤ leaf) (end : to ≡ leaves_in (offset + length bytes)) where
-  pub run_ends : (floor : ℕ) → Ends {A = Unit {0}} g was.at floor (8 * (leaves_in (offset + length bytes) - offset / 512)) (4 * (leaves_in (offset + length bytes) - offset / 512)) (sum k0.free) d0 d1 k0 k1 (Ok tt)
+  pub run_ends : (floor : ℕ) → EndsCall {A = Unit {0}} g (top_of was) floor (8 * (leaves_in (offset + length bytes) - offset / 512)) (4 * (leaves_in (offset + length bytes) - offset / 512)) (sum k0.free) d0 d1 k0 k1 (Ok tt)
   run_ends floor = ends_wider floor _ _ _ run.ends (omega (arith, end, run.upto)) (omega (arith, end, run.upto)) (omega arith)
 
-  pub run_written : (v : View g d0 k0 was) (f : File) → offset + length bytes ≤ was.root.size → v.draft.object ≡ objects.File f → Becomes g v.graph v.ds v.id (changed_draft (Overwrite offset bytes) v.draft) d0 d1 k1 now
+  pub run_written : (v : DraftView g d0 k0 was) (f : File) → offset + length bytes ≤ was.root.size → v.draft.object ≡ objects.File f → DraftBecomes g v.graph v.ds v.id (changed_draft (Overwrite offset bytes) v.draft) d0 d1 k1 now
   run_written v f within file =
       let last : leaf ≡ leaves_in (offset + length bytes) = omega (arith, over, run.upto, end) in
       let done = subst (λ (l : ℕ). WrittenTo g v.graph v.ds v.id offset bytes l d0 d1 k1 was now read) last (run.model v within) in

@@ -1,6 +1,6 @@
 -- Leaves written into a draft one after another, and what has become of it then.
 use Rattle.std.proofs.Common.{◌≡◌, inl, ℕ, suc, ◌+◌, ◌-◌, ◌/◌, ◌<◌, ◌≤◌, Bool, true, List, [], length, get_or, set, Some, refl, sym, ◌∙◌, ap, subst, arith}
-use Rattle.special_files.proofs.Words.{AreClaimed, Becomes, Draft, Drafting, File, Ghosts, Graph, HasDraft, Holds, Image, IsOpen, IsRead, IsTree, Kept, Leaves, NodeRead, Object, Opened, Overwrite, Puid, PutsLeaf, StaysBut, Steps, StoreHas, WritesTo, changed_draft, changed_object, changes_begin, changes_then, claims_by_leaf, claims_then, draft_in, leaf_claims, leaf_content, leaves_in, leaves_of, object_at, object_with, opened_as, patched, replaced, root_spelling, same_object, then, tree_in, writes_begin, writes_more, writes_object, fresh_of}
+use Rattle.special_files.proofs.Words.{AreClaimed, DraftBecomes, Draft, Drafting, File, Ghosts, Graph, HasDraft, Holds, Image, IsOpen, IsRead, IsTree, Kept, Leaves, NodeRead, Object, Opened, Overwrite, Puid, PutsLeaf, StaysBut, Steps, StoreHas, WritesTo, changed_draft, changed_object, changes_begin, changes_then, claims_by_leaf, claims_then, draft_in, leaf_claims, leaf_content, leaves_in, leaves_below, object_at, object_with, opened_as, patched, replaced, root_spelling, same_object, then, tree_in, writes_begin, writes_more, writes_object, fresh_of}
 use Rattle.ufs_model.specs.declared.object.Object.TheVariants as objects
 use Rattle.special_files.proofs.Amid.{amid_begins}
 use Rattle.special_files.proofs.Lists.{replaced_again, replaced_same}
@@ -11,10 +11,10 @@ use Rattle.special_files.proofs.PutStore.{the_draft, becomes_now}
 -- the leaves from one on and before another are written
 pub record WrittenTo {D : Type 0} (g : Ghosts D) (graph : Graph) (ds : List Opened) (id : Puid) (offset : ℕ) (bytes : List ℕ) (leaf : ℕ) (old now : D) (space : Kept) (was is : Drafting) (read : NodeRead) : Type 0 where
   pub draft : Draft
-  pub becomes : Becomes g graph ds id draft old now space is
+  pub becomes : DraftBecomes g graph ds id draft old now space is
   pub images : Leaves g old now (λ c. Holds c graph)
   pub stays : StaysBut was is
-  pub leaves : WritesTo leaf was.root.fill offset bytes (leaves_of (g.content old) was.root) (leaves_of (g.content now) is.root)
+  pub leaves : WritesTo leaf was.root.fill offset bytes (leaves_below (g.content old) was.root) (leaves_below (g.content now) is.root)
   pub leaf_marks : Marks (λ l. l) (offset / 512) leaf was.leaves is.leaves
   pub node_marks : Marks (λ l. l / 128) (offset / 512) leaf was.nodes is.nodes
   pub read_is : IsRead (g.content now) is read
@@ -22,7 +22,7 @@ pub record WrittenTo {D : Type 0} (g : Ghosts D) (graph : Graph) (ds : List Open
   pub order : (n : ℕ) (c : Image) → AreClaimed (claims_by_leaf is.at is.leaves is.nodes leaf n) (g.content now) c → AreClaimed (claims_by_leaf was.at was.leaves was.nodes (offset / 512) (leaf - offset / 512 + n)) (g.content old) c
 
 module _ {D : Type 0} (g : Ghosts D) (graph : Graph) (ds : List Opened) (id : Puid) (o : Object) (at : object_at graph id ≡ Some o) where
-  pub becomes_begin : (d0 : D) (k0 : Kept) (was : Drafting) (d : Draft) → StoreHas g graph ds d0 k0 → IsOpen ds id was d → Becomes g graph ds id d d0 d0 k0 was
+  pub becomes_begin : (d0 : D) (k0 : Kept) (was : Drafting) (d : Draft) → StoreHas g graph ds d0 k0 → IsOpen ds id was d → DraftBecomes g graph ds id d d0 d0 k0 was
   becomes_begin d0 k0 was d store opened =
       let same = replaced_same (opened_as id was d) ds opened.alone in
       record {
@@ -31,8 +31,8 @@ module _ {D : Type 0} (g : Ghosts D) (graph : Graph) (ds : List Opened) (id : Pu
       }
 
   -- one step more
-  pub becomes_then : (d0 d1 d2 : D) (k1 k2 : Kept) (mid now : Drafting) (d e : Draft) → Becomes g graph ds id d d0 d1 k1 mid
-      → Steps g graph id (replaced (opened_as id now e) (replaced (opened_as id mid d) ds)) d1 d2 k2 → IsOpen (replaced (opened_as id now e) (replaced (opened_as id mid d) ds)) id now e → Becomes g graph ds id e d0 d2 k2 now
+  pub becomes_then : (d0 d1 d2 : D) (k1 k2 : Kept) (mid now : Drafting) (d e : Draft) → DraftBecomes g graph ds id d d0 d1 k1 mid
+      → Steps g graph id (replaced (opened_as id now e) (replaced (opened_as id mid d) ds)) d1 d2 k2 → IsOpen (replaced (opened_as id now e) (replaced (opened_as id mid d) ds)) id now e → DraftBecomes g graph ds id e d0 d2 k2 now
   becomes_then d0 d1 d2 k1 k2 mid now d e first steps opened =
       let same = replaced_again (opened_as id now e) (opened_as id mid d) ds refl in
       record {
@@ -44,15 +44,15 @@ module _ {D : Type 0} (g : Ghosts D) (graph : Graph) (ds : List Opened) (id : Pu
       }
 
   -- another draft of the model, in the same image
-  pub becomes_again : (d0 d1 : D) (k1 : Kept) (now next : Drafting) (d e : Draft) → Becomes g graph ds id d d0 d1 k1 now → HasDraft (g.content d1) id (opened_as id next e) → next.at ≡ now.at → next.created ≡ now.created
-      → length next.leaves ≡ length now.leaves → length next.nodes ≡ length now.nodes → ((k : ℕ) → get_or e.fresh k [] ≡ get_or (fresh_of next) k []) → Becomes g graph ds id e d0 d1 k1 next
+  pub becomes_again : (d0 d1 : D) (k1 : Kept) (now next : Drafting) (d e : Draft) → DraftBecomes g graph ds id d d0 d1 k1 now → HasDraft (g.content d1) id (opened_as id next e) → next.at ≡ now.at → next.created ≡ now.created
+      → length next.leaves ≡ length now.leaves → length next.nodes ≡ length now.nodes → ((k : ℕ) → get_or e.fresh k [] ≡ get_or (fresh_of next) k []) → DraftBecomes g graph ds id e d0 d1 k1 next
   becomes_again d0 d1 k1 now next d e is stands same_at created leaves nodes fresh =
       let es = replaced (opened_as id now d) ds in
       let again = becomes_now g graph es id o d1 d1 k1 k1 now next d e is.steps.store at is.is_open (amid_begins g graph es id o d1 k1 is.steps.store at) stands same_at created (leaves ∙ is.is_open.leaf_flags) (nodes ∙ is.is_open.node_flags) fresh in
       becomes_then d0 d1 d1 k1 k1 now next d e is again.steps again.is_open
 
   -- the same draft of the model, told by other lists
-  pub becomes_as : (d0 d1 : D) (k1 : Kept) (now : Drafting) (d e : Draft) → Becomes g graph ds id d d0 d1 k1 now → e.object ≡ d.object → ((k : ℕ) → get_or e.fresh k [] ≡ get_or d.fresh k []) → Becomes g graph ds id e d0 d1 k1 now
+  pub becomes_as : (d0 d1 : D) (k1 : Kept) (now : Drafting) (d e : Draft) → DraftBecomes g graph ds id d d0 d1 k1 now → e.object ≡ d.object → ((k : ℕ) → get_or e.fresh k [] ≡ get_or d.fresh k []) → DraftBecomes g graph ds id e d0 d1 k1 now
   becomes_as d0 d1 k1 now d e is object fresh =
       let image = g.content d1 in
       let had : HasDraft image id (opened_as id now d) = the_draft image (replaced (opened_as id now d) ds) id now d is.is_open (is.steps.store.account.drafts id o at) in
@@ -67,7 +67,7 @@ module _ {D : Type 0} (g : Ghosts D) (graph : Graph) (ds : List Opened) (id : Pu
       becomes = becomes_begin d0 k0 was d store opened;
       images = record { later = omega arith; since = λ t c le h. inl h; now = λ c h. inl h };
       stays = stays;
-      leaves = writes_begin was.root.fill offset bytes (leaves_of (g.content d0) was.root);
+      leaves = writes_begin was.root.fill offset bytes (leaves_below (g.content d0) was.root);
       leaf_marks = marks_begin (λ l. l) (offset / 512) was.leaves;
       node_marks = marks_begin (λ l. l / 128) (offset / 512) was.nodes;
       read_is = is;
@@ -76,15 +76,15 @@ module _ {D : Type 0} (g : Ghosts D) (graph : Graph) (ds : List Opened) (id : Pu
 
     -- a leaf that was put with its bytes
     pub written_more : (leaf : ℕ) (d1 d2 : D) (k1 k2 : Kept) (mid now : Drafting) (read next : NodeRead) → offset / 512 ≤ leaf → leaf < 15360 → (done : WrittenTo g graph ds id offset bytes leaf d0 d1 k1 was mid read)
-        → PutsLeaf g graph (replaced (opened_as id mid done.draft) ds) id leaf (patched leaf offset bytes (leaf_content mid.root.fill (leaves_of (g.content d1) mid.root leaf))) d1 d2 k2 mid now next
+        → PutsLeaf g graph (replaced (opened_as id mid done.draft) ds) id leaf (patched leaf offset bytes (leaf_content mid.root.fill (leaves_below (g.content d1) mid.root leaf))) d1 d2 k2 mid now next
         → Leaves g d1 d2 (λ c. Holds c graph) → StaysBut mid now → StaysBut was now → WrittenTo g graph ds id offset bytes (leaf + 1) d0 d2 k2 was now next
     written_more leaf d1 d2 k1 k2 mid now read next from most done puts images stays all = record {
       draft = draft_in (g.content d2) now;
       becomes = becomes_then d0 d1 d2 k1 k2 mid now done.draft (draft_in (g.content d2) now) done.becomes puts.steps puts.is_open;
       images = then g d0 d1 d2 _ _ done.images images (λ c h. h);
       stays = all;
-      leaves = writes_more was.root.fill offset bytes (leaves_of (g.content d0) was.root) leaf (leaves_of (g.content d1) mid.root) (leaves_of (g.content d2) now.root) from done.leaves
-          (puts.leaves.here ∙ ap (λ (fill : ℕ). Some (patched leaf offset bytes (leaf_content fill (leaves_of (g.content d1) mid.root leaf)))) done.stays.root.fill) puts.leaves.others;
+      leaves = writes_more was.root.fill offset bytes (leaves_below (g.content d0) was.root) leaf (leaves_below (g.content d1) mid.root) (leaves_below (g.content d2) now.root) from done.leaves
+          (puts.leaves.here ∙ ap (λ (fill : ℕ). Some (patched leaf offset bytes (leaf_content fill (leaves_below (g.content d1) mid.root leaf)))) done.stays.root.fill) puts.leaves.others;
       leaf_marks = marks_more (λ l. l) (offset / 512) leaf was.leaves mid.leaves now.leaves done.leaf_marks from (omega (arith, done.becomes.is_open.leaf_flags, most)) puts.sets.leaves;
       node_marks = marks_more (λ l. l / 128) (offset / 512) leaf was.nodes mid.nodes now.nodes done.node_marks from (omega (arith, done.becomes.is_open.node_flags, most)) puts.sets.nodes;
       read_is = puts.read_is;
@@ -114,16 +114,16 @@ module _ {D : Type 0} (g : Ghosts D) (graph : Graph) (ds : List Opened) (id : Pu
       after : HasDraft b id (opened_as id now done.draft)
       after = the_draft b es id now done.draft done.becomes.is_open (done.becomes.steps.store.account.drafts id o at)
 
-      gives : object_with was.root (leaves_of a was.root) ≡ objects.File f
+      gives : object_with was.root (leaves_below a was.root) ≡ objects.File f
       gives = before.tree.object ∙ file
 
       object : changed_object (Overwrite offset bytes) d.object ≡ done.draft.object
       object =
           ap (changed_object (Overwrite offset bytes)) (sym before.tree.object)
-          ∙ sym (same_object was.root.size was.root now.root done.stays.root (leaves_of b now.root)
-          ∙ writes_object was.root (leaves_of a was.root) (leaves_of b now.root) offset bytes (record { within = before.tree.within; filled = before.tree.filled }) done.leaves inside (no_index was.root (leaves_of a was.root) f gives))
+          ∙ sym (same_object was.root.size was.root now.root done.stays.root (leaves_below b now.root)
+          ∙ writes_object was.root (leaves_below a was.root) (leaves_below b now.root) offset bytes (record { within = before.tree.within; filled = before.tree.filled }) done.leaves inside (no_index was.root (leaves_below a was.root) f gives))
           ∙ after.tree.object
 
-      pub written_end : Becomes g graph ds id (changed_draft (Overwrite offset bytes) d) d0 d1 k1 now
+      pub written_end : DraftBecomes g graph ds id (changed_draft (Overwrite offset bytes) d) d0 d1 k1 now
       written_end = becomes_as d0 d1 k1 now done.draft (changed_draft (Overwrite offset bytes) d) done.becomes object
           (λ k. fresh_written b id ds es was now d done.draft opened done.becomes.is_open after offset bytes done.leaf_marks done.node_marks object k ∙ sym (done.becomes.is_open.fresh k))

@@ -11,7 +11,8 @@ use Rattle.special_files.specs.Store.{Steps, replaced}
 
 -- The object's draft is this draft of the model now. No other draft and no object changed, and no block but those that
 -- are meant for the draft's object or were Free.
-pub record Becomes {D : Type 0} (g : Ghosts D) (graph : Graph) (ds : List Opened) (id : Puid) (d : Draft) (old now : D)
+pub record DraftBecomes {D : Type 0} (g : Ghosts D) (graph : Graph) (ds : List Opened) (id : Puid) (d : Draft)
+    (old now : D)
     (space : Kept) (drafting : Drafting) : Type 0 where
   pub steps : Steps g graph id (replaced (opened_as id drafting d) ds) old now space
   pub is_open : IsOpen (replaced (opened_as id drafting d) ds) id drafting d

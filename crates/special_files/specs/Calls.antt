@@ -10,10 +10,10 @@ use Rattle.cfs_base.specs.declared.refusal.Refused.{Refused}
 use Rattle.cfs_base.specs.declared.refusal.Refused.TheVariants as refusals
 use Rattle.cyl_alloc.specs.Enters.{Enters}
 use Rattle.cyl_alloc.specs.Space.{Kept, intended}
-use Rattle.special_files.specs.Drafting.{Drafting, is_fresh_leaf, is_fresh_node, node_of}
+use Rattle.special_files.specs.Drafting.{Drafting, is_fresh_leaf, is_fresh_node, pointer_to_node}
 
 -- a block is written
-pub record WritesBlock {D : Type 0} (g : Ghosts D) (n : ℕ) (block : List ℕ) (old new : D)
+pub record WritesDraftBlock {D : Type 0} (g : Ghosts D) (n : ℕ) (block : List ℕ) (old new : D)
     (result : Result (Unit {0}) Refused) : Type 0 where
   pub written : OnOk result (g.content new ≡ set (g.content old) n block)
   pub tried : HasTried g old new
@@ -24,12 +24,13 @@ pub record WritesBlock {D : Type 0} (g : Ghosts D) (n : ℕ) (block : List ℕ) 
   pub calls : MakesAtMost g 1 1 old new
 
 -- where the draft has a node of its own nothing is done; else a block is claimed for it
-pub data GetsNode {D : Type 0} (g : Ghosts D) (n : ℕ) (old new : D) (before after : Kept) (drafting : Drafting)
+pub data GetsDraftNode {D : Type 0} (g : Ghosts D) (n : ℕ) (old new : D) (before after : Kept) (drafting : Drafting)
     (result : Result BlockNo Refused) : Type 0 where
   Had : is_fresh_node drafting n ≡ true → new ≡ old → after ≡ before
-      → result ≡ Ok (record { 0 = node_of drafting.root n }) → GetsNode g n old new before after drafting result
+      → result ≡ Ok (record { 0 = pointer_to_node drafting.root n })
+      → GetsDraftNode g n old new before after drafting result
   Claims : is_fresh_node drafting n ≡ false → Enters g (intended (Node n) drafting.at) old new before after result
-      → GetsNode g n old new before after drafting result
+      → GetsDraftNode g n old new before after drafting result
 
 -- a leaf and its node are fresh afterwards, and all others as they were
 pub record SetsFresh (leaf : ℕ) (was now : Drafting) : Type 0 where

@@ -9,7 +9,7 @@ use Rattle.cyl_map.specs.Volume.{entry_in}
 use Rattle.ufs_model.specs.Numbers.{has_number}
 use Rattle.vol_image.specs.Seen.{tree_in}
 use Rattle.vol_owners.specs.Account.{Opened, StandsIn, content_of, is_meant_for, numbers_differ}
-use Rattle.vol_owners.specs.Owner.{is_had, is_of}
+use Rattle.vol_owners.specs.Owner.{is_had, is_owned_by}
 use Rattle.block_tree.specs.Reads.{leaves_at}
 
 -- ---- what the two lists are
@@ -26,7 +26,7 @@ pub record AreTaken (image : Image) (id : Puid) (d : Opened) (taken : List ℕ) 
 -- dropped are those blocks of the object's tree that the draft's tree doesn't have, each once
 pub record AreDropped (image : Image) (id : Puid) (d : Opened) (dropped : List ℕ) : Type 0 where
   pub stands : (n : ℕ) → has_number n dropped ≡ true → StandsIn (tree_in image (root_spelling d.own)) n
-  pub had : (n : ℕ) → has_number n dropped ≡ true → is_of is_had id.block (entry_in image n) ≡ true
+  pub had : (n : ℕ) → has_number n dropped ≡ true → is_owned_by is_had id.block (entry_in image n) ≡ true
   pub gone : (n : ℕ) → has_number n dropped ≡ true → ¬ StandsIn (tree_in image (content_of d)) n
   pub all : (n : ℕ) → StandsIn (tree_in image (root_spelling d.own)) n
       → StandsIn (tree_in image (content_of d)) n ⊎ (has_number n dropped ≡ true)

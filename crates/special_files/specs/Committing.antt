@@ -1,6 +1,6 @@
 -- Entries that are changed one after another, as a commit and an abort do.
-use Rattle.std.specs.Prelude.{◌≡◌, ◌⊎◌, ℕ, ◌≤◌, ◌≢◌, ◌%◌, true, false, List, [], ◌∷◌, ◌++◌, set, IfErr, OnOk, Result}
-use Rattle.std.specs.Prelude.{Ok, Err, IsSome, Option, Some, None, option_to_list}
+use Rattle.std.specs.Prelude.{◌≡◌, ◌⊎◌, ℕ, ◌+◌, ◌≤◌, ◌≢◌, ◌%◌, true, false, List, [], ◌∷◌, ◌++◌, set, IfErr, OnOk}
+use Rattle.std.specs.Prelude.{Ok, Err, Result, IsSome, Option, Some, None, drop, length, option_to_list, take}
 use Rattle.cfs_base.specs.Codes.{past_disk}
 use Rattle.cfs_base.specs.Calls.{HasFailed, HasTried, MakesAtMost}
 use Rattle.cfs_base.specs.Disk.{Image, block_at}
@@ -12,11 +12,13 @@ use Rattle.cfs_base.specs.declared.identifier.Puid.{Puid}
 use Rattle.cfs_base.specs.declared.refusal.Trouble.{Trouble}
 use Rattle.cfs_base.specs.declared.refusal.Trouble.TheVariants as trouble
 use Rattle.block_tree.specs.Root.{root_spelling}
-use Rattle.cyl_alloc.specs.Left.{Left}
+use Rattle.cyl_alloc.specs.Left.{LeftCommit}
 use Rattle.cyl_alloc.specs.Space.{IsLeastFree, AreCounts, Kept, after_giving}
 use Rattle.cyl_map.specs.Volume.{entry_in, is_free_in}
 use Rattle.intentions.specs.Flips.{Flip, MayFlip, flipped, flips}
 use Rattle.intentions.specs.Course.{Course, IsCourse, IsOn, Keeps}
+use Rattle.intentions.specs.Runs.{runs}
+use Rattle.intentions.specs.declared.change.Change.{Change}
 use Rattle.intentions.specs.declared.change.Change.TheVariants.{Finish, Release, SetBit, Undo}
 use Rattle.ufs_model.specs.declared.object.Object.{Object}
 use Rattle.ufs_model.specs.Graph.{Graph, object_at, with_object}
@@ -27,24 +29,25 @@ use Rattle.vol_image.specs.Seen.{tree_in}
 use Rattle.vol_image.specs.Part.{SameAt}
 use Rattle.vol_image.specs.Reading.{bare_object}
 use Rattle.vol_image.specs.Sound.{Holds, IsBareRoot}
-use Rattle.intentions.specs.Left.{AreOpen, IsGoing, StoreIs, copied_if, end_of, plan}
+use Rattle.intentions.specs.Left.{AreOpen, IsGoing, StoreIs, copied_if, final_image, plan}
 use Rattle.intentions.specs.Store.{StoreHas}
-use Rattle.vol_owners.specs.Account.{HasItsBlocks, IsMade, Opened, StandsIn, content_of, drafts_of, is_meant_for}
+use Rattle.vol_owners.specs.Account.{HasItsBlocks, IsMadeRoot, Opened, StandsIn, content_of, drafts_of, is_meant_for}
 use Rattle.vol_owners.specs.Account.{numbers_differ}
 use Rattle.vol_owners.specs.Change.{ChangesOnly, of_drafts, of_owners}
-use Rattle.vol_owners.specs.Owner.{is_had, is_of, is_taken}
+use Rattle.vol_owners.specs.Owner.{is_had, is_owned_by, is_taken}
 use Rattle.block_tree.specs.declared.root.Root as roots
 use Rattle.special_files.specs.Drafting.{Drafting}
 use Rattle.block_tree.specs.Reads.{is_damage}
-use Rattle.special_files.specs.Refusal.{IsDamage}
+use Rattle.leaf_changes.specs.Tops.{IsFarRoot, Top, still_top}
+use Rattle.special_files.specs.Refusal.{IsDraftDamage}
 use Rattle.special_files.specs.Store.{without_draft}
 
 -- ---- entries changed
 
 -- a device call failed, where a write or barrier was tried, or a block that was read is damaged
-abbrev pub Fails : {D : Type 0} → Ghosts D → ℕ → D → D → Kept → Trouble → Type 0
-Fails g at old new kept (trouble.Disk tried) = (tried ≡ true) × HasFailed g old new
-Fails g at old new kept (trouble.Damaged damage) = IsDamage g at old new kept damage
+abbrev pub CommitFails : {D : Type 0} → Ghosts D → Top → D → D → Kept → Trouble → Type 0
+CommitFails g at old new kept (trouble.Disk tried) = (tried ≡ true) × HasFailed g old new
+CommitFails g at old new kept (trouble.Damaged damage) = IsDraftDamage g at old new kept damage
 
 -- These entries are changed, with at most n device calls, t of them writes and barriers.
 pub record Flips {D : Type 0} (g : Ghosts D) (n t : ℕ) (xs : List Flip) (old new : D)
@@ -59,8 +62,15 @@ pub record Flips {D : Type 0} (g : Ghosts D) (n t : ℕ) (xs : List Flip) (old n
   -- on it no damage is met
   pub sound : (course : Course) → IsCourse course → Keeps g course old → MayFlip course (g.content old) xs
       → IfErr result (λ t. is_damage t ≡ false)
-  pub fails : (at : ℕ) (kept : Kept) → IfErr result (Fails g at old new kept)
+  pub fails : (at : ℕ) (kept : Kept) → IfErr result (CommitFails g (still_top at) old new kept)
   pub calls : MakesAtMost g n t old new
+
+-- The same of the first of these blocks, which lie in one map, by one read and one write of it. How many they are is
+-- told.
+abbrev pub FlipsRun : {D : Type 0} → Ghosts D → Change → List ℕ → D → D → Result ℕ Trouble → Type 0
+FlipsRun g how ns old new (Ok i) = (i ≤ length ns) × (1 + runs (drop i ns) ≡ runs ns)
+    × Flips g 2 1 (flips how (take i ns)) old new (Ok tt)
+FlipsRun g how ns old new (Err t) = Flips g 2 1 (flips how ns) old new (Err t)
 
 -- ---- counts
 
@@ -94,7 +104,7 @@ pub record IsReady (a : Image) (graph : Graph) (id : Puid) (was o : Object) (s :
   pub others : (n : ℕ) → StandsIn (tree_in a (block_at a id.block)) n
       → StandsIn (tree_in a (block_at a s)) n ⊎ (has_number n dropped ≡ true)
   pub dropped_once : numbers_differ dropped ≡ true
-  pub made : (c : ℕ) → created ≡ Some c → IsMade a c
+  pub made : (c : ℕ) → created ≡ Some c → IsMadeRoot a c
 
 -- an image with these blocks released and the commit bit of root r set, and with the content of its shadow root s
 -- copied to it
@@ -114,18 +124,18 @@ IsOldOrNew graph full id o c = Holds c graph ⊎ Holds c (with_object full id o)
 
 -- From image a to image b the root of an object that is made became Allocated; it is all that has this owner.
 pub record IsEntered (a b : Image) (c : ℕ) : Type 0 where
-  pub had : is_of is_had c (entry_in b c) ≡ true
-  pub alone : (n : ℕ) → is_of is_taken c (entry_in b n) ≡ true → n ≡ c
+  pub had : is_owned_by is_had c (entry_in b c) ≡ true
+  pub alone : (n : ℕ) → is_owned_by is_taken c (entry_in b n) ≡ true → n ≡ c
   pub same : SameAt a b c
 
 -- One commit, of the object with this root block, is past its bit, and all of it is left.
-pub record IsNoted (at : ℕ) (kept : Option Left) (l : Left) : Type 0 where
+pub record IsNoted (at : ℕ) (kept : Option LeftCommit) (l : LeftCommit) : Type 0 where
   pub is : kept ≡ Some l
   pub root : l.root ≡ at
   pub uncopied : l.copied ≡ false
 
 -- Where a commit is unfinished now, its bit was tried in this call, and no write waits.
-pub record IsAtBit {D : Type 0} (g : Ghosts D) (old new : D) (left : Option Left) : Type 0 where
+pub record IsAtBit {D : Type 0} (g : Ghosts D) (old new : D) (left : Option LeftCommit) : Type 0 where
   pub tried : IsSome left → HasTried g old new
   pub settled : IsSome left → Tells g old → IsSettled g new
 
@@ -134,27 +144,28 @@ pub record IsAtBit {D : Type 0} (g : Ghosts D) (old new : D) (left : Option Left
 -- there.
 pub record Decided {D : Type 0} (g : Ghosts D) (graph : Graph) (id : Puid) (o : Object) (s : ℕ) (created : Option ℕ)
     (old new : D) (after : Kept) : Type 0 where
-  pub left : Left
+  pub left : LeftCommit
   pub kept : IsNoted id.block after.left left
   pub going : IsGoing g (with_object graph id o) new after left
   pub opens : AreOpen (λ e. of_owners (id.block ∷ option_to_list created) e)
       (copied_if left.copied left (g.content new)) (plan left)
   pub settled : IsSettled g new
-  pub holds : Holds (end_of g new after) (with_object graph id o)
-  pub has : HasItsBlocks (end_of g new after) id.block
-  pub none_meant : (n : ℕ) → is_meant_for (end_of g new after) id.block n ≡ false
-  pub made : (c : ℕ) → created ≡ Some c → IsEntered (g.content old) (end_of g new after) c
+  pub holds : Holds (final_image g new after) (with_object graph id o)
+  pub has : HasItsBlocks (final_image g new after) id.block
+  pub none_meant : (n : ℕ) → is_meant_for (final_image g new after) id.block n ≡ false
+  pub made : (c : ℕ) → created ≡ Some c → IsEntered (g.content old) (final_image g new after) c
   pub only : ChangesOnly (λ entry. of_owners (id.block ∷ option_to_list created) entry) (g.content old)
-      (end_of g new after)
-  pub tree : tree_in (end_of g new after) (block_at (end_of g new after) id.block)
+      (final_image g new after)
+  pub tree : tree_in (final_image g new after) (block_at (final_image g new after) id.block)
       ≡ tree_in (g.content old) (block_at (g.content old) s)
-  pub stays : (n : ℕ) → n % 64 ≢ 0 → n ≢ id.block → block_at (end_of g new after) n ≡ block_at (g.content old) n
-  pub copied : block_at (end_of g new after) id.block ≡ block_at (g.content old) s
-  pub given_back : is_free_in (end_of g new after) s ≡ true
+  pub stays : (n : ℕ) → n % 64 ≢ 0 → n ≢ id.block → block_at (final_image g new after) n ≡ block_at (g.content old) n
+  pub copied : block_at (final_image g new after) id.block ≡ block_at (g.content old) s
+  pub given_back : is_free_in (final_image g new after) s ≡ true
 
 -- A draft that stands ready becomes its object. Each image that a crash leaves on the way has all old, or all new, and
 -- no damage is met.
-pub record Finishes {D : Type 0} (g : Ghosts D) (at s : ℕ) (taken dropped : List ℕ) (created : Option ℕ) (old new : D)
+pub record FinishesCommit {D : Type 0} (g : Ghosts D) (at s : ℕ) (taken dropped : List ℕ) (created : Option ℕ)
+    (old new : D)
     (before after : Kept) (result : Result (Unit {0}) Trouble) : Type 0 where
   pub done : (graph full : Graph) (word : ℕ) (was o : Object) → Carries g graph old
       → AreCounts (g.content old) before
@@ -209,17 +220,17 @@ pub record Committed {D : Type 0} (g : Ghosts D) (graph : Graph) (ds : List Open
   pub store : StoreIs g (with_object (with_making graph made) id o) (without_draft id ds) new space
   pub settled : IsSettled g new
   pub only : ChangesOnly (λ entry. of_owners (id.block ∷ option_to_list (making_root made)) entry) (g.content old)
-      (end_of g new space)
+      (final_image g new space)
   -- the object's tree is the draft's: each node and leaf stands where it stood, in the same block, with its part and
   -- content
-  pub tree : (d : Opened) → drafts_of ds id ≡ d ∷ [] → tree_in (end_of g new space)
-      (block_at (end_of g new space) id.block) ≡ tree_in (g.content old) (content_of d)
+  pub tree : (d : Opened) → drafts_of ds id ≡ d ∷ [] → tree_in (final_image g new space)
+      (block_at (final_image g new space) id.block) ≡ tree_in (g.content old) (content_of d)
   -- a draft without a shadow root took the least Free block for it, and gave it back
   pub order : (d : Opened) → drafts_of ds id ≡ d ∷ [] → d.shadow ≡ None
-      → TakesShadow id.block (g.content old) (end_of g new space)
+      → TakesShadow id.block (g.content old) (final_image g new space)
   -- the object's root is the draft's
   pub root : (d : Opened) → drafts_of ds id ≡ d ∷ []
-      → block_at (end_of g new space) id.block ≡ root_spelling d.root
+      → block_at (final_image g new space) id.block ≡ root_spelling d.root
 
 -- how a commit ends where the store has the draft
 pub record CommitEnds {D : Type 0} (g : Ghosts D) (graph : Graph) (ds : List Opened) (id : Puid) (o : Object)
@@ -229,7 +240,7 @@ pub record CommitEnds {D : Type 0} (g : Ghosts D) (graph : Graph) (ds : List Ope
   pub sound : IfErr result (λ t. is_damage t ≡ false)
 
 -- of a draft as the layers above see it: where its root and its shadow root are, its two roots, and what it makes
-pub record AreParts (was : Drafting) (at : ℕ) (shadow : Option ℕ) (own root : roots.Root)
+pub record AreDraftParts (was : Drafting) (at : ℕ) (shadow : Option ℕ) (own root : roots.Root)
     (created : Option ℕ) : Type 0 where
   pub at_is : was.at ≡ at
   pub shadow_is : was.shadow ≡ shadow
@@ -263,8 +274,27 @@ pub record AbortEnds {D : Type 0} (g : Ghosts D) (graph : Graph) (ds : List Open
   pub leaves : Leaves g old new (λ c. Holds c graph)
   pub sound : IfErr result (λ t. is_damage t ≡ false)
 
+-- ---- a draft that leads past the disk
+
 -- there is such a block, and it lies past a disk of this size
 pub record IsFar (size : ℕ) (block : Option ℕ) : Type 0 where
   pub n : ℕ
   pub is : block ≡ Some n
   pub far : size ≤ n
+
+-- a node of its object's root or of its own does, its shadow root, or the root that is made with it
+pub data IsFarPart (size : ℕ) (shadow : Option ℕ) (own root : roots.Root) (created : Option ℕ) : Type 0 where
+  FarRoots : IsFarRoot size own ⊎ IsFarRoot size root → IsFarPart size shadow own root created
+  FarShadow : IsFar size shadow → IsFarPart size shadow own root created
+  FarMade : IsFar size created → IsFarPart size shadow own root created
+
+-- the draft of an object with its root at this block
+abbrev pub parts_top : (at : ℕ) (shadow : Option ℕ) (own root : roots.Root) (created : Option ℕ) → Top
+parts_top at shadow own root created =
+    record { block = at; IsFar = λ size. IsFarPart size shadow own root created }
+
+abbrev pub made_top : (at : ℕ) (created : Option ℕ) → Top
+made_top at created = record { block = at; IsFar = λ size. IsFar size created }
+
+abbrev pub draft_top : Drafting → Top
+draft_top was = parts_top was.at was.shadow was.own was.root was.created

@@ -76,8 +76,8 @@ pub record IsOpen (ds : List Opened) (id : Puid) (drafting : Drafting) (d : Draf
 -- ---- what it takes
 
 -- the pointer to a node, 0 where it is absent
-abbrev pub node_of : roots.Root → ℕ → ℕ
-node_of root n = slice_index root.nodes n
+abbrev pub pointer_to_node : roots.Root → ℕ → ℕ
+pointer_to_node root n = slice_index root.nodes n
 
 abbrev pub is_fresh_leaf : Drafting → ℕ → Bool
 is_fresh_leaf drafting leaf = get_or drafting.leaves leaf false

@@ -7,7 +7,7 @@ use Rattle.ufs_model.specs.declared.object.Draft.{Draft}
 use Rattle.ufs_model.specs.declared.object.Index.{Index}
 use Rattle.ufs_model.specs.Object.{changed_object, fresh_after, slot_of}
 use Rattle.special_files.specs.Changed.{IsChanged, unlike}
-use Rattle.special_files.specs.Drafting.{Drafting, node_of, opened_as}
+use Rattle.special_files.specs.Drafting.{Drafting, pointer_to_node, opened_as}
 use Rattle.special_files.specs.declared.fill.Swap.{Swap}
 
 -- a slot that is empty is to be emptied
@@ -26,10 +26,12 @@ filled_draft i slot what d = record {
 
 -- the blocks that a commit takes then: the leaf, and the node above it; and those that stood there, which it drops
 abbrev pub swap_takes : Drafting → Swap → List ℕ
-swap_takes w s = unlike (node_of w.root (s.leaf / 128)) (node_of w.own (s.leaf / 128)) ++ unlike s.is s.was
+swap_takes w s =
+    unlike (pointer_to_node w.root (s.leaf / 128)) (pointer_to_node w.own (s.leaf / 128)) ++ unlike s.is s.was
 
 abbrev pub dropped_by : Drafting → Swap → List ℕ
-dropped_by w s = unlike (node_of w.own (s.leaf / 128)) (node_of w.root (s.leaf / 128)) ++ unlike s.was s.is
+dropped_by w s =
+    unlike (pointer_to_node w.own (s.leaf / 128)) (pointer_to_node w.root (s.leaf / 128)) ++ unlike s.was s.is
 
 abbrev pub IsSwapped : Image → Puid → Drafting → Draft → Swap → Type 0
 IsSwapped image id w d s = IsChanged image id (opened_as id w d) (swap_takes w s) (dropped_by w s)
@@ -39,5 +41,5 @@ pub record IsNearSwap (size : ℕ) (w : Drafting) (s : Swap) : Type 0 where
   pub leaf : s.leaf < 15360
   pub was : s.was < size
   pub is : s.is < size
-  pub own : node_of w.own (s.leaf / 128) < size
-  pub node : node_of w.root (s.leaf / 128) < size
+  pub own : pointer_to_node w.own (s.leaf / 128) < size
+  pub node : pointer_to_node w.root (s.leaf / 128) < size

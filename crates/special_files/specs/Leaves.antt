@@ -11,11 +11,11 @@ use Rattle.vol_image.specs.Seen.{Held, Tree, tree_in}
 use Rattle.special_files.specs.Drafting.{Drafting, fresh_of}
 
 -- the leaves below a root, and the object that they give
-abbrev pub leaves_of : Image → roots.Root → ℕ → Option Held
-leaves_of image root = leaf_in (tree_in image (root_spelling root))
+abbrev pub leaves_below : Image → roots.Root → ℕ → Option Held
+leaves_below image root = leaf_in (tree_in image (root_spelling root))
 
-abbrev pub object_of : Image → roots.Root → Object
-object_of image root = object_with root (leaves_of image root)
+abbrev pub object_below : Image → roots.Root → Object
+object_below image root = object_with root (leaves_below image root)
 
 -- one leaf is held and has these bytes; all others are as they were
 pub record PutsAt (leaf : ℕ) (content : List ℕ) (old new : ℕ → Option Held) : Type 0 where
@@ -29,4 +29,4 @@ SameBeside leaf old new = (path : List ℕ) → path ≢ leaf / 128 ∷ [] → p
 
 -- the draft of the model that an image and a draft in memory give
 abbrev pub draft_in : Image → Drafting → Draft
-draft_in image drafting = record { object = object_of image drafting.root; fresh = fresh_of drafting }
+draft_in image drafting = record { object = object_below image drafting.root; fresh = fresh_of drafting }

@@ -19,11 +19,12 @@ use Rattle.vol_image.specs.Seen.{tree_in}
 use Rattle.vol_owners.specs.Account.{Opened}
 use Rattle.special_files.specs.Calls.{SetsFlags, SetsFresh}
 use Rattle.special_files.specs.Drafting.{Drafting, IsOpen, draft_takes, opened_as}
-use Rattle.special_files.specs.Ends.{Ends}
-use Rattle.special_files.specs.Leaves.{PutsAt, SameBeside, draft_in, leaves_of}
+use Rattle.special_files.specs.Ends.{EndsCall}
+use Rattle.special_files.specs.Leaves.{PutsAt, SameBeside, draft_in, leaves_below}
 use Rattle.special_files.specs.Nodes.{IsRead, IsSafe}
 use Rattle.special_files.specs.Order.{leaf_claims}
-use Rattle.special_files.specs.Refusal.{is_full_refusal}
+use Rattle.leaf_changes.specs.Tops.{IsFarRoot}
+use Rattle.special_files.specs.Refusal.{is_full_refusal, top_of}
 use Rattle.special_files.specs.Store.{Steps, replaced}
 use Rattle.special_files.specs.declared.node.NodeRead.{NodeRead}
 
@@ -51,7 +52,7 @@ pub record PutsLeaf {D : Type 0} (g : Ghosts D) (graph : Graph) (ds : List Opene
   pub steps : Steps g graph id (drafts_with (g.content new) ds id now) old new after
   pub is_open : IsOpen (drafts_with (g.content new) ds id now) id now (draft_in (g.content new) now)
   pub sets : SetsFresh leaf was now
-  pub leaves : PutsAt leaf content (leaves_of (g.content old) was.root) (leaves_of (g.content new) now.root)
+  pub leaves : PutsAt leaf content (leaves_below (g.content old) was.root) (leaves_below (g.content new) now.root)
   pub read_is : IsRead (g.content new) now read
   pub order : AreClaimed (leaf_claims was.at was.leaves was.nodes leaf) (g.content old) (g.content new)
   pub beside : SameBeside leaf (tree_in (g.content old) (root_spelling was.root))
@@ -62,7 +63,7 @@ abbrev pub CutsLeaf : {D : Type 0} → Ghosts D → Graph → List Opened → Pu
     → NodeRead → Type 0
 CutsLeaf g graph ds id size old new after was now read =
     PutsLeaf g graph ds id (size / 512)
-    (cut size was.root.fill (leaf_content was.root.fill (leaves_of (g.content old) was.root (size / 512))))
+    (cut size was.root.fill (leaf_content was.root.fill (leaves_below (g.content old) was.root (size / 512))))
     old new after was now read
 
 -- What a call did, on any disk, that puts a leaf into a draft: it made at most n device calls.
@@ -72,7 +73,9 @@ pub record LeafCall {D : Type 0} (g : Ghosts D) (n leaf : ℕ) (old new : D) (be
   pub flags : OnOk result (SetsFlags leaf was now)
   pub number : OnOk result (read.number ≡ leaf / 128)
   pub safe : OnOk result (IsSafe (g.blocks new) now read)
-  pub ends : Ends g was.at 0 n 4 (draft_takes was leaf) old new before after result
+  -- each pointer of the root that leads past the disk did before
+  pub near : IsFarRoot (g.blocks new) now.root → IsFarRoot (g.blocks new) was.root
+  pub ends : EndsCall g (top_of was) 0 n 4 (draft_takes was leaf) old new before after result
   pub tried : OnOk result (HasTried g old new)
   -- where nothing was tried yet the draft is as it was
   pub kept : IfErr result (λ e. e ≡ refusals.Disk false → now ≡ was)

@@ -1,5 +1,5 @@
 -- Why a call on a draft is refused.
-use Rattle.std.specs.Prelude.{◌≡◌, ℕ, ◌+◌, ◌<◌, ◌≤◌, Bool, true, false, if◌then◌else◌, get_or}
+use Rattle.std.specs.Prelude.{◌≡◌, ◌⊎◌, ℕ, ◌+◌, ◌<◌, ◌≤◌, Bool, true, false, if◌then◌else◌, get_or, sum}
 use Rattle.cfs_base.specs.Calls.{HasStopped}
 use Rattle.cfs_base.specs.Codes.{no_entry, no_root, past_disk, other_count}
 use Rattle.cfs_base.specs.Disk.{Image, block_at}
@@ -14,8 +14,25 @@ use Rattle.cfs_base.specs.declared.refusal.Trouble.TheVariants as trouble
 use Rattle.block_tree.specs.declared.root.Root as roots
 use Rattle.block_tree.specs.Pointers.{leaf_pointers, pointers_of}
 use Rattle.block_tree.specs.Root.{IsRootBlock}
-use Rattle.cyl_map.specs.Volume.{is_free_in}
-use Rattle.cyl_alloc.specs.Space.{AreCounts, IsBadMap, Kept}
+use Rattle.cyl_map.specs.Volume.{is_free_in, map_of}
+use Rattle.block_tree.specs.Reads.{IsPast}
+use Rattle.cyl_alloc.specs.Space.{IsBadMap, IsMiscounted, Kept}
+use Rattle.leaf_changes.specs.Tops.{IsFarRoot, Top, root_top}
+use Rattle.special_files.specs.Drafting.{Drafting}
+
+-- ---- the roots that a call goes down from
+
+-- a draft's
+abbrev pub top_of : Drafting → Top
+top_of was = root_top was.at was.root
+
+-- an object's, and the one that its draft is to get
+abbrev pub roots_top : ℕ → (own root : roots.Root) → Top
+roots_top at own root = record { block = at; IsFar = λ size. IsFarRoot size own ⊎ IsFarRoot size root }
+
+-- those that lead to these nodes
+abbrev pub nodes_top : (at own new : ℕ) → Top
+nodes_top at own new = record { block = at; IsFar = λ size. IsPast size own ⊎ IsPast size new }
 
 -- ---- what is wrong with the block that is named, once the call has ended
 
@@ -23,45 +40,49 @@ use Rattle.cyl_alloc.specs.Space.{AreCounts, IsBadMap, Kept}
 abbrev pub IsFarNode : ℕ → Image → ℕ → Type 0
 IsFarNode size image block = (k : ℕ) × (size ≤ get_or (pointers_of leaf_pointers (block_at image block)) k 0)
 
-pub data IsDamage {D : Type 0} (g : Ghosts D) (at : ℕ) (old new : D) (kept : Kept) (damage : Damage) : Type 0 where
+pub data IsDraftDamage {D : Type 0} (g : Ghosts D) (at : Top) (old new : D) (kept : Kept)
+    (damage : Damage) : Type 0 where
   -- a map is none
-  NoMap : damage.code ≡ no_entry → damage.block < g.blocks new → (Tells g old → IsBadMap (g.content new) damage.block)
-      → IsDamage g at old new kept damage
+  NoMap : damage.code ≡ no_entry → damage.block ≡ map_of damage.block → damage.block < g.blocks new
+      → (Tells g old → IsBadMap (g.content new) damage.block)
+      → IsDraftDamage g at old new kept damage
   -- the first map's own block is Free
   OpenMap : damage.code ≡ no_entry → damage.block ≡ 0 → (Tells g old → is_free_in (g.content new) 0 ≡ true)
-      → IsDamage g at old new kept damage
+      → IsDraftDamage g at old new kept damage
   -- no block is Free in a map in which some were counted
-  OtherCount : damage.code ≡ other_count → (Tells g old → ¬ AreCounts (g.content new) kept)
-      → IsDamage g at old new kept damage
+  OtherCount : damage.code ≡ other_count → IsMiscounted (Tells g old) (g.content new) kept damage.block
+      → IsDraftDamage g at old new kept damage
   -- the root block is none
-  NoRoot : damage.code ≡ no_root → damage.block ≡ at → (Tells g old → (root : roots.Root)
-      → ¬ IsRootBlock (block_at (g.content new) at) root) → IsDamage g at old new kept damage
-  -- a node has a pointer past the disk, or the object's root has
+  NoRoot : damage.code ≡ no_root → damage.block ≡ at.block → (Tells g old → (root : roots.Root)
+      → ¬ IsRootBlock (block_at (g.content new) at.block) root) → IsDraftDamage g at old new kept damage
+  -- a node has a pointer past the disk, or the root that the call goes down from has
   FarNode : damage.code ≡ past_disk → (Tells g old → IsFarNode (g.blocks new) (g.content new) damage.block)
-      → IsDamage g at old new kept damage
-  FarRoot : damage.code ≡ past_disk → damage.block ≡ at → IsDamage g at old new kept damage
+      → IsDraftDamage g at old new kept damage
+  FarRoot : damage.code ≡ past_disk → damage.block ≡ at.block → at.IsFar (g.blocks new)
+      → IsDraftDamage g at old new kept damage
 
 -- ---- why a call ends
 
 -- a device call failed, or a block that was read is damaged
-abbrev pub IsTrouble : {D : Type 0} → Ghosts D → ℕ → D → D → Kept → Trouble → Type 0
-IsTrouble g at old new kept (trouble.Disk tried) = HasStopped g tried old new
-IsTrouble g at old new kept (trouble.Damaged damage) = IsDamage g at old new kept damage
+abbrev pub IsDraftTrouble : {D : Type 0} → Ghosts D → Top → D → D → Kept → Trouble → Type 0
+IsDraftTrouble g at old new kept (trouble.Disk tried) = HasStopped g tried old new
+IsDraftTrouble g at old new kept (trouble.Damaged damage) = IsDraftDamage g at old new kept damage
 
--- the same, or too few blocks are Free beside the floor
-abbrev pub IsRefusal : {D : Type 0} → Ghosts D → ℕ → ℕ → D → D → Kept → Refused → Type 0
-IsRefusal g at floor old new kept (refused.Full need) = need.free < need.need + floor
-IsRefusal g at floor old new kept (refused.Disk tried) = HasStopped g tried old new
-IsRefusal g at floor old new kept (refused.Damaged damage) = IsDamage g at old new kept damage
-IsRefusal g at floor old new kept refused.Memory = ⊥
+-- the same, or as many blocks as it tells are counted Free, too few beside the floor
+abbrev pub IsDraftRefusal : {D : Type 0} → Ghosts D → Top → ℕ → D → D → Kept → Refused → Type 0
+IsDraftRefusal g at floor old new kept (refused.Full need) =
+    (need.free ≡ sum kept.free) × (need.free < need.need + floor)
+IsDraftRefusal g at floor old new kept (refused.Disk tried) = HasStopped g tried old new
+IsDraftRefusal g at floor old new kept (refused.Damaged damage) = IsDraftDamage g at old new kept damage
+IsDraftRefusal g at floor old new kept refused.Memory = ⊥
 
 -- ---- which it is
 
-abbrev pub is_damaged : Refused → Bool
-is_damaged (refused.Full need) = false
-is_damaged (refused.Disk tried) = false
-is_damaged (refused.Damaged damage) = true
-is_damaged refused.Memory = false
+abbrev pub has_met_damage : Refused → Bool
+has_met_damage (refused.Full need) = false
+has_met_damage (refused.Disk tried) = false
+has_met_damage (refused.Damaged damage) = true
+has_met_damage refused.Memory = false
 
 abbrev pub is_full_refusal : Refused → Bool
 is_full_refusal (refused.Full need) = true

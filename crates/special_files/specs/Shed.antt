@@ -25,34 +25,35 @@ use Rattle.ufs_model.specs.State.{changed_draft}
 use Rattle.ufs_model.specs.declared.change.Change.TheVariants.{SetSize}
 use Rattle.ufs_model.specs.declared.object.Draft.{Draft}
 use Rattle.vol_owners.specs.Account.{Opened, content_of, is_meant_for, numbers_differ}
-use Rattle.special_files.specs.Becomes.{Becomes}
-use Rattle.special_files.specs.Calls.{GetsNode, WritesBlock}
+use Rattle.special_files.specs.Becomes.{DraftBecomes}
+use Rattle.special_files.specs.Calls.{GetsDraftNode, WritesDraftBlock}
 use Rattle.special_files.specs.Drafting.{Drafting, HasNoneFresh, IsOpen, is_fresh_leaf, is_fresh_node, draft_takes}
-use Rattle.special_files.specs.Drafting.{need_beside, node_of, one_unless, shadow_need}
-use Rattle.special_files.specs.Ends.{Ends}
-use Rattle.special_files.specs.Leaves.{draft_in, leaves_of}
+use Rattle.special_files.specs.Drafting.{need_beside, pointer_to_node, one_unless, shadow_need}
+use Rattle.special_files.specs.Ends.{EndsCall}
+use Rattle.special_files.specs.Leaves.{draft_in, leaves_below}
 use Rattle.block_tree.specs.Reads.{leaves_at}
 use Rattle.special_files.specs.Nodes.{IsRead, IsSafe}
 use Rattle.special_files.specs.Order.{ClaimsAndDrops, claims_anew, node_claims}
 use Rattle.special_files.specs.Puts.{CutsLeaf, LeafCall, StaysBut, drafts_with}
-use Rattle.special_files.specs.Refusal.{is_full_refusal}
+use Rattle.leaf_changes.specs.Tops.{IsFarRoot}
+use Rattle.special_files.specs.Refusal.{is_full_refusal, top_of}
 use Rattle.special_files.specs.Store.{Steps}
-use Rattle.special_files.specs.View.{Goes, View}
+use Rattle.special_files.specs.View.{GoesHolding, DraftView}
 use Rattle.special_files.specs.declared.node.NodeRead.{NodeRead}
 use Rattle.special_files.specs.declared.shrink.Plan.{Plan}
 
 -- a path to such a leaf or node
-abbrev pub IsPast : ℕ → List ℕ → Type 0
-IsPast from [] = ⊥
-IsPast from (m ∷ []) = from ≤ 128 * m
-IsPast from (m ∷ j ∷ []) = (from / 128 < m) ⊎ ((m ≡ from / 128) × (from % 128 ≤ j))
-IsPast from (m ∷ j ∷ i ∷ p) = ⊥
+abbrev pub IsPathPast : ℕ → List ℕ → Type 0
+IsPathPast from [] = ⊥
+IsPathPast from (m ∷ []) = from ≤ 128 * m
+IsPathPast from (m ∷ j ∷ []) = (from / 128 < m) ⊎ ((m ≡ from / 128) × (from % 128 ≤ j))
+IsPathPast from (m ∷ j ∷ i ∷ p) = ⊥
 
 -- a block of the draft's own at such a path
 pub record IsShed (image : Image) (id : Puid) (d : Opened) (from n : ℕ) : Type 0 where
   pub meant : is_meant_for image id.block n ≡ true
   pub path : List ℕ
-  pub past : IsPast from path
+  pub past : IsPathPast from path
   pub there : tree_of image (content_of d) path ≡ n
 
 -- these are all of them, each once
@@ -90,9 +91,9 @@ pub record Forgets (from block : ℕ) (was now : Drafting) : Type 0 where
   pub leaf_before : (l : ℕ) → l < from → is_fresh_leaf now l ≡ is_fresh_leaf was l
   pub leaf_past : (l : ℕ) → from ≤ l → is_fresh_leaf now l ≡ false
   pub before : (m : ℕ) → 128 * m + 128 ≤ from → (is_fresh_node now m ≡ is_fresh_node was m)
-      × (node_of now.root m ≡ node_of was.root m)
-  pub past : (m : ℕ) → from ≤ 128 * m → (is_fresh_node now m ≡ false) × (node_of now.root m ≡ 0)
-  pub here : from % 128 ≢ 0 → (is_fresh_node now (from / 128) ≡ true) × (node_of now.root (from / 128) ≡ block)
+      × (pointer_to_node now.root m ≡ pointer_to_node was.root m)
+  pub past : (m : ℕ) → from ≤ 128 * m → (is_fresh_node now m ≡ false) × (pointer_to_node now.root m ≡ 0)
+  pub here : from % 128 ≢ 0 → (is_fresh_node now (from / 128) ≡ true) × (pointer_to_node now.root (from / 128) ≡ block)
 
 -- what it claims: a block for the node of the first leaf dropped, where that lies within one and isn't fresh
 abbrev pub border_claims : Drafting → ℕ → List MapEntry
@@ -105,8 +106,8 @@ pub record DropsFrom {D : Type 0} (g : Ghosts D) (graph : Graph) (ds : List Open
   pub is_open : IsOpen (drafts_with (g.content new) ds id now) id now (draft_in (g.content new) now)
   pub block : ℕ
   pub forgets : Forgets from block was now
-  pub gone : (l : ℕ) → from ≤ l → leaves_of (g.content new) now.root l ≡ None
-  pub kept : (l : ℕ) → l < from → leaves_of (g.content new) now.root l ≡ leaves_of (g.content old) was.root l
+  pub gone : (l : ℕ) → from ≤ l → leaves_below (g.content new) now.root l ≡ None
+  pub kept : (l : ℕ) → l < from → leaves_below (g.content new) now.root l ≡ leaves_below (g.content old) was.root l
   pub order : ClaimsAndDrops id.block (border_claims was from) (g.content old) (g.content new)
 
 -- what it takes: a block for the node, where it isn't fresh
@@ -122,10 +123,10 @@ pub record HasParts (was : Drafting) (root : roots.Root) (leaves nodes : List Bo
 
 -- the node that was read last
 abbrev pub IsReadIn : Image → roots.Root → NodeRead → Type 0
-IsReadIn image root read = read.number < 120 → read.node.leaves ≡ leaves_at image (node_of root read.number)
+IsReadIn image root read = read.number < 120 → read.node.leaves ≡ leaves_at image (pointer_to_node root read.number)
 
 abbrev pub IsSafeIn : ℕ → roots.Root → NodeRead → Type 0
-IsSafeIn size root read = read.number < 120 → (node_of root read.number < size)
+IsSafeIn size root read = read.number < 120 → (pointer_to_node root read.number < size)
     × All (λ leaf. leaf < size) read.node.leaves
 
 -- the result of a call before which a write was tried
@@ -143,14 +144,14 @@ pub record IsShortNode (leaves : List ℕ) (place : ℕ) (block : List ℕ) : Ty
 -- it is written so, into a block of the draft's own, which is claimed where the draft has none
 pub data PutsShort {D : Type 0} (g : Ghosts D) (from : ℕ) (leaves : List ℕ) (was : Drafting) (old new : D)
     (before after : Kept) (result : Result BlockNo Refused) : Type 0 where
-  NoBlock : (e : Refused) → GetsNode g (from / 128) old new before after was (Err e) → result ≡ Err e
+  NoBlock : (e : Refused) → GetsDraftNode g (from / 128) old new before after was (Err e) → result ≡ Err e
       → PutsShort g from leaves was old new before after result
   NoWrite : (mid : D) (y : BlockNo) (block : List ℕ) (e : Refused)
-      → GetsNode g (from / 128) old mid before after was (Ok y) → IsShortNode leaves (from % 128) block
-      → WritesBlock g y.0 block mid new (Err e) → result ≡ Err e
+      → GetsDraftNode g (from / 128) old mid before after was (Ok y) → IsShortNode leaves (from % 128) block
+      → WritesDraftBlock g y.0 block mid new (Err e) → result ≡ Err e
       → PutsShort g from leaves was old new before after result
-  Put : (mid : D) (y : BlockNo) (block : List ℕ) → GetsNode g (from / 128) old mid before after was (Ok y)
-      → IsShortNode leaves (from % 128) block → WritesBlock g y.0 block mid new (Ok tt) → result ≡ Ok y
+  Put : (mid : D) (y : BlockNo) (block : List ℕ) → GetsDraftNode g (from / 128) old mid before after was (Ok y)
+      → IsShortNode leaves (from % 128) block → WritesDraftBlock g y.0 block mid new (Ok tt) → result ≡ Ok y
       → PutsShort g from leaves was old new before after result
 
 -- It is written so where the first leaf dropped lies within it; else nothing is done.
@@ -173,7 +174,8 @@ pub record DropCall {D : Type 0} (g : Ghosts D) (from : ℕ) (old new : D) (befo
   -- something was tried where a node is written; else, where no node is fresh, nothing was done to the disk
   pub tried : from % 128 ≢ 0 → OnOk result (HasTried g old new)
   pub untried : from % 128 ≡ 0 → ((n : ℕ) → is_fresh_node was n ≡ false) → (new ≡ old) × (after ≡ before)
-  pub ends : Ends g was.at 0 31083 15482 (sum before.free) old new before after result
+  pub near : IsFarRoot (g.blocks new) now.root → IsFarRoot (g.blocks new) was.root
+  pub ends : EndsCall g (top_of was) 0 31083 15482 (sum before.free) old new before after result
   pub kept : IfErr result (λ e. now ≡ was)
   pub room : border_takes was from ≤ sum before.free → IfErr result (λ e. is_full_refusal e ≡ false)
 
@@ -189,8 +191,8 @@ pub data CutsIf {D : Type 0} (g : Ghosts D) (size : ℕ) (cut : Bool) (old new :
     (was now : Drafting) (read next : NodeRead) (result : Result (Unit {0}) Refused) : Type 0 where
   Spares : cut ≡ false → result ≡ Ok tt → new ≡ old → after ≡ before → now ≡ was → next ≡ read
       → CutsIf g size cut old new before after was now read next result
-  Cuts : cut ≡ true → ((v : View g old before was) → IsRead (g.content old) was read → size < was.root.size
-      → Goes g v.graph (CutsLeaf g v.graph v.ds v.id size old new after was now next) old new result)
+  Cuts : cut ≡ true → ((v : DraftView g old before was) → IsRead (g.content old) was read → size < was.root.size
+      → GoesHolding g v.graph (CutsLeaf g v.graph v.ds v.id size old new after was now next) old new result)
       → LeafCall g 8 (size / 512) old new before after was now next result
       → CutsIf g size cut old new before after was now read next result
 
@@ -224,8 +226,8 @@ pub record IsToldByNodes {D : Type 0} (g : Ghosts D) (old new : D) (before after
   pub untried : ((n : ℕ) → is_fresh_node now n ≡ false) → (after ≡ before) × OnlyReads g 1 old new
 
 -- the node of the last leaf of a file of this size; of an empty file the first
-abbrev pub last_node : ℕ → ℕ
-last_node size = (leaves_in size - 1) / 128
+abbrev pub last_draft_node : ℕ → ℕ
+last_draft_node size = (leaves_in size - 1) / 128
 
 -- That node was read. This tells from which leaf on a resize to less drops leaves, and whether one is cut.
 pub record IsPlan {D : Type 0} (g : Ghosts D) (size : ℕ) (was : Drafting) (old new : D) (plan : Plan) : Type 0 where
@@ -235,19 +237,19 @@ pub record IsPlan {D : Type 0} (g : Ghosts D) (size : ℕ) (was : Drafting) (old
   pub nodes : length was.nodes ≡ 120
   pub read_is : Tells g old → IsRead (g.content old) was plan.read
   pub safe : IsSafe (g.blocks old) was plan.read
-  pub number : plan.read.number ≡ last_node size
-  pub border : IsBorder plan.read.node.leaves (last_node size) (leaves_in size) plan.from
+  pub number : plan.read.number ≡ last_draft_node size
+  pub border : IsBorder plan.read.node.leaves (last_draft_node size) (leaves_in size) plan.from
   pub cuts : IsCutHere size plan.read.node.leaves plan.cut
 
 -- what such a resize needs, with the shadow root that a commit takes
 abbrev pub plan_needs : ℕ → Drafting → Plan → ℕ
-plan_needs size was plan = shrink_takes was plan.cut plan.from (size / 512) (last_node size) + shadow_need was
+plan_needs size was plan = shrink_takes was plan.cut plan.from (size / 512) (last_draft_node size) + shadow_need was
 
 -- The draft is the model's of another size. Its blocks were claimed in their order, each the least Free, what it
 -- dropped of its own is Free, and what it needed was Free beside the floor.
 pub record Resized {D : Type 0} (g : Ghosts D) (graph : Graph) (ds : List Opened) (id : Puid) (d : Draft)
     (size floor : ℕ) (old new : D) (before after : Kept) (was now : Drafting) : Type 0 where
-  pub becomes : Becomes g graph ds id (changed_draft (SetSize size) d) old new after now
+  pub becomes : DraftBecomes g graph ds id (changed_draft (SetSize size) d) old new after now
   pub order : ClaimsAndDrops id.block
       (claims_anew was.at (written_anew (SetSize size) d.object d.fresh) d.fresh) (g.content old) (g.content new)
   pub room : need_beside (SetSize size) d was + floor ≤ sum before.free
@@ -263,5 +265,6 @@ pub record ResizeCall {D : Type 0} (g : Ghosts D) (size floor : ℕ) (old new : 
   pub stays : Resizes size was now result
   pub spared : IfErr result (λ e. is_full_refusal e ≡ true → OnlyReads g 1 old new × (after ≡ before) × (now ≡ was))
   pub told : HasNoneFresh was → OnOk result (IsToldByNodes g old new before after now)
-  pub ends : Ends g was.at floor 31092 15486 (sum before.free) old new before after result
+  pub near : IsFarRoot (g.blocks new) now.root → IsFarRoot (g.blocks new) was.root
+  pub ends : EndsCall g (top_of was) floor 31092 15486 (sum before.free) old new before after result
   pub kept : IfErr result (λ e. e ≡ refusals.Disk false → now ≡ was)

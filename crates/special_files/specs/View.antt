@@ -15,11 +15,11 @@ use Rattle.vol_image.specs.Seen.{tree_in}
 use Rattle.vol_image.specs.Sound.{Holds}
 use Rattle.vol_owners.specs.Account.{Opened}
 use Rattle.special_files.specs.Drafting.{Drafting, IsOpen}
-use Rattle.special_files.specs.Refusal.{is_damaged}
+use Rattle.special_files.specs.Refusal.{has_met_damage}
 
 -- The store has these objects and drafts. One of the objects has this identifier, and its draft is the one in memory,
 -- which is this draft of the model.
-pub record View {D : Type 0} (g : Ghosts D) (disk : D) (space : Kept) (was : Drafting) : Type 0 where
+pub record DraftView {D : Type 0} (g : Ghosts D) (disk : D) (space : Kept) (was : Drafting) : Type 0 where
   pub graph : Graph
   pub ds : List Opened
   pub id : Puid
@@ -37,8 +37,9 @@ pub record HasTree {D : Type 0} (g : Ghosts D) (disk : D) (was : Drafting) : Typ
   pub tree : IsTree (length (g.content disk)) owner (tree_in (g.content disk) (root_spelling was.root)) was.root object
 
 -- Done, a call has done this. Each image that a crash leaves on the way holds these objects, and no damage is met.
-pub record Goes {D A : Type 0} (g : Ghosts D) (graph : Graph) (P : Type 0) (old new : D) (result : Result A Refused) :
+pub record GoesHolding {D A : Type 0} (g : Ghosts D) (graph : Graph) (P : Type 0) (old new : D)
+    (result : Result A Refused) :
     Type 0 where
   pub done : OnOk result P
   pub leaves : Leaves g old new (λ c. Holds c graph)
-  pub sound : IfErr result (λ e. is_damaged e ≡ false)
+  pub sound : IfErr result (λ e. has_met_damage e ≡ false)

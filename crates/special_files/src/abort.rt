@@ -10,8 +10,9 @@ ghost use Rattle.special_files.specs.Changed.{AreTaken};
 ghost use Rattle.special_files.specs.Committing as spec;
 ghost use Rattle.special_files.specs.Drafting.{Drafting, IsOpen, number_if, opened_as};
 ghost use Rattle.block_tree.specs.Reads.{is_damage};
-ghost use Rattle.special_files.specs.Refusal.{IsTrouble};
-ghost use Rattle.special_files.specs.View.{View};
+ghost use Rattle.leaf_changes.specs.Tops.{still_top};
+ghost use Rattle.special_files.specs.Refusal.{IsDraftTrouble};
+ghost use Rattle.special_files.specs.View.{DraftView};
 ghost use Rattle.ufs_model.specs.Graph.{Graph, object_at};
 ghost use Rattle.ufs_model.specs.declared.object.Draft as drafts;
 ghost use Rattle.ufs_model.specs.declared.object.Object.{Object};
@@ -73,11 +74,11 @@ fn give_up<D: Disk>(
     requires taken_on_disk { All (λ n. n < D.blocks disk.old) taken.now }
     requires shadow_on_disk { (n : ℕ) → number_if shadow ≡ Some n → n < D.blocks disk.old }
     requires created_on_disk { (n : ℕ) → number_if created ≡ Some n → n < D.blocks disk.old }
-    ensures ends { (was : Drafting) (v : View D.Disk disk.old space.old was)
+    ensures ends { (was : Drafting) (v : DraftView D.Disk disk.old space.old was)
         → was.shadow ≡ number_if shadow → was.created ≡ number_if created
         → AreTaken (D.content disk.old) v.id (opened_as v.id was v.draft) taken.now
         → spec.AbortEnds D.Disk v.graph v.ds v.id was.created disk.old disk.new space.new result }
-    ensures fails { (at : ℕ) → IfErr result (spec.Fails D.Disk at disk.old disk.new space.new) }
+    ensures fails { (at : ℕ) → IfErr result (spec.CommitFails D.Disk (still_top at) disk.old disk.new space.new) }
     ensures cylinders { length space.new.free ≡ length space.old.free }
     ensures left { space.new.left ≡ space.old.left }
     ensures calls { MakesAtMost D.Disk (2 * length taken.now + (2 + 2)) (length taken.now + (1 + 1)) disk.old disk.new }
@@ -107,10 +108,11 @@ fn abort_parts<D: Disk>(
 ) -> Result<(), Trouble>
     requires on_disk { at.0 < D.blocks disk.old }
     requires size { D.blocks disk.old ≡ 64 * length space.old.free }
-    ensures ends { (was : Drafting) (v : View D.Disk disk.old space.old was)
-        → spec.AreParts was at.0 (number_if shadow) own.now root.now (number_if created)
+    ensures ends { (was : Drafting) (v : DraftView D.Disk disk.old space.old was)
+        → spec.AreDraftParts was at.0 (number_if shadow) own.now root.now (number_if created)
         → spec.AbortEnds D.Disk v.graph v.ds v.id was.created disk.old disk.new space.new result }
-    ensures refused { IfErr result (IsTrouble D.Disk at.0 disk.old disk.new space.new) }
+    ensures refused { IfErr result (IsDraftTrouble D.Disk (spec.parts_top at.0 (number_if shadow) own.now root.now
+        (number_if created)) disk.old disk.new space.new) }
     ensures tried { IfErr result (λ t. t ≢ troubles.Disk false) }
     ensures made { OnOk result (HasTried D.Disk disk.old disk.new) }
     ensures cylinders { length space.new.free ≡ length space.old.free }
@@ -155,7 +157,7 @@ impl Draft {
         ensures sound { (graph : Graph) (ds : List Opened) (id : Puid) (o : Object) (d : drafts.Draft)
             → StoreHas D.Disk graph ds disk.old space.old → object_at graph id ≡ Some o → IsOpen ds id self d
             → IfErr result (λ t. is_damage t ≡ false) }
-        ensures refused { IfErr result (IsTrouble D.Disk self.at disk.old disk.new space.new) }
+        ensures refused { IfErr result (IsDraftTrouble D.Disk (spec.draft_top self) disk.old disk.new space.new) }
         // Where a call of the disk failed a write or a barrier was tried.
         ensures tried { IfErr result (λ t. t ≢ troubles.Disk false) }
         ensures made { OnOk result (HasTried D.Disk disk.old disk.new) }

@@ -1,5 +1,5 @@
 //! The root of an object that is made with a draft's commit.
-ghost use Rattle.std.specs.Prelude.{◌≡◌, ◌≢◌, None, Some};
+ghost use Rattle.std.specs.Prelude.{◌≡◌, ◌≢◌, Some};
 
 use crate::draft::Draft;
 use cfs_base::BlockNo;
@@ -9,8 +9,6 @@ impl Draft {
     /// `abort` makes it Free.
     pub fn adopt(&mut self, created: BlockNo)
         requires some { created.0 ≢ 0 }
-        requires direct { self.old.shadow ≡ None }
-        requires first { self.old.created ≡ None }
         ensures { self.new ≡ record self.old { created = Some created.0 } }
     {
         self.created = Some(created);

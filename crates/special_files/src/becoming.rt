@@ -5,15 +5,15 @@ ghost use Rattle.cfs_base.specs.Calls.{HasTried, MakesAtMost, OnlyReads};
 ghost use Rattle.cfs_base.specs.Run.{IsSettled, Leaves, Tells};
 ghost use Rattle.cfs_base.specs.declared.identifier.Puid.{Puid};
 ghost use Rattle.cfs_base.specs.declared.refusal.Trouble.TheVariants as troubles;
-ghost use Rattle.cyl_alloc.specs.Left.{Left};
+ghost use Rattle.cyl_alloc.specs.Left.{LeftCommit};
 ghost use Rattle.intentions.specs.Store.{StoreHas};
 ghost use Rattle.special_files.specs.Changed.{unlike};
 ghost use Rattle.special_files.specs.Committing as spec;
 ghost use Rattle.special_files.specs.Drafting.{Drafting, IsOpen, number_if};
 ghost use Rattle.special_files.specs.Fills.{IsNearSwap, IsSwapped};
 ghost use Rattle.block_tree.specs.Reads.{is_damage};
-ghost use Rattle.special_files.specs.Refusal.{IsTrouble};
-ghost use Rattle.special_files.specs.View.{View};
+ghost use Rattle.special_files.specs.Refusal.{IsDraftTrouble};
+ghost use Rattle.special_files.specs.View.{DraftView};
 ghost use Rattle.ufs_model.specs.Graph.{Graph, object_at};
 ghost use Rattle.ufs_model.specs.declared.object.Draft as drafts;
 ghost use Rattle.ufs_model.specs.declared.object.Object.{Object};
@@ -75,18 +75,19 @@ fn commit_parts<D: Disk>(
     requires size { D.blocks disk.old ≡ 64 * length space.old.free }
     requires room { number_if shadow ≡ None → 1 ≤ sum space.old.free }
     requires left { space.old.left ≡ None }
-    ensures commits { (was : Drafting) (v : View D.Disk disk.old space.old was) (made : Option spec.Making)
-        → spec.AreParts was at.0 (number_if shadow) own.now root.now (number_if created)
+    ensures commits { (was : Drafting) (v : DraftView D.Disk disk.old space.old was) (made : Option spec.Making)
+        → spec.AreDraftParts was at.0 (number_if shadow) own.now root.now (number_if created)
         → spec.Makes (D.content disk.old) (number_if created) made
         → spec.CommitEnds D.Disk v.graph v.ds v.id v.draft.object made disk.old disk.new space.new result }
-    ensures refused { IfErr result (IsTrouble D.Disk at.0 disk.old disk.new space.new) }
+    ensures refused { IfErr result (IsDraftTrouble D.Disk (spec.parts_top at.0 (number_if shadow) own.now root.now
+        (number_if created)) disk.old disk.new space.new) }
     ensures made { OnOk result (HasTried D.Disk disk.old disk.new) }
     ensures tried { number_if shadow ≢ None → IfErr result (λ t. t ≢ troubles.Disk false) }
     ensures untried { IfErr result (λ t. t ≡ troubles.Disk false
         → (space.new ≡ space.old) × OnlyReads D.Disk 241 disk.old disk.new) }
     ensures settled { Tells D.Disk disk.old → OnOk result (IsSettled D.Disk disk.new) }
     ensures cylinders { length space.new.free ≡ length space.old.free }
-    ensures left { OnOk result ((l : Left) × spec.IsNoted at.0 space.new.left l) }
+    ensures left { OnOk result ((l : LeftCommit) × spec.IsNoted at.0 space.new.left l) }
     ensures calls { MakesAtMost D.Disk 31207 15485 disk.old disk.new }
 {
     match part_on_disk(disk, at, created) {
@@ -138,7 +139,7 @@ impl Draft {
             (made : Option spec.Making) → StoreHas D.Disk graph ds disk.old space.old → object_at graph id ≡ Some o
             → IsOpen ds id self d → spec.Makes (D.content disk.old) self.created made
             → IfErr result (λ t. is_damage t ≡ false) }
-        ensures refused { IfErr result (IsTrouble D.Disk self.at disk.old disk.new space.new) }
+        ensures refused { IfErr result (IsDraftTrouble D.Disk (spec.draft_top self) disk.old disk.new space.new) }
         ensures made { OnOk result (HasTried D.Disk disk.old disk.new) }
         // Of a draft that has a shadow root, where a call of the disk failed a write or a barrier was tried.
         ensures tried { self.shadow ≢ None → IfErr result (λ t. t ≢ troubles.Disk false) }
@@ -149,7 +150,7 @@ impl Draft {
         ensures settled { Tells D.Disk disk.old → OnOk result (IsSettled D.Disk disk.new) }
         ensures cylinders { length space.new.free ≡ length space.old.free }
         // What is left of it is kept.
-        ensures left { OnOk result ((l : Left) × spec.IsNoted self.at space.new.left l) }
+        ensures left { OnOk result ((l : LeftCommit) × spec.IsNoted self.at space.new.left l) }
         ensures calls { MakesAtMost D.Disk 31207 15485 disk.old disk.new }
     {
         let taken = self.taken;
@@ -185,13 +186,14 @@ impl Draft {
             → IsOpen ds id self d → spec.Makes (D.content disk.old) self.created made
             → IsSwapped (D.content disk.old) id self d swap
             → spec.CommitEnds D.Disk graph ds id d.object made disk.old disk.new space.new result }
-        ensures refused { IfErr result (IsTrouble D.Disk self.at disk.old disk.new space.new) }
+        ensures refused { IfErr result (IsDraftTrouble D.Disk (spec.made_top self.at self.created) disk.old disk.new
+            space.new) }
         ensures made { OnOk result (HasTried D.Disk disk.old disk.new) }
         // Past its bit no write waits, of whatever disk that tells its content.
         ensures settled { Tells D.Disk disk.old → OnOk result (IsSettled D.Disk disk.new) }
         ensures cylinders { length space.new.free ≡ length space.old.free }
         // What is left of it is kept.
-        ensures left { OnOk result ((l : Left) × spec.IsNoted self.at space.new.left l) }
+        ensures left { OnOk result ((l : LeftCommit) × spec.IsNoted self.at space.new.left l) }
         ensures calls { MakesAtMost D.Disk 11 7 disk.old disk.new }
     {
         let mut taken = self.taken;

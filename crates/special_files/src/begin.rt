@@ -13,7 +13,8 @@ ghost use Rattle.cyl_alloc.specs.Space.{IsLeastFree, Kept};
 ghost use Rattle.intentions.specs.Store.{StoreHas};
 ghost use Rattle.special_files.specs.Drafting.{begun_at, none_of, number_if, opened_as};
 ghost use Rattle.block_tree.specs.Reads.{is_damage};
-ghost use Rattle.special_files.specs.Refusal.{IsRefusal, IsTrouble, is_damaged, is_full_refusal};
+ghost use Rattle.leaf_changes.specs.Tops.{still_top};
+ghost use Rattle.special_files.specs.Refusal.{IsDraftRefusal, IsDraftTrouble, has_met_damage, is_full_refusal};
 ghost use Rattle.special_files.specs.Store.{Steps};
 ghost use Rattle.vol_image.specs.Sound.{Holds};
 ghost use Rattle.ufs_model.specs.Graph.{Graph, object_at};
@@ -121,12 +122,12 @@ impl Draft {
         ensures full { IfErr result (λ e. is_full_refusal e ≡ true
             → (e ≡ refused.Full (record { free = sum space.old.free; need = 1 })) × (sum space.old.free < 1 + floor)
             × (disk.new ≡ disk.old)) }
-        ensures refused { IfErr result (IsRefusal D.Disk at.0 floor disk.old disk.new space.new) }
+        ensures refused { IfErr result (IsDraftRefusal D.Disk (still_top at.0) floor disk.old disk.new space.new) }
         ensures untried { IfErr result (λ e. had_tried e ≡ false
             → (space.new ≡ space.old) × OnlyReads D.Disk 2 disk.old disk.new) }
         ensures sound { (graph : Graph) (ds : List Opened) (id : Puid) (o : Object)
             → StoreHas D.Disk graph ds disk.old space.old
-            → id.block ≡ at.0 → object_at graph id ≡ Some o → IfErr result (λ e. is_damaged e ≡ false) }
+            → id.block ≡ at.0 → object_at graph id ≡ Some o → IfErr result (λ e. has_met_damage e ≡ false) }
         ensures cylinders { length space.new.free ≡ length space.old.free }
         ensures left { space.new.left ≡ space.old.left }
         ensures calls { MakesAtMost D.Disk 3 1 disk.old disk.new }
@@ -157,13 +158,13 @@ impl Draft {
             → StoreHas D.Disk graph ds disk.old space.old
             → id.block ≡ at.0 → object_at graph id ≡ Some o → drafts_of ds id ≡ [] → IfOk result (λ draft.
             StoreHas D.Disk graph (opened_as id draft (record { object = o; fresh = [] }) ∷ ds) disk.new space.new) }
-        ensures refused { IfErr result (IsRefusal D.Disk at.0 0 disk.old disk.new space.new) }
+        ensures refused { IfErr result (IsDraftRefusal D.Disk (still_top at.0) 0 disk.old disk.new space.new) }
         ensures spare { IfErr result (λ error. is_full_refusal error ≡ false) }
         ensures untried { IfErr result (λ error. had_tried error ≡ false) }
         // No damage where the disk holds the object.
         ensures sound { (graph : Graph) (ds : List Opened) (id : Puid) (o : Object)
             → StoreHas D.Disk graph ds disk.old space.old
-            → id.block ≡ at.0 → object_at graph id ≡ Some o → IfErr result (λ error. is_damaged error ≡ false) }
+            → id.block ≡ at.0 → object_at graph id ≡ Some o → IfErr result (λ error. has_met_damage error ≡ false) }
         ensures space { space.new ≡ space.old }
         ensures reads { OnlyReads D.Disk 1 disk.old disk.new }
     {

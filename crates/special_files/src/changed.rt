@@ -8,8 +8,8 @@ ghost use Rattle.cyl_alloc.specs.Space.{Kept};
 ghost use Rattle.special_files.specs.Changed as spec;
 ghost use Rattle.special_files.specs.Drafting.{Drafting, opened_as};
 ghost use Rattle.block_tree.specs.Reads.{is_damage, IsNear};
-ghost use Rattle.special_files.specs.Refusal.{IsTrouble};
-ghost use Rattle.special_files.specs.View.{View};
+ghost use Rattle.special_files.specs.Refusal.{IsDraftTrouble, nodes_top, roots_top};
+ghost use Rattle.special_files.specs.View.{DraftView};
 
 use crate::blocks::Blocks;
 use block_tree::{Node, Root, read_node};
@@ -56,7 +56,8 @@ fn add_nodes<D: Disk>(
         ++ spec.all_unlike (spec.in_node (D.content disk.old) own) (spec.in_node (D.content disk.old) new) 129) }
     ensures takes { OnOk result (spec.Adds (D.blocks disk.old) 129 taken.old taken.new) }
     ensures drops { OnOk result (spec.Adds (D.blocks disk.old) 129 dropped.old dropped.new) }
-    ensures refused { (kept : Kept) → IfErr result (IsTrouble D.Disk at.0 disk.old disk.new kept) }
+    ensures refused { (kept : Kept)
+        → IfErr result (IsDraftTrouble D.Disk (nodes_top at.0 own new) disk.old disk.new kept) }
     ensures untried { IfErr result (λ trouble. trouble_had_tried trouble ≡ false) }
     ensures sound { Tells D.Disk disk.old → IsNear (D.blocks disk.old) (D.content disk.old) own
         → IsNear (D.blocks disk.old) (D.content disk.old) new → IfErr result (λ trouble. is_damage trouble ≡ false) }
@@ -93,7 +94,8 @@ fn add_changed<D: Disk>(
         ++ spec.all_unlike (spec.in_node (D.content disk.old) own) (spec.in_node (D.content disk.old) new) 129) }
     ensures takes { OnOk result (spec.Adds (D.blocks disk.old) 129 taken.old taken.new) }
     ensures drops { OnOk result (spec.Adds (D.blocks disk.old) 129 dropped.old dropped.new) }
-    ensures refused { (kept : Kept) → IfErr result (IsTrouble D.Disk at.0 disk.old disk.new kept) }
+    ensures refused { (kept : Kept)
+        → IfErr result (IsDraftTrouble D.Disk (nodes_top at.0 own new) disk.old disk.new kept) }
     ensures untried { IfErr result (λ trouble. trouble_had_tried trouble ≡ false) }
     ensures sound { Tells D.Disk disk.old → IsNear (D.blocks disk.old) (D.content disk.old) own
         → IsNear (D.blocks disk.old) (D.content disk.old) new → IfErr result (λ trouble. is_damage trouble ≡ false) }
@@ -117,17 +119,18 @@ pub(crate) fn changed<D: Disk>(
     dropped: &mut Blocks,
 ) -> Result<(), Trouble>
     requires { 0 < D.blocks disk.old }
-    ensures changed { (space : Kept) (was : Drafting) (v : View D.Disk disk.old space was)
+    ensures changed { (space : Kept) (was : Drafting) (v : DraftView D.Disk disk.old space was)
         → was.own ≡ own.now → was.root ≡ root.now
         → OnOk result (spec.IsChanged (D.content disk.old) v.id (opened_as v.id was v.draft) taken.new dropped.new) }
     // On any disk there are no more than a draft has room for, and each is a block of the disk.
     ensures room { OnOk result ((length taken.new ≤ 15480) × (length dropped.new ≤ 15480)) }
     ensures on_disk { OnOk result (spec.AreOnDisk (D.blocks disk.old) taken.new
         × spec.AreOnDisk (D.blocks disk.old) dropped.new) }
-    ensures refused { (kept : Kept) → IfErr result (IsTrouble D.Disk at.0 disk.old disk.new kept) }
+    ensures refused { (kept : Kept) → IfErr result (IsDraftTrouble D.Disk (roots_top at.0 own.now root.now) disk.old
+        disk.new kept) }
     ensures untried { IfErr result (λ trouble. trouble_had_tried trouble ≡ false) }
     // No damage where the disk holds the object.
-    ensures sound { (space : Kept) (was : Drafting) (v : View D.Disk disk.old space was)
+    ensures sound { (space : Kept) (was : Drafting) (v : DraftView D.Disk disk.old space was)
         → was.own ≡ own.now → was.root ≡ root.now → IfErr result (λ trouble. is_damage trouble ≡ false) }
     ensures reads { OnlyReads D.Disk 240 disk.old disk.new }
 {

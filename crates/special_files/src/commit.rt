@@ -3,14 +3,15 @@ ghost use Rattle.std.specs.Prelude.{◌≡◌, ◌≢◌, ◌<◌, ◌≤◌, �
 ghost use Rattle.std.specs.Prelude.{Option, None, Some, IfErr, IsErr, OnOk};
 ghost use Rattle.std.specs.List.{All};
 ghost use Rattle.cfs_base.specs.Calls.{HasTried, MakesAtMost};
-ghost use Rattle.cyl_alloc.specs.Left.{Left};
+ghost use Rattle.cyl_alloc.specs.Left.{LeftCommit};
 ghost use Rattle.cfs_base.specs.Run.{IsSettled, Tells};
 ghost use Rattle.cfs_base.specs.declared.refusal.Refused.TheVariants as refused;
 ghost use Rattle.cfs_base.specs.declared.refusal.Trouble.TheVariants as troubles;
 ghost use Rattle.special_files.specs.Committing as spec;
 ghost use Rattle.special_files.specs.Drafting.{Drafting, number_if};
-ghost use Rattle.special_files.specs.Refusal.{IsTrouble};
-ghost use Rattle.special_files.specs.View.{View};
+ghost use Rattle.leaf_changes.specs.Tops.{still_top};
+ghost use Rattle.special_files.specs.Refusal.{IsDraftTrouble, roots_top};
+ghost use Rattle.special_files.specs.View.{DraftView};
 
 use crate::blocks::Blocks;
 use crate::changed::changed;
@@ -57,12 +58,12 @@ pub(crate) fn finish<D: Disk>(
     requires created_on_disk { (n : ℕ) → number_if created ≡ Some n → n < D.blocks disk.old }
     requires left { space.old.left ≡ None }
     requires few { length taken + length dropped.now ≤ 30960 }
-    ensures finishes { spec.Finishes D.Disk at.0 shadow.0 taken dropped.now (number_if created) disk.old disk.new
+    ensures finishes { spec.FinishesCommit D.Disk at.0 shadow.0 taken dropped.now (number_if created) disk.old disk.new
         space.old space.new result }
-    ensures fails { IfErr result (spec.Fails D.Disk at.0 disk.old disk.new space.new) }
+    ensures fails { IfErr result (spec.CommitFails D.Disk (still_top at.0) disk.old disk.new space.new) }
     ensures settled { Tells D.Disk disk.old → OnOk result (IsSettled D.Disk disk.new) }
     ensures cylinders { length space.new.free ≡ length space.old.free }
-    ensures left { OnOk result ((l : Left) × spec.IsNoted at.0 space.new.left l) }
+    ensures left { OnOk result ((l : LeftCommit) × spec.IsNoted at.0 space.new.left l) }
     ensures kept { IsErr result → space.new ≡ space.old }
     ensures calls { MakesAtMost D.Disk (2 * length dropped.now + 4) (length dropped.now + 3) disk.old disk.new }
 {
@@ -91,17 +92,18 @@ pub(crate) fn commit_begun<D: Disk>(
     requires shadow_on_disk { shadow.0 < D.blocks disk.old }
     requires created_on_disk { (n : ℕ) → number_if created ≡ Some n → n < D.blocks disk.old }
     requires left { space.old.left ≡ None }
-    ensures commits { (was : Drafting) (v : View D.Disk disk.old space.old was) (made : Option spec.Making)
-        → spec.AreParts was at.0 (Some shadow.0) own.now root.now (number_if created)
+    ensures commits { (was : Drafting) (v : DraftView D.Disk disk.old space.old was) (made : Option spec.Making)
+        → spec.AreDraftParts was at.0 (Some shadow.0) own.now root.now (number_if created)
         → spec.Makes (D.content disk.old) (number_if created) made
         → spec.CommitEnds D.Disk v.graph v.ds v.id v.draft.object made disk.old disk.new space.new result }
-    ensures refused { IfErr result (IsTrouble D.Disk at.0 disk.old disk.new space.new) }
+    ensures refused { IfErr result
+        (IsDraftTrouble D.Disk (roots_top at.0 own.now root.now) disk.old disk.new space.new) }
     ensures made { HasTried D.Disk disk.old disk.new }
     // No device call comes before the first try.
     ensures untried { IfErr result (λ t. t ≢ troubles.Disk false) }
     ensures settled { Tells D.Disk disk.old → OnOk result (IsSettled D.Disk disk.new) }
     ensures cylinders { length space.new.free ≡ length space.old.free }
-    ensures left { OnOk result ((l : Left) × spec.IsNoted at.0 space.new.left l) }
+    ensures left { OnOk result ((l : LeftCommit) × spec.IsNoted at.0 space.new.left l) }
     ensures kept { IsErr result → space.new ≡ space.old }
     ensures calls { MakesAtMost D.Disk 31205 15484 disk.old disk.new }
 {

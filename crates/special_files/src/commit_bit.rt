@@ -1,5 +1,5 @@
 //! The commit bit of a draft that stands with its root in its shadow root.
-ghost use Rattle.intentions.specs.Entries.{Fits};
+ghost use Rattle.intentions.specs.Entries.{FitsEntry};
 ghost use Rattle.std.specs.Prelude.{◌≡◌, ◌<◌, ◌+◌, ◌*◌, ◌++◌, ℕ, List, [], ◌∷◌, false, length, option_to_list};
 ghost use Rattle.std.specs.Prelude.{Option, None, Some, IfErr, OnOk};
 ghost use Rattle.std.specs.List.{All};
@@ -7,6 +7,8 @@ ghost use Rattle.cfs_base.specs.Calls.{MakesAtMost};
 ghost use Rattle.cfs_base.specs.Run.{IsSettled, Leaves, Tells};
 ghost use Rattle.cyl_alloc.specs.Space.{Kept};
 ghost use Rattle.intentions.specs.Flips.{flips};
+ghost use Rattle.intentions.specs.Runs.{runs};
+ghost use Rattle.leaf_changes.specs.Tops.{still_top};
 ghost use Rattle.special_files.specs.Committing as spec;
 ghost use Rattle.special_files.specs.Drafting.{number_if};
 ghost use Rattle.block_tree.specs.Reads.{is_damage};
@@ -27,7 +29,7 @@ pub(crate) fn flip_made<D: Disk>(
     how: Change,
 ) -> Result<(), Trouble>
     requires on_disk { (n : ℕ) → number_if created ≡ Some n → n < D.blocks disk.old }
-    requires fits { Fits how }
+    requires fits { FitsEntry how }
     ensures flips { spec.Flips D.Disk 2 1
         (flips how (option_to_list (number_if created))) disk.old disk.new result }
 {
@@ -59,8 +61,10 @@ pub(crate) fn decide<D: Disk>(
         → spec.IsReady (D.content disk.old) full (spec.puid_at at.0 word) was o s taken dropped.now created
         → IfErr result (λ t. is_damage t ≡ false) }
     ensures settled { Tells D.Disk disk.old → OnOk result (IsSettled D.Disk disk.new) }
-    ensures fails { (kept : Kept) → IfErr result (spec.Fails D.Disk at.0 disk.old disk.new kept) }
+    ensures fails { (kept : Kept) → IfErr result (spec.CommitFails D.Disk (still_top at.0) disk.old disk.new kept) }
     ensures calls { MakesAtMost D.Disk (2 * length dropped.now + 4) (length dropped.now + 3) disk.old disk.new }
+    // Those of one map that stand together cost one read and one write.
+    ensures by_map { MakesAtMost D.Disk (2 * runs dropped.now + 4) (runs dropped.now + 3) disk.old disk.new }
 {
     flip_all(disk, known, dropped, Change::Release)?;
     match commit(disk, known, at) {

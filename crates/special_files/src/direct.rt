@@ -9,13 +9,14 @@ ghost use Rattle.cfs_base.specs.declared.kind.Place.TheVariants.{ShadowRoot};
 ghost use Rattle.cfs_base.specs.declared.refusal.Refused.TheVariants as refused;
 ghost use Rattle.cfs_base.specs.declared.refusal.Trouble.TheVariants as troubles;
 ghost use Rattle.cyl_alloc.specs.Enters.{Enters};
-ghost use Rattle.cyl_alloc.specs.Left.{Left};
+ghost use Rattle.cyl_alloc.specs.Left.{LeftCommit};
 ghost use Rattle.cyl_alloc.specs.Space.{intended};
 ghost use Rattle.special_files.specs.Changed.{IsChanged};
 ghost use Rattle.special_files.specs.Committing as spec;
 ghost use Rattle.special_files.specs.Drafting.{Drafting, number_if, opened_as};
-ghost use Rattle.special_files.specs.Refusal.{IsTrouble, is_full_refusal};
-ghost use Rattle.special_files.specs.View.{View};
+ghost use Rattle.leaf_changes.specs.Tops.{still_top};
+ghost use Rattle.special_files.specs.Refusal.{IsDraftTrouble, is_full_refusal, roots_top};
+ghost use Rattle.special_files.specs.View.{DraftView};
 
 use crate::blocks::Blocks;
 use crate::changed::changed;
@@ -72,18 +73,18 @@ pub(crate) fn commit_listed<D: Disk>(
     requires created_on_disk { (n : ℕ) → number_if created ≡ Some n → n < D.blocks disk.old }
     requires left { space.old.left ≡ None }
     requires few { length taken + length dropped.now ≤ 30960 }
-    ensures commits { (was : Drafting) (v : View D.Disk disk.old space.old was) (made : Option spec.Making)
-        → spec.AreParts was at.0 None was.own root.now (number_if created)
+    ensures commits { (was : Drafting) (v : DraftView D.Disk disk.old space.old was) (made : Option spec.Making)
+        → spec.AreDraftParts was at.0 None was.own root.now (number_if created)
         → spec.Makes (D.content disk.old) (number_if created) made
         → IsChanged (D.content disk.old) v.id (opened_as v.id was v.draft) taken dropped.now
         → spec.CommitEnds D.Disk v.graph v.ds v.id v.draft.object made disk.old disk.new space.new result }
-    ensures refused { IfErr result (IsTrouble D.Disk at.0 disk.old disk.new space.new) }
+    ensures refused { IfErr result (IsDraftTrouble D.Disk (still_top at.0) disk.old disk.new space.new) }
     ensures made { OnOk result (HasTried D.Disk disk.old disk.new) }
     ensures untried { IfErr result (λ t. t ≡ troubles.Disk false
         → (space.new ≡ space.old) × OnlyReads D.Disk 1 disk.old disk.new) }
     ensures settled { Tells D.Disk disk.old → OnOk result (IsSettled D.Disk disk.new) }
     ensures cylinders { length space.new.free ≡ length space.old.free }
-    ensures left { OnOk result ((l : Left) × spec.IsNoted at.0 space.new.left l) }
+    ensures left { OnOk result ((l : LeftCommit) × spec.IsNoted at.0 space.new.left l) }
     ensures calls { MakesAtMost D.Disk (2 * length dropped.now + 7) (length dropped.now + 5) disk.old disk.new }
 {
     let shadow = match claim_shadow(disk, space, at) {
@@ -115,17 +116,18 @@ pub(crate) fn commit_direct<D: Disk>(
     requires room { 1 ≤ sum space.old.free }
     requires created_on_disk { (n : ℕ) → number_if created ≡ Some n → n < D.blocks disk.old }
     requires left { space.old.left ≡ None }
-    ensures commits { (was : Drafting) (v : View D.Disk disk.old space.old was) (made : Option spec.Making)
-        → spec.AreParts was at.0 None own.now root.now (number_if created)
+    ensures commits { (was : Drafting) (v : DraftView D.Disk disk.old space.old was) (made : Option spec.Making)
+        → spec.AreDraftParts was at.0 None own.now root.now (number_if created)
         → spec.Makes (D.content disk.old) (number_if created) made
         → spec.CommitEnds D.Disk v.graph v.ds v.id v.draft.object made disk.old disk.new space.new result }
-    ensures refused { IfErr result (IsTrouble D.Disk at.0 disk.old disk.new space.new) }
+    ensures refused { IfErr result
+        (IsDraftTrouble D.Disk (roots_top at.0 own.now root.now) disk.old disk.new space.new) }
     ensures made { OnOk result (HasTried D.Disk disk.old disk.new) }
     ensures untried { IfErr result (λ t. t ≡ troubles.Disk false
         → (space.new ≡ space.old) × OnlyReads D.Disk 241 disk.old disk.new) }
     ensures settled { Tells D.Disk disk.old → OnOk result (IsSettled D.Disk disk.new) }
     ensures cylinders { length space.new.free ≡ length space.old.free }
-    ensures left { OnOk result ((l : Left) × spec.IsNoted at.0 space.new.left l) }
+    ensures left { OnOk result ((l : LeftCommit) × spec.IsNoted at.0 space.new.left l) }
     ensures calls { MakesAtMost D.Disk 31207 15485 disk.old disk.new }
 {
     match changed(disk, at, own, root, &mut taken, dropped) {

@@ -9,14 +9,14 @@ ghost use Rattle.cfs_base.specs.declared.refusal.Refused.TheVariants as refused;
 ghost use Rattle.claims.specs.Claims.{AreClaimed};
 ghost use Rattle.intentions.specs.Store.{StoreHas};
 ghost use Rattle.leaf_changes.specs.Bytes.{IsSlot};
-ghost use Rattle.special_files.specs.Becomes.{Becomes};
+ghost use Rattle.special_files.specs.Becomes.{DraftBecomes};
 ghost use Rattle.special_files.specs.Drafting.{IsOpen, draft_takes};
-ghost use Rattle.special_files.specs.Ends.{Ends};
+ghost use Rattle.special_files.specs.Ends.{EndsCall};
 ghost use Rattle.special_files.specs.Fills.{IsNearSwap, IsSwapped, filled_draft};
 ghost use Rattle.special_files.specs.Leaves.{SameBeside};
 ghost use Rattle.special_files.specs.Order.{leaf_claims};
 ghost use Rattle.special_files.specs.Puts.{StaysBut};
-ghost use Rattle.special_files.specs.Refusal.{is_damaged, is_full_refusal};
+ghost use Rattle.special_files.specs.Refusal.{has_met_damage, is_full_refusal, top_of};
 ghost use Rattle.ufs_model.specs.Graph.{Graph, object_at};
 ghost use Rattle.ufs_model.specs.declared.object.Draft as drafts;
 ghost use Rattle.ufs_model.specs.declared.object.Index.{Index};
@@ -69,7 +69,7 @@ impl Draft {
         ensures filled { (graph : Graph) (ds : List Opened) (id : Puid) (o : Object) (d : drafts.Draft) (i : Index)
             → StoreHas D.Disk graph ds disk.old space.old → object_at graph id ≡ Some o → IsOpen ds id self.old d
             → d.object ≡ objects.Index i → OnOk result
-            (Becomes D.Disk graph ds id (filled_draft i slot what d) disk.old disk.new space.new self.new) }
+            (DraftBecomes D.Disk graph ds id (filled_draft i slot what d) disk.old disk.new space.new self.new) }
         // Its leaf takes the least Free block where it isn't fresh, and after it its node.
         ensures order { (graph : Graph) (ds : List Opened) (id : Puid) (o : Object) (d : drafts.Draft) (i : Index)
             → StoreHas D.Disk graph ds disk.old space.old → object_at graph id ≡ Some o → IsOpen ds id self.old d
@@ -94,7 +94,7 @@ impl Draft {
             → StoreHas D.Disk graph ds disk.old space.old → object_at graph id ≡ Some o → IsOpen ds id self.old d
             → Leaves D.Disk disk.old disk.new (λ c. Holds c graph) }
         ensures stays { StaysBut self.old self.new }
-        ensures ends { Ends D.Disk self.old.at 0 8 4 (draft_takes self.old (slot / 64))
+        ensures ends { EndsCall D.Disk (top_of self.old) 0 8 4 (draft_takes self.old (slot / 64))
             disk.old disk.new space.old space.new result }
         ensures done { IfOk result (λ put. is_some put ≡ true → HasTried D.Disk disk.old disk.new) }
         ensures spared { IfOk result (λ put. put ≡ None
@@ -105,7 +105,7 @@ impl Draft {
         ensures room { draft_takes self.old (slot / 64) ≤ sum space.old.free → IfErr result (λ e. is_full_refusal e ≡ false) }
         ensures sound { (graph : Graph) (ds : List Opened) (id : Puid) (o : Object) (d : drafts.Draft)
             → StoreHas D.Disk graph ds disk.old space.old → object_at graph id ≡ Some o → IsOpen ds id self.old d
-            → IfErr result (λ e. is_damaged e ≡ false) }
+            → IfErr result (λ e. has_met_damage e ≡ false) }
     {
         prove!(self.root.size <= SIZE_LIMIT);
         let leaf = (slot / 64) as u32;

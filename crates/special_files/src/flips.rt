@@ -1,13 +1,15 @@
-//! Entries of many blocks, changed one after another.
+//! Entries of many blocks, changed with one write for those of one map that stand together.
 ghost use Rattle.std.specs.Prelude.{◌≡◌, ◌<◌, ◌*◌, ℕ, [], ◌∷◌, length};
 ghost use Rattle.std.specs.List.{All};
-ghost use Rattle.intentions.specs.Entries.{Fits};
+ghost use Rattle.cfs_base.specs.Calls.{MakesAtMost};
+ghost use Rattle.intentions.specs.Entries.{FitsEntry};
 ghost use Rattle.intentions.specs.Flips.{flips};
+ghost use Rattle.intentions.specs.Runs.{runs};
 ghost use Rattle.special_files.specs.Committing as spec;
 
-use cfs_base::{BlockNo, Disk, Trouble};
+use cfs_base::{Block, BlockNo, Disk, Trouble};
 use cyl_alloc::{KnownMaps, Space};
-use intentions::{Change, change_entry};
+use intentions::{Change, Rule, change_entry, change_first, write_map};
 
 /// Changes the entry of a block, where a write or a barrier was tried before.
 pub(crate) fn flip<D: Disk>(
@@ -17,7 +19,7 @@ pub(crate) fn flip<D: Disk>(
     how: Change,
 ) -> Result<(), Trouble>
     requires on_disk { block.0 < D.blocks disk.old }
-    requires fits { Fits how }
+    requires fits { FitsEntry how }
     ensures flips { spec.Flips D.Disk 2 1 (record { block = block.0; how = how } ∷ []) disk.old disk.new result }
 {
     match change_entry(disk, known, block, how) {
@@ -26,7 +28,33 @@ pub(crate) fn flip<D: Disk>(
     }
 }
 
-/// Changes the entries of all these blocks, one after another.
+/// Changes the entries of the first of these blocks that lie in one map, by one read and one write of it, where a write
+/// or a barrier was tried before. Answers how many they are.
+fn flip_run<D: Disk>(
+    disk: &mut D,
+    known: &mut KnownMaps,
+    blocks: &[u32],
+    how: Change,
+) -> Result<usize, Trouble>
+    requires some { 0 < length blocks.now }
+    requires on_disk { All (λ n. n < D.blocks disk.old) blocks.now }
+    requires fits { FitsEntry how }
+    ensures { spec.FlipsRun D.Disk how blocks.now disk.old disk.new result }
+{
+    let first = blocks[0];
+    let mut map = Block::zero();
+    match known.load_map(disk, first, &mut map) {
+        Ok(()) => {}
+        Err(trouble) => return Err(trouble.after_try()),
+    }
+    let run = change_first(&mut map, blocks, Rule::Alike(how), first);
+    match write_map(disk, known, first, &map) {
+        Ok(()) => Ok(run.count),
+        Err(trouble) => Err(trouble),
+    }
+}
+
+/// Changes the entries of all these blocks, with one write for those of one map that stand together.
 pub(crate) fn flip_all<D: Disk>(
     disk: &mut D,
     known: &mut KnownMaps,
@@ -34,12 +62,17 @@ pub(crate) fn flip_all<D: Disk>(
     how: Change,
 ) -> Result<(), Trouble>
     requires on_disk { All (λ n. n < D.blocks disk.old) blocks.now }
-    requires fits { Fits how }
+    requires fits { FitsEntry how }
     ensures flips { spec.Flips D.Disk (2 * length blocks.now) (length blocks.now) (flips how blocks.now)
         disk.old disk.new result }
+    ensures by_map { MakesAtMost D.Disk (2 * runs blocks.now) (runs blocks.now) disk.old disk.new }
 {
-    for block in blocks {
-        flip(disk, known, BlockNo(*block), how)?;
+    let mut done = 0;
+    while done < blocks.len() {
+        match flip_run(disk, known, &blocks[done..], how) {
+            Ok(count) => done += count,
+            Err(trouble) => return Err(trouble),
+        }
     }
     Ok(())
 }

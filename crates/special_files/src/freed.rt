@@ -12,9 +12,10 @@ ghost use Rattle.intentions.specs.Flips.{flips};
 ghost use Rattle.special_files.specs.Committing.{Flips};
 ghost use Rattle.special_files.specs.Drafting.{Drafting, opened_as};
 ghost use Rattle.block_tree.specs.Reads.{is_damage, IsNear, leaves_at};
-ghost use Rattle.special_files.specs.Refusal.{IsTrouble};
+ghost use Rattle.leaf_changes.specs.Tops.{root_top, still_top};
+ghost use Rattle.special_files.specs.Refusal.{IsDraftTrouble};
 ghost use Rattle.special_files.specs.Shed as spec;
-ghost use Rattle.special_files.specs.View.{View};
+ghost use Rattle.special_files.specs.View.{DraftView};
 
 use crate::blocks::Blocks;
 use crate::flags::Flags;
@@ -39,7 +40,8 @@ fn node_again<D: Disk>(
         → IfOk result (λ node. node.leaves ≡ leaves_at (D.content disk.old) (slice_index root.now.nodes number)) }
     ensures there { OnOk result (slice_index root.now.nodes number < D.blocks disk.old) }
     ensures leaves { IfOk result (λ node. All (λ leaf. leaf < D.blocks disk.old) node.leaves) }
-    ensures refused { (kept : Kept) → IfErr result (IsTrouble D.Disk at.0 disk.old disk.new kept) }
+    ensures refused { (kept : Kept)
+        → IfErr result (IsDraftTrouble D.Disk (root_top at.0 root.now) disk.old disk.new kept) }
     ensures untried { IfErr result (λ trouble. trouble_had_tried trouble ≡ false) }
     ensures sound { Tells D.Disk disk.old
         → IsNear (D.blocks disk.old) (D.content disk.old) (slice_index root.now.nodes number)
@@ -97,15 +99,16 @@ pub(crate) fn list_from<D: Disk>(
     requires node_flags { length nodes.now ≡ 120 }
     requires limit { from ≤ 15360 }
     requires safe { spec.IsSafeIn (D.blocks disk.old) root.now read.now }
-    ensures listed { (space : Kept) (was : Drafting) (v : View D.Disk disk.old space was)
+    ensures listed { (space : Kept) (was : Drafting) (v : DraftView D.Disk disk.old space was)
         → spec.HasParts was root.now leaves.now nodes.now → spec.IsReadIn (D.content disk.old) root.now read.now
         → OnOk result (spec.AreShed (D.content disk.old) v.id (opened_as v.id was v.draft) from list.new) }
     // On any disk there are no more than a draft has room for, and each is a block of the disk.
     ensures room { OnOk result (length list.new ≤ 15480) }
     ensures on_disk { OnOk result (All (λ n. n < D.blocks disk.old) list.new) }
-    ensures refused { (kept : Kept) → IfErr result (IsTrouble D.Disk at.0 disk.old disk.new kept) }
+    ensures refused { (kept : Kept)
+        → IfErr result (IsDraftTrouble D.Disk (root_top at.0 root.now) disk.old disk.new kept) }
     ensures untried { IfErr result (λ trouble. trouble_had_tried trouble ≡ false) }
-    ensures sound { (space : Kept) (was : Drafting) (v : View D.Disk disk.old space was)
+    ensures sound { (space : Kept) (was : Drafting) (v : DraftView D.Disk disk.old space was)
         → spec.HasParts was root.now leaves.now nodes.now → IfErr result (λ trouble. is_damage trouble ≡ false) }
     // Where no node is fresh there is none, and nothing is read.
     ensures none { ((n : ℕ) → get_or nodes.now n false ≡ false)
@@ -150,7 +153,8 @@ pub(crate) fn undo_listed<D: Disk>(
     ensures flips { Flips D.Disk (2 * length blocks.now) (length blocks.now) (flips Undo blocks.now)
         disk.old disk.new (spec.as_tried result) }
     ensures told { OnOk result ((n : ℕ) → IsTrue (D.told disk.old n) → IsTrue (D.told disk.new n)) }
-    ensures refused { (at : ℕ) (kept : Kept) → IfErr result (IsTrouble D.Disk at disk.old disk.new kept) }
+    ensures refused { (at : ℕ) (kept : Kept)
+        → IfErr result (IsDraftTrouble D.Disk (still_top at) disk.old disk.new kept) }
     ensures untried { IfErr result (λ t. t ≡ trouble.Disk false → OnlyReads D.Disk 1 disk.old disk.new) }
     ensures none { blocks.now ≡ [] → disk.new ≡ disk.old }
 {

@@ -6,7 +6,7 @@ ghost use Rattle.cyl_map.specs.Entry.{IsEntry};
 ghost use Rattle.special_files.specs.Calls as spec;
 ghost use Rattle.special_files.specs.Nodes.{IsRead, IsSafe};
 ghost use Rattle.special_files.specs.Puts.{FitsLeaf, LeafCall, PutsLeaf, StaysBut};
-ghost use Rattle.special_files.specs.View.{Goes, View};
+ghost use Rattle.special_files.specs.View.{GoesHolding, DraftView};
 
 use crate::draft::Draft;
 use crate::node::NodeRead;
@@ -20,7 +20,7 @@ pub(crate) fn write_own<D: Disk>(
     content: &Block,
 ) -> Result<(), Refused>
     requires { block.0 < D.blocks disk.old }
-    ensures { spec.WritesBlock D.Disk block.0 content.now disk.old disk.new result }
+    ensures { spec.WritesDraftBlock D.Disk block.0 content.now disk.old disk.new result }
 {
     match disk.write(block, content) {
         Ok(()) => Ok(()),
@@ -52,7 +52,7 @@ impl Draft {
     ) -> Result<BlockNo, Refused>
         requires size { D.blocks disk.old ≡ 64 * length space.old.free }
         requires below { node < 120 }
-        ensures { spec.GetsNode D.Disk node disk.old disk.new space.old space.new self.now result }
+        ensures { spec.GetsDraftNode D.Disk node disk.old disk.new space.old space.new self.now result }
     {
         if self.has_fresh_node(node) {
             return Ok(BlockNo(self.root.nodes[node as usize]));
@@ -74,8 +74,9 @@ impl Draft {
         requires below { leaf < 15360 }
         requires read { read.old.number ≡ leaf / 128 }
         requires safe { IsSafe (D.blocks disk.old) self.old read.old }
-        ensures goes { (v : View D.Disk disk.old space.old self.old) → IsRead (D.content disk.old) self.old read.old
-            → FitsLeaf self.old.root leaf content.now → Goes D.Disk v.graph
+        ensures goes { (v : DraftView D.Disk disk.old space.old self.old)
+            → IsRead (D.content disk.old) self.old read.old
+            → FitsLeaf self.old.root leaf content.now → GoesHolding D.Disk v.graph
             (PutsLeaf D.Disk v.graph v.ds v.id leaf content.now
             disk.old disk.new space.new self.old self.new read.new) disk.old disk.new result }
         ensures calls { LeafCall D.Disk 6 leaf disk.old disk.new space.old space.new self.old self.new read.new result }

@@ -7,10 +7,10 @@ ghost use Rattle.cfs_base.specs.declared.identifier.Puid.{Puid};
 ghost use Rattle.cyl_alloc.specs.Space.{Kept};
 ghost use Rattle.intentions.specs.Left.{StoreIs};
 ghost use Rattle.special_files.specs.Drafting.{IsOpen};
-ghost use Rattle.special_files.specs.Leaves.{leaves_of};
+ghost use Rattle.special_files.specs.Leaves.{leaves_below};
 ghost use Rattle.special_files.specs.Nodes.{IsRead, IsSafe, TurnsTo};
 ghost use Rattle.block_tree.specs.Reads.{is_damage};
-ghost use Rattle.special_files.specs.Refusal.{IsTrouble};
+ghost use Rattle.special_files.specs.Refusal.{IsDraftTrouble, top_of};
 ghost use Rattle.special_files.specs.View.{HasTree};
 ghost use Rattle.ufs_model.specs.Graph.{Graph, object_at};
 ghost use Rattle.ufs_model.specs.Object as spec;
@@ -40,7 +40,7 @@ impl Draft {
         requires safe { IsSafe (D.blocks disk.old) self.now read.old }
         ensures bytes { HasTree D.Disk disk.old self.now → IsRead (D.content disk.old) self.now read.old
             → IfOk result (λ content. content ≡ leaf_content self.now.root.fill
-            (leaves_of (D.content disk.old) self.now.root leaf)) }
+            (leaves_below (D.content disk.old) self.now.root leaf)) }
         ensures turns { TurnsTo D.Disk self.now (leaf / 128) 2 disk.old disk.new read.old read.new result }
     {
         match self.turn_to(disk, read, leaf / 128) {
@@ -68,7 +68,8 @@ impl Draft {
         ensures long { length into.new ≡ length into.old }
         ensures store { (graph : Graph) (ds : List Opened) (space : Kept) → StoreIs D.Disk graph ds disk.old space
             → StoreIs D.Disk graph ds disk.new space }
-        ensures refused { (kept : Kept) → IfErr result (IsTrouble D.Disk self.now.at disk.old disk.new kept) }
+        ensures refused { (kept : Kept)
+            → IfErr result (IsDraftTrouble D.Disk (top_of self.now) disk.old disk.new kept) }
         ensures untried { IfErr result (λ trouble. trouble_had_tried trouble ≡ false) }
         // No damage where the disk holds the object.
         ensures sound { (graph : Graph) (ds : List Opened) (space : Kept) (id : Puid) (o : Object) (d : drafts.Draft)

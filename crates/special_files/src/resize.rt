@@ -4,11 +4,11 @@ ghost use Rattle.cfs_base.specs.declared.refusal.Refused.TheVariants as refused;
 ghost use Rattle.cyl_alloc.specs.Space.{Kept};
 ghost use Rattle.leaf_changes.specs.Bytes as changes;
 ghost use Rattle.special_files.specs.Drafting.{shadow_need};
-ghost use Rattle.special_files.specs.Leaves.{leaves_of};
+ghost use Rattle.special_files.specs.Leaves.{leaves_below};
 ghost use Rattle.special_files.specs.Nodes.{IsRead, IsSafe, TurnsTo};
 ghost use Rattle.special_files.specs.Puts.{CutsLeaf, LeafCall};
 ghost use Rattle.special_files.specs.Shed.{IsFullFor, Resized, sized};
-ghost use Rattle.special_files.specs.View.{Goes, View};
+ghost use Rattle.special_files.specs.View.{GoesHolding, DraftView};
 ghost use Rattle.ufs_model.specs.declared.object.File.{File};
 ghost use Rattle.ufs_model.specs.declared.object.Object.TheVariants as objects;
 ghost use Rattle.vol_image.specs.Reading.{leaf_content};
@@ -30,10 +30,11 @@ impl Draft {
     ) -> Result<(), Refused>
         requires more { self.old.root.size ≤ size }
         requires limit { size ≤ 7864320 }
-        ensures resized { (v : View D.Disk _disk.now space.now self.old) (f : File) → v.draft.object ≡ objects.File f
+        ensures resized { (v : DraftView D.Disk _disk.now space.now self.old) (f : File)
+            → v.draft.object ≡ objects.File f
             → OnOk result (Resized D.Disk v.graph v.ds v.id v.draft size floor _disk.now _disk.now space.now space.now
             self.old self.new) }
-        ensures full { (v : View D.Disk _disk.now space.now self.old) (f : File) → v.draft.object ≡ objects.File f
+        ensures full { (v : DraftView D.Disk _disk.now space.now self.old) (f : File) → v.draft.object ≡ objects.File f
             → IfErr result (IsFullFor size floor v.draft space.now self.old) }
         ensures only_size { OnOk result (self.new ≡ sized self.old size) }
         // It takes the shadow root alone.
@@ -61,10 +62,10 @@ impl Draft {
         requires below { size < 7864320 }
         requires some { 0 < D.blocks disk.old }
         requires safe { IsSafe (D.blocks disk.old) self.now read.old }
-        ensures bytes { (kept : Kept) (v : View D.Disk disk.old kept self.now)
+        ensures bytes { (kept : Kept) (v : DraftView D.Disk disk.old kept self.now)
             → IsRead (D.content disk.old) self.now read.old
             → IfOk result (λ content. content ≡ changes.cut size self.now.root.fill
-            (leaf_content self.now.root.fill (leaves_of (D.content disk.old) self.now.root (size / 512)))) }
+            (leaf_content self.now.root.fill (leaves_below (D.content disk.old) self.now.root (size / 512)))) }
         ensures turns { TurnsTo D.Disk self.now (size / 512 / 128) 2 disk.old disk.new read.old read.new result }
     {
         let mut content = match self.leaf_bytes(disk, read, (size / 512) as u32) {
@@ -87,8 +88,9 @@ impl Draft {
         requires below { size < 7864320 }
         requires some { 0 < D.blocks disk.old }
         requires safe { IsSafe (D.blocks disk.old) self.old read.old }
-        ensures goes { (v : View D.Disk disk.old space.old self.old) → IsRead (D.content disk.old) self.old read.old
-            → size < self.old.root.size → Goes D.Disk v.graph (CutsLeaf D.Disk v.graph v.ds v.id size
+        ensures goes { (v : DraftView D.Disk disk.old space.old self.old)
+            → IsRead (D.content disk.old) self.old read.old
+            → size < self.old.root.size → GoesHolding D.Disk v.graph (CutsLeaf D.Disk v.graph v.ds v.id size
             disk.old disk.new space.new self.old self.new read.new) disk.old disk.new result }
         ensures calls { LeafCall D.Disk 8 (size / 512)
             disk.old disk.new space.old space.new self.old self.new read.new result }

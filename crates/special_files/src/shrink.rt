@@ -7,14 +7,15 @@ ghost use Rattle.cfs_base.specs.declared.identifier.Puid.{Puid};
 ghost use Rattle.cfs_base.specs.declared.refusal.Refused.TheVariants as refused;
 ghost use Rattle.intentions.specs.Store.{StoreHas};
 ghost use Rattle.leaf_changes.specs.Bytes as changes;
-ghost use Rattle.special_files.specs.Becomes.{Becomes};
-ghost use Rattle.special_files.specs.Drafting.{HasNoneFresh, IsOpen, need_beside, node_of, shadow_need};
-ghost use Rattle.special_files.specs.Ends.{Ends};
+ghost use Rattle.special_files.specs.Becomes.{DraftBecomes};
+ghost use Rattle.special_files.specs.Drafting.{HasNoneFresh, IsOpen, need_beside, pointer_to_node, shadow_need};
+ghost use Rattle.special_files.specs.Ends.{EndsCall};
 ghost use Rattle.special_files.specs.Nodes.{IsRead, IsSafe};
 ghost use Rattle.special_files.specs.Order.{ClaimsAndDrops, claims_anew};
-ghost use Rattle.special_files.specs.Refusal.{is_damaged, is_full_refusal};
+ghost use Rattle.leaf_changes.specs.Tops.{IsFarRoot};
+ghost use Rattle.special_files.specs.Refusal.{has_met_damage, is_full_refusal, top_of};
 ghost use Rattle.special_files.specs.Shed as spec;
-ghost use Rattle.special_files.specs.View.{Goes, View};
+ghost use Rattle.special_files.specs.View.{GoesHolding, DraftView};
 ghost use Rattle.ufs_model.specs.Graph.{Graph, object_at};
 ghost use Rattle.ufs_model.specs.Object.{written_anew};
 ghost use Rattle.ufs_model.specs.State.{changed_draft};
@@ -131,7 +132,7 @@ impl Draft {
     ) -> Result<BlockNo, Refused>
         requires size { D.blocks disk.old ≡ 64 * length space.old.free }
         requires below { from < 15360 }
-        requires safe { node_of self.now.root (from / 128) < D.blocks disk.old }
+        requires safe { pointer_to_node self.now.root (from / 128) < D.blocks disk.old }
         ensures { spec.PutsShort D.Disk from read.now.node.leaves self.now
             disk.old disk.new space.old space.new result }
     {
@@ -170,7 +171,7 @@ impl Draft {
     ) -> Result<BlockNo, Refused>
         requires size { D.blocks disk.old ≡ 64 * length space.old.free }
         requires limit { from ≤ 15360 }
-        requires safe { from % 128 ≢ 0 → node_of self.now.root (from / 128) < D.blocks disk.old }
+        requires safe { from % 128 ≢ 0 → pointer_to_node self.now.root (from / 128) < D.blocks disk.old }
         ensures { spec.PutsWithin D.Disk from read.now.node.leaves self.now disk.old disk.new space.old space.new
             result }
     {
@@ -193,8 +194,9 @@ impl Draft {
         requires limit { from ≤ 15360 }
         requires here { from % 128 ≢ 0 → read.now.number ≡ from / 128 }
         requires safe { IsSafe (D.blocks disk.old) self.old read.now }
-        ensures goes { (v : View D.Disk disk.old space.old self.old) → IsRead (D.content disk.old) self.old read.now
-            → spec.KeepsOne from read.now → Goes D.Disk v.graph (spec.DropsFrom D.Disk v.graph v.ds v.id from
+        ensures goes { (v : DraftView D.Disk disk.old space.old self.old)
+            → IsRead (D.content disk.old) self.old read.now
+            → spec.KeepsOne from read.now → GoesHolding D.Disk v.graph (spec.DropsFrom D.Disk v.graph v.ds v.id from
             disk.old disk.new space.new self.old self.new) disk.old disk.new result }
         ensures calls { spec.DropCall D.Disk from disk.old disk.new space.old space.new self.old self.new result }
     {
@@ -259,9 +261,9 @@ impl Draft {
         requires less { size < self.now.root.size }
         ensures planned { IfOk result (spec.IsPlan D.Disk size self.now disk.old disk.new) }
         ensures room { IfOk result (λ plan. spec.plan_needs size self.now plan + floor ≤ sum space.now.free) }
-        ensures goes { (v : View D.Disk disk.old space.now self.now)
-            → IfErr result (λ e. Goes {A = Unit {0}} D.Disk v.graph (Unit {0}) disk.old disk.new (Err e)) }
-        ensures full { (v : View D.Disk disk.old space.now self.now) (f : File) → v.draft.object ≡ objects.File f
+        ensures goes { (v : DraftView D.Disk disk.old space.now self.now)
+            → IfErr result (λ e. GoesHolding {A = Unit {0}} D.Disk v.graph (Unit {0}) disk.old disk.new (Err e)) }
+        ensures full { (v : DraftView D.Disk disk.old space.now self.now) (f : File) → v.draft.object ≡ objects.File f
             → IfErr result (λ e. is_full_refusal e ≡ true → spec.IsFullFor size floor v.draft space.now self.now e) }
         ensures calls { IfErr result (λ e.
             spec.ResizeCall D.Disk size floor disk.old disk.new space.now space.now self.now self.now (Err e)) }
@@ -294,10 +296,10 @@ impl Draft {
         requires on_disk { self.old.at < D.blocks disk.old }
         requires size { D.blocks disk.old ≡ 64 * length space.old.free }
         requires less { size < self.old.root.size }
-        ensures goes { (v : View D.Disk disk.old space.old self.old) → Goes D.Disk v.graph
+        ensures goes { (v : DraftView D.Disk disk.old space.old self.old) → GoesHolding D.Disk v.graph
             ((f : File) → v.draft.object ≡ objects.File f → spec.Resized D.Disk v.graph v.ds v.id v.draft size floor
             disk.old disk.new space.old space.new self.old self.new) disk.old disk.new result }
-        ensures full { (v : View D.Disk disk.old space.old self.old) (f : File) → v.draft.object ≡ objects.File f
+        ensures full { (v : DraftView D.Disk disk.old space.old self.old) (f : File) → v.draft.object ≡ objects.File f
             → IfErr result (λ e. is_full_refusal e ≡ true → spec.IsFullFor size floor v.draft space.old self.old e) }
         ensures calls { spec.ResizeCall D.Disk size floor disk.old disk.new space.old space.new self.old self.new
             result }
@@ -336,7 +338,7 @@ impl Draft {
         ensures resized { (graph : Graph) (ds : List Opened) (id : Puid) (o : Object) (d : drafts.Draft) (f : File)
             → StoreHas D.Disk graph ds disk.old space.old → object_at graph id ≡ Some o → IsOpen ds id self.old d
             → d.object ≡ objects.File f → OnOk result
-            (Becomes D.Disk graph ds id (changed_draft (SetSize size) d) disk.old disk.new space.new self.new) }
+            (DraftBecomes D.Disk graph ds id (changed_draft (SetSize size) d) disk.old disk.new space.new self.new) }
         // Its blocks are claimed in their order, each the least Free; what it drops of its own is Free then.
         ensures order { (graph : Graph) (ds : List Opened) (id : Puid) (o : Object) (d : drafts.Draft) (f : File)
             → StoreHas D.Disk graph ds disk.old space.old → object_at graph id ≡ Some o → IsOpen ds id self.old d
@@ -364,14 +366,16 @@ impl Draft {
         // Of a draft that had no fresh block it tells whether a write was tried.
         ensures told { HasNoneFresh self.old
             → OnOk result (spec.IsToldByNodes D.Disk disk.old disk.new space.old space.new self.new) }
-        ensures ends { Ends D.Disk self.old.at floor 31092 15486 (sum space.old.free)
+        // Each pointer of its root that leads past the disk did before.
+        ensures near { IsFarRoot (D.blocks disk.new) self.new.root → IsFarRoot (D.blocks disk.new) self.old.root }
+        ensures ends { EndsCall D.Disk (top_of self.old) floor 31092 15486 (sum space.old.free)
             disk.old disk.new space.old space.new result }
         // To no less than it is, the disk isn't touched.
         ensures grown { self.old.root.size ≤ size → (disk.new ≡ disk.old) × (space.new ≡ space.old) }
         ensures kept { IfErr result (λ e. e ≡ refused.Disk false → self.new ≡ self.old) }
         ensures sound { (graph : Graph) (ds : List Opened) (id : Puid) (o : Object) (d : drafts.Draft)
             → StoreHas D.Disk graph ds disk.old space.old → object_at graph id ≡ Some o → IsOpen ds id self.old d
-            → IfErr result (λ e. is_damaged e ≡ false) }
+            → IfErr result (λ e. has_met_damage e ≡ false) }
     {
         if self.root.size <= size {
             return self.grow(disk, space, size, floor);

@@ -7,7 +7,7 @@ ghost use Rattle.cfs_base.specs.declared.identifier.Puid as puids;
 ghost use Rattle.cyl_alloc.specs.Space.{Kept};
 ghost use Rattle.intentions.specs.Left.{StoreIs};
 ghost use Rattle.special_files.specs.Drafting.{IsOpen, draft_takes};
-ghost use Rattle.special_files.specs.Refusal.{IsTrouble};
+ghost use Rattle.special_files.specs.Refusal.{IsDraftTrouble, top_of};
 ghost use Rattle.ufs_model.specs.Graph.{Graph, object_at};
 ghost use Rattle.ufs_model.specs.Object.{slot_of};
 ghost use Rattle.ufs_model.specs.declared.object.Draft as drafts;
@@ -46,7 +46,8 @@ impl Draft {
             (d : drafts.Draft) (i : Index)
             → StoreIs D.Disk graph ds disk.old space → object_at graph id ≡ Some o → IsOpen ds id self.now d
             → d.object ≡ objects.Index i → IfOk result (λ what. what ≡ slot_of i slot) }
-        ensures refused { (kept : Kept) → IfErr result (IsTrouble D.Disk self.now.at disk.old disk.new kept) }
+        ensures refused { (kept : Kept)
+            → IfErr result (IsDraftTrouble D.Disk (top_of self.now) disk.old disk.new kept) }
         ensures untried { IfErr result (λ trouble. trouble_had_tried trouble ≡ false) }
         // No damage where the disk holds the object.
         ensures sound { (graph : Graph) (ds : List Opened) (space : Kept) (id : puids.Puid) (o : Object)

@@ -9,16 +9,17 @@ ghost use Rattle.claims.specs.Claims.{AreClaimed};
 ghost use Rattle.cyl_alloc.specs.Space.{Kept};
 ghost use Rattle.intentions.specs.Store.{StoreHas};
 ghost use Rattle.leaf_changes.specs.Bytes as changes;
-ghost use Rattle.special_files.specs.Becomes.{Becomes};
+ghost use Rattle.special_files.specs.Becomes.{DraftBecomes};
 ghost use Rattle.special_files.specs.Drafting as drafting;
-ghost use Rattle.special_files.specs.Drafting.{IsOpen, leaves_take, need_beside};
-ghost use Rattle.special_files.specs.Ends.{Ends};
-ghost use Rattle.special_files.specs.Leaves.{leaves_of};
+ghost use Rattle.special_files.specs.Drafting.{IsOpen, leaves_take, need_beside, shadow_need};
+ghost use Rattle.special_files.specs.Ends.{EndsCall};
+ghost use Rattle.special_files.specs.Leaves.{leaves_below};
 ghost use Rattle.special_files.specs.Nodes.{IsRead, IsSafe, TurnsTo};
 ghost use Rattle.special_files.specs.Order.{claims_between};
 ghost use Rattle.special_files.specs.Puts.{PutsLeaf, StaysBut, LeafCall};
-ghost use Rattle.special_files.specs.Refusal.{is_damaged, is_full_refusal};
-ghost use Rattle.special_files.specs.View.{Goes, View};
+ghost use Rattle.leaf_changes.specs.Tops.{IsFarRoot};
+ghost use Rattle.special_files.specs.Refusal.{has_met_damage, is_full_refusal, top_of};
+ghost use Rattle.special_files.specs.View.{GoesHolding, DraftView};
 ghost use Rattle.ufs_model.specs.Graph.{Graph, object_at};
 ghost use Rattle.ufs_model.specs.Object as spec;
 ghost use Rattle.ufs_model.specs.State.{changed_draft};
@@ -67,10 +68,10 @@ impl Draft {
         requires end { offset + length bytes.now ≤ 7864320 }
         requires some { 0 < D.blocks disk.old }
         requires safe { IsSafe (D.blocks disk.old) self.now read.old }
-        ensures bytes { (kept : Kept) (v : View D.Disk disk.old kept self.now)
+        ensures bytes { (kept : Kept) (v : DraftView D.Disk disk.old kept self.now)
             → IsRead (D.content disk.old) self.now read.old
             → IfOk result (λ content. content ≡ changes.patched leaf offset bytes.now
-            (leaf_content self.now.root.fill (leaves_of (D.content disk.old) self.now.root leaf))) }
+            (leaf_content self.now.root.fill (leaves_below (D.content disk.old) self.now.root leaf))) }
         ensures turns { TurnsTo D.Disk self.now (leaf / 128) 2 disk.old disk.new read.old read.new result }
     {
         let start = 512 * leaf as u64;
@@ -105,10 +106,11 @@ impl Draft {
         requires end { offset + length bytes.now ≤ 7864320 }
         requires some { 0 < D.blocks disk.old }
         requires safe { IsSafe (D.blocks disk.old) self.old read.old }
-        ensures goes { (v : View D.Disk disk.old space.old self.old) → IsRead (D.content disk.old) self.old read.old
+        ensures goes { (v : DraftView D.Disk disk.old space.old self.old)
+            → IsRead (D.content disk.old) self.old read.old
             → leaf < spec.leaves_in self.old.root.size → offset + length bytes.now ≤ self.old.root.size
-            → Goes D.Disk v.graph (PutsLeaf D.Disk v.graph v.ds v.id leaf (changes.patched leaf offset bytes.now
-            (leaf_content self.old.root.fill (leaves_of (D.content disk.old) self.old.root leaf)))
+            → GoesHolding D.Disk v.graph (PutsLeaf D.Disk v.graph v.ds v.id leaf (changes.patched leaf offset bytes.now
+            (leaf_content self.old.root.fill (leaves_below (D.content disk.old) self.old.root leaf)))
             disk.old disk.new space.new self.old self.new read.new) disk.old disk.new result }
         ensures calls { LeafCall D.Disk 8 leaf disk.old disk.new space.old space.new self.old self.new read.new result }
     {
@@ -136,7 +138,7 @@ impl Draft {
         ensures written { (graph : Graph) (ds : List Opened) (id : Puid) (o : Object) (d : drafts.Draft) (f : File)
             → StoreHas D.Disk graph ds disk.old space.old → object_at graph id ≡ Some o → IsOpen ds id self.old d
             → d.object ≡ objects.File f → OnOk result
-            (Becomes D.Disk graph ds id (changed_draft (Overwrite offset bytes.now) d)
+            (DraftBecomes D.Disk graph ds id (changed_draft (Overwrite offset bytes.now) d)
             disk.old disk.new space.new self.new) }
         // Each leaf that isn't fresh takes the least Free block, and after it its node: in increasing order.
         ensures order { (graph : Graph) (ds : List Opened) (id : Puid) (o : Object) (d : drafts.Draft)
@@ -147,25 +149,31 @@ impl Draft {
             → StoreHas D.Disk graph ds disk.old space.old → object_at graph id ≡ Some o → IsOpen ds id self.old d
             → Leaves D.Disk disk.old disk.new (λ c. Holds c graph) }
         ensures stays { StaysBut self.old self.new }
-        // Full exactly where the model's need and the floor aren't Free; all is as it was then.
-        ensures full { (ds : List Opened) (id : Puid) (d : drafts.Draft) → IsOpen ds id self.old d
-            → IfErr result (λ e. is_full_refusal e ≡ true → (e ≡ refused.Full (record {
+        // Full exactly where the model's need and the floor aren't Free; on any disk all is as it was then.
+        ensures full { IfErr result (λ e. is_full_refusal e ≡ true
+            → (disk.new ≡ disk.old) × (space.new ≡ space.old) × (self.new ≡ self.old)
+            × ((ds : List Opened) (id : Puid) (d : drafts.Draft) → IsOpen ds id self.old d
+            → (e ≡ refused.Full (record {
               free = sum space.old.free;
               need = need_beside (Overwrite offset bytes.now) d self.old;
             }))
-            × (sum space.old.free < need_beside (Overwrite offset bytes.now) d self.old + floor)
-            × (disk.new ≡ disk.old) × (space.new ≡ space.old) × (self.new ≡ self.old)) }
+            × (sum space.old.free < need_beside (Overwrite offset bytes.now) d self.old + floor))) }
         ensures room { (ds : List Opened) (id : Puid) (d : drafts.Draft) → IsOpen ds id self.old d
             → OnOk result (need_beside (Overwrite offset bytes.now) d self.old + floor ≤ sum space.old.free) }
-        ensures ends { Ends D.Disk self.old.at floor (8 * (spec.leaves_in (offset + length bytes.now) - offset / 512))
+        ensures ends { EndsCall D.Disk (top_of self.old) floor
+            (8 * (spec.leaves_in (offset + length bytes.now) - offset / 512))
             (4 * (spec.leaves_in (offset + length bytes.now) - offset / 512))
             (sum space.old.free) disk.old disk.new space.old space.new result }
+        // A block is left for a shadow root.
+        ensures spare { OnOk result (shadow_need self.old ≤ sum space.new.free) }
+        // Each pointer of its root that leads past the disk did before.
+        ensures near { IsFarRoot (D.blocks disk.new) self.new.root → IsFarRoot (D.blocks disk.new) self.old.root }
         // Where there are bytes a leaf is written.
         ensures tried { 1 ≤ length bytes.now → OnOk result (HasTried D.Disk disk.old disk.new) }
         ensures kept { IfErr result (λ e. e ≡ refused.Disk false → self.new ≡ self.old) }
         ensures sound { (graph : Graph) (ds : List Opened) (id : Puid) (o : Object) (d : drafts.Draft)
             → StoreHas D.Disk graph ds disk.old space.old → object_at graph id ≡ Some o → IsOpen ds id self.old d
-            → IfErr result (λ e. is_damaged e ≡ false) }
+            → IfErr result (λ e. has_met_damage e ≡ false) }
     {
         prove!(self.root.size <= SIZE_LIMIT);
         let from = (offset / 512) as u32;

@@ -205,16 +205,19 @@ fn lay_committed(disk: &mut MemoryDisk) -> Result<(), Fail> {
 }
 
 /// Both objects are named, and 58 blocks are Free.
-fn expect_names(rt: &impl Abort, recovered: &Recovered) {
-    assert_eq!(rt; (recovered.space.free(), recovered.names.len()), (58, 2));
-    assert_eq!(rt; recovered.names.kind(FILE), Some(Kind::Special));
+fn expect_directory(rt: &impl Abort, recovered: &Recovered) {
+    assert_eq!(rt;
+        (recovered.space.free(), recovered.directory.len()),
+        (58, 2)
+    );
+    assert_eq!(rt; recovered.directory.kind(FILE), Some(Kind::Special));
 }
 
 fn expect_recovered(rt: &impl Abort, alloc: Global, disk: &mut MemoryDisk) -> Result<(), Fail> {
     lay_committed(disk)?;
     // Block 21 was meant for a draft.
     edit(disk, &[(0, 8 * 21, 0x0204_0009), (0, 8 * 21 + 4, 5)])?;
-    expect_names(rt, &recover(alloc, disk)?);
+    expect_directory(rt, &recover(alloc, disk)?);
     assert_eq!(rt;
         get(disk, 5)?,
         root_with(Kind::Special, 0, FILE.word, 0, &[])

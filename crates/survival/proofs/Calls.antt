@@ -23,7 +23,7 @@ use Rattle.vol_image.specs.Sound.{Holds, graph_blocks, rooted_part}
 use Rattle.vol_image.specs.Survives.{MayName}
 use Rattle.vol_image.proofs.Rooted.{rooted_reads}
 use Rattle.survival.specs.Call.{Early, Before, Late, After, InDoubt, ReadsIn, CallSurvives, CallKeeps}
-use Rattle.survival.specs.Held.{Fits, HoldsSome, LeavesSome}
+use Rattle.survival.specs.Held.{FitsDisk, HoldsSome, LeavesSome}
 
 -- a part of a list sums to no more
 sum_filter : (f : Puid × Object → ℕ) (P : Puid × Object → Bool) (es : List (Puid × Object)) → sum_by f (filter P es) ≤ sum_by f es
@@ -59,7 +59,7 @@ module _ {D : Type 0} (G : Ghosts D) (sized : (d : D) (t : ℕ) (c : Image) → 
     now = λ c left. reads_some (G.blocks new) (Late seed s e) c (sized new (G.moment new) c left) (leaves.now c left);
   }
 
-  module _ (seed : ℕ) (s : State) (old new : D) (before : Fits (G.blocks new) s.graph) where
+  module _ (seed : ℕ) (s : State) (old new : D) (before : FitsDisk (G.blocks new) s.graph) where
     -- each image holds the objects of before
     pub keeps : Leaves G old new (λ c. Holds c s.graph) → CallKeeps G s old new
     keeps leaves = record {
@@ -70,7 +70,7 @@ module _ {D : Type 0} (G : Ghosts D) (sized : (d : D) (t : ℕ) (c : Image) → 
     early e c holds = record { graph = s.graph; may = inl (Before e); fits = before; holds = holds }
 
     -- a call is done: each image holds the objects of before or of after, and of after now
-    pub done : (e : Event) (t : State) → next seed s e ≡ Some t → Fits (G.blocks new) t.graph → Leaves G old new (λ c. Holds c s.graph ⊎ Holds c t.graph)
+    pub done : (e : Event) (t : State) → next seed s e ≡ Some t → FitsDisk (G.blocks new) t.graph → Leaves G old new (λ c. Holds c s.graph ⊎ Holds c t.graph)
         → ((c : Image) → left_now G new c → Holds c t.graph) → CallSurvives G seed s e old new
     done e t step after leaves now = call seed s e old new (record {
       crashes = with_size old new _ _ (λ c is holds. ⊎_elim (early e c)
@@ -81,13 +81,13 @@ module _ {D : Type 0} (G : Ghosts D) (sized : (d : D) (t : ℕ) (c : Image) → 
     -- an event that leaves the objects, while each image holds them
     pub loose : (e : Event) (t : State) → next seed s e ≡ Some t → t.graph ≡ s.graph → Leaves G old new (λ c. Holds c s.graph)
         → ((c : Image) → left_now G old c → Holds c s.graph) → CallSurvives G seed s e old new
-    loose e t step same leaves pending = done e t step (subst (Fits (G.blocks new)) (sym same) before)
+    loose e t step same leaves pending = done e t step (subst (FitsDisk (G.blocks new)) (sym same) before)
         (with_size old new _ _ (λ c is holds. inl holds) leaves)
         (λ c left. subst (Holds c) (sym same) (⊎_elim (pending c) (λ holds. holds) (leaves.now c left)))
 
     -- a call that failed after its first write, and may have been done
     pub doubt : (who b moment : ℕ) (request : Request) → is_running s ≡ true → refusal_of s who request ≡ None → MayName s request b
-        → Fits (G.blocks new) (outcome_of seed s who request b).1.graph
+        → FitsDisk (G.blocks new) (outcome_of seed s who request b).1.graph
         → Leaves G old new (λ c. Holds c s.graph ⊎ Holds c (outcome_of seed s who request b).1.graph)
         → ((c : Image) → left_now G old c → Holds c s.graph)
         → CallSurvives G seed s (events.Ask who request (replies.Disk (Some moment))) old new

@@ -11,7 +11,7 @@ use Rattle.vol_image.specs.Sound.{Holds, LeavesFour}
 use Rattle.survival.specs.Call.{Early, Late}
 
 -- the objects may stand on a disk of this size: they refer to nothing that isn't there, and leave four blocks
-pub record Fits (size : ℕ) (graph : Graph) : Type 0 where
+pub record FitsDisk (size : ℕ) (graph : Graph) : Type 0 where
   pub closed : IsClosedGraph graph
   pub room : LeavesFour size graph
 
@@ -19,7 +19,7 @@ pub record Fits (size : ℕ) (graph : Graph) : Type 0 where
 pub record HoldsSome (size : ℕ) (P : Graph → Type 0) (image : Image) : Type 0 where
   pub graph : Graph
   pub may : P graph
-  pub fits : Fits size graph
+  pub fits : FitsDisk size graph
   pub holds : Holds image graph
 
 -- Each image on the way holds objects of before the event or of after it, and one that is left now those of after it.

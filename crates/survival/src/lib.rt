@@ -6,7 +6,7 @@ ghost use Rattle.std.specs.Prelude.{◌≡◌, ◌⊎◌, ℕ, true, List, [], �
 ghost use Rattle.cfs_base.specs.Disk.{Image};
 ghost use Rattle.cfs_base.specs.Run.{Leaves, left_now};
 ghost use Rattle.survival.specs.Call.{CallKeeps, CallSurvives, Survived};
-ghost use Rattle.survival.specs.Held.{Fits, LeavesSome};
+ghost use Rattle.survival.specs.Held.{FitsDisk, LeavesSome};
 ghost use Rattle.survival.specs.Trail.{RunSurvives};
 ghost use Rattle.ufs_model.specs.Graph.{Graph};
 ghost use Rattle.ufs_model.specs.Next.{next};
@@ -44,21 +44,21 @@ pub fn calls_survive<D: Disk>()
         → CallSurvives D.Disk seed s e old new }
     // each image has the objects of before the call or those of after it
     ensures done { (seed : ℕ) (s t : State) (e : Event) (old new : D) → next seed s e ≡ Some t
-        → Fits (D.blocks new) s.graph → Fits (D.blocks new) t.graph
+        → FitsDisk (D.blocks new) s.graph → FitsDisk (D.blocks new) t.graph
         → Leaves D.Disk old new (λ c. Holds c s.graph ⊎ Holds c t.graph)
         → ((c : Image) → left_now D.Disk new c → Holds c t.graph) → CallSurvives D.Disk seed s e old new }
     // the same of a call that failed after its first write
     ensures doubt { (seed who b moment : ℕ) (s : State) (request : Request) (old new : D) → is_running s ≡ true
         → refusal_of s who request ≡ None → MayName s request b
-        → Fits (D.blocks new) s.graph → Fits (D.blocks new) (outcome_of seed s who request b).1.graph
+        → FitsDisk (D.blocks new) s.graph → FitsDisk (D.blocks new) (outcome_of seed s who request b).1.graph
         → Leaves D.Disk old new (λ c. Holds c s.graph ⊎ Holds c (outcome_of seed s who request b).1.graph)
         → ((c : Image) → left_now D.Disk old c → Holds c s.graph)
         → CallSurvives D.Disk seed s (events.Ask who request (replies.Disk (Some moment))) old new }
     // each image has the objects that stand
     ensures loose { (seed : ℕ) (s t : State) (e : Event) (old new : D) → next seed s e ≡ Some t → t.graph ≡ s.graph
-        → Fits (D.blocks new) s.graph → Leaves D.Disk old new (λ c. Holds c s.graph)
+        → FitsDisk (D.blocks new) s.graph → Leaves D.Disk old new (λ c. Holds c s.graph)
         → ((c : Image) → left_now D.Disk old c → Holds c s.graph) → CallSurvives D.Disk seed s e old new }
-    ensures none { (s : State) (old new : D) → Fits (D.blocks new) s.graph
+    ensures none { (s : State) (old new : D) → FitsDisk (D.blocks new) s.graph
         → Leaves D.Disk old new (λ c. Holds c s.graph)
         → CallKeeps D.Disk s old new }
 {}

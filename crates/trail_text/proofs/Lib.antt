@@ -1,8 +1,4 @@
 mod Lines
-mod WordsBack
 mod Clear
-mod Back
-mod Found
-mod Parts
-mod EndLines
+pub mod Back
 mod Words

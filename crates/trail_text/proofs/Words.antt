@@ -10,7 +10,8 @@ pub use Rattle.std.proofs.lemmas.Bool.{and_from, and_parts, cases_lt, eqb-true, 
 pub use Rattle.std.proofs.lemmas.Fmt.{decimal_is_IsNumeral, digits_decimal, digits_value-decimal, length-decimal-le}
 pub use Rattle.std.proofs.lemmas.Iterator.Consumers.{map_from_collect}
 pub use Rattle.std.proofs.lemmas.Iterator.Splits.{YieldsList-from_slice_split}
-pub use Rattle.std.proofs.lemmas.List.{append-nil, append_assoc, drop-map, drop_all, length-drop, length-map, take_all}
+pub use Rattle.std.proofs.lemmas.Grind.{flat_map-append}
+pub use Rattle.std.proofs.lemmas.List.{append-nil, append_assoc, drop-map, drop_all, length-drop, length-map, map-append, take_all}
 pub use Rattle.std.proofs.lemmas.List.Folds.{list_all-append}
 pub use Rattle.std.proofs.lemmas.List.Splits.{slice_split_at, slice_split_none}
 pub use Rattle.std.proofs.lemmas.List.Sums.{AllPass-from_list_all}
@@ -23,14 +24,11 @@ pub use Rattle.std.specs.List.{All, flat_map, join_with_byte, list_all}
 pub use Rattle.std.specs.Prelude.{codes, nat_le, nat_lt, slice_index}
 pub use Rattle.std.specs.Str.{all_ascii_digits, bytes_eq}
 pub use Rattle.std.specs.String.{string_bytes}
-pub use Rattle.trail_text.specs.EventLine.{commit_word, event_line, event_words, kind_word, mode_word, reply_tokens, reply_words, request_tokens, request_words, unread_word}
-pub use Rattle.trail_text.specs.Fits.{event_shaped, event_within, fits, reply_shaped, reply_within, request_shaped, request_within, wants_content, wants_done, wants_grant, wants_number}
-pub use Rattle.trail_text.specs.Likely.{as_grant, ask_read, byte_read, bytes_read, event_read, grant_read, id_of_bytes, id_read, is, kind_read, mode_read, number_if_any, number_read, ok_read, read_32, read_8, ref_read, reply_read, request_read, unread_read, word_at}
-pub use Rattle.trail_text.specs.Read.{IsLineOf, IsNoLine, texts, words_in}
-pub use Rattle.trail_text.specs.Spaced.{spaced, with_words, word_within}
-pub use Rattle.trail_text.specs.Token.{Token, bytes_within, grant_within, grant_word, id_within, id_word, in_32, in_64, in_8, is_clear, is_within, is_word_byte, ref_within, ref_word, spell}
-pub use Rattle.trail_text.specs.Trail.{IsNoOpening, IsNoStatus, IsOpeningOf, begun, ended, has_no_end, opening_fits, opening_line, opening_read, status_line}
+pub use Rattle.trail_text.specs.EventLine.{Row, Token, are_within, bytes_within, event_line, event_row, event_shaped, event_within, fits, form_told, in_32, in_64, in_8, is_clear, is_within, is_word_byte, letters, row_line, ref_within, reply_shaped, reply_tokens, reply_within, reply_words, request_shaped, request_tokens, request_within, request_words, spaced, spell, word_within, row_words}
+pub use Rattle.trail_text.specs.Read.{IsNoLine, IsNoneOf, as_grant, ask_read, byte_read, bytes_read, event_read, id_of_bytes, id_read, is, kind_read, mode_read, number_if_any, number_read, opening_read, read_32, read_8, ref_read, reply_read, request_read, status_read, texts, unread_read, word_at, words_in}
+pub use Rattle.trail_text.specs.Trail.{begun, ended, has_no_end, opening_fits, opening_line, opening_row, status_line, status_row}
 pub use Rattle.trail_text.specs.declared.ends.Opening.{Opening}
+pub use Rattle.trail_text.specs.declared.shape.Form.{Form}
 pub use Rattle.ufs_model.specs.Identifier.{rise_from}
 pub use Rattle.ufs_model.specs.Printed.{id_digits, reply_line}
 pub use Rattle.ufs_model.specs.Script.{LF}

@@ -1,6 +1,8 @@
 //! Why a line is no event.
+ghost use Rattle.std.specs.Prelude.{◌≡◌};
+ghost use Rattle.trail_text.specs.declared.fault.TrailFault.TheVariants as faults;
+
 use cfs_base::NoMemory;
-use std::alloc::AllocError;
 
 /// Why a line is no event.
 #[derive(Clone, Copy, Debug, PartialEq, Eq)]
@@ -12,13 +14,9 @@ pub enum TrailFault {
 }
 
 impl From<NoMemory> for TrailFault {
-    fn from(_error: NoMemory) -> TrailFault {
-        TrailFault::Memory
-    }
-}
+    ghost from_gives = { λ _ fault. fault ≡ faults.Memory };
 
-impl From<AllocError> for TrailFault {
-    fn from(_error: AllocError) -> TrailFault {
+    fn from(_error: NoMemory) -> TrailFault {
         TrailFault::Memory
     }
 }

@@ -5,9 +5,7 @@ ghost use Rattle.ufs_model.specs.Printed.{reply_line};
 ghost use Rattle.ufs_model.specs.Script.{LF};
 ghost use Rattle.ufs_model.specs.declared.asked.Event.{Event};
 ghost use Rattle.ufs_model.specs.declared.asked.Reply.{Reply};
-ghost use Rattle.trail_text.specs.EventLine.{event_line, reply_words};
-ghost use Rattle.trail_text.specs.Fits.{fits};
-ghost use Rattle.trail_text.specs.Token.{in_8};
+ghost use Rattle.trail_text.specs.EventLine.{event_line, fits, in_8, reply_words};
 ghost use Rattle.trail_text.specs.Trail.{has_no_end, opening_fits, opening_line, status_line};
 ghost use Rattle.trail_text.specs.declared.ends.Opening.{Opening};
 

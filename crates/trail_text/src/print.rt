@@ -3,16 +3,14 @@ ghost use Rattle.std.specs.Prelude.{◌≡◌, ◌++◌, ◌∷◌, IfOk, OnOk, 
 ghost use Rattle.std.specs.List.{list_all};
 ghost use Rattle.std.specs.String.{string_bytes};
 ghost use Rattle.ufs_model.specs.declared.asked.Event.TheVariants as events;
-ghost use Rattle.trail_text.specs.EventLine.{event_line, unread_word};
-ghost use Rattle.trail_text.specs.Fits.{event_within};
-ghost use Rattle.trail_text.specs.Spaced.{letters, spaced, word_within};
+ghost use Rattle.trail_text.specs.EventLine.{event_line, event_within, letters, spaced, word_within};
 
-use crate::print_reply::put_reply;
-use crate::print_request::put_request;
-use crate::word::{Word, put_words};
+use crate::print_ask::{put_reply, put_request};
+use crate::word::Word::{self, Number, Small, Text, To, Why};
+use crate::word::put;
 use cfs_base::{NoMemory, Puid, Session};
 use std::alloc::Global;
-use ufs_model::{Event, Reply, Request, Unread};
+use ufs_model::{Event, Ref, Reply, Request};
 
 /// The line of an event, without its end. `NoMemory` comes only for want of memory.
 pub fn print_event(alloc: Global, event: &Event) -> Result<String, NoMemory>
@@ -27,11 +25,9 @@ pub fn print_within(alloc: Global, event: &Event) -> Result<String, NoMemory>
     ensures within { IfOk result (λ line. event_within event.now ≡ true) }
 {
     match event {
-        Event::Unread { session, why } => line_of(
-            alloc,
-            "unread",
-            &[Word::Small(*session), Word::Text(unread_word(*why))],
-        ),
+        Event::Unread { session, why } => {
+            line_of(alloc, "unread", &[Small(*session), Why(*why)])
+        }
         Event::Ask {
             session,
             request,
@@ -40,19 +36,15 @@ pub fn print_within(alloc: Global, event: &Event) -> Result<String, NoMemory>
         Event::Leave {
             session,
             stopped: None,
-        } => line_of(alloc, "leave", &[Word::Small(*session)]),
+        } => line_of(alloc, "leave", &[Small(*session)]),
         Event::Leave {
             session,
             stopped: Some(moment),
-        } => line_of(
-            alloc,
-            "leave",
-            &[Word::Small(*session), Word::Number(*moment)],
-        ),
+        } => line_of(alloc, "leave", &[Small(*session), Number(*moment)]),
         Event::Began => line_of(alloc, "began", &[]),
         Event::Vanish { ids } => print_vanish(alloc, ids.as_slice()),
         Event::Finished => line_of(alloc, "finished", &[]),
-        Event::Halted { moment } => line_of(alloc, "halted", &[Word::Number(*moment)]),
+        Event::Halted { moment } => line_of(alloc, "halted", &[Number(*moment)]),
     }
 }
 
@@ -62,7 +54,7 @@ pub fn line_of(alloc: Global, verb: &str, words: &[Word<'_>]) -> Result<String, 
     ensures within { IfOk result (λ line. list_all word_within words.now ≡ true) }
 {
     let mut line = String::from_str(alloc, verb)?;
-    put_words(&mut line, words)?;
+    put(&mut line, words)?;
     Ok(line)
 }
 
@@ -75,9 +67,9 @@ fn print_ask(
     ensures line { IfOk result (λ line. string_bytes line ≡ event_line (events.Ask session request.now reply.now)) }
     ensures within { IfOk result (λ line. event_within (events.Ask session request.now reply.now) ≡ true) }
 {
-    let mut line = line_of(alloc, "ask", &[Word::Small(session)])?;
+    let mut line = line_of(alloc, "ask", &[Small(session)])?;
     put_request(&mut line, request)?;
-    put_words(&mut line, &[Word::Text("=")])?;
+    put(&mut line, &[Text("=")])?;
     put_reply(&mut line, reply)?;
     Ok(line)
 }
@@ -86,19 +78,9 @@ fn print_vanish(alloc: Global, ids: &[Puid]) -> Result<String, NoMemory>
     ensures line { IfOk result (λ line. string_bytes line ≡ event_line (events.Vanish ids.now)) }
     ensures within { IfOk result (λ line. event_within (events.Vanish ids.now) ≡ true) }
 {
-    let mut line = line_of(alloc, "vanish", &[Word::Number(ids.len() as u64)])?;
+    let mut line = line_of(alloc, "vanish", &[Number(ids.len() as u64)])?;
     'ids: for id in ids {
-        put_words(&mut line, &[Word::Id(*id)])?;
+        put(&mut line, &[To(Ref::Direct(*id))])?;
     }
     Ok(line)
-}
-
-fn unread_word(why: Unread) -> &'static str
-    ensures { result.now ≡ unread_word why }
-{
-    match why {
-        Unread::Syntax => "syntax",
-        Unread::NoName => "name",
-        Unread::Memory => "memory",
-    }
 }

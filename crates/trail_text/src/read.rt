@@ -1,21 +1,18 @@
 //! Lines read as events: the one event of which a line can be the line is made of its words, and then the line must
 //! be its line.
-ghost use Rattle.std.specs.Prelude.{◌≡◌, ◌&&◌, true, IfErr, IfNone, IfOk, IfSome, map};
+ghost use Rattle.std.specs.Prelude.{◌≡◌, ◌&&◌, true, IfErr, IfOk, map};
 ghost use Rattle.std.specs.Str.{bytes_eq};
-ghost use Rattle.trail_text.specs.EventLine.{event_line};
-ghost use Rattle.trail_text.specs.Fits.{fits};
-ghost use Rattle.trail_text.specs.Likely.{ask_read, event_read, id_read, small_event_read, unread_read};
-ghost use Rattle.trail_text.specs.Read.{IsLineOf, IsNoLine, texts};
+ghost use Rattle.trail_text.specs.EventLine.{event_line, fits};
+ghost use Rattle.trail_text.specs.Read.{IsNoLine, ask_read, event_read, id_read, small_event_read, texts, unread_read};
 ghost use Rattle.trail_text.specs.declared.fault.TrailFault.TheVariants as faults;
 
 use crate::fault::TrailFault;
 use crate::print::print_within;
-use crate::read_reply::reply_in;
-use crate::read_request::{request_in, words_taken};
+use crate::read_ask::{reply_in, request_in, words_taken};
 use crate::read_word::{
     id_in, number_if_any, number_in, number_in_32, word_at, words_from, words_in,
 };
-use crate::shape::is_shaped;
+use crate::shape::{form_of, is_shaped};
 use cfs_base::{Ids, NoMemory};
 use std::alloc::Global;
 use ufs_model::{Event, Unread};
@@ -27,24 +24,12 @@ pub fn read_event(alloc: Global, line: &[u8]) -> Result<Event, TrailFault>
     ensures line { IfOk result (λ event. line.now ≡ event_line event) }
     ensures bad { IfErr result (λ fault. fault ≡ faults.BadLine → IsNoLine line.now) }
 {
-    match event_of(alloc, line) {
-        Ok(Some(event)) => Ok(event),
-        Ok(None) => Err(TrailFault::BadLine),
-        Err(NoMemory) => Err(TrailFault::Memory),
-    }
-}
-
-/// The event, where there is one.
-fn event_of(alloc: Global, line: &[u8]) -> Result<Option<Event>, NoMemory>
-    ensures some { IfOk result (λ found. IfSome found (λ event. IsLineOf line.now event)) }
-    ensures none { IfOk result (λ found. IfNone found (IsNoLine line.now)) }
-{
     let words = words_in(alloc, line)?;
     let event = event_in(alloc, words.as_slice())?;
     if !is_line_of(alloc, line, &event)? {
-        return Ok(None);
+        return Err(TrailFault::BadLine);
     }
-    Ok(Some(event))
+    Ok(event)
 }
 
 /// Whether the event fits and this is its line.
@@ -103,7 +88,7 @@ fn ask_in(alloc: Global, words: &[&[u8]]) -> Result<Event, NoMemory>
     let asked = words_from(words, 2);
     let request = request_in(alloc, asked)?;
     let told = words_from(words_from(asked, words_taken(&request)), 1);
-    let reply = reply_in(alloc, &request, told)?;
+    let reply = reply_in(alloc, form_of(&request), told)?;
     Ok(Event::Ask {
         session: number_in_32(word_at(words, 1)),
         request,

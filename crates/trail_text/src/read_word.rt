@@ -1,20 +1,20 @@
 //! Words, each read as what would stand at its place; one that can't be read so counts as nothing.
 ghost use Rattle.std.specs.Prelude.{◌≡◌, ◌<◌, ◌==◌, IfOk, drop, length};
-ghost use Rattle.trail_text.specs.Likely.{as_grant, byte_read, bytes_read, grant_read, id_read, kind_read, mode_read};
-ghost use Rattle.trail_text.specs.Likely.{number_if_any, number_read, read_32, read_8, ref_read, word_at};
-ghost use Rattle.trail_text.specs.Read.{texts, words_in};
+ghost use Rattle.trail_text.specs.Read.{as_grant, byte_read, bytes_read, grant_read, id_read, kind_read, mode_read};
+ghost use Rattle.trail_text.specs.Read.{number_if_any, number_read, read_32, read_8, ref_read, texts, word_at};
+ghost use Rattle.trail_text.specs.Read.{words_in};
 
 use cfs_base::{Bytes, FileKind, Mode, NoMemory, Puid, Tuid};
 use cfs_script::number_of;
 use hex::{FromHex, FromHexError};
-use std::alloc::{AllocError, Global};
+use std::alloc::Global;
 use ufs_model::Ref;
 
 /// The parts of the line between spaces.
-pub fn words_in(alloc: Global, line: &[u8]) -> Result<Vec<&[u8]>, AllocError>
+pub fn words_in(alloc: Global, line: &[u8]) -> Result<Vec<&[u8]>, NoMemory>
     ensures { IfOk result (λ words. texts words.items ≡ words_in line.now) }
 {
-    line.split(|byte| *byte == b' ').collect(alloc)
+    Ok(line.split(|byte| *byte == b' ').collect(alloc)?)
 }
 
 /// The word at this place, and an empty one past the last.

@@ -1,12 +1,35 @@
 //! The shapes of events that fit a line.
 ghost use Rattle.std.specs.Prelude.{◌≡◌};
 ghost use Rattle.ufs_model.specs.Identifier.{ids_rise, rise_from};
-ghost use Rattle.trail_text.specs.Fits.{event_shaped, reply_shaped, request_shaped};
-ghost use Rattle.trail_text.specs.Fits.{wants_content, wants_done, wants_grant, wants_id, wants_number};
+ghost use Rattle.trail_text.specs.EventLine.{event_shaped, form_told, reply_shaped, request_shaped};
 
 use cfs_base::Puid;
 use std::cmp::Ordering;
 use ufs_model::{Event, Reply, Request};
+
+/// What an ok tells.
+#[derive(Clone, Copy, Debug, PartialEq, Eq)]
+pub enum Form {
+    Nothing,
+    Id,
+    Grant,
+    Number,
+    Content,
+}
+
+/// What an ok to the request tells.
+pub fn form_of(request: &Request) -> Form
+    ensures { result ≡ form_told request.now }
+{
+    match request {
+        Request::CreateFile { .. } | Request::CreateIndex { .. } => Form::Id,
+        Request::Retrieve { .. } => Form::Id,
+        Request::OpenFor { .. } => Form::Grant,
+        Request::Slots { .. } | Request::Size { .. } => Form::Number,
+        Request::Read { .. } => Form::Content,
+        _ => Form::Nothing,
+    }
+}
 
 /// Whether an ok reply has the form that its request asks for, what is read or written has one byte or more, and each
 /// identifier that vanishes is above the one before it.
@@ -15,7 +38,7 @@ pub fn is_shaped(event: &Event) -> bool
 {
     match event {
         Event::Ask { request, reply, .. } => {
-            is_request_shaped(request) && is_reply_shaped(request, reply)
+            is_request_shaped(request) && is_reply_shaped(reply, form_of(request))
         }
         Event::Vanish { ids } => ids_rise(ids.as_slice()),
         _ => true,
@@ -31,61 +54,17 @@ fn is_request_shaped(request: &Request) -> bool
     }
 }
 
-fn is_reply_shaped(request: &Request, reply: &Reply) -> bool
-    ensures { result ≡ reply_shaped request.now reply.now }
+fn is_reply_shaped(reply: &Reply, form: Form) -> bool
+    ensures { result ≡ reply_shaped reply.now form }
 {
     match reply {
-        Reply::Done => wants_done(request),
-        Reply::Id(_) => wants_id(request),
-        Reply::Grant(_) => wants_grant(request),
-        Reply::Number(_) => wants_number(request),
-        Reply::Content(bytes) => wants_content(request) && !bytes.as_slice().is_empty(),
+        Reply::Done => matches!(form, Form::Nothing),
+        Reply::Id(_) => matches!(form, Form::Id),
+        Reply::Grant(_) => matches!(form, Form::Grant),
+        Reply::Number(_) => matches!(form, Form::Number),
+        Reply::Content(bytes) => matches!(form, Form::Content) && !bytes.as_slice().is_empty(),
         _ => true,
     }
-}
-
-fn wants_done(request: &Request) -> bool
-    ensures { result ≡ wants_done request.now }
-{
-    matches!(
-        request,
-        Request::Retain { .. }
-            | Request::Delete { .. }
-            | Request::Close { .. }
-            | Request::Write { .. }
-            | Request::Resize { .. }
-    )
-}
-
-/// Whether the request asks for an identifier.
-pub fn wants_id(request: &Request) -> bool
-    ensures { result ≡ wants_id request.now }
-{
-    matches!(
-        request,
-        Request::CreateFile { .. } | Request::CreateIndex { .. } | Request::Retrieve { .. }
-    )
-}
-
-/// Whether it asks for a grant.
-pub fn wants_grant(request: &Request) -> bool
-    ensures { result ≡ wants_grant request.now }
-{
-    matches!(request, Request::OpenFor { .. })
-}
-
-/// Whether it asks for a number.
-pub fn wants_number(request: &Request) -> bool
-    ensures { result ≡ wants_number request.now }
-{
-    matches!(request, Request::Slots { .. } | Request::Size { .. })
-}
-
-/// Whether it asks for bytes.
-pub fn wants_content(request: &Request) -> bool
-    ensures { result ≡ wants_content request.now }
-{
-    matches!(request, Request::Read { .. })
 }
 
 /// Whether each identifier is above the one before it.

@@ -1,9 +1,7 @@
 //! Worked lines, and spellings that are refused.
-use cfs_base::Puid;
 use std::alloc::Global;
 use std::test::Fail;
 use trail_text::{TrailFault, print_event, read_event};
-use ufs_model::{Event, Ref, Reply, Request};
 
 /// A run of one session that makes an index and reads slots, with the words of seed 0; then lines of each other kind.
 const LINES: [&[u8]; 21] = [
@@ -71,23 +69,6 @@ fn is_refused(alloc: Global, line: &[u8]) -> bool {
     matches!(read_event(alloc, line), Err(TrailFault::BadLine))
 }
 
-/// Whether this is a request of session 0 for an index of 4 slots in slot 0 of the root, answered by its identifier.
-fn is_first(event: &Event) -> bool {
-    let Event::Ask {
-        session: 0,
-        request: Request::CreateIndex {
-            slots: 4,
-            index: Ref::Direct(index),
-            slot: 0,
-        },
-        reply: Reply::Id(id),
-    } = event
-    else {
-        return false;
-    };
-    *index == Puid::of(0x0000_0002_ade0_b876) && *id == Puid::of(0x0000_0003_903d_f1a0)
-}
-
 #[test]
 fn lines_come_back_and_other_spellings_are_refused(rt: HostRuntime) -> Result<(), Fail> {
     for line in LINES {
@@ -96,7 +77,5 @@ fn lines_come_back_and_other_spellings_are_refused(rt: HostRuntime) -> Result<()
     for line in BAD_LINES {
         assert!(rt; is_refused(rt.alloc(), line));
     }
-    let first = read_event(rt.alloc(), LINES[0]).ok().ok_or("memory")?;
-    assert!(rt; is_first(&first));
     Ok(())
 }

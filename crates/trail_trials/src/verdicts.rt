@@ -29,94 +29,66 @@ ask 1 read 00000006e56a5d40 510 4 = ok 2e41422e\n\
 ask 1 delete 00000002ade0b876 0 = ok\n\
 began\n";
 
-/// Events behind the opening, and the verdict where the trail ends with them.
-const RUNS: [(&str, &str, Verdict); 21] = [
-    ("", "", Verdict::Legal { events: 0 }),
-    (FIRST, "", Verdict::Legal { events: 6 }),
-    (LOST, "", Verdict::Legal { events: 9 }),
-    // All that was cut off vanishes at once, and nothing else; then its blocks may be given anew.
-    (
-        LOST,
-        "vanish 2 00000003903df1a0 00000006e56a5d40\nfinished\n",
-        Verdict::Legal { events: 11 },
-    ),
-    (
-        LOST,
-        "vanish 2 00000003903df1a0 00000006e56a5d40\nask 1 create-index 1 00000002ade0b876 0 = ok 0000000328bd8653\n",
-        Verdict::Legal { events: 11 },
-    ),
-    (LOST, "vanish 0\n", Verdict::Illegal { event: 10 }),
-    (
-        LOST,
-        "vanish 1 00000003903df1a0\n",
-        Verdict::Illegal { event: 10 },
-    ),
-    (
-        LOST,
-        "vanish 3 00000002ade0b876 00000003903df1a0 00000006e56a5d40\n",
-        Verdict::Illegal { event: 10 },
-    ),
-    (FIRST, "vanish 0\n", Verdict::Illegal { event: 7 }),
-    (FIRST, "finished\n", Verdict::Illegal { event: 7 }),
-    // What was retained or opened while the collection marks stays, and what is open keeps what it holds.
-    (
-        LOST,
-        "ask 2 retain 00000002ade0b876 9 00000006e56a5d40 = ok\nvanish 1 00000003903df1a0\n",
-        Verdict::Legal { events: 11 },
-    ),
-    (
-        LOST,
-        "ask 2 open 00000003903df1a0 read = ok 0000000328bd8653\nleave 2\nvanish 0\nfinished\n",
-        Verdict::Legal { events: 13 },
-    ),
-    (
-        LOST,
-        "ask 2 open 00000003903df1a0 read = ok 0000000328bd8653\nvanish 1 00000006e56a5d40\n",
-        Verdict::Illegal { event: 11 },
-    ),
-    // A reply with another word, another block that is taken, or another content.
-    (
-        "ask 0 create-index 4 00000002ade0b876 0 = ok 0000000300000000\n",
-        "",
-        Verdict::Illegal { event: 1 },
-    ),
-    (
-        "ask 0 create-index 4 00000002ade0b876 0 = ok 00000002903df1a0\n",
-        "",
-        Verdict::Illegal { event: 1 },
-    ),
-    (
-        LOST,
-        "ask 1 read 00000006e56a5d40 510 4 = ok 2e41412e\n",
-        Verdict::Illegal { event: 10 },
-    ),
-    // Want of blocks where as many are Free as are to stay Free.
-    (
-        LOST,
-        "ask 1 write 00000006e56a5d40 0 41 = no full 4 0\n",
-        Verdict::Illegal { event: 10 },
-    ),
-    (
-        LOST,
-        "ask 1 create-index 1 00000002ade0b876 0 = no full 7 4\n",
-        Verdict::Legal { events: 10 },
-    ),
-    // A stop, and what may come behind it.
-    (
-        FIRST,
-        "ask 1 slots 00000003903df1a0 = no damaged 4 2 88\nask 1 slots 00000003903df1a0 = no stopped 88\nleave 1\n",
-        Verdict::Legal { events: 9 },
-    ),
-    (
-        FIRST,
-        "halted 88\nask 1 slots 00000003903df1a0 = ok 4\n",
-        Verdict::Illegal { event: 8 },
-    ),
-    (
-        FIRST,
-        "halted 88\nask 1 slots 00000003903df1a0 = no stopped 87\n",
-        Verdict::Illegal { event: 8 },
-    ),
+/// All that was cut off vanishes at once; then its blocks may be given anew.
+const VANISHED: &str = "vanish 2 00000003903df1a0 00000006e56a5d40\n";
+
+const MADE: &str = "ask 1 create-index 1 00000002ade0b876 0 = ok 0000000328bd8653\n";
+
+const TOO_MANY: &str = "vanish 3 00000002ade0b876 00000003903df1a0 00000006e56a5d40\n";
+
+/// What is retained or opened while the collection marks stays, and what is open keeps what it holds.
+const RETAINED: &str = "ask 2 retain 00000002ade0b876 9 00000006e56a5d40 = ok\n";
+
+const OPENED: &str = "ask 2 open 00000003903df1a0 read = ok 0000000328bd8653\n";
+
+/// Replies with another word, with a block that is taken, and with another content.
+const OTHER_WORD: &str = "ask 0 create-index 4 00000002ade0b876 0 = ok 0000000300000000\n";
+
+const TAKEN: &str = "ask 0 create-index 4 00000002ade0b876 0 = ok 00000002903df1a0\n";
+
+const OTHER_BYTES: &str = "ask 1 read 00000006e56a5d40 510 4 = ok 2e41412e\n";
+
+/// Want of blocks where as many are Free as are to stay Free, and where fewer are.
+const NO_WANT: &str = "ask 1 write 00000006e56a5d40 0 41 = no full 4 0\n";
+
+const WANT: &str = "ask 1 create-index 1 00000002ade0b876 0 = no full 7 4\n";
+
+/// A stop, and what may and what may not come behind one.
+const STOP: &str = "ask 1 slots 00000003903df1a0 = no damaged 4 2 88\n";
+
+const STOPPED: &str = "ask 1 slots 00000003903df1a0 = no stopped 88\nleave 1\n";
+
+const SERVED: &str = "ask 1 slots 00000003903df1a0 = ok 4\n";
+
+const EARLIER: &str = "ask 1 slots 00000003903df1a0 = no stopped 87\n";
+
+/// Events behind the opening, in three parts, with which the trail ends, and how many they are.
+const LEGAL: [(&str, &str, &str, u64); 9] = [
+    ("", "", "", 0),
+    (FIRST, "", "", 6),
+    (LOST, "", "", 9),
+    (LOST, VANISHED, "finished\n", 11),
+    (LOST, VANISHED, MADE, 11),
+    (LOST, RETAINED, "vanish 1 00000003903df1a0\n", 11),
+    (LOST, OPENED, "leave 2\nvanish 0\nfinished\n", 13),
+    (LOST, WANT, "", 10),
+    (FIRST, STOP, STOPPED, 9),
+];
+
+/// The same, and the first that may not happen.
+const ILLEGAL: [(&str, &str, &str, u64); 12] = [
+    (LOST, "vanish 0\n", "", 10),
+    (LOST, "vanish 1 00000003903df1a0\n", "", 10),
+    (LOST, TOO_MANY, "", 10),
+    (FIRST, "vanish 0\n", "", 7),
+    (FIRST, "finished\n", "", 7),
+    (LOST, OPENED, "vanish 1 00000006e56a5d40\n", 11),
+    (OTHER_WORD, "", "", 1),
+    (TAKEN, "", "", 1),
+    (LOST, OTHER_BYTES, "", 10),
+    (LOST, NO_WANT, "", 10),
+    (FIRST, "halted 88\n", SERVED, 8),
+    (FIRST, "halted 88\n", EARLIER, 8),
 ];
 
 /// Texts that are none, and the first line that is bad.
@@ -141,14 +113,21 @@ fn verdict_on(alloc: Global, text: &[u8]) -> Option<Verdict> {
     audit(alloc, text).ok()
 }
 
+/// The same, of a trail of these events.
+fn verdict_of(alloc: Global, a: &str, b: &str, c: &str) -> Option<Verdict> {
+    let text = format!(in alloc; "{OPENING}{a}{b}{c}{ENDING}").ok()?;
+    verdict_on(alloc, text.as_bytes())
+}
+
 #[test]
 fn trails_are_judged(rt: HostRuntime) -> Result<(), Fail> {
-    for (first, rest, wanted) in RUNS {
-        let text = format!(in rt.alloc(); "{OPENING}{first}{rest}{ENDING}")
-            .ok()
-            .ok_or("memory")?;
-        let verdict = verdict_on(rt.alloc(), text.as_bytes()).ok_or("memory")?;
-        assert_eq!(rt; verdict, wanted);
+    for (a, b, c, events) in LEGAL {
+        let verdict = verdict_of(rt.alloc(), a, b, c).ok_or("memory")?;
+        assert_eq!(rt; verdict, Verdict::Legal { events });
+    }
+    for (a, b, c, event) in ILLEGAL {
+        let verdict = verdict_of(rt.alloc(), a, b, c).ok_or("memory")?;
+        assert_eq!(rt; verdict, Verdict::Illegal { event });
     }
     for (text, line) in BAD_TEXTS {
         let verdict = verdict_on(rt.alloc(), text.as_bytes()).ok_or("memory")?;

@@ -1,6 +1,6 @@
 -- Sets of identifiers, and going through what was seen until nothing more is reached.
 use Rattle.std.proofs.Common.{◌≡◌, ℕ, zero, suc, ◌+◌, ◌<◌, ◌≤◌, ◌↔◌, List, [], ◌∷◌, ◌++◌, length, take, get_or, refl, sym, ap, ◌∙◌, subst, arith, Bool, true, false, cond, not, ◌&&◌, ◌||◌, Some, None, inl, inr, map}
-use Rattle.ufs_model.proofs.Words.{Along, Edge, IsReached, IsReachedBy, IsSpread, Puid, Seen, Start, after_seen, and_from, and_parts, both_ways, cases_Bool, cases_lt, edges, end_of, eq_by_cmp, has_pair, is_among, is_eq, leads_to, leads_within, list_all, list_all-append, list_any_more, nat_tests, not-true, or_cases, or_left, or_right, same_puid, starts}
+use Rattle.ufs_model.proofs.Words.{Along, Edge, IsReached, IsReachedBy, IsSpread, Puid, Seen, Start, after_seen, and_from, and_parts, both_ways, cases_Bool, cases_lt, edges, seen_end, eq_by_cmp, has_pair, is_among, is_eq, leads_to, leads_within, list_all, list_all-append, list_any_more, nat_tests, not-true, or_cases, or_left, or_right, same_puid, starts}
 use Rattle.ufs_model.specs.declared.collection.Collection.TheVariants as collections
 use Rattle.ufs_model.specs.Reach as reach
 use Rattle.ufs_model.proofs.Reached.{IsClosed, Within, among_itself, none_new, outside, same_puid_is, same_puid_itself}
@@ -96,14 +96,14 @@ leads seen ids k d x less to known = by (get_or seen k d) refl to
       | false ↦ λ at none. cc
     ] refl to
 
-end_is : (s : Seen) (ids : List Puid) (x : Puid) → leads_to ids s ≡ Some x → end_of s ≡ x
+end_is : (s : Seen) (ids : List Puid) (x : Puid) → leads_to ids s ≡ Some x → seen_end s ≡ x
 end_is (Start y) ids x to = cc
 end_is (Edge i y) ids x to = elim (is_among i ids) as (λ b. cond b (Some y) None ≡ Some x → y ≡ x) [ true ↦ λ some. cc | false ↦ λ none. cc ] to
 
-among_ends : (seen : List Seen) (k : ℕ) (d : Seen) → k < length seen → is_among (end_of (get_or seen k d)) (map end_of seen) ≡ true
+among_ends : (seen : List Seen) (k : ℕ) (d : Seen) → k < length seen → is_among (seen_end (get_or seen k d)) (map seen_end seen) ≡ true
 among_ends [] k d less = absurd (omega arith)
-among_ends (s ∷ seen) zero d less = among_itself (end_of s) (map end_of seen)
-among_ends (s ∷ seen) (suc k) d less = or_right (same_puid (end_of (get_or seen k d)) (end_of s)) _ (among_ends seen k d (omega arith))
+among_ends (s ∷ seen) zero d less = among_itself (seen_end s) (map seen_end seen)
+among_ends (s ∷ seen) (suc k) d less = or_right (same_puid (seen_end (get_or seen k d)) (seen_end s)) _ (among_ends seen k d (omega arith))
 
 within_none : (s : Seen) (ids : List Puid) → leads_to ids s ≡ None → leads_within ids s ≡ true
 within_none (Start y) ids to = cc
@@ -151,12 +151,12 @@ module _ (seen done : List Seen) (old new : List Puid) (grew : Bool) (h : IsSpre
       was_out = elim (cases_Bool (is_among x old)) [ inl at ↦ absurd (both_ways (is_among x new) out (h.grows x at)) | inr not_in ↦ not_in ]
 
 -- each round that is not the last reaches one that was not reached
-pub fewer_outside : (seen : List Seen) (old new : List Puid) → IsSpread seen seen old new true → outside (map end_of seen) new < outside (map end_of seen) old
+pub fewer_outside : (seen : List Seen) (old new : List Puid) → IsSpread seen seen old new true → outside (map seen_end seen) new < outside (map seen_end seen) old
 fewer_outside seen old new h =
     let four = h.more refl in
-    elim (cases_lt (outside (map end_of seen) new) (outside (map end_of seen) old)) [
+    elim (cases_lt (outside (map seen_end seen) new) (outside (map seen_end seen) old)) [
       | inl less ↦ less
-      | inr same ↦ absurd (both_ways (is_among four.0 old) four.2 (none_new old new h.grows (map end_of seen) four.0 same four.1 four.3))
+      | inr same ↦ absurd (both_ways (is_among four.0 old) four.2 (none_new old new h.grows (map seen_end seen) four.0 same four.1 four.3))
     ]
 
 -- ---- a turn of the loop

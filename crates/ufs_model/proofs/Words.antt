@@ -36,7 +36,7 @@ pub use Rattle.std.specs.Str.{bytes_eq}
 pub use Rattle.std.specs.declared.cmp.Ordering.{Ordering}
 pub use Rattle.std.specs.declared.cmp.Ordering.TheVariants.{Equal, Greater, Less}
 pub use Rattle.std.specs.declared.ops.Bound.TheVariants.{Excluded, Included}
-pub use Rattle.ufs_model.specs.Followed.{HasRoom, IsReachedBy, IsSpread, after_seen, beside, collection_of, edges_from, end_of, is_done, leads_to, leads_within, refuses, seen_by, with_seen}
+pub use Rattle.ufs_model.specs.Followed.{HasRoom, IsReachedBy, IsSpread, after_seen, beside, collection_of, edges_from, seen_end, is_done, leads_to, leads_within, refuses, seen_by, with_seen}
 pub use Rattle.ufs_model.specs.Graph.{Graph, IsClosedGraph, IsGraph, IsLeastFreeRoot, blocks_differ, fresh_graph, graph_pairs, has_block, has_pair, ids_of, is_free_root, is_graph, is_root_index, is_there, object_at, referred, with_object, without}
 pub use Rattle.ufs_model.specs.Identifier.{ids_rise, is_among, joined, puid_cmp, rise_from, rises, same_puid, same_tuid}
 pub use Rattle.ufs_model.specs.Limits.{most_at_once, reserve}

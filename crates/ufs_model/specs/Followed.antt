@@ -76,9 +76,9 @@ abbrev pub leads_within : List Puid → Seen → Bool
 leads_within ids (Edge i x) = not (is_among i ids) || is_among x ids
 leads_within ids (Start x) = is_among x ids
 
-abbrev pub end_of : Seen → Puid
-end_of (Edge i x) = x
-end_of (Start x) = x
+abbrev pub seen_end : Seen → Puid
+seen_end (Edge i x) = x
+seen_end (Start x) = x
 
 -- What is reached after going through some of what was seen: no less than before, and nothing else. Where nothing came
 -- in, those led to nothing else
@@ -86,7 +86,7 @@ pub record IsSpread (seen done : List Seen) (old new : List Puid) (grew : Bool) 
   pub grows : (x : Puid) → is_among x old ≡ true → is_among x new ≡ true
   pub sound : ((x : Puid) → is_among x old ≡ true → IsReachedBy seen x) → (x : Puid) → is_among x new ≡ true
       → IsReachedBy seen x
-  pub more : grew ≡ true → (x : Puid) × (is_among x (map end_of seen) ≡ true) × (is_among x old ≡ false)
+  pub more : grew ≡ true → (x : Puid) × (is_among x (map seen_end seen) ≡ true) × (is_among x old ≡ false)
       × (is_among x new ≡ true)
   pub closed : grew ≡ false → list_all (leads_within new) done ≡ true
 

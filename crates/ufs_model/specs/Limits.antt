@@ -2,8 +2,8 @@
 use Rattle.std.specs.Prelude.{ℕ}
 
 -- the bytes of a leaf, and its slots, each of 8 bytes
-abbrev pub leaf_bytes : ℕ
-leaf_bytes = 512
+abbrev pub leaf_size : ℕ
+leaf_size = 512
 
 abbrev pub leaf_slots : ℕ
 leaf_slots = 64

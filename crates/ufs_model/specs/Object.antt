@@ -5,7 +5,7 @@ use Rattle.std.specs.Prelude.{take, drop, replicate, slice_get, slice_set, Optio
 use Rattle.std.specs.List.{list_all, sum_by, range_with_len}
 use Rattle.cfs_base.specs.declared.identifier.Puid.{Puid}
 use Rattle.cfs_base.specs.declared.kind.FileKind.{FileKind}
-use Rattle.ufs_model.specs.Limits.{leaf_bytes, leaf_slots, most_bytes, most_slots}
+use Rattle.ufs_model.specs.Limits.{leaf_size, leaf_slots, most_bytes, most_slots}
 pub use Rattle.ufs_model.specs.declared.change.Change.{Change}
 pub use Rattle.ufs_model.specs.declared.change.Change.TheVariants.{Fill, Overwrite, SetSize}
 use Rattle.ufs_model.specs.declared.object.Object.{Object}
@@ -38,11 +38,11 @@ blocks_of o = 1 + sum_by length (held_levels o)
 
 -- how many leaves so many bytes take
 abbrev pub leaves_in : ℕ → ℕ
-leaves_in size = (size + leaf_bytes - 1) / leaf_bytes
+leaves_in size = (size + leaf_size - 1) / leaf_size
 
 -- the leaves with the bytes from offset to offset + count - 1
 abbrev pub touched : ℕ → ℕ → List ℕ
-touched offset count = range_with_len (offset / leaf_bytes) (leaves_in (offset + count) - offset / leaf_bytes)
+touched offset count = range_with_len (offset / leaf_size) (leaves_in (offset + count) - offset / leaf_size)
 
 abbrev pub leaf_of_slot : ℕ → ℕ
 leaf_of_slot slot = slot / leaf_slots
@@ -50,7 +50,7 @@ leaf_of_slot slot = slot / leaf_slots
 -- ---- well-formed objects
 
 abbrev pub byte_may_stand : File → ℕ → ℕ → Bool
-byte_may_stand f at byte = nat_lt byte 256 && ((byte == f.fill) || has_number (at / leaf_bytes) f.held)
+byte_may_stand f at byte = nat_lt byte 256 && ((byte == f.fill) || has_number (at / leaf_size) f.held)
 
 abbrev pub slot_may_stand : Index → ℕ → Option Puid → Bool
 slot_may_stand i at what = is_none what || has_number (leaf_of_slot at) i.held
@@ -133,7 +133,7 @@ size_of (objects.Index i) = 8 * length i.slots
 
 -- the leaf that a resize cuts within, where it is held
 abbrev pub cut_leaf : ℕ → List ℕ → List ℕ
-cut_leaf size held = if size % leaf_bytes == 0 then [] else shared (size / leaf_bytes ∷ []) held
+cut_leaf size held = if size % leaf_size == 0 then [] else shared (size / leaf_size ∷ []) held
 
 -- A resize to less keeps some blocks of a level and drops others, and writes some anew. Of the levels above, a block
 -- that is kept is written anew where it leads to one that is dropped, or to one that wasn't fresh and now is.

@@ -57,8 +57,8 @@ bytes_or_bad (Ok bytes) = Is bytes
 bytes_or_bad (Err e) = Bad
 
 -- two hexadecimal digits or more, of an even number
-abbrev pub bytes_in : List ℕ → Reading (List ℕ)
-bytes_in w = only_if (nat_lt 0 (length w)) (bytes_or_bad (decode_of w))
+abbrev pub hex_in : List ℕ → Reading (List ℕ)
+hex_in w = only_if (nat_lt 0 (length w)) (bytes_or_bad (decode_of w))
 
 abbrev first_byte : List ℕ → ℕ
 first_byte [] = 0
@@ -66,14 +66,14 @@ first_byte (b ∷ bs) = b
 
 -- two hexadecimal digits
 abbrev pub byte_in : List ℕ → Reading ℕ
-byte_in w = only_if (length w == 2) (Is first_byte ⊛ bytes_in w)
+byte_in w = only_if (length w == 2) (Is first_byte ⊛ hex_in w)
 
 abbrev puid_of_bytes : List ℕ → Puid
 puid_of_bytes bytes = record { block = from_be_bytes w32 (take 4 bytes); word = from_be_bytes w32 (drop 4 bytes) }
 
 -- 16 hexadecimal digits
 abbrev pub digits_in : List ℕ → Reading Puid
-digits_in w = only_if (is_id_digits w) (Is puid_of_bytes ⊛ bytes_in w)
+digits_in w = only_if (is_id_digits w) (Is puid_of_bytes ⊛ hex_in w)
 
 abbrev permanent : Option Bound → Reading Puid
 permanent (Some (bounds.Permanent id)) = Is id
@@ -167,7 +167,7 @@ read names words = Bad
 
 abbrev write : Names → List (List ℕ) → Reading Request
 write names (file ∷ offset ∷ bytes ∷ []) =
-    Is (λ f o b. asks.Write f o b) ⊛ ref_in names file ⊛ number_in offset ⊛ bytes_in bytes
+    Is (λ f o b. asks.Write f o b) ⊛ ref_in names file ⊛ number_in offset ⊛ hex_in bytes
 write names words = Bad
 
 abbrev size : Names → List (List ℕ) → Reading Request

@@ -4,7 +4,7 @@ ghost use Rattle.std.specs.List.{list_all};
 ghost use Rattle.cfs_base.specs.declared.identifier.Puid.{Puid};
 ghost use Rattle.ufs_model.specs.Graph.{Graph, IsClosedGraph, IsGraph, fresh_graph, is_free_root, is_there, object_at};
 ghost use Rattle.ufs_model.specs.Identifier.{is_among};
-ghost use Rattle.ufs_model.specs.Limits.{fan_out, leaf_bytes, leaf_slots, most_at_once, most_bytes, most_grants};
+ghost use Rattle.ufs_model.specs.Limits.{fan_out, leaf_size, leaf_slots, most_at_once, most_bytes, most_grants};
 ghost use Rattle.ufs_model.specs.Limits.{most_line, most_name, most_slots, reserve, root_slots};
 ghost use Rattle.ufs_model.specs.Next.{next};
 ghost use Rattle.ufs_model.specs.Object.{IsObject};
@@ -28,7 +28,7 @@ use crate::limits::{
 
 /// The constants are the numbers of the definitions.
 pub fn limits_are_stated()
-    ensures leaf_bytes { LEAF_BYTES ≡ leaf_bytes }
+    ensures leaf_bytes { LEAF_BYTES ≡ leaf_size }
     ensures leaf_slots { LEAF_SLOTS ≡ leaf_slots }
     ensures fan_out { FAN_OUT ≡ fan_out }
     ensures most_bytes { MOST_BYTES ≡ most_bytes }

@@ -1,6 +1,6 @@
 -- A sound image has none of the faults.
 use Rattle.std.proofs.Common.{◌≡◌, ◌≢◌, inl, inr, ℕ, zero, suc, ◌*◌, ◌≤◌, true, false, ◌==◌, IsTrue, List, [], ◌∷◌, ◌++◌, length, Some, None, Option, refl, sym, ◌∙◌, ap, subst, arith}
-use Rattle.vol_image.proofs.Words.{Fault, Graph, HasLabel, Held, Image, IsLabelOf, IsReached, IsRootBlock, IsSoundAs, Label, LeavesFour, NamesNothing, Next, Object, Puid, ReadsAs, Shows, TheRoot, block_at, entry_in, filter_map, first_or, has_number, held_at, is_among, is_fixed, is_some, is_there, leaf_in, nat_tests, object_at, object_with, or_cases, or_left, or_right, referred, same_Some, same_puid, says, shadows, shown_tree, sight, slice_get, source, tree_of}
+use Rattle.vol_image.proofs.Words.{Fault, Graph, HasLabel, Held, Image, IsLabelOf, IsReachedIn, IsRootBlock, IsSoundAs, Label, LeavesFour, NamesNothing, Next, Object, Puid, ReadsAs, Shows, TheRoot, block_at, entry_in, filter_map, first_or, has_number, held_at, is_among, is_fixed, is_some, is_there, leaf_in, nat_tests, object_at, object_with, or_cases, or_left, or_right, referred, same_Some, same_puid, says, shadows, shown_tree, sight, slice_get, source, tree_of}
 use Rattle.block_tree.specs.declared.root.Root.{Root}
 use Rattle.ufs_model.specs.declared.object.Object.TheVariants as objects
 use Rattle.vol_image.proofs.Reached.{same_puid_itself}
@@ -70,7 +70,7 @@ module _ (image : Image) (g : Graph) (sound : IsSoundAs image g) where
       let at = object_there g i there in
       found_next g i x at.0 sound.graph at.1 (ap (λ (p : Object). is_among x (referred p)) (sym (shown_object i there root o shows)) ∙ refers)
 
-  reached_there : (id : Puid) → IsReached image id → is_there g id ≡ true
+  reached_there : (id : Puid) → IsReachedIn image id → is_there g id ≡ true
   reached_there id (TheRoot l has sort) = label_there l has
   reached_there id (Next i x root o reached shows refers names) =
       next_there i x root o (reached_there i reached) shows refers

@@ -1,6 +1,6 @@
 -- What the entry says of a block that an object holds, or that is a shadow root.
 use Rattle.std.proofs.Common.{◌≡◌, ◌≢◌, ◌⊎◌, inl, inr, ℕ, ◌+◌, ◌*◌, ◌<◌, List, [], ◌∷◌, length, Bool, true, false, cond, Some, None, Option, refl, sym, ◌∙◌, ap, subst, arith}
-use Rattle.vol_image.proofs.Words.{Allocated, BelongsTo, BlockState, Free, Graph, Held, Holds, Image, IntendAllocate, IntendDeallocate, IsBlockOf, IsHeldBy, IsLoose, IsTaken, IsTree, Leaf, Level, MapEntry, Node, Object, Part, Place, Puid, ReadsAs, Root, ShadowRoot, block_at, entry_in, filter, first_or, is_committed, is_fixed, levels_of, map_in_image, nat_tests, part_at, part_in, part_of, place_at, place_from, range_with_len, same_Some, shadows, sight, source, stands_for, tree_in, tree_of}
+use Rattle.vol_image.proofs.Words.{Allocated, BelongsTo, BlockState, Free, Graph, Held, Holds, Image, IntendAllocate, IntendDeallocate, IsBlockOf, IsHeldBy, IsLoose, IsTaken, IsTree, Leaf, Level, MapEntry, Node, Object, EntryPart, Place, Puid, ReadsAs, Root, ShadowRoot, block_at, entry_in, filter, first_or, is_committed, is_fixed, levels_of, map_in_image, nat_tests, part_at, part_in, part_of, place_at, place_from, range_with_len, same_Some, shadows, sight, source, stands_for, tree_in, tree_of}
 use Rattle.block_tree.specs.declared.root.Root as roots
 use Rattle.vol_image.proofs.Views.{held_part}
 
@@ -34,11 +34,11 @@ taken_part Allocated bit p o real = refl
 taken_part IntendAllocate bit p o real = refl
 taken_part IntendDeallocate bit p o real = refl
 
-pub part_entry : (s : BlockState) (bit : Bool) (p : Option Place) (o : ℕ) (r : Part) → part_in s bit p o ≡ Some r → (s ≢ Free) × (p ≡ r.place) × (o ≡ r.owner)
+pub part_entry : (s : BlockState) (bit : Bool) (p : Option Place) (o : ℕ) (r : EntryPart) → part_in s bit p o ≡ Some r → (s ≢ Free) × (p ≡ r.place) × (o ≡ r.owner)
 part_entry Free bit p o r h = cc
-part_entry Allocated bit p o r h = (λ x. cc, ap (λ (y : Part). y.place) (same_Some _ _ h), ap (λ (y : Part). y.owner) (same_Some _ _ h))
-part_entry IntendAllocate bit p o r h = (λ x. cc, ap (λ (y : Part). y.place) (same_Some _ _ h), ap (λ (y : Part). y.owner) (same_Some _ _ h))
-part_entry IntendDeallocate bit p o r h = (λ x. cc, ap (λ (y : Part). y.place) (same_Some _ _ h), ap (λ (y : Part). y.owner) (same_Some _ _ h))
+part_entry Allocated bit p o r h = (λ x. cc, ap (λ (y : EntryPart). y.place) (same_Some _ _ h), ap (λ (y : EntryPart). y.owner) (same_Some _ _ h))
+part_entry IntendAllocate bit p o r h = (λ x. cc, ap (λ (y : EntryPart). y.place) (same_Some _ _ h), ap (λ (y : EntryPart). y.owner) (same_Some _ _ h))
+part_entry IntendDeallocate bit p o r h = (λ x. cc, ap (λ (y : EntryPart). y.place) (same_Some _ _ h), ap (λ (y : EntryPart). y.owner) (same_Some _ _ h))
 
 some_place : (p : Place) → Some p ≢ None
 some_place p is = cc
@@ -48,7 +48,7 @@ pub record IsPlaced (image : Image) (n owner : ℕ) (place : Place) : Type 0 whe
   pub taken : IsTaken image n owner
   pub place_is : taken.is.place ≡ Some place
 
-pub placed : (image : Image) (n owner : ℕ) (place : Place) (part : Option Part) → part ≡ part_at image n → BelongsTo owner place part → IsPlaced image n owner place
+pub placed : (image : Image) (n owner : ℕ) (place : Place) (part : Option EntryPart) → part ≡ part_at image n → BelongsTo owner place part → IsPlaced image n owner place
 placed image n owner place part same belongs = at (entry_in image n) refl (sym same ∙ belongs.here)
   where
     at : (o : Option MapEntry) → entry_in image n ≡ o → part_of o ≡ Some belongs.is → IsPlaced image n owner place

@@ -1,6 +1,6 @@
 -- A place names one path, and below a root a block stands at one path.
 use Rattle.std.proofs.Common.{◌≡◌, ◌≢◌, ℕ, zero, suc, ◌+◌, ◌*◌, ◌%◌, ◌/◌, ◌<◌, ◌≤◌, List, [], ◌∷◌, length, inl, inr, Some, refl, sym, ◌∙◌, ap, subst, arith}
-use Rattle.vol_image.proofs.Words.{Held, Image, IsTree, Leaf, Level, Node, Object, Part, Place, Root, ShadowRoot, below, block_at, cases_lt, div-mul-add, end_of, get_or_past, leaf_pointers, length-map-range_with_len, levels_of, mod-mul-add, number_at, part_at, place_above, place_at, place_from, place_number, pointer, pointers_of, same_Some, tree_in, tree_of}
+use Rattle.vol_image.proofs.Words.{Held, Image, IsTree, Leaf, Level, Node, Object, EntryPart, Place, Root, ShadowRoot, below, block_at, cases_lt, div-mul-add, end_of, get_or_past, leaf_pointers, length-map-range_with_len, levels_of, mod-mul-add, number_at, part_at, place_above, place_at, place_from, place_number, pointer, pointers_of, same_Some, tree_in, tree_of}
 use Rattle.block_tree.specs.declared.root.Root as roots
 use Rattle.vol_image.proofs.Views.{held_is, held_part}
 
@@ -118,7 +118,7 @@ same_path image size owner content other root r o p levels fits too path q g h o
     let is : first.is ≡ second.is = same_Some _ _ (sym first.here ∙ parts ∙ second.here) in
     place_path (levels_of content) path q (few_levels content) (below_somewhere image (levels_of content) content path at) (below_somewhere image (levels_of other) other q there)
     (below_is_path image (levels_of content) content path at) (subst (λ (ls : List Level). IsPath ls q) (sym levels) (below_is_path image (levels_of other) other q there))
-    (same_Some _ _ (sym first.place_is ∙ ap (λ (x : Part). x.place) is ∙ second.place_is) ∙ ap (λ (ls : List Level). place_at ls q) (sym levels))
+    (same_Some _ _ (sym first.place_is ∙ ap (λ (x : EntryPart). x.place) is ∙ second.place_is) ∙ ap (λ (ls : List Level). place_at ls q) (sym levels))
 
 -- the same below one root
 pub one_path : (image : Image) (size owner : ℕ) (content : List ℕ) (root : roots.Root) (o : Object) → IsTree size owner (tree_in image content) root o → (p q : List ℕ) (g h : Held)

@@ -42,11 +42,11 @@ pub use Rattle.ufs_model.specs.Object.{blocks_of, held_leaves, held_levels, inne
 pub use Rattle.ufs_model.specs.Reach.{reached, rooted}
 pub use Rattle.ufs_model.specs.declared.limits.TheConstants.{FAN_OUT}
 pub use Rattle.ufs_model.specs.declared.object.Object.{Object}
-pub use Rattle.vol_image.specs.Commit.{IsDraft, IsReadBy, MaySettle, Settles, committed, root_from_source}
+pub use Rattle.vol_image.specs.Commit.{IsDraft, IsReadBy, MaySettle, Settles, with_commit_bit, root_from_source}
 pub use Rattle.vol_image.specs.Count.{blocks_held, held_at_depth, levels_held}
-pub use Rattle.vol_image.specs.Fault.{Fault, HasLabel, IsReached, NamesNothing, Next, Shows, TheRoot, shown_tree}
+pub use Rattle.vol_image.specs.Fault.{Fault, HasLabel, IsReachedIn, NamesNothing, Next, Shows, TheRoot, shown_tree}
 pub use Rattle.vol_image.specs.Frame.{ChangesMaps, Frames, IsAtRest, IsBlockOf, IsHeldBy, IsLoose, MayChange, StandsForNone}
-pub use Rattle.vol_image.specs.Part.{BelongsTo, IsTaken, OwnsItself, Part, RootsOwnThemselves, SameAt, is_committed, is_fixed, part_at, part_in, part_of, stands_for}
+pub use Rattle.vol_image.specs.Part.{BelongsTo, IsTaken, OwnsItself, EntryPart, RootsOwnThemselves, SameAt, is_committed, is_fixed, part_at, part_in, part_of, stands_for}
 pub use Rattle.vol_image.specs.Reading.{IsTree, bare_object, held_in, leaf_content, leaf_in, slot_in}
 unfoldable pub use Rattle.vol_image.specs.Reading.{object_with}
 pub use Rattle.vol_image.specs.Run.{Carries, Within}

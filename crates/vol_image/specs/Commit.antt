@@ -32,8 +32,8 @@ pub record IsReadBy (a b : Image) (r s : ℕ) : Type 0 where
   pub tree : tree_in b (block_at b s) ≡ tree_in a (block_at a s)
 
 -- an entry with its commit bit
-abbrev pub committed : MapEntry → MapEntry
-committed e = record e { committed = true }
+abbrev pub with_commit_bit : MapEntry → MapEntry
+with_commit_bit e = record e { committed = true }
 
 -- the image with the content by which an object is read written to its root
 abbrev pub root_from_source : Image → ℕ → List ℕ

@@ -50,7 +50,7 @@ pub record HasLabel (image : Image) (label : Label) : Type 0 where
   pub spelled : block_at image 1 ≡ labels.spelling label
 
 -- an identifier names a root block of its word, or a block that holds no root
-pub record Names (image : Image) (x : Puid) : Type 0 where
+pub record NamesRoot (image : Image) (x : Puid) : Type 0 where
   pub some : x.block ≢ 0
   pub on_disk : x.block < length image
   pub word : (root : Root) → IsRootBlock (block_at image x.block) root → root.word ≡ x.word
@@ -66,10 +66,10 @@ IsRootIndex image r = (root : Root) (o : Object) → Shows image r root o
 
 -- The objects that are reached from the root index, each as the image shows it. What names nothing isn't followed, and
 -- of a root index of another sort nothing is.
-pub data IsReached (image : Image) : Puid → Type 0 where
-  TheRoot : (label : Label) → HasLabel image label → IsRootIndex image label.root.block → IsReached image label.root
-  Next : (i x : Puid) (root : Root) (o : Object) → IsReached image i → Shows image i.block root o
-      → is_among x (referred o) ≡ true → Names image x → IsReached image x
+pub data IsReachedIn (image : Image) : Puid → Type 0 where
+  TheRoot : (label : Label) → HasLabel image label → IsRootIndex image label.root.block → IsReachedIn image label.root
+  Next : (i x : Puid) (root : Root) (o : Object) → IsReachedIn image i → Shows image i.block root o
+      → is_among x (referred o) ≡ true → NamesRoot image x → IsReachedIn image x
 
 -- the block with the pointer at the end of a path: the root for the first
 abbrev pub holder : Image → ℕ → List ℕ → ℕ
@@ -87,30 +87,30 @@ pub data Fault (image : Image) : ℕ → ℕ → Type 0 where
   RootOfAnother : (n : ℕ) (e : MapEntry) → entry_in image n ≡ Some e → e.place ≡ Some places.Root → e.owner ≢ n
       → Fault image codes.no_entry (map_of n)
   -- the root block of a reached object is none
-  NoRoot : (id : Puid) → IsReached image id → ((root : Root) → ¬ IsRootBlock (block_at image id.block) root)
+  NoRoot : (id : Puid) → IsReachedIn image id → ((root : Root) → ¬ IsRootBlock (block_at image id.block) root)
       → Fault image codes.no_root id.block
   -- a shadow root that stands is none, or of another kind or word than the root
-  NoShadow : (id : Puid) (own : Root) (s : ℕ) → IsReached image id → IsRootBlock (block_at image id.block) own
+  NoShadow : (id : Puid) (own : Root) (s : ℕ) → IsReachedIn image id → IsRootBlock (block_at image id.block) own
       → has_number s (shadows image id.block) ≡ true
       → ((shadow : Root) → IsRootBlock (block_at image s) shadow → shadow.kind ≡ own.kind → shadow.word ≢ own.word)
       → Fault image codes.no_root s
   -- a pointer leads past the disk
-  PastDisk : (id : Puid) (root : Root) (o : Object) (path : List ℕ) (k : ℕ) → IsReached image id
+  PastDisk : (id : Puid) (root : Root) (o : Object) (path : List ℕ) (k : ℕ) → IsReachedIn image id
       → Shows image id.block root o
       → length image ≤ tree_of image (block_at image (source image id.block)) (path ++ k ∷ [])
       → Fault image codes.past_disk (holder image id.block path)
   -- the entry of a block of a tree is Free, or has another owner or place
-  NotOwned : (id : Puid) (root : Root) (o : Object) (path : List ℕ) (h : Held) → IsReached image id
+  NotOwned : (id : Puid) (root : Root) (o : Object) (path : List ℕ) (h : Held) → IsReachedIn image id
       → Shows image id.block root o → (shown_tree image id.block).below path ≡ Some h → h.block < length image
       → ¬ BelongsTo id.block (place_at (levels_of (block_at image (source image id.block))) path) h.part
       → Fault image codes.not_owned h.block
-  RootNotOwned : (id : Puid) (own : Root) → IsReached image id → IsRootBlock (block_at image id.block) own
+  RootNotOwned : (id : Puid) (own : Root) → IsReachedIn image id → IsRootBlock (block_at image id.block) own
       → ¬ BelongsTo id.block places.Root (part_at image id.block) → Fault image codes.not_owned id.block
   -- a map block or the label is not reserved
   NotReserved : (n : ℕ) → n < length image → is_fixed n ≡ true → entry_in image n ≢ Some reserved
       → Fault image codes.not_owned n
   -- an identifier in a slot, or the label's, names no object; or the root index is none of 64 slots
-  SlotNamesNothing : (i x : Puid) (root : Root) (index : Index) (s : ℕ) (h : Held) → IsReached image i
+  SlotNamesNothing : (i x : Puid) (root : Root) (index : Index) (s : ℕ) (h : Held) → IsReachedIn image i
       → Shows image i.block root (objects.Index index) → slice_get index.slots s ≡ Some (Some x)
       → leaf_in (shown_tree image i.block) (s / LEAF_SLOTS) ≡ Some h → h.block < length image → NamesNothing image x
       → Fault image codes.names_nothing h.block
@@ -120,19 +120,19 @@ pub data Fault (image : Image) : ℕ → ℕ → Type 0 where
       → ((index : Index) → o ≡ objects.Index index → length index.slots ≢ ROOT_SLOTS)
       → Fault image codes.names_nothing 2
   -- two shadow roots stand for one object
-  TwoShadows : (id : Puid) (own : Root) → IsReached image id → IsRootBlock (block_at image id.block) own
+  TwoShadows : (id : Puid) (own : Root) → IsReachedIn image id → IsRootBlock (block_at image id.block) own
       → 2 ≤ length (shadows image id.block) → Fault image codes.two_shadows id.block
   -- a leaf is held at or past the size
-  PastSize : (id : Puid) (root : Root) (o : Object) (leaf : ℕ) (h : Held) → IsReached image id
+  PastSize : (id : Puid) (root : Root) (o : Object) (leaf : ℕ) (h : Held) → IsReachedIn image id
       → Shows image id.block root o → leaf_in (shown_tree image id.block) leaf ≡ Some h → h.block < length image
       → leaves_in root.size ≤ leaf → Fault image codes.late_leaf h.block
   -- a byte past the size is no fill byte
-  NotFilled : (id : Puid) (root : Root) (o : Object) (leaf i : ℕ) (h : Held) → IsReached image id
+  NotFilled : (id : Puid) (root : Root) (o : Object) (leaf i : ℕ) (h : Held) → IsReachedIn image id
       → Shows image id.block root o → leaf_in (shown_tree image id.block) leaf ≡ Some h → h.block < length image
       → i < 512 → root.size ≤ 512 * leaf + i
       → get_or h.content i 0 ≢ root.fill → Fault image codes.late_byte h.block
   -- a node that is held leads to no leaf
-  DeadEnd : (id : Puid) (root : Root) (o : Object) (path : List ℕ) (h : Held) → IsReached image id
+  DeadEnd : (id : Puid) (root : Root) (o : Object) (path : List ℕ) (h : Held) → IsReachedIn image id
       → Shows image id.block root o → (shown_tree image id.block).below path ≡ Some h → h.block < length image
       → length path < length (levels_of (block_at image (source image id.block)))
       → ((k : ℕ) → (shown_tree image id.block).below (path ++ k ∷ []) ≡ None) → Fault image codes.dead_end h.block

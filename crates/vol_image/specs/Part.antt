@@ -8,34 +8,34 @@ use Rattle.cyl_map.specs.declared.state.BlockState.TheVariants.{Free, Allocated,
 use Rattle.cyl_map.specs.declared.entry.MapEntry.{MapEntry}
 use Rattle.cyl_map.specs.Volume.{entry_in}
 
-pub record Part : Type 0 where
+pub record EntryPart : Type 0 where
   pub committed : Bool
   pub place : Option Place
   pub owner : ℕ
 
-abbrev pub part_in : BlockState → Bool → Option Place → ℕ → Option Part
+abbrev pub part_in : BlockState → Bool → Option Place → ℕ → Option EntryPart
 part_in Free bit place owner = None
 part_in Allocated bit place owner = Some (record { committed = bit; place = place; owner = owner })
 part_in IntendAllocate bit place owner = Some (record { committed = bit; place = place; owner = owner })
 part_in IntendDeallocate bit place owner = Some (record { committed = bit; place = place; owner = owner })
 
-abbrev pub part_of : Option MapEntry → Option Part
+abbrev pub part_of : Option MapEntry → Option EntryPart
 part_of None = None
 part_of (Some e) = part_in e.state e.committed e.place e.owner
 
 -- the part of a block, none where the block is Free
-abbrev pub part_at : Image → ℕ → Option Part
+abbrev pub part_at : Image → ℕ → Option EntryPart
 part_at image n = part_of (entry_in image n)
 
 -- the block is of this object, at this place of it
-pub record BelongsTo (owner : ℕ) (place : Place) (part : Option Part) : Type 0 where
-  pub is : Part
+pub record BelongsTo (owner : ℕ) (place : Place) (part : Option EntryPart) : Type 0 where
+  pub is : EntryPart
   pub here : part ≡ Some is
   pub owner_is : is.owner ≡ owner
   pub place_is : is.place ≡ Some place
 
 -- the commit bit stands
-abbrev pub is_committed : Option Part → Bool
+abbrev pub is_committed : Option EntryPart → Bool
 is_committed None = false
 is_committed (Some p) = p.committed
 

@@ -5,12 +5,12 @@ use Rattle.cfs_base.specs.declared.kind.Place.{Place}
 use Rattle.cfs_base.specs.declared.kind.Place.TheVariants.{Node, Leaf}
 use Rattle.block_tree.specs.Pointers.{Level}
 use Rattle.block_tree.specs.Tree.{tree_of}
-use Rattle.vol_image.specs.Part.{Part, part_at}
+use Rattle.vol_image.specs.Part.{EntryPart, part_at}
 
 -- a block with its part and content
 pub record Held : Type 0 where
   pub block : ℕ
-  pub part : Option Part
+  pub part : Option EntryPart
   pub content : List ℕ
 
 -- what a pointer leads to

@@ -3,7 +3,7 @@ use Rattle.std.specs.Prelude.{ℕ, if◌then◌else◌, List, [], ◌∷◌, len
 use Rattle.std.specs.List.{range_with_len}
 use Rattle.cfs_base.specs.Disk.{Image, block_at}
 use Rattle.cyl_map.specs.Volume.{entry_in}
-use Rattle.vol_image.specs.Part.{Part, part_at, is_committed, stands_for}
+use Rattle.vol_image.specs.Part.{EntryPart, part_at, is_committed, stands_for}
 use Rattle.vol_image.specs.Seen.{Tree, tree_in}
 
 -- the shadow roots that stand for an object, where its commit bit does
@@ -21,7 +21,7 @@ source image r = first_or r (shadows image r)
 
 -- the root's part and content, the shadow roots that stand, and the tree by which the object is read
 pub record Sight : Type 0 where
-  pub part : Option Part
+  pub part : Option EntryPart
   pub root : List ℕ
   pub standing : List ℕ
   pub tree : Tree

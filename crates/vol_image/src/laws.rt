@@ -15,7 +15,7 @@ ghost use Rattle.ufs_model.specs.Graph.{Graph, object_at, with_object, without};
 ghost use Rattle.ufs_model.specs.Object.{blocks_of, held_levels, new_file, new_index};
 ghost use Rattle.ufs_model.specs.declared.object.Object.{Object};
 ghost use Rattle.ufs_model.specs.declared.object.Object.TheVariants as objects;
-ghost use Rattle.vol_image.specs.Commit.{IsDraft, IsReadBy, MaySettle, Settles, committed, root_from_source};
+ghost use Rattle.vol_image.specs.Commit.{IsDraft, IsReadBy, MaySettle, Settles, with_commit_bit, root_from_source};
 ghost use Rattle.vol_image.specs.Count.{blocks_held, levels_held};
 ghost use Rattle.vol_image.specs.Fault.{Fault};
 ghost use Rattle.vol_image.specs.Frame.{ChangesMaps, Frames, IsAtRest, IsBlockOf, IsHeldBy, IsLoose, StandsForNone};
@@ -121,11 +121,12 @@ pub fn objects_are_made()
 pub fn commit_sets_the_bit()
     ensures bit { (a : Image) (g : Graph) (id : Puid) (was o : Object) (e : MapEntry) (s : ℕ) → Holds a g
         → object_at g id ≡ Some was
-        → entry_in a id.block ≡ Some e → IsEntry (committed e) → IsDraft a id.block s o
-        → Holds (with_entry a id.block (committed e)) (with_object g id o) }
+        → entry_in a id.block ≡ Some e → IsEntry (with_commit_bit e) → IsDraft a id.block s o
+        → Holds (with_entry a id.block (with_commit_bit e)) (with_object g id o) }
     ensures read_by { (a : Image) (g : Graph) (id : Puid) (was o : Object) (e : MapEntry) (s : ℕ) → Holds a g
-        → object_at g id ≡ Some was → entry_in a id.block ≡ Some e → IsEntry (committed e) → IsDraft a id.block s o
-        → IsReadBy a (with_entry a id.block (committed e)) id.block s }
+        → object_at g id ≡ Some was → entry_in a id.block ≡ Some e → IsEntry (with_commit_bit e)
+        → IsDraft a id.block s o
+        → IsReadBy a (with_entry a id.block (with_commit_bit e)) id.block s }
     ensures copy { (c : Image) (g : Graph) (id : Puid) (o : Object) → Holds c g → object_at g id ≡ Some o
         → Holds (set c id.block (root_from_source c id.block)) (with_object g id o) }
 {}

@@ -1,6 +1,6 @@
 -- Fresh blocks of a draft are those whose pointers differ from the object's own.
 use Rattle.std.proofs.Common.{◌≡◌, ◌≢◌, inl, inr, ℕ, List, length, true, false, ◌==◌, Some, refl, sym, ◌∙◌, ap}
-use Rattle.vol_owners.proofs.Words.{Allocated, BlockState, Free, Graph, HasDraft, HasItsBlocks, Held, Holds, Image, IntendAllocate, IntendDeallocate, IsAtRest, IsBlockOf, MapEntry, Object, Opened, Puid, and_left, and_parts, below_apart, block_at, both_ways, content_of, entry_in, first_or, held, held_at, held_block, held_is, held_there, is_had, is_meant_for, is_of, is_placed, is_some, no_shadows, object_at, root_placed, same_levels, same_path, sight, source, tree_in, tree_of, tree_placed}
+use Rattle.vol_owners.proofs.Words.{Allocated, BlockState, Free, Graph, HasDraft, HasItsBlocks, Held, Holds, Image, IntendAllocate, IntendDeallocate, IsAtRest, IsBlockOf, MapEntry, Object, Opened, Puid, and_left, and_parts, below_apart, block_at, both_ways, content_of, entry_in, first_or, held, held_at, held_block, held_is, held_there, is_had, is_meant_for, is_owned_by, is_placed, is_some, no_shadows, object_at, root_placed, same_levels, same_path, sight, source, tree_in, tree_of, tree_placed}
 use Rattle.vol_owners.proofs.Entries.{had_not_meant, had_or_meant, taken_of}
 
 module _ (image : Image) (g : Graph) (holds : Holds image g) (id : Puid) (o : Object) (at : object_at g id ≡ Some o) (has : HasItsBlocks image id.block) (d : Opened) (draft : HasDraft image id d) where
@@ -19,7 +19,7 @@ module _ (image : Image) (g : Graph) (holds : Holds image g) (id : Puid) (o : Ob
   unfolding sight
   not_meant_is_own path h v none = which (has.no_other h.block is_had_here)
     where
-      is_had_here : is_of is_had id.block (entry_in image h.block) ≡ true
+      is_had_here : is_owned_by is_had id.block (entry_in image h.block) ≡ true
       is_had_here = elim (had_or_meant id.block (entry_in image h.block) (taken_of image h.block id.block (tree_placed image (length image) id.block (content_of d) d.root d.draft.object draft.tree path h v).taken) (has.none_leaves h.block)) [
         | inl is ↦ is
         | inr is ↦ absurd (both_ways _ none is)
@@ -45,7 +45,7 @@ module _ (image : Image) (g : Graph) (holds : Holds image g) (id : Puid) (o : Ob
 
 -- an object that has its blocks is at rest
 pub at_rest : (image : Image) (r : ℕ) → HasItsBlocks image r → IsAtRest image r
-at_rest image r has = record { no_bit = has.no_bit; each = λ n e is here. allocated e (sym (ap (is_of is_had r) here) ∙ has.each n is) }
+at_rest image r has = record { no_bit = has.no_bit; each = λ n e is here. allocated e (sym (ap (is_owned_by is_had r) here) ∙ has.each n is) }
   where
     state_is : (s : BlockState) → is_had s ≡ true → s ≡ Allocated
     state_is Free h = cc
@@ -53,7 +53,7 @@ at_rest image r has = record { no_bit = has.no_bit; each = λ n e is here. alloc
     state_is IntendAllocate h = cc
     state_is IntendDeallocate h = cc
 
-    allocated : (e : MapEntry) → is_of is_had r (Some e) ≡ true → e.state ≡ Allocated
+    allocated : (e : MapEntry) → is_owned_by is_had r (Some e) ≡ true → e.state ≡ Allocated
     allocated e h = state_is e.state (and_parts (is_had e.state) (is_some e.place) (and_parts (is_placed is_had (Some e)) (r == e.owner) h).0).0
 
 -- where a block stands the pointer isn't 0

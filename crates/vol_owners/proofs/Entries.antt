@@ -1,6 +1,6 @@
 -- What tests say of an entry.
 use Rattle.std.proofs.Common.{◌≡◌, ◌≢◌, ◌⊎◌, inl, inr, ℕ, Bool, true, false, ◌&&◌, Option, Some, None, refl, sym, ◌∙◌, ap, ◌==◌}
-use Rattle.vol_owners.proofs.Words.{Allocated, BlockState, Free, Image, IntendAllocate, IntendDeallocate, IsTaken, Leaf, MapEntry, Node, Place, Root, RootsOwnThemselves, ShadowRoot, and_from, and_left, and_parts, both_ways, entry_in, eq-eqb, eqb-true, is_free_entry, is_had, is_leaving, is_made, is_meant, is_of, is_placed, is_root, is_root_place, is_some, is_taken, owner_of, stands_for}
+use Rattle.vol_owners.proofs.Words.{Allocated, BlockState, Free, Image, IntendAllocate, IntendDeallocate, IsTaken, Leaf, MapEntry, Node, Place, Root, RootsOwnThemselves, ShadowRoot, and_from, and_left, and_parts, both_ways, entry_in, eq-eqb, eqb-true, is_free_entry, is_had, is_leaving, is_made, is_meant, is_owned_by, is_placed, is_root, is_root_place, is_some, is_taken, owner_of, stands_for}
 
 -- ---- a test that no Free block passes
 
@@ -25,26 +25,26 @@ module _ (test : BlockState → Bool) (real : test Free ≡ false) where
       at IntendAllocate q = cc
       at IntendDeallocate q = cc
 
-  pub of_taken : (r : ℕ) (entry : Option MapEntry) → is_of test r entry ≡ true → is_of is_taken r entry ≡ true
+  pub of_taken : (r : ℕ) (entry : Option MapEntry) → is_owned_by test r entry ≡ true → is_owned_by is_taken r entry ≡ true
   of_taken r entry h = let two = and_parts (is_placed test entry) (r == owner_of entry) h in and_from _ _ (placed_taken entry two.0) two.1
 
-  pub free_unowned : (r : ℕ) (entry : Option MapEntry) → is_free_entry entry ≡ true → is_of test r entry ≡ false
+  pub free_unowned : (r : ℕ) (entry : Option MapEntry) → is_free_entry entry ≡ true → is_owned_by test r entry ≡ false
   free_unowned r entry free = and_left _ _ (free_unplaced entry free)
 
 -- whose it is
-pub owner_is : (test : BlockState → Bool) (r : ℕ) (entry : Option MapEntry) → is_of test r entry ≡ true → r ≡ owner_of entry
+pub owner_is : (test : BlockState → Bool) (r : ℕ) (entry : Option MapEntry) → is_owned_by test r entry ≡ true → r ≡ owner_of entry
 owner_is test r entry h = eqb-true r (owner_of entry) (and_parts (is_placed test entry) (r == owner_of entry) h).1
 
-pub of_its_owner : (test : BlockState → Bool) (entry : Option MapEntry) → is_placed test entry ≡ true → is_of test (owner_of entry) entry ≡ true
+pub of_its_owner : (test : BlockState → Bool) (entry : Option MapEntry) → is_placed test entry ≡ true → is_owned_by test (owner_of entry) entry ≡ true
 of_its_owner test entry h = and_from _ _ h (eq-eqb _ _ refl)
 
 -- where a test of entries is passed there is one
-pub the_entry : (test : BlockState → Bool) (r : ℕ) (entry : Option MapEntry) → is_of test r entry ≡ true → (e : MapEntry) × (entry ≡ Some e)
+pub the_entry : (test : BlockState → Bool) (r : ℕ) (entry : Option MapEntry) → is_owned_by test r entry ≡ true → (e : MapEntry) × (entry ≡ Some e)
 the_entry test r None h = cc
 the_entry test r (Some e) h = (e, refl)
 
 -- a taken block is placed, and of its owner
-pub taken_of : (a : Image) (n r : ℕ) → IsTaken a n r → is_of is_taken r (entry_in a n) ≡ true
+pub taken_of : (a : Image) (n r : ℕ) → IsTaken a n r → is_owned_by is_taken r (entry_in a n) ≡ true
 taken_of a n r t = rw t.here (and_from _ _ (at t.is.state t.is.place t.taken t.placed) (eq-eqb r t.is.owner (sym t.owned)))
   where
     at : (s : BlockState) (p : Option Place) → s ≢ Free → p ≢ None → (is_taken s && is_some p) ≡ true
@@ -56,22 +56,22 @@ taken_of a n r t = rw t.here (and_from _ _ (at t.is.state t.is.place t.taken t.p
 
 -- ---- had, meant or leaving
 
-pub had_or_meant : (r : ℕ) (entry : Option MapEntry) → is_of is_taken r entry ≡ true → is_of is_leaving r entry ≡ false → (is_of is_had r entry ≡ true) ⊎ (is_of is_meant r entry ≡ true)
+pub had_or_meant : (r : ℕ) (entry : Option MapEntry) → is_owned_by is_taken r entry ≡ true → is_owned_by is_leaving r entry ≡ false → (is_owned_by is_had r entry ≡ true) ⊎ (is_owned_by is_meant r entry ≡ true)
 had_or_meant r None h none = cc
 had_or_meant r (Some e) h none = at e.state h none
   where
-    at : (s : BlockState) → is_of is_taken r (Some (record e { state = s })) ≡ true → is_of is_leaving r (Some (record e { state = s })) ≡ false
-        → (is_of is_had r (Some (record e { state = s })) ≡ true) ⊎ (is_of is_meant r (Some (record e { state = s })) ≡ true)
+    at : (s : BlockState) → is_owned_by is_taken r (Some (record e { state = s })) ≡ true → is_owned_by is_leaving r (Some (record e { state = s })) ≡ false
+        → (is_owned_by is_had r (Some (record e { state = s })) ≡ true) ⊎ (is_owned_by is_meant r (Some (record e { state = s })) ≡ true)
     at Free q l = cc
     at Allocated q l = inl q
     at IntendAllocate q l = inr q
     at IntendDeallocate q l = absurd (both_ways _ l q)
 
-pub had_not_meant : (r : ℕ) (entry : Option MapEntry) → is_of is_had r entry ≡ true → is_placed is_meant entry ≡ false
+pub had_not_meant : (r : ℕ) (entry : Option MapEntry) → is_owned_by is_had r entry ≡ true → is_placed is_meant entry ≡ false
 had_not_meant r None h = cc
 had_not_meant r (Some e) h = at e.state h
   where
-    at : (s : BlockState) → is_of is_had r (Some (record e { state = s })) ≡ true → is_placed is_meant (Some (record e { state = s })) ≡ false
+    at : (s : BlockState) → is_owned_by is_had r (Some (record e { state = s })) ≡ true → is_placed is_meant (Some (record e { state = s })) ≡ false
     at Free q = cc
     at Allocated q = refl
     at IntendAllocate q = cc
@@ -107,7 +107,7 @@ root_owner image own test n h = at (entry_in image n) refl h
     at (Some e) is q = ap owner_of is ∙ own n e is (root_is e.place (and_parts (test e.state) (is_root_place e.place) q).1)
 
 -- a root that is made is meant for itself
-pub made_taken : (image : Image) → RootsOwnThemselves image → (n : ℕ) → is_made (entry_in image n) ≡ true → is_of is_taken n (entry_in image n) ≡ true
+pub made_taken : (image : Image) → RootsOwnThemselves image → (n : ℕ) → is_made (entry_in image n) ≡ true → is_owned_by is_taken n (entry_in image n) ≡ true
 made_taken image own n h =
     and_from _ _ (placed_taken is_meant refl (entry_in image n) (root_placed is_meant (entry_in image n) h)) (eq-eqb _ _ (sym (root_owner image own is_meant n h)))
 
@@ -115,11 +115,11 @@ pub made_not_free : (entry : Option MapEntry) → is_made entry ≡ true → is_
 made_not_free entry made free = both_ways _ (free_unplaced is_meant refl entry free) (root_placed is_meant entry made)
 
 -- a shadow root is meant for its object
-pub stands_meant : (r : ℕ) (entry : Option MapEntry) → stands_for r entry ≡ true → is_of is_meant r entry ≡ true
+pub stands_meant : (r : ℕ) (entry : Option MapEntry) → stands_for r entry ≡ true → is_owned_by is_meant r entry ≡ true
 stands_meant r None h = cc
 stands_meant r (Some e) h = at e.state e.place h
   where
-    at : (s : BlockState) (p : Option Place) → stands_for r (Some (record e { state = s; place = p })) ≡ true → is_of is_meant r (Some (record e { state = s; place = p })) ≡ true
+    at : (s : BlockState) (p : Option Place) → stands_for r (Some (record e { state = s; place = p })) ≡ true → is_owned_by is_meant r (Some (record e { state = s; place = p })) ≡ true
     at Free p q = cc
     at Allocated p q = cc
     at IntendDeallocate p q = cc

@@ -1,10 +1,10 @@
 -- What a change misses stays: the blocks of an object, and its draft.
 use Rattle.std.proofs.Common.{◌≡◌, ◌⊎◌, inl, inr, ℕ, List, [], ◌∷◌, length, Bool, true, false, Option, Some, refl, sym, ◌∙◌, ap, subst}
-use Rattle.vol_owners.proofs.Words.{Accounts, BlockState, ChangesOnly, Frames, Free, Graph, HasDraft, HasDrafts, HasItsBlocks, Image, IsBlockOf, IsOpenTo, IsRootBlock, IsTaken, MapEntry, Misses, Object, Opened, Puid, SameAt, StandsIn, Tree, both_ways, content_of, entry_in, fun_ext, is_committed, is_had, is_leaving, is_meant, is_meant_for, is_of, object_at, object_taken, part_of, same_blocks, same_shadows, same_sight, same_tree, sight, stands_for, taken_apart, tree_in, tree_placed}
+use Rattle.vol_owners.proofs.Words.{Accounts, BlockState, ChangesOnly, Frames, Free, Graph, HasDraft, HasDrafts, HasItsBlocks, Image, IsBlockOf, IsOpenTo, IsRootBlock, IsTaken, MapEntry, Misses, Object, Opened, Puid, SameAt, StandsIn, Tree, both_ways, content_of, entry_in, fun_ext, is_committed, is_had, is_leaving, is_meant, is_meant_for, is_owned_by, object_at, object_taken, part_of, same_blocks, same_shadows, same_sight, same_tree, sight, stands_for, taken_apart, tree_in, tree_placed}
 use Rattle.vol_owners.proofs.Entries.{free_unowned, had_or_meant, stands_meant, taken_of}
 
 -- an entry that is open to what misses an owner is no block of the owner
-pub open_unowned : (T : Option MapEntry → Bool) (test : BlockState → Bool) → test Free ≡ false → (r : ℕ) (entry : Option MapEntry) → Misses test T r → IsOpenTo T entry → is_of test r entry ≡ false
+pub open_unowned : (T : Option MapEntry → Bool) (test : BlockState → Bool) → test Free ≡ false → (r : ℕ) (entry : Option MapEntry) → Misses test T r → IsOpenTo T entry → is_owned_by test r entry ≡ false
 open_unowned T test real r entry misses (inl free) = free_unowned test real r entry free
 open_unowned T test real r entry misses (inr two) = misses entry two.1
 
@@ -14,17 +14,17 @@ module _ (T : Option MapEntry → Bool) (a b : Image) (g : Graph) (ds : List Ope
   entry_kept n shut = elim (changes.entries n) [ inl same ↦ same | inr both ↦ absurd (shut both.0) ]
 
   -- so has an owner the same blocks in each state that is missed
-  pub same_uses : (test : BlockState → Bool) → test Free ≡ false → (r : ℕ) → Misses test T r → (n : ℕ) → is_of test r (entry_in b n) ≡ is_of test r (entry_in a n)
+  pub same_uses : (test : BlockState → Bool) → test Free ≡ false → (r : ℕ) → Misses test T r → (n : ℕ) → is_owned_by test r (entry_in b n) ≡ is_owned_by test r (entry_in a n)
   same_uses test real r misses n = elim (changes.entries n) [
-    | inl same ↦ ap (is_of test r) same
+    | inl same ↦ ap (is_owned_by test r) same
     | inr both ↦ open_unowned T test real r (entry_in b n) misses both.1 ∙ sym (open_unowned T test real r (entry_in a n) misses both.0)
   ]
 
   -- a block in such a state is not open
-  shut : (test : BlockState → Bool) → test Free ≡ false → (r n : ℕ) → Misses test T r → is_of test r (entry_in a n) ≡ true → IsOpenTo T (entry_in a n) → ⊥
+  shut : (test : BlockState → Bool) → test Free ≡ false → (r n : ℕ) → Misses test T r → is_owned_by test r (entry_in a n) ≡ true → IsOpenTo T (entry_in a n) → ⊥
   shut test real r n misses is open_to = both_ways _ (open_unowned T test real r (entry_in a n) misses open_to) is
 
-  kept_at : (test : BlockState → Bool) → test Free ≡ false → (r n : ℕ) → Misses test T r → IsTaken a n r → is_of test r (entry_in a n) ≡ true → SameAt a b n
+  kept_at : (test : BlockState → Bool) → test Free ≡ false → (r n : ℕ) → Misses test T r → IsTaken a n r → is_owned_by test r (entry_in a n) ≡ true → SameAt a b n
   kept_at test real r n misses taken is = record {
     part = ap part_of (entry_kept n (shut test real r n misses is));
     content = elim (changes.contents n (taken_apart a g had.holds n r taken)) [ inl same ↦ same | inr was ↦ absurd (shut test real r n misses is was) ];

@@ -1,6 +1,6 @@
 -- How many blocks an object and its draft have, by the entries.
 use Rattle.std.proofs.Common.{◌≡◌, ◌⊎◌, inl, inr, ℕ, suc, ◌+◌, ◌<◌, List, [], ◌∷◌, length, get_or, Bool, true, Option, Some, None, refl, sym, ◌∙◌, ap, subst, arith}
-use Rattle.vol_owners.proofs.Words.{BlockState, Graph, HasDraft, HasDrafts, HasItsBlocks, Holds, Image, IsBlockOf, IsTree, MapEntry, Object, Opened, Puid, StandsIn, Tree, below_apart, block_at, blocks_are, blocks_of, both_ways, content_of, entry_in, false_from_ne_true, first_or, has_number, here, in_cons, in_image, is_had, is_inner, is_meant, is_meant_for, is_of, later, levels_of, levels_standing, no_shadows, object_at, one_of, option_to_list, place_inner, root_placed, same_Some, shadow_taken, sight, source, stands_for, sum_by, sum_by-cons, tree_in, tree_placed}
+use Rattle.vol_owners.proofs.Words.{BlockState, Graph, HasDraft, HasDrafts, HasItsBlocks, Holds, Image, IsBlockOf, IsTree, MapEntry, Object, Opened, Puid, StandsIn, Tree, below_apart, block_at, blocks_are, blocks_of, both_ways, content_of, entry_in, false_from_ne_true, first_or, has_number, here, in_cons, in_image, is_had, is_inner, is_meant, is_meant_for, is_owned_by, later, levels_of, levels_standing, no_shadows, object_at, one_of, option_to_list, place_inner, root_placed, same_Some, shadow_taken, sight, source, stands_for, sum_by, sum_by-cons, tree_in, tree_placed}
 use Rattle.block_tree.specs.declared.root.Root as roots
 use Rattle.vol_owners.proofs.Sums.{count_in, run_zeros}
 use Rattle.vol_owners.proofs.Differ.{count_of_these}
@@ -8,7 +8,7 @@ use Rattle.vol_owners.proofs.Entries.{stands_meant}
 use Rattle.vol_owners.proofs.Standing.{blocks_standing, is_standing, length-down, levels_all, standing_differ, standing_is}
 
 abbrev pub count_of : (BlockState → Bool) → Image → ℕ → ℕ
-count_of test image r = count_in (λ n. is_of test r (entry_in image n)) 0 (length image)
+count_of test image r = count_in (λ n. is_owned_by test r (entry_in image n)) 0 (length image)
 
 -- ---- one block, and those in a tree that pass a test
 
@@ -55,7 +55,7 @@ count_had image g holds id o at has =
     let reads = holds.objects id o at in
     let root = root_placed image (length image) id o reads in
     let content = block_at image (source image id.block) in
-    count_with_tree (λ n. is_of is_had id.block (entry_in image n)) (λ n. true) image (length image) id.block content reads.source o reads.tree id.block
+    count_with_tree (λ n. is_owned_by is_had id.block (entry_in image n)) (λ n. true) image (length image) id.block content reads.source o reads.tree id.block
     (λ s. below_apart image (length image) id.block content reads.source o reads.tree root s.path s.held s.there s.is)
     (in_image image g holds id.block root.taken.is root.taken.here)
     (has.each id.block (inl refl))

@@ -1,6 +1,6 @@
 -- What becomes of the owners whose blocks a change touches, and what it keeps of all others.
 use Rattle.std.proofs.Common.{◌≡◌, ◌≢◌, ◌⊎◌, inl, inr, ℕ, List, length, Bool, true, false, ◌&&◌, ◌==◌, Option, Some, None, refl, sym, ◌∙◌, ap, subst}
-use Rattle.vol_owners.proofs.Words.{Accounts, Allocated, BlockState, ChangesOnly, Free, Graph, HasDrafts, HasItsBlocks, Holds, Image, IntendAllocate, IntendDeallocate, IsMade, IsOpenTo, MakesOrNot, MapEntry, Misses, Object, Opened, Place, Puid, Root, and_parts, both_ways, cases_Bool, created_of, drafts_of, entry_in, false_from_ne_true, has_number, is_fixed, is_free_entry, is_had, is_leaving, is_made, is_meant, is_of, is_placed, is_root, is_root_place, is_some, is_taken, is_there, list_all, numbers_differ, object_at, owner_of, root_placed}
+use Rattle.vol_owners.proofs.Words.{Accounts, Allocated, BlockState, ChangesOnly, Free, Graph, HasDrafts, HasItsBlocks, Holds, Image, IntendAllocate, IntendDeallocate, IsMadeRoot, IsOpenTo, MakesOrNot, MapEntry, Misses, Object, Opened, Place, Puid, Root, and_parts, both_ways, cases_Bool, created_of, drafts_of, entry_in, false_from_ne_true, has_number, is_fixed, is_free_entry, is_had, is_leaving, is_made, is_meant, is_owned_by, is_placed, is_root, is_root_place, is_some, is_taken, is_there, list_all, numbers_differ, object_at, owner_of, root_placed}
 use Rattle.vol_owners.proofs.Entries as entries
 use Rattle.vol_owners.proofs.Entries.{free_unplaced, had_not_meant, made_taken, of_its_owner, owner_is, root_owner, root_real}
 use Rattle.vol_owners.proofs.Kept.{blocks_kept, drafts_kept, entry_kept}
@@ -110,7 +110,7 @@ module _ (T : Option MapEntry → Bool) (a b : Image) (g : Graph) (ds : List Ope
       ]
     ]
 
-    made_on : (c : ℕ) → has_number c (created_of es) ≡ true → IsMade b c
+    made_on : (c : ℕ) → has_number c (created_of es) ≡ true → IsMadeRoot b c
     made_on c there = elim (cases_Bool (mine c)) [
       | inl is ↦ elim (becomes c is) [ inl object ↦ absurd (both_ways _ object.not_created there) | inr (inl made) ↦ made.0 | inr (inr none) ↦ absurd (both_ways _ none.1 there) ]
       | inr other ↦
@@ -118,7 +118,7 @@ module _ (T : Option MapEntry → Bool) (a b : Image) (g : Graph) (ds : List Ope
           record {
             entered = ap is_made (root_kept c other (root_real is_meant refl (entry_in a c) was.entered)) ∙ was.entered;
             alone = λ n of_c. elim (changes.entries n) [
-              | inl same ↦ was.alone n (ap (is_of is_taken c) (sym same) ∙ of_c)
+              | inl same ↦ was.alone n (ap (is_owned_by is_taken c) (sym same) ∙ of_c)
               | inr both ↦ absurd (both_ways _ other (ap mine (owner_is is_taken c (entry_in b n) of_c) ∙ open_mine (entry_in b n) (and_parts (is_placed is_taken (entry_in b n)) (c == owner_of (entry_in b n)) of_c).0 both.1))
             ];
           }

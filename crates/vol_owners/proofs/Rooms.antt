@@ -1,6 +1,6 @@
 -- Each block has one use, and so the Free blocks are all but what is fixed and what objects, drafts and strays have.
 use Rattle.std.proofs.Common.{◌≡◌, inl, ℕ, zero, suc, ◌+◌, ◌*◌, ◌/◌, ◌<◌, ◌≤◌, List, [], ◌∷◌, length, Bool, true, false, not, ◌&&◌, ◌||◌, Option, Some, None, refl, sym, ◌∙◌, ap, subst, arith, length-append, ◌==◌}
-use Rattle.vol_owners.proofs.Words.{Accounts, Allocated, BlockState, Free, Graph, Image, IntendAllocate, IntendDeallocate, IsSome, IsSwept, MapEntry, Opened, Place, and_parts, blocks_of, blocks_taken, both_ways, created_of, draft_blocks, drafts_of, entry_in, eq-eqb, eqb-true, false_from_ne_true, free_from, graph_blocks, has_block, ids_of, in_image, is_fixed, is_free_entry, is_free_in, is_free_root, is_had, is_leaving, is_made, is_meant, is_of, is_of_draft, is_of_object, is_placed, is_root, is_root_place, is_some, is_stray, is_taken, nat_tests, one_of, option_to_list, owner_of, range_with_len, rises, rooted, stray_blocks, sum_by, sum_by-cons}
+use Rattle.vol_owners.proofs.Words.{Accounts, Allocated, BlockState, Free, Graph, Image, IntendAllocate, IntendDeallocate, IsSome, IsSwept, MapEntry, Opened, Place, and_parts, blocks_of, blocks_taken, both_ways, created_of, draft_blocks, drafts_of, entry_in, eq-eqb, eqb-true, false_from_ne_true, free_from, graph_blocks, has_block, ids_of, in_image, is_fixed, is_free_entry, is_free_in, is_free_root, is_had, is_leaving, is_made, is_meant, is_owned_by, is_of_draft, is_of_object, is_placed, is_root, is_root_place, is_some, is_stray, is_taken, nat_tests, one_of, option_to_list, owner_of, range_with_len, rises, rooted, stray_blocks, sum_by, sum_by-cons}
 use Rattle.vol_owners.proofs.Sums.{count_in, run-suc, run_none, run_same, run_split, run_ones, run_zeros, sum_both, sum_each, sum_run}
 use Rattle.vol_owners.proofs.Differ.{count_of_these, differ_from}
 use Rattle.vol_owners.proofs.Entries.{free_unplaced, had_not_meant, made_taken, of_taken, owner_is, root_owner, root_placed, the_entry}
@@ -42,7 +42,7 @@ pub no_strays : (image : Image) (g : Graph) → IsSwept image g → stray_blocks
 no_strays image g swept = run_zeros (λ n. one_of (is_stray g (entry_in image n))) 0 (length image) (λ n. ap one_of (swept.none n))
 
 -- no block has the number of a Free block as its owner
-pub owns_nothing : (image : Image) (g : Graph) (ds : List Opened) → Accounts image g ds → (n : ℕ) → is_free_in image n ≡ true → (m : ℕ) → is_of is_taken n (entry_in image m) ≡ false
+pub owns_nothing : (image : Image) (g : Graph) (ds : List Opened) → Accounts image g ds → (n : ℕ) → is_free_in image n ≡ true → (m : ℕ) → is_owned_by is_taken n (entry_in image m) ≡ false
 owns_nothing image g ds has n free m = false_from_ne_true _ (λ of_n.
     let root = has.rooted m (and_parts _ _ of_n).0 in
     let here : is_root is_taken (entry_in image n) ≡ true = subst (λ (r : ℕ). is_root is_taken (entry_in image r) ≡ true) (sym (owner_is is_taken n (entry_in image m) of_n)) root in
@@ -54,13 +54,13 @@ module _ (image : Image) (g : Graph) (ds : List Opened) (has : Accounts image g 
   made_unheld n made = false_from_ne_true _ (λ there.
       let o = object_of_block g up (owner_of (entry_in image n)) there in
       let here : o.0.block ≡ n = o.3 ∙ root_owner image has.holds.own is_meant n made in
-      let had : is_of is_had n (entry_in image n) ≡ true = subst (λ (r : ℕ). is_of is_had r (entry_in image r) ≡ true) here ((has.objects o.0 o.1 o.2).each o.0.block (inl refl)) in
+      let had : is_owned_by is_had n (entry_in image n) ≡ true = subst (λ (r : ℕ). is_owned_by is_had r (entry_in image r) ≡ true) here ((has.objects o.0 o.1 o.2).each o.0.block (inl refl)) in
       both_ways _ (had_not_meant n (entry_in image n) had) (root_placed is_meant (entry_in image n) made))
 
   none_leaving : (n : ℕ) → has_block g.objects (owner_of (entry_in image n)) ≡ true → is_placed is_leaving (entry_in image n) ≡ false
   none_leaving n there = false_from_ne_true _ (λ placed.
       let o = object_of_block g up (owner_of (entry_in image n)) there in
-      let none : is_of is_leaving (owner_of (entry_in image n)) (entry_in image n) ≡ false = subst (λ (r : ℕ). is_of is_leaving r (entry_in image n) ≡ false) o.3 ((has.objects o.0 o.1 o.2).none_leaves n) in
+      let none : is_owned_by is_leaving (owner_of (entry_in image n)) (entry_in image n) ≡ false = subst (λ (r : ℕ). is_owned_by is_leaving r (entry_in image n) ≡ false) o.3 ((has.objects o.0 o.1 o.2).none_leaves n) in
       both_ways _ none (rw (placed, eq-eqb (owner_of (entry_in image n)) _ refl) refl))
 
   -- ---- one use
@@ -173,7 +173,7 @@ module _ (image : Image) (g : Graph) (ds : List Opened) (has : Accounts image g 
       let unheld : has_block g.objects n ≡ false = false_from_ne_true _ (λ there.
       let o = object_of_block g up n there in
       let had = (has.objects o.0 o.1 o.2).each o.0.block (inl refl) in
-      both_ways _ (subst (λ (r : ℕ). is_of is_taken r (entry_in image r) ≡ false) (sym o.3) (owns_nothing image g ds has n free n)) (of_taken is_had refl o.0.block (entry_in image o.0.block) had)) in
+      both_ways _ (subst (λ (r : ℕ). is_owned_by is_taken r (entry_in image r) ≡ false) (sym o.3) (owns_nothing image g ds has n free n)) (of_taken is_had refl o.0.block (entry_in image o.0.block) had)) in
       rw (some, unheld) refl
     where
       not_zero : n ≡ 0 → ⊥

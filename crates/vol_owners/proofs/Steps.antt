@@ -1,6 +1,6 @@
 -- Each step of the store keeps the accounts.
 use Rattle.std.proofs.Common.{◌≡◌, ◌⊎◌, inl, inr, ℕ, List, [], ◌∷◌, length, Bool, true, false, cond, not, ◌==◌, Option, Some, None, refl, sym, ◌∙◌, ap, subst}
-use Rattle.vol_owners.proofs.Words.{Accounts, BlockState, ChangesOnly, Free, Graph, HasDrafts, HasItsBlocks, Holds, Image, IsOpenTo, MakesOrNot, MapEntry, Misses, Object, Opened, Puid, ReadsAs, SameBut, SameOthers, Sweeps, and_parts, both_ways, created_of, drafts_of, entry_in, eq-eqb, eqb-true, false_from_ne_true, frames_hold, has_block, has_number, hold_fewer, is_among, is_had, is_leaving, is_made, is_meant, is_meant_for, is_of, is_placed, is_stray, is_taken, is_there, list_all, ne_eqb, not-true, numbers_differ, object_at, object_at-with_object, object_at-without, object_put, object_there, of_draft, of_drafts, of_owner, of_owners, or_cases, or_parts, other_is, others, owner_of, same_Some, same_block, same_puid, same_puid_is, same_puid_itself, sight, with_object, without}
+use Rattle.vol_owners.proofs.Words.{Accounts, BlockState, ChangesOnly, Free, Graph, HasDrafts, HasItsBlocks, Holds, Image, IsOpenTo, MakesOrNot, MapEntry, Misses, Object, Opened, Puid, ReadsAs, SameBut, SameOthers, Sweeps, and_parts, both_ways, created_of, drafts_of, entry_in, eq-eqb, eqb-true, false_from_ne_true, frames_hold, has_block, has_number, hold_fewer, is_among, is_had, is_leaving, is_made, is_meant, is_meant_for, is_owned_by, is_placed, is_stray, is_taken, is_there, list_all, ne_eqb, not-true, numbers_differ, object_at, object_at-with_object, object_at-without, object_put, object_there, of_draft, of_drafts, of_owner, of_owners, or_cases, or_parts, other_is, others, owner_of, same_Some, same_block, same_puid, same_puid_is, same_puid_itself, sight, with_object, without}
 use Rattle.vol_owners.proofs.Entries.{free_unowned, made_not_free, owner_is}
 use Rattle.vol_owners.proofs.Keys.{block_there}
 use Rattle.vol_owners.proofs.Kept.{blocks_kept, entry_kept, frames_others}
@@ -223,8 +223,8 @@ sweep_goes_on a b g ds had sweeps = record {
         let there = block_there g x o at in
         object_goes_on T a b g ds had sweeps.only x o at (sweep_misses is_had g x.block there) (sweep_misses is_leaving g x.block there) (sweep_misses is_meant g x.block there) (drafts_of ds x) refl
 
-    before : (test : BlockState → Bool) → test Free ≡ false → (r n : ℕ) → is_of test r (entry_in b n) ≡ true → is_of test r (entry_in a n) ≡ true
-    before test real r n h = elim (sweeps.frees n) [ inl same ↦ ap (is_of test r) (sym same) ∙ h | inr free ↦ absurd (both_ways _ (free_unowned test real r (entry_in b n) free) h) ]
+    before : (test : BlockState → Bool) → test Free ≡ false → (r n : ℕ) → is_owned_by test r (entry_in b n) ≡ true → is_owned_by test r (entry_in a n) ≡ true
+    before test real r n h = elim (sweeps.frees n) [ inl same ↦ ap (is_owned_by test r) (sym same) ∙ h | inr free ↦ absurd (both_ways _ (free_unowned test real r (entry_in b n) free) h) ]
 
     made_shut : (entry : Option MapEntry) → is_made entry ≡ true → IsOpenTo T entry → ⊥
     made_shut entry made (inl free) = made_not_free entry made free

@@ -54,7 +54,7 @@ pub use Rattle.vol_image.specs.Seen.{Held, Tree, held_at, tree_in}
 pub use Rattle.vol_image.specs.Sight.{first_or, source}
 unfoldable pub use Rattle.vol_image.specs.Sight.{sight}
 pub use Rattle.vol_image.specs.Sound.{Holds, ReadsAs, graph_blocks}
-pub use Rattle.vol_owners.specs.Account.{Accounts, HasDraft, HasDrafts, HasItsBlocks, IsMade, IsSwept, Opened, StandsIn, content_of, created_of, drafts_of, is_meant_for, levels_standing, numbers_differ, passes, standing_at}
+pub use Rattle.vol_owners.specs.Account.{Accounts, HasDraft, HasDrafts, HasItsBlocks, IsMadeRoot, IsSwept, Opened, StandsIn, content_of, created_of, drafts_of, is_meant_for, levels_standing, numbers_differ, passes, standing_at}
 pub use Rattle.vol_owners.specs.Change.{ChangesOnly, IsOfThese, IsOpenTo, MakesOrNot, Misses, SameBut, SameOthers, Sweeps, of_draft, of_drafts, of_owner, of_owners}
-pub use Rattle.vol_owners.specs.Owner.{is_had, is_leaving, is_made, is_meant, is_of, is_placed, is_root, is_root_place, is_stray, is_taken, owner_of, stray_blocks}
+pub use Rattle.vol_owners.specs.Owner.{is_had, is_leaving, is_made, is_meant, is_owned_by, is_placed, is_root, is_root_place, is_stray, is_taken, owner_of, stray_blocks}
 pub use Rattle.vol_owners.specs.Room.{blocks_taken, draft_blocks, is_of_draft, is_of_object, one_of}

@@ -21,7 +21,8 @@ use Rattle.vol_image.specs.Seen.{Held, Tree, tree_in}
 use Rattle.vol_image.specs.Reading.{IsTree}
 use Rattle.vol_image.specs.Frame.{IsBlockOf}
 use Rattle.vol_image.specs.Sound.{Holds}
-use Rattle.vol_owners.specs.Owner.{is_had, is_meant, is_leaving, is_taken, is_placed, owner_of, is_of, is_root, is_made}
+use Rattle.vol_owners.specs.Owner.{is_had, is_meant, is_leaving, is_taken, is_placed, owner_of, is_owned_by, is_root}
+use Rattle.vol_owners.specs.Owner.{is_made}
 use Rattle.vol_owners.specs.Owner.{is_stray}
 
 -- ---- an object
@@ -29,9 +30,9 @@ use Rattle.vol_owners.specs.Owner.{is_stray}
 -- The blocks of the object with this root block are those that it has, and no other: none waits to be freed.
 pub record HasItsBlocks (image : Image) (r : ℕ) : Type 0 where
   pub no_bit : is_committed (part_at image r) ≡ false
-  pub each : (n : ℕ) → IsBlockOf image r n → is_of is_had r (entry_in image n) ≡ true
-  pub no_other : (n : ℕ) → is_of is_had r (entry_in image n) ≡ true → IsBlockOf image r n
-  pub none_leaves : (n : ℕ) → is_of is_leaving r (entry_in image n) ≡ false
+  pub each : (n : ℕ) → IsBlockOf image r n → is_owned_by is_had r (entry_in image n) ≡ true
+  pub no_other : (n : ℕ) → is_owned_by is_had r (entry_in image n) ≡ true → IsBlockOf image r n
+  pub none_leaves : (n : ℕ) → is_owned_by is_leaving r (entry_in image n) ≡ false
 
 -- ---- a draft
 
@@ -74,7 +75,7 @@ abbrev pub content_of : Opened → List ℕ
 content_of d = root_spelling d.root
 
 abbrev pub is_meant_for : Image → ℕ → ℕ → Bool
-is_meant_for image r n = is_of is_meant r (entry_in image n)
+is_meant_for image r n = is_owned_by is_meant r (entry_in image n)
 
 -- The tree of the content gives the draft. The blocks that are meant for the object are the shadow root and those of
 -- this tree that are fresh, and no other.
@@ -108,9 +109,9 @@ created_of [] = []
 created_of (d ∷ ds) = option_to_list d.created ++ created_of ds
 
 -- the root is entered, and is all that has this owner so far
-pub record IsMade (image : Image) (c : ℕ) : Type 0 where
+pub record IsMadeRoot (image : Image) (c : ℕ) : Type 0 where
   pub entered : is_made (entry_in image c) ≡ true
-  pub alone : (n : ℕ) → is_of is_taken c (entry_in image n) ≡ true → n ≡ c
+  pub alone : (n : ℕ) → is_owned_by is_taken c (entry_in image n) ≡ true → n ≡ c
 
 abbrev pub numbers_differ : List ℕ → Bool
 numbers_differ [] = true
@@ -133,7 +134,7 @@ pub record Accounts (image : Image) (g : Graph) (ds : List Opened) : Type 0 wher
   pub drafts : (id : Puid) (o : Object) → object_at g id ≡ Some o → HasDrafts image id (drafts_of ds id)
   pub on_objects : list_all (λ d. is_there g d.id) ds ≡ true
   -- the roots that are made are those that the drafts make, each one
-  pub made : (c : ℕ) → has_number c (created_of ds) ≡ true → IsMade image c
+  pub made : (c : ℕ) → has_number c (created_of ds) ≡ true → IsMadeRoot image c
   pub made_by : (n : ℕ) → is_made (entry_in image n) ≡ true → has_number n (created_of ds) ≡ true
   pub made_once : numbers_differ (created_of ds) ≡ true
 

@@ -9,8 +9,8 @@ use Rattle.ufs_model.specs.Graph.{Graph, has_block}
 use Rattle.ufs_model.specs.Identifier.{same_puid}
 use Rattle.ufs_model.specs.Numbers.{has_number}
 use Rattle.vol_image.specs.Part.{RootsOwnThemselves, is_fixed}
-use Rattle.vol_owners.specs.Owner.{is_meant, is_taken, is_placed, owner_of, is_of, is_made, is_stray}
-use Rattle.vol_owners.specs.Account.{HasRoot, IsMade, Opened, created_of, drafts_of, numbers_differ}
+use Rattle.vol_owners.specs.Owner.{is_meant, is_taken, is_placed, owner_of, is_owned_by, is_made, is_stray}
+use Rattle.vol_owners.specs.Account.{HasRoot, IsMadeRoot, Opened, created_of, drafts_of, numbers_differ}
 
 -- the entry is Free, or that of a block of somebody's that passes the test
 abbrev pub IsOpenTo : (Option MapEntry → Bool) → Option MapEntry → Type 0
@@ -44,7 +44,7 @@ of_draft r entry = of_drafts (r ∷ []) entry
 
 -- no block of this owner, in such a state, passes the test
 abbrev pub Misses : (BlockState → Bool) → (Option MapEntry → Bool) → ℕ → Type 0
-Misses test T r = (entry : Option MapEntry) → T entry ≡ true → is_of test r entry ≡ false
+Misses test T r = (entry : Option MapEntry) → T entry ≡ true → is_owned_by test r entry ≡ false
 
 -- What passes the test is of an object that is there afterwards, or is made; and the objects before are there.
 pub record IsOfThese (T : Option MapEntry → Bool) (g h : Graph) : Type 0 where
@@ -60,7 +60,7 @@ SameOthers id ds es = (x : Puid) → same_puid x id ≡ false → drafts_of es x
 
 -- nothing has this owner
 abbrev pub OwnsNothing : Image → ℕ → Type 0
-OwnsNothing image c = (n : ℕ) → is_of is_taken c (entry_in image n) ≡ false
+OwnsNothing image c = (n : ℕ) → is_owned_by is_taken c (entry_in image n) ≡ false
 
 -- of the roots that drafts make all but this one are the same
 pub record SameBut (c : ℕ) (ds es : List Opened) : Type 0 where
@@ -70,7 +70,8 @@ pub record SameBut (c : ℕ) (ds es : List Opened) : Type 0 where
 -- this one is made now, or nothing is left of it
 abbrev pub MakesOrNot : Image → ℕ → List Opened → Type 0
 MakesOrNot b c es =
-    (IsMade b c × (has_number c (created_of es) ≡ true)) ⊎ (OwnsNothing b c × (has_number c (created_of es) ≡ false))
+    (IsMadeRoot b c × (has_number c (created_of es) ≡ true))
+    ⊎ (OwnsNothing b c × (has_number c (created_of es) ≡ false))
 
 -- ---- a sweep
 

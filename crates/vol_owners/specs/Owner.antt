@@ -49,8 +49,8 @@ owner_of None = 0
 owner_of (Some e) = e.owner
 
 -- the block with this entry is the owner's, in such a state
-abbrev pub is_of : (BlockState → Bool) → ℕ → Option MapEntry → Bool
-is_of test r entry = is_placed test entry && (r == owner_of entry)
+abbrev pub is_owned_by : (BlockState → Bool) → ℕ → Option MapEntry → Bool
+is_owned_by test r entry = is_placed test entry && (r == owner_of entry)
 
 abbrev pub is_root_place : Option Place → Bool
 is_root_place None = false

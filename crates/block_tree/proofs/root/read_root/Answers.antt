@@ -1,5 +1,5 @@
 use Rattle.std.proofs.Common.{◌≡◌, ◌∙◌, ◌+◌, ℕ, List, length, take, drop, replicate, get_or, ap, sym, subst, arith, length-drop}
-use Rattle.block_tree.proofs.Words.{IsFirstBad, IsFirstBadByte, IsRootBlock, IsSize, Root, length-take, take_all, to_be_bytes, w64}
+use Rattle.block_tree.proofs.Words.{IsFirstMisspelt, IsFirstBadByte, IsRootBlock, IsSize, Root, length-take, take_all, to_be_bytes, w64}
 use Rattle.block_tree.proofs.Fields.{begins, begins_eight, begins_sixteen, kind_bad, fill_bad, gap_bad, size_bad, tail_bad, root_block}
 use Rattle.block_tree.proofs.root.read_root.Goals as goal
 
@@ -34,7 +34,7 @@ returns-in-Err c =
     let eight = begins_eight bytes c.in-Some.kind (get_or bytes 1 0) c.u32_at-word.result two zeros (sym (c.u32_at-word.ensures.spelled ∙ ap (λ (b : List ℕ). take 4 (drop 4 b)) (sym same))) (omega arith) in
     let bad = c.in-Err.ensures in
     subst (λ (b : List ℕ). IsFirstBadByte b (8 + c.in-Err.i)) same
-    (size_bad bytes c.in-Some.kind (get_or bytes 1 0) c.u32_at-word.result c.in-Err.i eight bad.0 (subst (λ (b : List ℕ). IsFirstBad (IsSize c.in-Some.kind) (to_be_bytes w64) b c.in-Err.i) (c.u64_at.ensures.spelled ∙ ap (λ (b : List ℕ). take 8 (drop 8 b)) (sym same)) bad.1))
+    (size_bad bytes c.in-Some.kind (get_or bytes 1 0) c.u32_at-word.result c.in-Err.i eight bad.0 (subst (λ (b : List ℕ). IsFirstMisspelt (IsSize c.in-Some.kind) (to_be_bytes w64) b c.in-Err.i) (c.u64_at.ensures.spelled ∙ ap (λ (b : List ℕ). take 8 (drop 8 b)) (sym same)) bad.1))
 
 pub returns-in-Some-first_nonzero-2 : goal.returns-in-Some-first_nonzero-2
 returns-in-Some-first_nonzero-2 c =

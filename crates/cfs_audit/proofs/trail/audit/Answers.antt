@@ -7,6 +7,6 @@ pub returns-in-Err-BadLine : goal.returns-in-Err-BadLine
 returns-in-Err-BadLine c =
     inl (
       subst IsUnopened (sym c.in-Some.ensures.text)
-          (unopened c.in-Some.first.line.now c.in-Some.first.rest.now c.in-Some.ensures.line c.lines_tell_events.ensures.opening_ends (c.in-Err-BadLine.ensures.bad c.in-Err-BadLine.field-0-is)),
+          (unopened c.in-Some.first.line.now c.in-Some.first.rest.now c.in-Some.ensures.line (c.in-Err-BadLine.ensures.bad c.in-Err-BadLine.field-0-is)),
       refl,
     )

@@ -1,5 +1,5 @@
-use Rattle.std.proofs.Common.{◌++◌, ◌∷◌, ◌∙◌, List, ℕ, ap, subst, inr}
-use Rattle.cfs_audit.proofs.Words.{IsJudged, Judged, ended, opening_line}
+use Rattle.std.proofs.Common.{◌++◌, ◌∷◌, ◌∙◌, List, ℕ, ap, inr}
+use Rattle.cfs_audit.proofs.Words.{ended, opening_line}
 use Rattle.cfs_audit.proofs.Followed.{at_first, at_next, broken_off, illegal_here, last_verdict, started}
 use Rattle.cfs_audit.proofs.trail.follow.Goals as goal
 
@@ -10,21 +10,20 @@ lines-init c =
 
 pub lines-preserved : goal.lines-preserved
 lines-preserved c =
-    let judged = subst (λ (v : Judged). IsJudged c.lines.follower c.in-Some.next.line.now v c.judge.new.follower) c.in-Followed.is c.in_ok-judge.ensures in
-    at_next (ended (opening_line c.args.opening) ++ c.args.text.now) c.lines.rest.now c.in-Some.next.rest.now c.args.opening c.lines.events c.lines.follower c.judge.new.follower judged.0 c.lines.invariant judged.1.fitting
-    (c.in-Some.ensures.text ∙ ap (λ (l : List ℕ). l ++ 10 ∷ c.in-Some.next.rest.now) judged.1.is) judged.2 judged.3 judged.4
+    let made = rw c.if-not-branch.false at (rw c.in_ok-step-in-Ok.was at c.step.ensures.made) in
+    at_next (ended (opening_line c.args.opening) ++ c.args.text.now) c.lines.rest.now c.in-Some.next.rest.now c.args.opening c.lines.events c.lines.follower c.step.new.self c.in-Ok.event c.lines.invariant c.in-Ok.ensures.fits
+    (c.in-Some.ensures.text ∙ ap (λ (l : List ℕ). l ++ 10 ∷ c.in-Some.next.rest.now) c.in-Ok.ensures.line) made.0 made.1 made.2
 
-pub returns-in-Illegal : goal.returns-in-Illegal
-returns-in-Illegal c =
-    let judged = subst (λ (v : Judged). IsJudged c.lines.follower c.in-Some.next.line.now v c.judge.new.follower) c.in-Illegal.is c.in_ok-judge.ensures in
+pub returns-then-not-branch : goal.returns-then-not-branch
+returns-then-not-branch c =
+    let made = rw c.if-not-branch.true at (rw c.in_ok-step-in-Ok.was at c.step.ensures.made) in
     illegal_here (ended (opening_line c.args.opening) ++ c.args.text.now) c.lines.rest.now c.args.opening c.lines.events c.lines.follower c.lines.invariant c.in-Some.next.line.now c.in-Some.next.rest.now c.in-Some.ensures.text
-    judged.0 judged.1 judged.2
+    c.in-Ok.event c.in-Ok.ensures.fits c.in-Ok.ensures.line made.0
 
-pub returns-in-NoEvent : goal.returns-in-NoEvent
-returns-in-NoEvent c =
-    let none = subst (λ (v : Judged). IsJudged c.lines.follower c.in-Some.next.line.now v c.judge.new.follower) c.in-NoEvent.is c.in_ok-judge.ensures in
+pub returns-in-Err-BadLine : goal.returns-in-Err-BadLine
+returns-in-Err-BadLine c =
     last_verdict (ended (opening_line c.args.opening) ++ c.args.text.now) c.lines.rest.now c.args.opening c.lines.events c.lines.follower c.lines.invariant c.in-Some.next.line.now c.in-Some.next.rest.now c.in-Some.ensures.text
-    c.in-Some.ensures.line c.lines_tell_events.ensures.ends c.lines_tell_events.ensures.status_ends none c.last.result c.last.ensures
+    c.in-Some.ensures.line (c.in-Err-BadLine.ensures.bad c.in-Err-BadLine.field-0-is) c.last.result c.last.ensures
 
 pub returns : goal.returns
 returns c = inr (broken_off (ended (opening_line c.args.opening) ++ c.args.text.now) c.lines.rest.now c.args.opening c.lines.events c.lines.follower c.lines.invariant c.in_default.ensures.none)

@@ -9,7 +9,7 @@ use Rattle.cfs_core.proofs.collecting.mark.Goals as goal
 pub returns-then-has_rescue : goal.returns-then-has_rescue
 returns-then-has_rescue g c = λ kept.
     let d = c.args.disk.now in
-    steps_read g.D.Disk d kept c.args.names.now c.args.collector.now c.take.new.self c.take.ensures.volume 0 d (reads_none g.D.Disk 0 d) (omega arith) c.requires.marks c.take.ensures.phase
+    steps_read g.D.Disk d kept c.args.directory.now c.args.collector.now c.take.new.self c.take.ensures.volume 0 d (reads_none g.D.Disk 0 d) (omega arith) c.requires.marks c.take.ensures.phase
     (λ s ds serves col. c.take.ensures.keeps s (g.D.Disk.content d) serves.state serves.named col) steps.Took
     (λ core moves. record {
       moves = moves;
@@ -24,7 +24,7 @@ pub returns-in-Ok : goal.returns-in-Ok
 returns-in-Ok g c = λ kept.
     let k = c.args.collector.now in
     let taken : waiting_in k ≡ [] = none_left (waiting_in k) (λ some. both_ways _ c.if-has_rescue.false (c.has_rescue.ensures.1 some)) in
-    steps_read g.D.Disk c.args.disk.now kept c.args.names.now k c.scan.new.self c.scan.ensures.volume 4 c.scan.new.disk c.scan.ensures.reads (omega arith) c.requires.marks c.scan.ensures.phase
+    steps_read g.D.Disk c.args.disk.now kept c.args.directory.now k c.scan.new.self c.scan.ensures.volume 4 c.scan.new.disk c.scan.ensures.reads (omega arith) c.requires.marks c.scan.ensures.phase
     (λ s ds serves col. c.in-Ok.ensures.keeps s ds serves col) steps.Scanned
     (λ core moves. record {
       moves = moves;
@@ -42,9 +42,9 @@ returns-in-Err g c = λ kept.
     let t = c.in-Err.trouble in
     let first = first_there k.marks.grey (c.has_grey.ensures.0 c.if-has_grey.true) in
     let why = c.in-Err.ensures.refused first.0 first.1 in
-    subst (λ e. StepsSo g.D.Disk d c.scan.new.disk kept kept c.args.names.now c.args.names.now k c.scan.new.self (Err e)) (sym c.from.ensures)
-    (steps_failed g.D.Disk d kept c.args.names.now k c.scan.new.self c.scan.ensures.volume 4 c.scan.new.disk c.scan.ensures.reads (omega arith) c.requires.marks c.in-Err.ensures.same (refused_by t)
-    (λ core. scan_cause g.D.Disk (with_parts core d kept c.args.names.now k) (with_parts core c.scan.new.disk kept c.args.names.now c.scan.new.self) _ t (k, first.0, refl, first.1, refl) why) (no_want t) (λ s ds serves col. scan_calm g.D.Disk d c.scan.new.disk _ t why (c.in-Err.ensures.sound s ds serves col) c.in-Err.ensures.untried))
+    subst (λ e. StepsSo g.D.Disk d c.scan.new.disk kept kept c.args.directory.now c.args.directory.now k c.scan.new.self (Err e)) (sym c.from.ensures)
+    (steps_failed g.D.Disk d kept c.args.directory.now k c.scan.new.self c.scan.ensures.volume 4 c.scan.new.disk c.scan.ensures.reads (omega arith) c.requires.marks c.in-Err.ensures.same (refused_by t)
+    (λ core. scan_cause g.D.Disk (with_parts core d kept c.args.directory.now k) (with_parts core c.scan.new.disk kept c.args.directory.now c.scan.new.self) _ t (k, first.0, refl, first.1, refl) why) (no_want t) (λ s ds serves col. scan_calm g.D.Disk d c.scan.new.disk _ t why (c.in-Err.ensures.sound s ds serves col) c.in-Err.ensures.untried))
 
 pub condemn-ids-requires-clause-read : goal.condemn-ids-requires-clause-read
 condemn-ids-requires-clause-read g c = none_left c.args.collector.now.marks.grey (λ some. both_ways _ c.if-has_grey.false (c.has_grey.ensures.1 some))
@@ -59,7 +59,7 @@ returns g c = λ kept.
     let taken : waiting_in k ≡ [] = none_left (waiting_in k) (λ some. both_ways _ c.if-has_rescue.false (c.has_rescue.ensures.1 some)) in
     let read : k.marks.grey ≡ [] = none_left k.marks.grey (λ some. both_ways _ c.if-has_grey.false (c.has_grey.ensures.1 some)) in
     let done = c.condemn-ids.ensures in
-    steps_condemned g.D.Disk d kept c.args.names.now k c.condemn-ids.new.self done.volume c.condemn-ids.new.names c.condemn-ids.result (colours_in k).marked done.named done.room done.phase
+    steps_condemned g.D.Disk d kept c.args.directory.now k c.condemn-ids.new.self done.volume c.condemn-ids.new.directory c.condemn-ids.result (colours_in k).marked done.named done.room done.phase
     (c.requires.marks, taken, read) (done.steps, done.added) (λ s state named col. done.legal s (g.D.Disk.content d) state named col)
     (λ s t named col few step. done.keeps 0 s t (g.D.Disk.content d) (g.D.Disk.content d) named col few step) (λ s t named step. done.left 0 s t named step)
     (λ honest. omega (arith, g.met.D.Disk.sized d honest, c.requires.size)) done.less

@@ -1,9 +1,10 @@
 use Rattle.std.proofs.Common.{◌≡◌, ℕ, ◌+◌, ◌++◌, take, drop, length, true, false, refl, sym, ◌∙◌, ap, subst, slice_range}
-use Rattle.cfs_core.proofs.Words.{is_damaged, is_range, take-append_seam}
+use Rattle.cfs_core.proofs.Words.{has_met_damage, is_range, take-append_seam}
 use Rattle.ufs_model.specs.declared.asked.Reply.TheVariants as replies
 use Rattle.cfs_core.specs.Looks.{IsDraftCause}
 use Rattle.cfs_core.proofs.Rewritten.{calm_trouble, sound_trouble}
 use Rattle.cfs_core.proofs.drafting.content.Goals as goal
+use Rattle.special_files.specs.Refusal.{top_of}
 
 pub returns-in-Ok-read-clause-exact : goal.returns-in-Ok-read-clause-exact
 returns-in-Ok-read-clause-exact g c = λ graph ds space id o d f store there is_open is_file size.
@@ -18,9 +19,9 @@ returns-in-Ok-read-clause-exact g c = λ graph ds space id o d f store there is_
 
 pub returns-in-Err-read-clause-sound : goal.returns-in-Err-read-clause-sound
 returns-in-Err-read-clause-sound g c = λ graph ds space id o d store there is_open.
-    subst (λ e. is_damaged e ≡ false) (sym c.from-in-Err-read.ensures) (sound_trouble c.in-Err-read.trouble (c.in-Err-read.ensures.sound graph ds space id o d store there is_open))
+    subst (λ e. has_met_damage e ≡ false) (sym c.from-in-Err-read.ensures) (sound_trouble c.in-Err-read.trouble (c.in-Err-read.ensures.sound graph ds space id o d store there is_open))
 
 pub returns-in-Err-read-clause-cause : goal.returns-in-Err-read-clause-cause
 returns-in-Err-read-clause-cause g c =
-    subst (IsDraftCause g.D.Disk c.args.draft.now.at c.args.disk.now c.read.new.disk) (sym c.from-in-Err-read.ensures)
-    (calm_trouble g.D.Disk c.args.draft.now.at c.args.disk.now c.read.new.disk c.in-Err-read.trouble c.in-Err-read.ensures.refused c.in-Err-read.ensures.untried)
+    subst (IsDraftCause g.D.Disk (top_of c.args.draft.now) c.args.disk.now c.read.new.disk) (sym c.from-in-Err-read.ensures)
+    (calm_trouble g.D.Disk (top_of c.args.draft.now) c.args.disk.now c.read.new.disk c.in-Err-read.trouble c.in-Err-read.ensures.refused c.in-Err-read.ensures.untried)

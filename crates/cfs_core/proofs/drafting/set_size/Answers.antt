@@ -4,6 +4,7 @@ use Rattle.cfs_core.specs.Claimed.{claims_in_draft}
 use Rattle.cfs_core.proofs.Claimed.{claims_dropped}
 use Rattle.cfs_core.proofs.Handled.{on_ok}
 use Rattle.cfs_core.proofs.Rewritten.{resized_stays, spared_one, untried_so}
+use Rattle.special_files.specs.Refusal.{top_of}
 use Rattle.cfs_core.proofs.drafting.set_size.Goals as goal
 
 pub returns : goal.returns
@@ -17,9 +18,9 @@ returns g c =
         leaves = c.resize.ensures.leaves graph ds id knows.object d knows.store knows.there knows.is_open;
         full = c.resize.ensures.full graph ds id knows.object d knows.file knows.store knows.there knows.is_open knows.is_file;
         sound = c.resize.ensures.sound graph ds id knows.object d knows.store knows.there knows.is_open;
-        spared = spared_one g.D.Disk 0 0 0 0 c.args.disk.now c.resize.new.disk c.args.space.now c.resize.new.space c.args.draft.now c.resize.new.self c.resize.result c.resize.ensures.spared;
       };
-      untried = untried_so g.D.Disk c.args.draft.now.at _ _ _ c.args.disk.now c.resize.new.disk c.args.space.now c.resize.new.space c.args.draft.now c.resize.new.self c.resize.result (omega arith) c.resize.ensures.ends c.resize.ensures.kept;
+      untried = untried_so g.D.Disk (top_of c.args.draft.now) _ _ _ c.args.disk.now c.resize.new.disk c.args.space.now c.resize.new.space c.args.draft.now c.resize.new.self c.resize.result (omega arith) c.resize.ensures.ends c.resize.ensures.kept;
+      spared = spared_one g.D.Disk (top_of c.args.draft.now) 0 0 0 c.args.disk.now c.resize.new.disk c.args.space.now c.resize.new.space c.args.draft.now c.resize.new.self c.resize.result c.resize.ensures.spared;
       refused = c.resize.ensures.ends.refused;
       at = stays.0;
       shadow = stays.1;

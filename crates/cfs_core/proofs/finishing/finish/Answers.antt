@@ -1,7 +1,7 @@
 use Rattle.std.proofs.Common.{refl, sym, ◌∙◌, ap, subst, arith, Option}
 use Rattle.std.specs.Prelude.{IsSome}
 use Rattle.block_tree.specs.Reads.{is_damage}
-use Rattle.cyl_alloc.specs.Left.{Left}
+use Rattle.cyl_alloc.specs.Left.{LeftCommit}
 use Rattle.finisher.proofs.Calls.{goes_begin, goes_since, same_damage, some_left}
 use Rattle.cfs_core.proofs.Carried.{none_left}
 use Rattle.cfs_core.proofs.Words.{nothing_made}
@@ -22,7 +22,7 @@ returns-then-unfinished-eq0 g c = record {
 pub returns-in-Ok : goal.returns-in-Ok
 returns-in-Ok g c =
     let some = some_left c.args.space.now.left c.unfinished.result c.unfinished.ensures (omega (arith, c.if-unfinished-eq0.false)) in
-    let there : IsSome c.args.space.now.left = subst (λ (w : Option Left). IsSome w) (sym some.1) refl in
+    let there : IsSome c.args.space.now.left = subst (λ (w : Option LeftCommit). IsSome w) (sym some.1) refl in
     record {
       goes = c.in-Ok.ensures.goes;
       done = c.in-Ok.ensures.done;
@@ -45,7 +45,7 @@ returns-in-Err g c =
       done = tt;
       settled = λ settled. tt;
       none = c.finish_all.ensures.none;
-      some = subst (λ (w : Option Left). IsSome w) (sym some.1) refl;
+      some = subst (λ (w : Option LeftCommit). IsSome w) (sym some.1) refl;
       refused = (t, c.after_try.ensures, c.in-Err.ensures.ends.refused);
       cylinders = c.finish_all.ensures.cylinders;
       calls = c.finish_all.ensures.calls;

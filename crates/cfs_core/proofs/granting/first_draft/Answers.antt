@@ -4,6 +4,7 @@ use Rattle.cfs_core.specs.Opening.{Begins}
 use Rattle.cfs_core.proofs.Answering.{reads_none}
 use Rattle.cfs_core.proofs.Openings.{begun_open, or_memory, refusal_so}
 use Rattle.cfs_core.proofs.granting.first_draft.Goals as goal
+use Rattle.leaf_changes.specs.Tops.{still_top}
 
 pub returns-then-not-wanted-clause-begins : goal.returns-then-not-wanted-clause-begins
 returns-then-not-wanted-clause-begins g c = record {
@@ -53,7 +54,7 @@ returns-in-Err-begin-clause-begins g c =
       ends = λ graph ds id o store same at shut. refusal_so g.D.Disk graph ds id o c.args.disk.now c.begin.new.disk c.args.space.now c.begin.new.space c.args.wanted wants c.in-Err-begin.refused c.in-Err-begin.ensures.full c.in-Err-begin.ensures.untried
           (c.in-Err-begin.ensures.sound graph ds id o store same at) (c.begin.ensures.leaves graph ds id o store same at);
       ready = tt;
-      cause = or_memory g.D.Disk c.args.at.0 4 c.args.disk.now c.begin.new.disk c.begin.new.space c.in-Err-begin.refused c.in-Err-begin.ensures.refused;
+      cause = or_memory g.D.Disk (still_top c.args.at.0) 4 c.args.disk.now c.begin.new.disk c.args.space.now c.begin.new.space c.in-Err-begin.refused c.in-Err-begin.ensures.refused c.in-Err-begin.ensures.full;
       left = c.begin.ensures.left;
       calls = c.begin.ensures.calls;
     }

@@ -3,6 +3,8 @@ use Rattle.cfs_core.proofs.Words.{is_range, leaves_touched, nodes_touched}
 use Rattle.ufs_model.specs.declared.asked.Reply.TheVariants as replies
 use Rattle.ufs_model.specs.declared.object.Object.TheVariants as objects
 use Rattle.cfs_core.proofs.Calm.{calm_after, knows_on, range_parts, rooted}
+use Rattle.leaf_changes.proofs.Tops.{far_block}
+use Rattle.leaf_changes.specs.Tops.{root_top}
 use Rattle.cfs_core.proofs.reading.content.Goals as goal
 
 pub read-requires-clause-inside : goal.read-requires-clause-inside
@@ -22,4 +24,5 @@ returns-in-Err-read-clause-calm g c =
     (λ f knows.
     let on = knows_on g.D.Disk 1 c.args.disk.now c.root_in.new.disk c.args.file.0 (objects.File f) c.root_in.ensures.calm.reads knows in
     c.in-Err-read.ensures.sound on.graph on.drafts on.space on.id f on.seen (rooted g.D.Disk c.root_in.ensures.calm.reads (objects.File f) knows c.in-Ok.ensures.rooted))
-    c.in-Err-read.ensures.untried c.in-Err-read.ensures.refused
+    c.in-Err-read.ensures.untried (root_top c.args.file.0 c.in-Ok.root) refl
+    (λ size far tells. far_block size c.args.file.0 (g.D.Disk.content c.args.disk.now) c.in-Ok.root (c.in-Ok.ensures.rooted tells) far) c.in-Err-read.ensures.refused

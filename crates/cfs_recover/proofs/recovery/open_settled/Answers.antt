@@ -41,8 +41,8 @@ returns-clause-opened g c settled =
     let survey = c.in_ok-survey.ensures.told a (stores_content g.D.Disk d settled.tells (g.met.D.Disk.sized d settled.tells.honest) (g.met.D.Disk.of_blocks d settled.tells.honest)) in
     let done = c.in_ok-tidy_volume.ensures.recovered a (settled_reads g.D.Disk d c.survey_volume.new.disk _ reads settled) reads.content survey in
     let is = c.hand_over.ensures in (
-      subst (λ (label : Label). IsRecovered g.D.Disk a new label c.hand_over.result.names c.hand_over.result.space) (sym is.label)
-          (subst (λ (names : Listing). IsRecovered g.D.Disk a new c.in_ok-survey.survey.grounds.label names c.hand_over.result.space) (sym is.names)
-          (subst (λ (space : Kept). IsRecovered g.D.Disk a new c.in_ok-survey.survey.grounds.label c.in_ok-survey.survey.walked.walk.names space) (sym is.space) done.0)),
+      subst (λ (label : Label). IsRecovered g.D.Disk a new label c.hand_over.result.directory c.hand_over.result.space) (sym is.label)
+          (subst (λ (directory : Listing). IsRecovered g.D.Disk a new c.in_ok-survey.survey.grounds.label directory c.hand_over.result.space) (sym is.directory)
+          (subst (λ (space : Kept). IsRecovered g.D.Disk a new c.in_ok-survey.survey.grounds.label c.in_ok-survey.survey.walked.walk.directory space) (sym is.space) done.0)),
       writes_after g.D.Disk d c.survey_volume.new.disk new 2 2 reads.content (omega (arith, reads.tries)) done.1,
     )

@@ -47,5 +47,5 @@ returns-clause-writes g c honest =
 pub returns-clause-opened : goal.returns-clause-opened
 returns-clause-opened g c honest =
     ok_as _ _ c.open_settled.result
-    (λ r done. subst (λ (i : Image). IsRecovered g.D.Disk i c.open_settled.new.disk r.label r.names r.space) c.in_ok-flush.ensures.untouched.content done.0)
+    (λ r done. subst (λ (i : Image). IsRecovered g.D.Disk i c.open_settled.new.disk r.label r.directory r.space) c.in_ok-flush.ensures.untouched.content done.0)
     (c.open_settled.ensures.opened (c.in_ok-flush.ensures.settled honest))

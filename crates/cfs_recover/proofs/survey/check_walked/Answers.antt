@@ -1,5 +1,5 @@
 use Rattle.std.proofs.Common.{sym, subst, ◌∙◌, Err}
-use Rattle.cfs_recover.proofs.Words.{IsFault, MatchResult, Ok, Result}
+use Rattle.cfs_recover.proofs.Words.{IsFaultOf, MatchResult, Ok, Result}
 use Rattle.cfs_recover.proofs.Counted.{four_are_left, too_few_left}
 use Rattle.cfs_recover.proofs.Finished.{held_in, in_held, walk_full, walk_sound}
 use Rattle.cfs_recover.proofs.survey.check_walked.Goals as goal
@@ -20,9 +20,9 @@ returns c image grounds walk noted =
       graph = walk.graph;
       sound = walk_sound image label grounds w walk none noted (four_are_left image label grounds w walk none noted marks few);
       ordered = walk.ordered;
-      names = walk.named;
+      directory = walk.named;
       held = held_in image label grounds w walk none noted;
       all = in_held image label grounds w walk none noted;
     })
-    (λ d many. subst (IsFault image) (sym many.0) (walk_full image label grounds w walk none noted (too_few_left image label grounds w walk none noted marks many.1)))
+    (λ d many. subst (IsFaultOf image) (sym many.0) (walk_full image label grounds w walk none noted (too_few_left image label grounds w walk none noted marks many.1)))
     c.check_room.ensures

@@ -1,5 +1,5 @@
 use Rattle.std.proofs.Common.{ℕ, ◌+◌, ◌*◌, ◌≤◌, List, sym, ◌∙◌, ap, subst, arith}
-use Rattle.cfs_recover.proofs.Words.{block_at, changed, Kept, map_spelling}
+use Rattle.cfs_recover.proofs.Words.{block_at, one_if_changed, Kept, map_spelling}
 use Rattle.cfs_recover.proofs.TidyCylinders.{free_most, given_here, given_others, given_size, written_here, written_others}
 use Rattle.cfs_recover.proofs.tidy.tidy_cylinder.Goals as goal
 
@@ -31,5 +31,5 @@ returns-clause-left g c = ap (λ (k : Kept). k.left) c.gave.ensures.given
 pub returns-clause-differs : goal.returns-clause-differs
 returns-clause-differs g c inside was =
     let here = written_here (g.D.Disk.content c.args.disk.now) (g.D.Disk.content c.write_tidy.new.disk) c.args.cylinder c.args.map.now c.in_ok-tidy.tidy c.in_ok-tidy.ensures.written inside was in
-    subst (λ (b : List ℕ). g.D.Disk.tries c.write_tidy.new.disk ≤ g.D.Disk.tries c.args.disk.now + changed b (block_at (g.D.Disk.content c.write_tidy.new.disk) (64 * c.args.cylinder))) (sym was)
-    (subst (λ (b : List ℕ). g.D.Disk.tries c.write_tidy.new.disk ≤ g.D.Disk.tries c.args.disk.now + changed (map_spelling c.args.map.now) b) (sym here) c.in_ok-tidy.ensures.differs)
+    subst (λ (b : List ℕ). g.D.Disk.tries c.write_tidy.new.disk ≤ g.D.Disk.tries c.args.disk.now + one_if_changed b (block_at (g.D.Disk.content c.write_tidy.new.disk) (64 * c.args.cylinder))) (sym was)
+    (subst (λ (b : List ℕ). g.D.Disk.tries c.write_tidy.new.disk ≤ g.D.Disk.tries c.args.disk.now + one_if_changed (map_spelling c.args.map.now) b) (sym here) c.in_ok-tidy.ensures.differs)

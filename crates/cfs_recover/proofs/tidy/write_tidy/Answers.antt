@@ -1,5 +1,5 @@
 use Rattle.std.proofs.Common.{◌≡◌, inr, Bool, cond, refl, sym, ◌∙◌, ap, arith}
-use Rattle.cfs_recover.proofs.Words.{changed, map_spelling, same_text}
+use Rattle.cfs_recover.proofs.Words.{one_if_changed, map_spelling, same_text}
 use Rattle.cfs_recover.proofs.TidyMaps.{tidy_map_comes}
 use Rattle.cfs_recover.proofs.tidy.write_tidy.Goals as goal
 
@@ -23,5 +23,5 @@ returns-then-eq-clause-written g c = inr (refl, same_text _ _ (sym c.if-eq.true 
 
 pub returns-clause-differs : goal.returns-clause-differs
 returns-clause-differs g c =
-    let one : changed (map_spelling c.args.map.now) (map_spelling c.tidy_map-tidy.result) ≡ 1 = ap (λ (t : Bool). cond t 0 1) (sym c.eq.ensures ∙ c.if-eq.false) in
+    let one : one_if_changed (map_spelling c.args.map.now) (map_spelling c.tidy_map-tidy.result) ≡ 1 = ap (λ (t : Bool). cond t 0 1) (sym c.eq.ensures ∙ c.if-eq.false) in
     omega (arith, one, c.write_map.ensures.calls.tries)

@@ -50,7 +50,7 @@ walk_twig-returns-in_err-node-clause-reads g t c = reads_within g.D.Disk _ _ 1 (
 pub walk_twig-walk_below-requires : goal.walk_twig-walk_below-requires
 walk_twig-walk_below-requires g t c =
     let count : length c.in_ok-node.node.leaves ≡ leaf_pointers.count = omega arith in
-    let room : g.D.Disk.blocks c.walk_node.new.disk ≡ c.walk_node.new.walk.names.room = omega (arith, c.requires.room, c.in_ok-node.ensures.grows.room, c.in_ok-node.ensures.reads.same.size) in
+    let room : g.D.Disk.blocks c.walk_node.new.disk ≡ c.walk_node.new.walk.directory.room = omega (arith, c.requires.room, c.in_ok-node.ensures.grows.room, c.in_ok-node.ensures.reads.same.size) in
     let maps : g.D.Disk.blocks c.walk_node.new.disk ≡ 64 * length c.args.maps.now = omega (arith, c.requires.maps, c.in_ok-node.ensures.reads.same.size) in
     let fits : (c.args.twig.number + 1) * (length c.in_ok-node.node.leaves * width (levels_below (c.args.twig.height - 1))) ≤ leaf_limit =
     subst (λ (n : ℕ). (c.args.twig.number + 1) * (n * width (levels_below (c.args.twig.height - 1))) ≤ leaf_limit) (sym count)
@@ -101,7 +101,7 @@ walk_twig-returns-clause-told g t c image done walks has =
 pub walk_below-walk_twig-requires : goal.walk_below-walk_twig-requires
 walk_below-walk_twig-requires g t c =
     let h = c.args.at.height in
-    let room : g.D.Disk.blocks c.loop-place.disk ≡ c.loop-place.walk.names.room = omega (arith, c.requires.room, c.loop-place.invariant.grows.room, c.loop-place.invariant.reads.same.size) in
+    let room : g.D.Disk.blocks c.loop-place.disk ≡ c.loop-place.walk.directory.room = omega (arith, c.requires.room, c.loop-place.invariant.grows.room, c.loop-place.invariant.reads.same.size) in
     let maps : g.D.Disk.blocks c.loop-place.disk ≡ 64 * length c.args.maps.now = omega (arith, c.requires.maps, c.loop-place.invariant.reads.same.size) in
     let fits : (c.args.at.number * length c.args.pointers.now + c.loop-place.place + 1) * width (levels_below h) ≤ leaf_limit =
     one_fits c.args.at.number (length c.args.pointers.now) c.loop-place.place h (omega (arith, c.loop-place-test.true)) c.requires.fits in

@@ -1,5 +1,5 @@
 use Rattle.std.proofs.Common.{◌<◌, ℕ, List, length, sym, subst, arith}
-use Rattle.cfs_recover.proofs.Words.{AreNamed, AreNoted, IsFault, IsFilled, IsNotFilled}
+use Rattle.cfs_recover.proofs.Words.{AreNamed, AreNoted, IsFaultOf, IsFilled, IsNotFilled}
 use Rattle.cfs_recover.proofs.Objects.{late_byte, slots_named}
 use Rattle.cfs_recover.proofs.Refused.{caused_err, told_err, told_on}
 use Rattle.cfs_recover.proofs.walk_block.read_leaf.Goals as goal
@@ -15,7 +15,7 @@ returns-in_err-check_rest-clause-told g c image owner done stored walk has last 
     let below : twig.block < length image = omega (arith, stored.size, c.requires) in
     let wrong = c.in_err-check_rest.ensures in
     told_err _ _ _ _ c.from_residual-in_err-check_rest.ensures.1
-    (subst (IsFault image) (sym wrong.0) (late_byte image owner c.args.root.now twig has last below (subst (λ (b : List ℕ). IsNotFilled c.args.root.now twig.number b) (c.in_ok-content.ensures.told image stored) wrong.1)))
+    (subst (IsFaultOf image) (sym wrong.0) (late_byte image owner c.args.root.now twig has last below (subst (λ (b : List ℕ). IsNotFilled c.args.root.now twig.number b) (c.in_ok-content.ensures.told image stored) wrong.1)))
 
 pub returns-in_err-note_leaf-clause-told : goal.returns-in_err-note_leaf-clause-told
 returns-in_err-note_leaf-clause-told g c image owner done stored walk has last =

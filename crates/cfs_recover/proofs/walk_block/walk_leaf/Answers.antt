@@ -1,5 +1,5 @@
 use Rattle.std.proofs.Common.{sym, subst, arith}
-use Rattle.cfs_recover.proofs.Words.{IsFault}
+use Rattle.cfs_recover.proofs.Words.{IsFaultOf}
 use Rattle.cfs_recover.proofs.Good.{leaf_on}
 use Rattle.cfs_recover.proofs.Objects.{block_kept, late_leaf}
 use Rattle.cfs_recover.proofs.Refused.{told_err, told_on}
@@ -8,7 +8,7 @@ use Rattle.cfs_recover.proofs.walk_block.walk_leaf.Goals as goal
 pub returns-in_err-check_leaf-clause-told : goal.returns-in_err-check_leaf-clause-told
 returns-in_err-check_leaf-clause-told g c image owner done stored walk has last =
     told_err _ _ _ _ c.from_residual.ensures.1
-    (subst (IsFault image) (sym c.in_err-check_leaf.ensures.0) (late_leaf image owner c.args.root.now c.args.twig has last (omega (arith, stored.size, c.requires.there)) c.in_err-check_leaf.ensures.1))
+    (subst (IsFaultOf image) (sym c.in_err-check_leaf.ensures.0) (late_leaf image owner c.args.root.now c.args.twig has last (omega (arith, stored.size, c.requires.there)) c.in_err-check_leaf.ensures.1))
 
 pub returns-in_err-read_leaf-clause-told : goal.returns-in_err-read_leaf-clause-told
 returns-in_err-read_leaf-clause-told g c image owner done stored walk has last =

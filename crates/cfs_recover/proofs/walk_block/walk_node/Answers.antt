@@ -1,5 +1,5 @@
 use Rattle.std.proofs.Common.{ℕ, List, get_or, sym, ◌∙◌, ap, subst, arith}
-use Rattle.cfs_recover.proofs.Words.{IsFault, leaf_pointers, pointers_of}
+use Rattle.cfs_recover.proofs.Words.{IsFaultOf, leaf_pointers, pointers_of}
 use Rattle.cfs_recover.proofs.Objects.{block_kept, dead_end}
 use Rattle.cfs_recover.proofs.Refused.{told_err}
 use Rattle.cfs_recover.proofs.walk_block.walk_node.Goals as goal
@@ -9,7 +9,7 @@ returns-in_err-check_node-clause-told g c image owner done root stored walk has 
     let leaves = c.decode-node.ensures.pointers ∙ ap (pointers_of leaf_pointers) (c.in_ok-content.ensures.told image stored) in
     let wrong = c.in_err-check_node.ensures in
     told_err _ _ _ _ c.from_residual-in_err-check_node.ensures.1
-    (subst (IsFault image) (sym wrong.0) (dead_end image owner root c.args.twig has more (omega (arith, stored.size, c.requires.there)) (λ j. ap (λ (ns : List ℕ). get_or ns j 0) (sym leaves) ∙ wrong.1 j)))
+    (subst (IsFaultOf image) (sym wrong.0) (dead_end image owner root c.args.twig has more (omega (arith, stored.size, c.requires.there)) (λ j. ap (λ (ns : List ℕ). get_or ns j 0) (sym leaves) ∙ wrong.1 j)))
 
 pub returns-clause-told : goal.returns-clause-told
 returns-clause-told g c image owner done root stored walk has more =

@@ -1,5 +1,5 @@
 use Rattle.std.proofs.Common.{◌≡◌, inl, inr, ℕ, ◌+◌, ◌<◌, ◌≤◌, length, get_or, drop, Some, sym, ◌∙◌, ap, subst, arith}
-use Rattle.cfs_recover.proofs.Words.{AreWritten, Copied, CopiesRoots, Found, IsCopyOf, Keeps, all_pieces, cases_eq, copies_before, makes_then, slice_get, source}
+use Rattle.cfs_recover.proofs.Words.{AreWritten, Copied, CopiesRoots, Found, IsCopyOf, RunKeeps, all_pieces, cases_eq, copies_before, makes_then, slice_get, source}
 use Rattle.cfs_recover.proofs.Keepings.{makes_none, written_more}
 use Rattle.cfs_recover.proofs.Kept.{copy_next, item_at, own_next}
 use Rattle.cfs_recover.proofs.Pieces.{none_is, pieces_anew, some_is}
@@ -26,7 +26,7 @@ loop-item-preserved-in_default g c =
           let were = before.keeps a graph start copies run kept in
           let shown = kept.shown k x at in
           elim (cases_eq (source a x.block) x.block) [
-            | inl own ↦ subst (λ (n : ℕ). Keeps g.D.Disk (CopiesRoots a graph) start c.loop-item.disk × AreWritten a copies (g.D.Disk.content c.loop-item.disk) n
+            | inl own ↦ subst (λ (n : ℕ). RunKeeps g.D.Disk (CopiesRoots a graph) start c.loop-item.disk × AreWritten a copies (g.D.Disk.content c.loop-item.disk) n
                 × (c.loop-item.kept.now ≡ all_pieces (drop n copies)) × (g.D.Disk.tries c.loop-item.disk ≤ g.D.Disk.tries c.args.disk.now + n))
                 (sym (own_next a graph c.args.maps.now w copies kept k x at own)) were
             | inr other ↦
@@ -60,7 +60,7 @@ loop-item-preserved g c =
                 let inside : c.in-Some.copied.block < length (g.D.Disk.content c.loop-item.disk) =
                 omega (arith, ap (λ (d : Copied). d.block) found.0, next.block, w.walk.sized.each k x at, w.walk.sized.marks, c.requires.size.held, size, before.calls.same.size) in
                 let written = written_more a graph copies (g.D.Disk.content c.loop-item.disk) (g.D.Disk.content c.write_root.new.disk) n c.in-Some.copied kept.all.each were.1 (next.here ∙ ap Some (sym found.0)) c.in_ok-write_root.ensures.written inside in
-                subst (λ (m : ℕ). Keeps g.D.Disk (CopiesRoots a graph) start c.write_root.new.disk × AreWritten a copies (g.D.Disk.content c.write_root.new.disk) m
+                subst (λ (m : ℕ). RunKeeps g.D.Disk (CopiesRoots a graph) start c.write_root.new.disk × AreWritten a copies (g.D.Disk.content c.write_root.new.disk) m
                 × (c.in-Some.rest.now ≡ all_pieces (drop m copies)) × (g.D.Disk.tries c.write_root.new.disk ≤ g.D.Disk.tries c.args.disk.now + m))
                 (sym next.more) (wrote, written, found.1, omega (arith, were.3, c.in_ok-write_root.ensures.calls.tries))
           ];

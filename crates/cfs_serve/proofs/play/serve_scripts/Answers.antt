@@ -1,19 +1,19 @@
 use Rattle.std.proofs.Common.{◌∙◌, ◌≡◌, ◌⊎◌, ℕ, List, ap, map, length, inl, inr, sym, subst, arith}
-use Rattle.cfs_serve.proofs.Cited.{AreNew, Ending, Event, Ghosts, Intake, IsUnserved, Kernel, Reading, Report, ServesScripts, ServesSessions, length-map, request_lines, client_of}
+use Rattle.cfs_serve.proofs.Cited.{AreNew, Ending, Event, Ghosts, Intake, IsUnserved, Kernel, PortReading, Report, ServesScripts, ServesSessions, length-map, request_lines, client_of}
 use Rattle.cfs_serve.proofs.Lists.{new_work, same_length, client_lines, client_sinks}
 use Rattle.cfs_serve.proofs.play.serve_scripts.Goals as goal
 
 -- as many ports as scripts, before and after
-as_many : (before after : List Reading) (scripts : List (List ℕ)) → map (λ p. p.lines) before ≡ map request_lines scripts → length after ≡ length (map client_of before)
+as_many : (before after : List PortReading) (scripts : List (List ℕ)) → map (λ p. p.lines) before ≡ map request_lines scripts → length after ≡ length (map client_of before)
     → length after ≡ length scripts
-as_many before after scripts lines count = count ∙ length-map before client_of ∙ same_length (λ (p : Reading). p.lines) request_lines before scripts lines
+as_many before after scripts lines count = count ∙ length-map before client_of ∙ same_length (λ (p : PortReading). p.lines) request_lines before scripts lines
 
 pub returns-in_default-make_ports-clause-count : goal.returns-in_default-make_ports-clause-count
 returns-in_default-make_ports-clause-count g c =
     same_length g.K.Sink.intake g.K.Sink.intake c.make_ports.new.sinks.items c.args.sinks.now.items c.in_default-make_ports.ensures.none
 
 -- there are as many ports as before
-module _ {D : Type 0} (g : Ghosts D) (core : Kernel D) (collections : ℕ) (before after : List Reading) (report : Report) (ending : Ending) (trail : List Event) (moments : List ℕ) (disk : D) where
+module _ {D : Type 0} (g : Ghosts D) (core : Kernel D) (collections : ℕ) (before after : List PortReading) (report : Report) (ending : Ending) (trail : List Event) (moments : List ℕ) (disk : D) where
   abbrev Ended : Type 0
   Ended = ServesSessions g core collections (map client_of before) after report ending trail moments disk ⊎ IsUnserved core before after report ending trail disk
 
@@ -47,7 +47,7 @@ serve_ports-played-requires-clause-few g c = omega (arith, c.requires.fits, c.re
 pub serve_ports-played-requires-clause-sessions : goal.serve_ports-played-requires-clause-sessions
 serve_ports-played-requires-clause-sessions g c =
     let made = c.in-Some.ensures in
-    omega (arith, same_length (λ (p : Reading). p.lines) request_lines c.in-Some.ports.items c.args.scripts.scripts.items made.lines, c.requires.count, c.requires.sessions)
+    omega (arith, same_length (λ (p : PortReading). p.lines) request_lines c.in-Some.ports.items c.args.scripts.scripts.items made.lines, c.requires.count, c.requires.sessions)
 
 pub serve_ports-played-requires-clause-new : goal.serve_ports-played-requires-clause-new
 serve_ports-played-requires-clause-new g c = λ lifetimes outlives. subst (λ r. AreNew r c.in-Some.ports.items) c.root.ensures c.in-Some.ensures.new
@@ -70,5 +70,5 @@ pub returns-clause-count : goal.returns-clause-count
 returns-clause-count g c =
     let after = c.serve_ports-played in
     let count = same_count g.D.Disk c.args.core c.args.collections c.in-Some.ports.items after.result.1.items after.result.0.report after.result.0.ending after.result.0.trail.events after.result.0.trail.moments after.result.2 after.ensures in
-    same_length g.K.Sink.intake (λ (p : Reading). p.sink) c.take_sinks.new.sinks.items after.result.1.items c.take_sinks.ensures
+    same_length g.K.Sink.intake (λ (p : PortReading). p.sink) c.take_sinks.new.sinks.items after.result.1.items c.take_sinks.ensures
     ∙ as_many c.in-Some.ports.items after.result.1.items c.args.scripts.scripts.items c.in-Some.ensures.lines count ∙ c.requires.count

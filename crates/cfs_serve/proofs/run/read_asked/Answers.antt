@@ -1,5 +1,5 @@
 use Rattle.std.proofs.Common.{◌≡◌, ◌+◌, ◌*◌, ◌≤◌, ℕ, Bool, List, Option, Some, None, map, refl, rules}
-use Rattle.cfs_serve.proofs.Cited.{Asked, Asks, AsksSessions, Ending, Event, Files, Ghosts, HasDisk, InMemory, Intake, Report, Service, Supply, asked_by, drains, drawn_sources, files_in, ground_of, new_ground, option_map, string_bytes}
+use Rattle.cfs_serve.proofs.Cited.{Asked, AsksServer, AsksSessions, Ending, Event, Files, Ghosts, HasDisk, InMemory, Intake, Report, Service, Supply, asked_by, drains, drawn_sources, files_in, ground_of, new_ground, option_map, string_bytes}
 use Rattle.cfs_serve.specs.Words.{Serves, Spin, Spins}
 use Rattle.cfs_serve.proofs.run.read_asked.Goals as goal
 
@@ -7,7 +7,7 @@ use Rattle.cfs_serve.proofs.run.read_asked.Goals as goal
 asks_in_memory : {D : Type 0} (g : Ghosts D) (asked : Asked) (cylinders seed collections : ℕ) (sessions : List Files) (traced : Bool) (disk : Option D) (sources sources_after : List Supply) (sinks sinks_after : List Intake) (report : Report)
     (ending : Ending) (trail : List Event) → asked ≡ Serves (record { volume = InMemory cylinders; seed = seed; collections = collections; sessions = sessions; traced = traced }) → HasDisk asked (option_map g.blocks disk)
     → AsksSessions (new_ground cylinders seed) seed collections (record { disk = None; sources = sources; sinks = sinks }) (record { disk = None; sources = sources_after; sinks = sinks_after }) report ending trail
-    → Asks asked (ground_of g asked disk) (record { disk = option_map g.faults disk; sources = sources; sinks = sinks }) (record { disk = option_map g.faults disk; sources = sources_after; sinks = sinks_after }) report ending trail
+    → AsksServer asked (ground_of g asked disk) (record { disk = option_map g.faults disk; sources = sources; sinks = sinks }) (record { disk = option_map g.faults disk; sources = sources_after; sinks = sinks_after }) report ending trail
 asks_in_memory g asked cylinders seed collections sessions traced None sources sources_after sinks sinks_after report ending trail is has asks = rw is asks
 asks_in_memory g asked cylinders seed collections sessions traced (Some d) sources sources_after sinks sinks_after report ending trail is has asks = absurd (cc (rw is at has))
 
@@ -26,7 +26,7 @@ asks_spin : {D : Type 0} (g : Ghosts D) (asked : Asked) (spin : Spin) (disk : Op
     → asked ≡ Spins spin → HasDisk asked (option_map g.blocks disk) → spin.cylinders ≤ 1024 → 12 * spin.count + 64 ≤ 63 * spin.cylinders
     → AsksSessions (new_ground spin.cylinders spin.seed) spin.seed 2 (record { disk = None; sources = drawn_sources spin.seed spin.count; sinks = drains })
     (record { disk = None; sources = drawn_sources spin.seed spin.count; sinks = drains }) report ending trail
-    → Asks asked (ground_of g asked disk) (record { disk = option_map g.faults disk; sources = sources; sinks = sinks }) (record { disk = option_map g.faults disk; sources = sources; sinks = sinks }) report ending trail
+    → AsksServer asked (ground_of g asked disk) (record { disk = option_map g.faults disk; sources = sources; sinks = sinks }) (record { disk = option_map g.faults disk; sources = sources; sinks = sinks }) report ending trail
 asks_spin g asked spin None sources sinks report ending trail is has size fits asks = rw is (record { sources = refl; sinks = refl; size = size; fits = fits; asks = asks })
 asks_spin g asked spin (Some d) sources sinks report ending trail is has size fits asks = absurd (cc (rw is at has))
 

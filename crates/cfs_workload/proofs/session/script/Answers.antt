@@ -4,7 +4,7 @@ use Rattle.std.specs.Prelude.{codes, replicate}
 use Rattle.cfs_workload.specs.declared.act.Left.TheVariants.{Nothing}
 use Rattle.cfs_workload.specs.Workload.{lines_from}
 use Rattle.std.proofs.lemmas.List.{append-nil, append_assoc}
-use Rattle.cfs_workload.proofs.Steps.{one_more}
+use Rattle.cfs_workload.proofs.Lines.{one_more}
 use Rattle.cfs_workload.proofs.session.script.Goals as goal
 
 pub lines-init : goal.lines-init

@@ -7,8 +7,8 @@ pub loop-slot-preserved : goal.loop-slot-preserved
 loop-slot-preserved c =
     let before = c.loop-slot.invariant in
     record {
-      left = ap (all_shaded c.args.names.now.named (ids_from c.args.content.now (c.loop-slot.slot + 1))) c.shade_slot.ensures.shaded
-          ∙ sym (shaded_from c.args.names.now.named c.args.content.now c.loop-slot.slot (colours_of c.loop-slot.marks) c.loop-slot-test.true)
+      left = ap (all_shaded c.args.directory.now.named (ids_from c.args.content.now (c.loop-slot.slot + 1))) c.shade_slot.ensures.shaded
+          ∙ sym (shaded_from c.args.directory.now.named c.args.content.now c.loop-slot.slot (colours_of c.loop-slot.marks) c.loop-slot-test.true)
           ∙ before.left;
       blocks = c.shade_slot.ensures.blocks ∙ before.blocks;
     }
@@ -16,6 +16,6 @@ loop-slot-preserved c =
 pub returns-clause-shaded : goal.returns-clause-shaded
 returns-clause-shaded c =
     let last : c.loop-slot.slot ≡ 64 = omega (arith, c.loop-slot.auto.slot-end, c.loop-slot-test.false) in
-    sym (ap (λ (slot : ℕ). all_shaded c.args.names.now.named (ids_from c.args.content.now slot) (colours_of c.loop-slot.marks)) last
-    ∙ shaded_last c.args.names.now.named c.args.content.now (colours_of c.loop-slot.marks))
+    sym (ap (λ (slot : ℕ). all_shaded c.args.directory.now.named (ids_from c.args.content.now slot) (colours_of c.loop-slot.marks)) last
+    ∙ shaded_last c.args.directory.now.named c.args.content.now (colours_of c.loop-slot.marks))
     ∙ c.loop-slot.invariant.left

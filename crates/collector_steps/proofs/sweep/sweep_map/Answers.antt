@@ -6,9 +6,9 @@ use Rattle.collector_steps.proofs.sweep.sweep_map.Goals as goal
 
 pub loop-place-preserved : goal.loop-place-preserved
 loop-place-preserved c =
-    let names = c.args.names.now.named in
-    let f = swept names c.args.pass in
-    let p = goes names c.args.pass in
+    let directory = c.args.directory.now.named in
+    let f = swept directory c.args.pass in
+    let p = goes directory c.args.pass in
     let xs = c.args.map.now in
     let before = c.loop-place.invariant in
     let room = c.sweep_entry.ensures.map.long in
@@ -31,10 +31,10 @@ all c = omega (arith, c.loop-place-test.false, c.loop-place.invariant.long (omeg
 
 pub returns-clause-swept : goal.returns-clause-swept
 returns-clause-swept c =
-    let f = swept c.args.names.now.named c.args.pass in
+    let f = swept c.args.directory.now.named c.args.pass in
     c.loop-place.invariant.so_far
     ∙ ap₂ (λ (front back : List MapEntry). map f front ++ back) (take_all c.loop-place.place c.args.map.now (all c)) (drop_all c.loop-place.place c.args.map.now (all c))
     ∙ append-nil (map f c.args.map.now)
 
 pub returns-clause-count : goal.returns-clause-count
-returns-clause-count c = c.loop-place.invariant.count ∙ ap (count_by (goes c.args.names.now.named c.args.pass)) (take_all c.loop-place.place c.args.map.now (all c))
+returns-clause-count c = c.loop-place.invariant.count ∙ ap (count_by (goes c.args.directory.now.named c.args.pass)) (take_all c.loop-place.place c.args.map.now (all c))

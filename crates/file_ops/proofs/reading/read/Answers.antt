@@ -1,4 +1,4 @@
-use Rattle.file_ops.proofs.Words.{◌≡◌, ℕ, ◌+◌, ◌++◌, length, take, drop, sym, ◌∙◌, ap, arith, slice_range, take-append_seam, is_damaged}
+use Rattle.file_ops.proofs.Words.{◌≡◌, ℕ, ◌+◌, ◌++◌, length, take, drop, sym, ◌∙◌, ap, arith, slice_range, take-append_seam, has_met_damage}
 use Rattle.file_ops.proofs.InPlace.{sound_by}
 use Rattle.file_ops.proofs.Shown.{file_at}
 use Rattle.intentions.proofs.Shown.{shown_tells}
@@ -18,4 +18,4 @@ returns-in-Ok-read-clause-read g c = λ graph ds space id f has rooted inside.
 pub returns-in-Err-read-clause-sound : goal.returns-in-Err-read-clause-sound
 returns-in-Err-read-clause-sound g c = λ graph ds space id f has rooted.
     let file = file_at has in
-    ap is_damaged c.from-in-Err-read.ensures ∙ sound_by c.in-Err-read.trouble (c.in-Err-read.ensures.sound f (shown_tells has) file rooted)
+    ap has_met_damage c.from-in-Err-read.ensures ∙ sound_by c.in-Err-read.trouble (c.in-Err-read.ensures.sound f (shown_tells has) file rooted)

@@ -3,6 +3,7 @@ use Rattle.normal_files.proofs.Refusals.{root_trouble}
 use Rattle.file_ops.proofs.Shown.{file_at}
 use Rattle.intentions.proofs.Shown.{shown_tells}
 use Rattle.file_ops.proofs.reading.read_root.Goals as goal
+use Rattle.leaf_changes.specs.Tops.{still_top}
 
 pub returns-in-Ok-clause-size : goal.returns-in-Ok-clause-size
 returns-in-Ok-clause-size g c = λ graph ds space id f has.
@@ -15,4 +16,4 @@ returns-in-Err-clause-sound g c = λ graph ds space id f has.
     c.in-Err.ensures.sound file.root (shown_tells has) file.tree.spelled
 
 pub returns-in-Err-clause-refused : goal.returns-in-Err-clause-refused
-returns-in-Err-clause-refused g c = root_trouble g.D.Disk c.args.at.0 c.args.disk.now c.read_root.new.disk c.in-Err.trouble c.in-Err.ensures.refused
+returns-in-Err-clause-refused g c = root_trouble g.D.Disk (still_top c.args.at.0) c.args.disk.now c.read_root.new.disk c.in-Err.trouble c.in-Err.ensures.refused

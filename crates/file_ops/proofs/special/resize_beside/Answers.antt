@@ -1,17 +1,18 @@
 use Rattle.file_ops.proofs.Words.{List, refl, arith, ◌∙◌, ap, Drafting, Kept, Puid, Graph, SetSize, File, Opened, changed_draft, draft_blocks, opened_as}
-use Rattle.file_ops.specs.Changes.{MayChange}
+use Rattle.file_ops.specs.Changes.{MayChangeFile}
 use Rattle.file_ops.proofs.Exact.{exact}
 use Rattle.file_ops.proofs.Beside.{begun, ended, err_change, err_read, from_begin, none_fresh, opens}
 use Rattle.cfs_base.specs.declared.kind.FileKind.TheVariants as kinds
 use Rattle.ufs_model.specs.declared.object.Object.TheVariants as objects
 use Rattle.file_ops.proofs.Since.{no_memory}
 use Rattle.file_ops.proofs.special.resize_beside.Goals as goal
+use Rattle.special_files.specs.Committing.{draft_top}
 
 pub returns-in-Err-resize-clause-changes : goal.returns-in-Err-resize-clause-changes
 returns-in-Err-resize-clause-changes g c =
     let e = c.in-Ok.ensures in
-    let starts = λ (graph : Graph) (ds : List Opened) (id : Puid) (f : File) (may : MayChange g.D.Disk c.args.at.0 kinds.Special (SetSize c.args.size) graph ds id f c.args.disk.now c.args.space.now). e.store graph ds id (objects.File f) may.has.store may.has.root may.has.there may.has.shut in
-    err_change g.D.Disk c.args.at.0 c.args.floor (SetSize c.args.size) c.args.disk.now c.begin_direct.new.disk c.args.space.now c.begin_direct.new.space c.in-Ok.draft e.begun e.reads e.space starts c.resize.new.disk c.resize.new.space c.resize.new.self c.in-Err-resize.error
+    let starts = λ (graph : Graph) (ds : List Opened) (id : Puid) (f : File) (may : MayChangeFile g.D.Disk c.args.at.0 kinds.Special (SetSize c.args.size) graph ds id f c.args.disk.now c.args.space.now). e.store graph ds id (objects.File f) may.has.store may.has.root may.has.there may.has.shut in
+    err_change g.D.Disk c.args.at.0 c.args.floor (SetSize c.args.size) c.args.disk.now c.begin_direct.new.disk c.args.space.now c.begin_direct.new.space c.in-Ok.draft e.begun e.reads e.space starts c.resize.new.disk c.resize.new.space c.resize.new.self e.root c.in-Err-resize.error
     (λ graph ds id f may.
     let open_now = opens g.D.Disk c.args.at.0 c.args.floor (SetSize c.args.size) c.args.disk.now c.begin_direct.new.disk c.args.space.now c.begin_direct.new.space c.in-Ok.draft e.begun e.reads e.space starts ds id f may.has.root may.has.shut in
     record {
@@ -29,7 +30,7 @@ returns-in-Ok-resize-clause-changes g c =
     let e = c.in-Ok.ensures in
     let r = c.in-Ok-resize.ensures in
     let none = none_fresh c.args.at.0 c.in-Ok.draft e.begun in
-    let starts = λ (graph : Graph) (ds : List Opened) (id : Puid) (f : File) (may : MayChange g.D.Disk c.args.at.0 kinds.Special (SetSize c.args.size) graph ds id f c.args.disk.now c.args.space.now). e.store graph ds id (objects.File f) may.has.store may.has.root may.has.there may.has.shut in
+    let starts = λ (graph : Graph) (ds : List Opened) (id : Puid) (f : File) (may : MayChangeFile g.D.Disk c.args.at.0 kinds.Special (SetSize c.args.size) graph ds id f c.args.disk.now c.args.space.now). e.store graph ds id (objects.File f) may.has.store may.has.root may.has.there may.has.shut in
     ended g.D.Disk c.args.at.0 c.args.floor (SetSize c.args.size) c.args.disk.now c.begin_direct.new.disk c.args.space.now c.begin_direct.new.space c.in-Ok.draft e.begun e.reads e.space starts c.resize.new.disk c.resize.new.space c.resize.new.self
     (λ graph ds id f may.
     let open_now = opens g.D.Disk c.args.at.0 c.args.floor (SetSize c.args.size) c.args.disk.now c.begin_direct.new.disk c.args.space.now c.begin_direct.new.space c.in-Ok.draft e.begun e.reads e.space starts ds id f may.has.root may.has.shut in
@@ -45,7 +46,7 @@ returns-in-Ok-resize-clause-changes g c =
       full = tt;
       sound = tt;
     })
-    r.ends r.stays.at r.stays.shadow r.stays.created c.has_fresh_nodes-wrote.result
+    r.ends r.stays.at r.stays.shadow r.stays.created r.stays.own r.near e.root (λ none. refl) c.has_fresh_nodes-wrote.result
     (λ wrote. let some = c.has_fresh_nodes-wrote.ensures.some wrote in (r.told none).tried some.0 some.1) (λ none_now. (r.told none).untried (c.has_fresh_nodes-wrote.ensures.none none_now)) c.commit.new.disk c.commit.new.space c.commit.result
     (record { done = c.commit.ensures.done; leaves = c.commit.ensures.leaves; sound = c.commit.ensures.sound; refusal = c.commit.ensures.refused; untried = c.commit.ensures.untried; cylinders = c.commit.ensures.cylinders; left = c.commit.ensures.left; bit = c.commit.ensures.bit; calls = c.commit.ensures.calls })
 
@@ -60,4 +61,4 @@ returns-in-Err-clause-changes g c =
     (λ graph ds id f may. e.sound graph ds id (objects.File f) may.has.store may.has.root may.has.there)
 
 pub returns-in-Ok-resize-clause-memory : goal.returns-in-Ok-resize-clause-memory
-returns-in-Ok-resize-clause-memory g c = no_memory g.D.Disk c.resize.new.self.at c.resize.new.disk c.commit.new.disk c.commit.new.space c.has_fresh_nodes-wrote.result c.commit.result c.commit.ensures.refused
+returns-in-Ok-resize-clause-memory g c = no_memory g.D.Disk (draft_top c.resize.new.self) c.resize.new.disk c.commit.new.disk c.resize.new.space c.commit.new.space c.has_fresh_nodes-wrote.result c.commit.result c.commit.ensures.refused

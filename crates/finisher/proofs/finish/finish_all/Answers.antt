@@ -2,7 +2,7 @@ use Rattle.std.proofs.Common.{◌≡◌, ◌∙◌, ◌*◌, inl, inr, ℕ, Ok, 
 use Rattle.std.specs.Prelude.{IsSome}
 use Rattle.std.proofs.lemmas.Bool.{cases_Bool}
 use Rattle.block_tree.specs.Reads.{is_damage}
-use Rattle.cyl_alloc.specs.Left.{Left}
+use Rattle.cyl_alloc.specs.Left.{LeftCommit}
 use Rattle.cyl_alloc.specs.Space.{Kept}
 use Rattle.cfs_base.proofs.Calls.{then_tried}
 use Rattle.cfs_base.specs.Calls.{MakesAtMost}
@@ -16,7 +16,7 @@ parts-preserved g c =
     let was = c.parts.invariant in
     let some = some_left c.parts.space.left c.unfinished.result c.unfinished.ensures c.parts-test.true in
     let l = some.0 in
-    let there : IsSome c.parts.space.left = subst (λ (w : Option Left). IsSome w) (sym some.1) refl in
+    let there : IsSome c.parts.space.left = subst (λ (w : Option LeftCommit). IsSome w) (sym some.1) refl in
     let ends = c.in-Ok.ensures.ends in
     let d0 = c.args.disk.now in
     let d1 = c.parts.disk in
@@ -67,7 +67,7 @@ returns-in-Err-clause-one_map g c = λ l cylinder is all. in_one_map g.D.Disk c.
 all_calls : (g : _) (c : goal.After-parts g) → MakesAtMost g.D.Disk (calls_by_map c.args.space.now.left) (tries_by_map c.args.space.now.left) c.args.disk.now c.parts.disk
 all_calls g c =
     let none = none_left c.parts.space.left c.unfinished.result c.unfinished.ensures c.parts-test.false in
-    spent g.D.Disk c.args.disk.now c.parts.disk c.args.space.now.left (subst (λ (w : Option Left). Spends g.D.Disk c.args.disk.now c.parts.disk c.args.space.now.left w) none c.parts.invariant.spends)
+    spent g.D.Disk c.args.disk.now c.parts.disk c.args.space.now.left (subst (λ (w : Option LeftCommit). Spends g.D.Disk c.args.disk.now c.parts.disk c.args.space.now.left w) none c.parts.invariant.spends)
 
 pub returns-clause-by_map : goal.returns-clause-by_map
 returns-clause-by_map g c = all_calls g c

@@ -1,15 +1,22 @@
-use Rattle.index_ops.proofs.Words.{ℕ, List, ◌+◌, ◌*◌, ◌/◌, ◌<◌, Err, None, length, refl, sym, ◌∙◌, ap, subst, arith, is_some, sum, refused_by, Refused, Puid, Kept, Graph, Index, Opened, Drafting, filled_draft, IsTrouble}
+use Rattle.index_ops.proofs.Words.{ℕ, List, ◌+◌, ◌*◌, ◌/◌, ◌<◌, Err, None, length, refl, sym, ◌∙◌, ap, subst, arith, is_some, sum, refused_by, Refused, Puid, Kept, Graph, Index, Opened, Drafting, filled_draft}
 use Rattle.index_ops.specs.Changes.{HasSlot, PutsSlot, short_at}
 use Rattle.index_ops.proofs.Putting.{begun_draft, begun_open, commit_done, commit_leaf, ends_settled, err_commit, err_fill, err_read, from_refusal, ok_commit, settle_done, short_not, short_why, takes_two}
 use Rattle.ufs_model.specs.declared.object.Object.TheVariants as objects
-use Rattle.cyl_alloc.specs.Left.{Left}
+use Rattle.cyl_alloc.specs.Left.{LeftCommit}
 use Rattle.special_files.specs.Committing.{IsNoted}
 use Rattle.index_ops.proofs.changing.put.Goals as goal
+use Rattle.std.specs.Prelude.{Some, ◌≡◌}
+use Rattle.leaf_changes.specs.Tops.{disk_top}
+use Rattle.special_files.proofs.Endings.{ends_at}
+use Rattle.special_files.proofs.Refusals.{trouble_as}
+use Rattle.special_files.specs.Committing.{made_top}
+use Rattle.special_files.specs.Refusal.{top_of}
+use Rattle.index_ops.proofs.Putting.{far_begun, still_there}
 
 pub returns-in-Err : goal.returns-in-Err
 returns-in-Err g c =
     err_read g.D.Disk c.args.index.0 c.args.slot c.args.what c.args.disk.now c.args.space.now c.begin_direct.new.disk c.begin_direct.new.space 1 c.in-Err.error (omega arith) c.in-Err.ensures.reads c.in-Err.ensures.space
-    (from_refusal g.D.Disk c.args.index.0 c.args.slot c.args.disk.now c.begin_direct.new.disk c.begin_direct.new.space c.in-Err.error c.in-Err.ensures.refused c.in-Err.ensures.spare)
+    (from_refusal g.D.Disk c.args.index.0 c.args.slot c.args.disk.now c.begin_direct.new.disk c.begin_direct.new.space c.in-Err.error (still_there g.D.Disk c.args.index.0 c.args.disk.now c.args.disk.now c.begin_direct.new.disk c.begin_direct.new.space c.in-Err.error c.in-Err.ensures.refused) c.in-Err.ensures.spare)
     (λ graph ds id i has. c.in-Err.ensures.sound graph ds id (objects.Index i) has.store has.root has.there)
 
 pub returns-then-size-slot : goal.returns-then-size-slot
@@ -57,8 +64,8 @@ returns-in-Err-fill g c =
     let d1 = c.begin_direct.new.disk in
     let was = c.in-Ok.draft in
     let reads = c.in-Ok.ensures.reads in
-    err_fill g.D.Disk c.args.index.0 c.args.slot c.args.what d0 k0 d1 c.fill.new.disk c.begin_direct.new.space c.fill.new.space c.in-Ok.ensures.space was reads c.in-Err-fill.error (ap (λ (x : Drafting). x.at) c.in-Ok.ensures.begun)
-    c.in-Err-fill.ensures.ends (c.in-Err-fill.ensures.room (omega (arith, c.requires.room, takes_two was (c.args.slot / 64), ap (λ (k : Kept). sum k.free) c.in-Ok.ensures.space)))
+    err_fill g.D.Disk c.args.index.0 c.args.slot c.args.what d0 k0 d1 c.fill.new.disk c.begin_direct.new.space c.fill.new.space c.in-Ok.ensures.space was reads c.in-Err-fill.error
+    (ends_at {at = top_of was} {now = disk_top g.D.Disk c.args.index.0 d0} (ap (λ (x : Drafting). x.at) c.in-Ok.ensures.begun) (far_begun g.D.Disk c.args.index.0 d0 was.own c.in-Ok.ensures.root was c.in-Ok.ensures.begun _) c.in-Err-fill.ensures.ends) (c.in-Err-fill.ensures.room (omega (arith, c.requires.room, takes_two was (c.args.slot / 64), ap (λ (k : Kept). sum k.free) c.in-Ok.ensures.space)))
     (λ graph ds id i has.
     let begun = c.in-Ok.ensures.store graph ds id (objects.Index i) has.store has.root has.there has.shut in
     let open_now = begun_open g.D.Disk graph ds id i c.args.index.0 c.args.slot c.args.what d0 d1 k0 was has c.in-Ok.ensures.begun reads in
@@ -102,9 +109,10 @@ returns-in-Ok-commit_swap g c =
     let is = becomes graph ds id i has in
     c.in-Ok-commit_swap.ensures.commits graph _ id (objects.Index i) (filled_draft i slot what (begun_draft i)) None is.steps.store has.there is.is_open (c.fill.ensures.stays.created ∙ ap (λ (x : Drafting). x.created) begun)
     (rw c.in-Ok-Some.field-0-is at (c.in-Ok-Some.ensures.swaps graph _ id (objects.Index i) (begun_draft i) i (begins graph ds id i has) has.there (opens graph ds id i has) refl (ap (λ (x : Drafting). x.root) begun))) in
-    ok_commit G at slot what d0 k0 d1 d2 c.begin_direct.new.space k2 c.in-Ok.ensures.space was reads d3 k3 _ c.in-Ok-Some.ensures.ends (c.in-Ok-Some.ensures.done (ap is_some c.in-Ok-Some.field-0-is)) c.commit_swap.ensures.cylinders c.commit_swap.ensures.calls
+    ok_commit G at slot what d0 k0 d1 d2 c.begin_direct.new.space k2 c.in-Ok.ensures.space was reads d3 k3 _
+    (ends_at {at = top_of was} {now = disk_top G at d0} (ap (λ (x : Drafting). x.at) begun) (far_begun G at d0 was.own c.in-Ok.ensures.root was begun _) c.in-Ok-Some.ensures.ends) (c.in-Ok-Some.ensures.done (ap is_some c.in-Ok-Some.field-0-is)) c.commit_swap.ensures.cylinders c.commit_swap.ensures.calls
     (λ graph ds id i has. (c.fill.ensures.leaves graph _ id (objects.Index i) (begun_draft i) (begins graph ds id i has) has.there (opens graph ds id i has), (ends graph ds id i has).leaves))
-    (subst (λ (n : ℕ). (l : Left) × IsNoted n k3.left l) (c.fill.ensures.stays.at ∙ ap (λ (x : Drafting). x.at) begun) c.in-Ok-commit_swap.ensures.left) c.in-Ok-commit_swap.ensures.settled
+    (subst (λ (n : ℕ). (l : LeftCommit) × IsNoted n k3.left l) (c.fill.ensures.stays.at ∙ ap (λ (x : Drafting). x.at) begun) c.in-Ok-commit_swap.ensures.left) c.in-Ok-commit_swap.ensures.settled
     (λ graph ds id i has. commit_done G graph ds id i at slot what d0 d1 k0 was has begun reads d2 d3 k2 k3 c.fill.new.self (becomes graph ds id i has) (ends graph ds id i has).done)
     (λ graph ds id i has. commit_leaf G graph ds id i at slot what d0 d1 k0 was has begun reads d2 d3 k2 k3 c.fill.new.self (becomes graph ds id i has) (c.in-Ok.ensures.root has.store.carries.tells)
     (c.in-Ok-Some.ensures.order graph _ id (objects.Index i) (begun_draft i) i (begins graph ds id i has) has.there (opens graph ds id i has) refl (ap is_some c.in-Ok-Some.field-0-is))
@@ -135,7 +143,9 @@ returns-in-Err-commit_swap g c =
     c.in-Err-commit_swap.ensures.commits graph _ id (objects.Index i) (filled_draft i slot what (begun_draft i)) None is.steps.store has.there is.is_open (c.fill.ensures.stays.created ∙ ap (λ (x : Drafting). x.created) begun)
     (rw c.in-Ok-Some.field-0-is at (c.in-Ok-Some.ensures.swaps graph _ id (objects.Index i) (begun_draft i) i (begins graph ds id i has) has.there (opens graph ds id i has) refl (ap (λ (x : Drafting). x.root) begun))) in
     subst (λ (e : Refused). PutsSlot G at slot what d0 d3 k0 k3 (Err e)) (sym (c.from.ensures ∙ ap refused_by c.after_try.ensures))
-    (err_commit G at slot what d0 k0 d1 d2 c.begin_direct.new.space k2 c.in-Ok.ensures.space was reads d3 k3 _ c.in-Ok-Some.ensures.ends (c.in-Ok-Some.ensures.done (ap is_some c.in-Ok-Some.field-0-is)) c.commit_swap.ensures.cylinders c.commit_swap.ensures.calls
+    (err_commit G at slot what d0 k0 d1 d2 c.begin_direct.new.space k2 c.in-Ok.ensures.space was reads d3 k3 _
+    (ends_at {at = top_of was} {now = disk_top G at d0} (ap (λ (x : Drafting). x.at) begun) (far_begun G at d0 was.own c.in-Ok.ensures.root was begun _) c.in-Ok-Some.ensures.ends) (c.in-Ok-Some.ensures.done (ap is_some c.in-Ok-Some.field-0-is)) c.commit_swap.ensures.cylinders c.commit_swap.ensures.calls
     (λ graph ds id i has. (c.fill.ensures.leaves graph _ id (objects.Index i) (begun_draft i) (begins graph ds id i has) has.there (opens graph ds id i has), (ends graph ds id i has).leaves))
-    c.in-Err-commit_swap.trouble (subst (λ (n : ℕ). IsTrouble G n d2 d3 k3 c.in-Err-commit_swap.trouble) (c.fill.ensures.stays.at ∙ ap (λ (x : Drafting). x.at) begun) c.in-Err-commit_swap.ensures.refused)
+    c.in-Err-commit_swap.trouble (trouble_as G (made_top c.fill.new.self.at c.fill.new.self.created) (disk_top G at d0) (c.fill.ensures.stays.at ∙ ap (λ (x : Drafting). x.at) begun) d2 d3 k3
+    (λ far. let no : None ≡ Some far.n = sym (c.fill.ensures.stays.created ∙ ap (λ (x : Drafting). x.created) begun) ∙ far.is in cc) c.in-Err-commit_swap.trouble c.in-Err-commit_swap.ensures.refused)
     (λ graph ds id i has. (ends graph ds id i has).sound))

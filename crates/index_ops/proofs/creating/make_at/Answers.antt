@@ -1,4 +1,4 @@
-use Rattle.index_ops.proofs.Words.{◌≡◌, ◌⊎◌, inl, ℕ, ◌/◌, ◌∷◌, false, None, Some, Ok, Err, refl, sym, ◌∙◌, ap, subst, arith, Option, is_some, root_spelling, Image, after_try, refused_by, Refused, makes_then, tried_then, then, wider, AreClaimed, Making, puid_at, Drafting, IsOpen, begun_at, draft_takes, opened_as, Ends, filled_draft, Swap, SameBeside, leaf_claims, IsRefusal, IsTrouble, is_damaged, is_full_refusal, bare_object, tree_in, Holds}
+use Rattle.index_ops.proofs.Words.{◌≡◌, ◌⊎◌, inl, ℕ, ◌/◌, ◌∷◌, false, None, Some, Ok, Err, refl, sym, ◌∙◌, ap, subst, arith, Option, is_some, root_spelling, Image, after_try, refused_by, Refused, makes_then, tried_then, then, wider, AreClaimed, Making, puid_at, Drafting, IsOpen, begun_at, draft_takes, opened_as, EndsCall, filled_draft, Swap, SameBeside, leaf_claims, IsDraftRefusal, has_met_damage, is_full_refusal, bare_object, tree_in, Holds}
 use Rattle.index_ops.specs.Creates.{begun_of, with_made}
 use Rattle.index_ops.proofs.NewObjects.{created, open_now, root_entry, still_makes, store_makes}
 use Rattle.index_ops.proofs.NewEnds.{commit_refused, fill_refused}
@@ -6,11 +6,19 @@ use Rattle.index_ops.proofs.Putting.{sound_by, takes_two}
 use Rattle.cfs_base.specs.declared.refusal.Refused.TheVariants as refusals
 use Rattle.ufs_model.specs.declared.object.Object.TheVariants as objects
 use Rattle.cfs_base.proofs.Runs.{still_tells}
-use Rattle.cyl_alloc.specs.Left.{Left}
+use Rattle.cyl_alloc.specs.Left.{LeftCommit}
 use Rattle.special_files.specs.Committing.{IsNoted}
 use Rattle.index_ops.proofs.creating.make_at.Goals as goal
+use Rattle.leaf_changes.specs.Tops.{still_top}
+use Rattle.special_files.proofs.Endings.{ends_at}
+use Rattle.special_files.proofs.Refusals.{trouble_as}
+use Rattle.special_files.specs.Committing.{made_top}
+use Rattle.special_files.specs.Refusal.{top_of}
 
-tried_sound : (e : Refused) → is_damaged e ≡ false → is_damaged (after_try e) ≡ false
+some_same : (n m : ℕ) → Some n ≡ Some m → n ≡ m
+some_same n m same = cc
+
+tried_sound : (e : Refused) → has_met_damage e ≡ false → has_met_damage (after_try e) ≡ false
 tried_sound (refusals.Full need) is = refl
 tried_sound (refusals.Disk tried) is = refl
 tried_sound (refusals.Damaged damage) is = is
@@ -26,7 +34,10 @@ returns-in-Err-clause-makes g c = λ graph ds id i store at here shut least bare
     record { done = tt; leaves = wider g.D.Disk c.args.disk.now c.make_root.new.disk _ _ ends.leaves (λ x h. inl h); sound = ends.sound }
 
 pub returns-in-Err-clause-refused : goal.returns-in-Err-clause-refused
-returns-in-Err-clause-refused g c = ((c.in-Err.ensures.ends c.args.draft.at).refused, c.in-Err.ensures.spare)
+returns-in-Err-clause-refused g c = (
+  (ends_at {at = still_top c.args.draft.at} {now = top_of c.args.draft} refl (λ far. absurd far) (c.in-Err.ensures.ends c.args.draft.at)).refused,
+  c.in-Err.ensures.spare,
+)
 
 pub returns-in-Err-clause-untried : goal.returns-in-Err-clause-untried
 returns-in-Err-clause-untried g c = (c.in-Err.ensures.ends 0).untried
@@ -65,7 +76,7 @@ returns-in-Err-fill-clause-makes g c = λ graph ds id i store at here shut least
     let P : Image → Type 0 = (λ x. Holds x graph ⊎ Holds x (with_made graph id i c.args.slot (puid_at n root.word) (bare_object root))) in
     let left1 = wider G d0 d1 _ P root_ends.leaves (λ x h. inl h) in
     let left2 = then G d0 d1 d2 P _ left1 (c.fill.ensures.leaves graph fs id (objects.Index i) (begun_of i) store1 at open1) (λ x h. inl h) in
-    record { done = tt; leaves = left2; sound = subst (λ (e : Refused). is_damaged e ≡ false) (sym c.after_try.ensures) (tried_sound c.in-Err-fill.error (c.in-Err-fill.ensures.sound graph fs id (objects.Index i) (begun_of i) store1 at open1)) }
+    record { done = tt; leaves = left2; sound = subst (λ (e : Refused). has_met_damage e ≡ false) (sym c.after_try.ensures) (tried_sound c.in-Err-fill.error (c.in-Err-fill.ensures.sound graph fs id (objects.Index i) (begun_of i) store1 at open1)) }
 
 pub returns-in-Err-fill-clause-refused : goal.returns-in-Err-fill-clause-refused
 returns-in-Err-fill-clause-refused g c =
@@ -78,11 +89,11 @@ returns-in-Err-fill-clause-refused g c =
     let d2 = c.fill.new.disk in
     let k2 = c.fill.new.space in
     let j = draft_takes c.adopt.new.self (c.args.slot / 64) in
-    let first = c.in-Ok.ensures.ends was.at in
+    let first = ends_at {at = still_top was.at} {now = top_of was} refl (λ far. absurd far) (c.in-Ok.ensures.ends was.at) in
     let at_is = ap (λ (x : Drafting). x.at) c.adopt.ensures in
-    let second = subst (λ (a : ℕ). Ends {A = Option Swap} G a 0 8 4 j d1 d2 k1 k2 (Err c.in-Err-fill.error)) at_is c.in-Err-fill.ensures.ends in
+    let second = subst (λ (x : Drafting). EndsCall {A = Option Swap} G (top_of x) 0 8 4 j d1 d2 k1 k2 (Err c.in-Err-fill.error)) c.adopt.ensures c.in-Err-fill.ensures.ends in
     let spare = c.in-Err-fill.ensures.room (omega (arith, c.requires.room, takes_two c.adopt.new.self (c.args.slot / 64), first.takes)) in
-    subst (λ (e : Refused). IsRefusal G was.at 0 d0 d2 k2 e × (is_full_refusal e ≡ false)) (sym c.after_try.ensures) (fill_refused G was.at d0 d1 d2 k0 k1 k2 j first c.in-Ok.ensures.tried c.in-Err-fill.error second spare)
+    subst (λ (e : Refused). IsDraftRefusal G (top_of was) 0 d0 d2 k2 e × (is_full_refusal e ≡ false)) (sym c.after_try.ensures) (fill_refused G (top_of was) d0 d1 d2 k0 k1 k2 j first c.in-Ok.ensures.tried c.in-Err-fill.error second spare)
 
 pub returns-in-Err-fill-clause-cylinders : goal.returns-in-Err-fill-clause-cylinders
 returns-in-Err-fill-clause-cylinders g c = c.in-Err-fill.ensures.ends.cylinders ∙ (c.in-Ok.ensures.ends 0).cylinders
@@ -144,7 +155,7 @@ pub returns-in-Ok-commit_swap-clause-cylinders : goal.returns-in-Ok-commit_swap-
 returns-in-Ok-commit_swap-clause-cylinders g c = c.in-Ok-commit_swap.ensures.cylinders ∙ c.in-Ok-Some.ensures.ends.cylinders ∙ (c.in-Ok.ensures.ends 0).cylinders
 
 pub returns-in-Ok-commit_swap-clause-left : goal.returns-in-Ok-commit_swap-clause-left
-returns-in-Ok-commit_swap-clause-left g c = subst (λ (n : ℕ). (l : Left) × IsNoted n c.commit_swap.new.space.left l) (c.fill.ensures.stays.at ∙ ap (λ (x : Drafting). x.at) c.adopt.ensures) c.in-Ok-commit_swap.ensures.left
+returns-in-Ok-commit_swap-clause-left g c = subst (λ (n : ℕ). (l : LeftCommit) × IsNoted n c.commit_swap.new.space.left l) (c.fill.ensures.stays.at ∙ ap (λ (x : Drafting). x.at) c.adopt.ensures) c.in-Ok-commit_swap.ensures.left
 
 pub returns-in-Ok-commit_swap-clause-bit : goal.returns-in-Ok-commit_swap-clause-bit
 returns-in-Ok-commit_swap-clause-bit g c =
@@ -197,7 +208,7 @@ returns-in-Err-commit_swap-clause-makes g c = λ graph ds id i store at here shu
     record {
       done = tt;
       leaves = then G d0 d2 d3 P _ left2 ends.leaves (λ x h. h);
-      sound = subst (λ (e : Refused). is_damaged e ≡ false) (sym (c.from.ensures ∙ ap refused_by c.after_try-in-Err-commit_swap.ensures)) (sound_by c.in-Err-commit_swap.trouble ends.sound);
+      sound = subst (λ (e : Refused). has_met_damage e ≡ false) (sym (c.from.ensures ∙ ap refused_by c.after_try-in-Err-commit_swap.ensures)) (sound_by c.in-Err-commit_swap.trouble ends.sound);
     }
 
 pub returns-in-Err-commit_swap-clause-refused : goal.returns-in-Err-commit_swap-clause-refused
@@ -211,12 +222,15 @@ returns-in-Err-commit_swap-clause-refused g c =
     let d2 = c.fill.new.disk in
     let k2 = c.fill.new.space in
     let j = draft_takes c.adopt.new.self (c.args.slot / 64) in
-    let first = c.in-Ok.ensures.ends was.at in
+    let first = ends_at {at = still_top was.at} {now = top_of was} refl (λ far. absurd far) (c.in-Ok.ensures.ends was.at) in
     let at_is = ap (λ (x : Drafting). x.at) c.adopt.ensures in
-    let second = subst (λ (a : ℕ). Ends {A = Option Swap} G a 0 8 4 j d1 d2 k1 k2 (Ok c.in-Ok-Some.field-0)) at_is c.in-Ok-Some.ensures.ends in
-    let why = subst (λ (a : ℕ). IsTrouble G a d2 c.commit_swap.new.disk c.commit_swap.new.space c.in-Err-commit_swap.trouble) (c.fill.ensures.stays.at ∙ at_is) c.in-Err-commit_swap.ensures.refused in
-    subst (λ (e : Refused). IsRefusal G was.at 0 d0 c.commit_swap.new.disk c.commit_swap.new.space e × (is_full_refusal e ≡ false)) (sym (c.from.ensures ∙ ap refused_by c.after_try-in-Err-commit_swap.ensures))
-    (commit_refused G was.at d0 d1 d2 k0 k1 k2 j first c.in-Ok.ensures.tried _ second c.commit_swap.new.disk c.commit_swap.new.space c.in-Err-commit_swap.trouble why)
+    let second = subst (λ (x : Drafting). EndsCall {A = Option Swap} G (top_of x) 0 8 4 j d1 d2 k1 k2 (Ok c.in-Ok-Some.field-0)) c.adopt.ensures c.in-Ok-Some.ensures.ends in
+    let made : c.fill.new.self.created ≡ Some c.args.block.0 = c.fill.ensures.stays.created ∙ ap (λ (x : Drafting). x.created) c.adopt.ensures in
+    let size = c.commit_swap.ensures.calls.same.size ∙ second.calls.same.size ∙ first.calls.same.size in
+    let why = trouble_as G (made_top c.fill.new.self.at c.fill.new.self.created) (top_of was) (c.fill.ensures.stays.at ∙ at_is) d2 c.commit_swap.new.disk c.commit_swap.new.space
+    (λ far. absurd (let same : far.n ≡ c.args.block.0 = some_same far.n c.args.block.0 (sym far.is ∙ made) in omega (arith, far.far, c.requires.on_disk, size, same))) c.in-Err-commit_swap.trouble c.in-Err-commit_swap.ensures.refused in
+    subst (λ (e : Refused). IsDraftRefusal G (top_of was) 0 d0 c.commit_swap.new.disk c.commit_swap.new.space e × (is_full_refusal e ≡ false)) (sym (c.from.ensures ∙ ap refused_by c.after_try-in-Err-commit_swap.ensures))
+    (commit_refused G (top_of was) d0 d1 d2 k0 k1 k2 j first c.in-Ok.ensures.tried _ second c.commit_swap.new.disk c.commit_swap.new.space c.in-Err-commit_swap.trouble why)
 
 pub returns-in-Err-commit_swap-clause-cylinders : goal.returns-in-Err-commit_swap-clause-cylinders
 returns-in-Err-commit_swap-clause-cylinders g c = c.in-Err-commit_swap.ensures.cylinders ∙ c.in-Ok-Some.ensures.ends.cylinders ∙ (c.in-Ok.ensures.ends 0).cylinders

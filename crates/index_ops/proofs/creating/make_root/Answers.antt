@@ -1,6 +1,7 @@
 use Rattle.index_ops.proofs.Words.{arith}
 use Rattle.index_ops.proofs.NewObjects.{make_ends, make_stops, root_entry, root_made}
 use Rattle.index_ops.proofs.creating.make_root.Goals as goal
+use Rattle.leaf_changes.specs.Tops.{still_top}
 
 pub write_root-requires : goal.write_root-requires
 write_root-requires g c = omega (arith, c.requires.on_disk, (c.in-Ok.ensures.ends 0).calls.same.size)
@@ -9,7 +10,7 @@ pub returns-in-Ok-clause-made : goal.returns-in-Ok-clause-made
 returns-in-Ok-clause-made g c = λ graph ds store least. root_made g.D.Disk c.args.block.0 c.args.disk.now c.claim_root.new.disk c.args.space.now graph ds store least (root_entry c.args.block.0 c.requires.some (omega arith)) c.write_root.new.disk c.claim_root.new.space c.args.root.now (c.in-Ok.ensures.claims graph ds store least) c.write_root.result c.write_root.ensures.writes
 
 pub returns-in-Ok-clause-ends : goal.returns-in-Ok-clause-ends
-returns-in-Ok-clause-ends g c = λ at. make_ends g.D.Disk at c.args.block.0 c.args.disk.now c.claim_root.new.disk c.write_root.new.disk c.args.space.now c.claim_root.new.space c.args.root.now (c.in-Ok.ensures.ends at) c.in-Ok.ensures.tried c.write_root.result c.write_root.ensures.writes
+returns-in-Ok-clause-ends g c = λ at. make_ends g.D.Disk (still_top at) c.args.block.0 c.args.disk.now c.claim_root.new.disk c.write_root.new.disk c.args.space.now c.claim_root.new.space c.args.root.now (c.in-Ok.ensures.ends at) c.in-Ok.ensures.tried c.write_root.result c.write_root.ensures.writes
 
 pub returns-in-Err-clause-ends : goal.returns-in-Err-clause-ends
-returns-in-Err-clause-ends g c = λ at. make_stops g.D.Disk at c.args.disk.now c.claim_root.new.disk c.args.space.now c.claim_root.new.space c.in-Err.error (c.in-Err.ensures.ends at)
+returns-in-Err-clause-ends g c = λ at. make_stops g.D.Disk (still_top at) c.args.disk.now c.claim_root.new.disk c.args.space.now c.claim_root.new.space c.in-Err.error (c.in-Err.ensures.ends at)

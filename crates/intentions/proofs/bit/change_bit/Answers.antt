@@ -11,7 +11,7 @@ returns g c =
     let n = c.args.root.0 in
     let value = c.of-now.ensures.value in
     record {
-      changes = rewrites_bit g.D.Disk n (λ e. entries.changed c.args.how e) c.in_ok-entry.entry (entries_of c.read_entry.new.map) c.args.disk.now read new c.put_between.result c.in_ok-entry.ensures.reads
+      changes = rewrites_bit g.D.Disk n (λ e. entries.changed_entry c.args.how e) c.in_ok-entry.entry (entries_of c.read_entry.new.map) c.args.disk.now read new c.put_between.result c.in_ok-entry.ensures.reads
           c.in_ok-entry.ensures.entry c.in_ok-entry.ensures.map c.in_ok-entry.ensures.whole
           (λ is. subst (λ (e : MapEntry). OnOk c.put_between.result (g.D.Disk.content new ≡ with_entry (g.D.Disk.content read) n e)) value (c.put_between.ensures.written is))
           c.put_between.ensures.settled

@@ -11,7 +11,7 @@ returns-in-Err-clause-changes g c =
     let new = c.put_entry.new.disk in
     let n = c.args.block.0 in
     let reads = c.in_ok-entry.ensures.reads in
-    rewrites g.D.Disk n (λ e. entries.changed c.args.how e) c.in_ok-entry.entry old read new _ (record {
+    rewrites g.D.Disk n (λ e. entries.changed_entry c.args.how e) c.in_ok-entry.entry old read new _ (record {
       reads = reads;
       here = c.in_ok-entry.ensures.entry;
       whole = c.in_ok-entry.ensures.whole;
@@ -33,7 +33,7 @@ returns-in-Ok-clause-changes g c =
     let n = c.args.block.0 in
     let reads = c.in_ok-entry.ensures.reads in
     let value = c.of-now.ensures.value in
-    rewrites g.D.Disk n (λ e. entries.changed c.args.how e) c.in_ok-entry.entry old read new _ (record {
+    rewrites g.D.Disk n (λ e. entries.changed_entry c.args.how e) c.in_ok-entry.entry old read new _ (record {
       reads = reads;
       here = c.in_ok-entry.ensures.entry;
       whole = c.in_ok-entry.ensures.whole;

@@ -10,12 +10,12 @@ pub returns-clause-begin : goal.returns-clause-begin
 returns-clause-begin c = pace_begin
 
 pub returns-clause-take : goal.returns-clause-take
-returns-clause-take c g names r rest colours steps added pace = pace_take g colours names r rest steps added pace
+returns-clause-take c g directory r rest colours steps added pace = pace_take g colours directory r rest steps added pace
 
 pub returns-clause-scan : goal.returns-clause-scan
-returns-clause-scan c s names waiting colours e i steps added first at is pace =
-    pace_scan s.graph colours (scanned names i e.cursor colours) waiting steps added
-    (scan_raises s.graph colours e i names first is.coloured.once (first_marked s colours waiting e first is.coloured) at) pace
+returns-clause-scan c s directory waiting colours e i steps added first at is pace =
+    pace_scan s.graph colours (scanned directory i e.cursor colours) waiting steps added
+    (scan_raises s.graph colours e i directory first is.coloured.once (first_marked s colours waiting e first is.coloured) at) pace
 
 pub returns-clause-rescue : goal.returns-clause-rescue
 returns-clause-rescue c g r waiting colours steps added pace = pace_rescue g colours waiting r steps added pace

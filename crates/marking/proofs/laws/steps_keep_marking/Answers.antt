@@ -6,11 +6,11 @@ use Rattle.marking.proofs.Asked.{allowed}
 use Rattle.marking.proofs.laws.steps_keep_marking.Goals as goal
 
 pub returns-clause-begin : goal.returns-clause-begin
-returns-clause-begin c seed s t names roots began state are all =
-    subst (λ (u : State). IsMarking u (all_shaded names roots none_marked) []) (allowed _ (begun s) t began).1 (begin_keeps s (well s state) names are roots all)
+returns-clause-begin c seed s t directory roots began state are all =
+    subst (λ (u : State). IsMarking u (all_shaded directory roots none_marked) []) (allowed _ (begun s) t began).1 (begin_keeps s (well s state) directory are roots all)
 
 pub returns-clause-take : goal.returns-clause-take
-returns-clause-take c s names r rest colours state are is = take_keeps s (well s state) names are r rest colours is
+returns-clause-take c s directory r rest colours state are is = take_keeps s (well s state) directory are r rest colours is
 
 pub returns-clause-scan : goal.returns-clause-scan
-returns-clause-scan c s names waiting colours e i state are first at is = scan_keeps s (well s state) names are waiting colours e i first at is
+returns-clause-scan c s directory waiting colours e i state are first at is = scan_keeps s (well s state) directory are waiting colours e i first at is

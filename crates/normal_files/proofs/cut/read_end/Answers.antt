@@ -2,6 +2,7 @@ use Rattle.normal_files.proofs.Words.{ℕ, inl, inr, sym, ap, ◌∙◌, subst, 
 use Rattle.normal_files.specs.Laid.{node_of}
 use Rattle.normal_files.proofs.Refusals.{node_trouble, stopped_undamaged, tells_after}
 use Rattle.normal_files.proofs.cut.read_end.Goals as goal
+use Rattle.leaf_changes.specs.Tops.{root_top}
 
 pub returns-clause-read : goal.returns-clause-read
 returns-clause-read g c =
@@ -34,4 +35,4 @@ pub returns-in-Err-cut_content-clause-sound : goal.returns-in-Err-cut_content-cl
 returns-in-Err-cut_content-clause-sound g c = λ tells near. stopped_undamaged g.D.Disk c.read_node.new.disk c.cut_content.new.disk c.in-Err-cut_content.trouble c.in-Err-cut_content.ensures.refused
 
 pub returns-in-Err-clause-refused : goal.returns-in-Err-clause-refused
-returns-in-Err-clause-refused g c = node_trouble g.D.Disk _ c.args.at.0 c.args.disk.now c.read_node.new.disk c.in-Err.trouble c.in-Err.ensures.refused
+returns-in-Err-clause-refused g c = node_trouble g.D.Disk _ (root_top c.args.at.0 c.args.root.now) c.args.disk.now c.read_node.new.disk c.in-Err.trouble (λ past. (c.last_node-last.result, past)) c.in-Err.ensures.refused

@@ -1,9 +1,11 @@
 use Rattle.normal_files.proofs.Words.{◌+◌, ◌*◌, Err, sym, subst, arith, Trouble, leaf_pointers}
-use Rattle.normal_files.specs.Frees.{Follows, FreesTo, GivesNode}
-use Rattle.normal_files.proofs.Freed.{follows_on}
+use Rattle.normal_files.specs.Frees.{FollowsStart, FreesTo, GivesNode}
+use Rattle.normal_files.proofs.Freed.{follows_on, follows_as}
 use Rattle.normal_files.proofs.FreedRun.{after_read, node_err, node_on, node_unread, read_follows, unread_follows}
 use Rattle.normal_files.proofs.Refusals.{node_trouble}
 use Rattle.normal_files.proofs.free.free_node.Goals as goal
+use Rattle.std.proofs.Common.{refl}
+use Rattle.leaf_changes.specs.Tops.{root_top, still_top}
 
 pub returns-in-Err-clause-frees : goal.returns-in-Err-clause-frees
 returns-in-Err-clause-frees g c =
@@ -13,9 +15,9 @@ returns-in-Err-clause-frees g c =
 
 pub returns-in-Err-clause-follows : goal.returns-in-Err-clause-follows
 returns-in-Err-clause-follows g c =
-    subst (λ (t : Trouble). Follows g.D.Disk c.args.at.0 259 129 c.args.disk.now c.read_node.new.disk c.args.space.now c.args.space.now (Err t)) (sym c.after_try.ensures)
-    (unread_follows g.D.Disk c.args.root.now c.args.number c.args.disk.now c.read_node.new.disk c.args.space.now c.in-Err.ensures.reads c.args.at.0 259 129 c.in-Err.trouble (omega arith)
-    (node_trouble g.D.Disk _ c.args.at.0 c.args.disk.now c.read_node.new.disk c.in-Err.trouble c.in-Err.ensures.refused) c.in-Err.ensures.untried)
+    subst (λ (t : Trouble). FollowsStart g.D.Disk (root_top c.args.at.0 c.args.root.now) 259 129 c.args.disk.now c.read_node.new.disk c.args.space.now c.args.space.now (Err t)) (sym c.after_try.ensures)
+    (unread_follows g.D.Disk c.args.root.now c.args.number c.args.disk.now c.read_node.new.disk c.args.space.now c.in-Err.ensures.reads (root_top c.args.at.0 c.args.root.now) 259 129 c.in-Err.trouble (omega arith)
+    (node_trouble g.D.Disk _ (root_top c.args.at.0 c.args.root.now) c.args.disk.now c.read_node.new.disk c.in-Err.trouble (λ past. (c.args.number, past)) c.in-Err.ensures.refused) c.in-Err.ensures.untried)
 
 pub returns-in-Err-free_leaves-clause-frees : goal.returns-in-Err-free_leaves-clause-frees
 returns-in-Err-free_leaves-clause-frees g c =
@@ -25,15 +27,17 @@ returns-in-Err-free_leaves-clause-frees g c =
 
 pub returns-in-Err-free_leaves-clause-follows : goal.returns-in-Err-free_leaves-clause-follows
 returns-in-Err-free_leaves-clause-follows g c =
-    read_follows g.D.Disk c.args.root.now c.args.number c.args.disk.now c.read_node.new.disk c.args.space.now c.in-Ok.ensures.reads c.args.at.0 256 leaf_pointers.count 259 129 c.free_leaves.new.disk c.free_leaves.new.space _ (omega arith) (omega arith) c.in-Err-free_leaves.ensures.follows
+    follows_as g.D.Disk {at = still_top c.args.at.0} {now = root_top c.args.at.0 c.args.root.now} 259 129 c.args.disk.now c.free_leaves.new.disk c.args.space.now c.free_leaves.new.space _ refl (λ size far. absurd far) (omega arith) (omega arith)
+    (read_follows g.D.Disk c.args.root.now c.args.number c.args.disk.now c.read_node.new.disk c.args.space.now c.in-Ok.ensures.reads (still_top c.args.at.0) 256 leaf_pointers.count 259 129 c.free_leaves.new.disk c.free_leaves.new.space _ (omega arith) (omega arith) c.in-Err-free_leaves.ensures.follows)
 
 pub returns-clause-frees : goal.returns-clause-frees
 returns-clause-frees g c =
     let n = c.args.number in
     after_read g.D.Disk c.args.root.now n c.args.disk.now c.read_node.new.disk c.args.space.now c.in-Ok.ensures.reads c.in-Ok.node.leaves (leaf_pointers.count * n) n (leaf_pointers.count * n + leaf_pointers.count) (n + 1) c.free.new.disk c.free.new.space c.free.result (λ tells. c.in-Ok.ensures.node tells)
-    (node_on g.D.Disk c.args.root.now c.in-Ok.node.leaves n c.args.at.0 c.read_node.new.disk c.free_leaves.new.disk c.free.new.disk c.args.space.now c.free_leaves.new.space c.free.new.space c.free.result c.in-Ok-free_leaves.ensures.frees c.free.ensures.frees c.free.ensures.follows)
+    (node_on g.D.Disk c.args.root.now c.in-Ok.node.leaves n (still_top c.args.at.0) c.read_node.new.disk c.free_leaves.new.disk c.free.new.disk c.args.space.now c.free_leaves.new.space c.free.new.space c.free.result c.in-Ok-free_leaves.ensures.frees c.free.ensures.frees c.free.ensures.follows)
 
 pub returns-clause-follows : goal.returns-clause-follows
 returns-clause-follows g c =
-    read_follows g.D.Disk c.args.root.now c.args.number c.args.disk.now c.read_node.new.disk c.args.space.now c.in-Ok.ensures.reads c.args.at.0 258 129 259 129 c.free.new.disk c.free.new.space c.free.result (omega arith) (omega arith)
-    (follows_on g.D.Disk c.args.at.0 256 leaf_pointers.count 2 1 258 129 c.read_node.new.disk c.free_leaves.new.disk c.free.new.disk c.args.space.now c.free_leaves.new.space c.free.new.space c.free.result (omega arith) (omega arith) c.in-Ok-free_leaves.ensures.follows c.free.ensures.follows)
+    follows_as g.D.Disk {at = still_top c.args.at.0} {now = root_top c.args.at.0 c.args.root.now} 259 129 c.args.disk.now c.free.new.disk c.args.space.now c.free.new.space c.free.result refl (λ size far. absurd far) (omega arith) (omega arith)
+    (read_follows g.D.Disk c.args.root.now c.args.number c.args.disk.now c.read_node.new.disk c.args.space.now c.in-Ok.ensures.reads (still_top c.args.at.0) 258 129 259 129 c.free.new.disk c.free.new.space c.free.result (omega arith) (omega arith)
+    (follows_on g.D.Disk (still_top c.args.at.0) 256 leaf_pointers.count 2 1 258 129 c.read_node.new.disk c.free_leaves.new.disk c.free.new.disk c.args.space.now c.free_leaves.new.space c.free.new.space c.free.result (omega arith) (omega arith) c.in-Ok-free_leaves.ensures.follows c.free.ensures.follows))

@@ -1,24 +1,25 @@
-use Rattle.normal_files.proofs.Words.{◌≡◌, ℕ, ◌+◌, ◌-◌, ◌*◌, ◌/◌, ◌≤◌, false, List, length, sym, ◌∙◌, ap, subst, arith, slice_range, Image, block_at, reads_then, reads_within, IsReadTo, leaf_block, leaf_in, tree_in, leaves_in, length-overlaid, node_levels, read_more, root_spelling, is_damage, with_leaf}
-use Rattle.block_tree.specs.Along.{IsNearTree, IsTo, IsWay, IsWithin}
+use Rattle.normal_files.proofs.Words.{◌≡◌, ℕ, ◌+◌, ◌-◌, ◌*◌, ◌/◌, ◌≤◌, false, List, length, sym, ◌∙◌, ap, subst, arith, slice_range, Image, block_at, reads_then, reads_within, IsReadTo, leaf_block, leaf_in, tree_in, leaves_in, length-overlaid, node_levels, read_more, root_spelling, is_damage, with_leaf_copied}
+use Rattle.block_tree.specs.Along.{IsNearTree, IsTo, IsWay, IsWayWithin}
 use Rattle.normal_files.specs.Refusal.{IsTrouble}
 use Rattle.normal_files.proofs.LeafReads.{leaf_is_read, part_is, read_before, read_on, reads_leaf, reads_touched}
 use Rattle.normal_files.proofs.Refusals.{passed, stopped_is, stopped_undamaged, tells_after, trouble_after_reads, way_refused}
 use Rattle.normal_files.proofs.Trees.{near_tree}
 use Rattle.ufs_model.specs.declared.object.Object.TheVariants as objects
 use Rattle.normal_files.proofs.reading.read.Goals as goal
+use Rattle.leaf_changes.specs.Tops.{root_top}
 
 pub get-requires : goal.get-requires
 get-requires g c = record {
   some = omega (arith, c.requires.on_disk, c.loop-leaf.invariant.reads.same.size);
   below = omega (arith, c.loop-leaf-test.true, c.touched-leaves.ensures.to, c.requires.inside, c.loop-leaf.invariant.long);
-  within = subst (λ (n : ℕ). IsWithin n c.loop-leaf.way) (sym c.loop-leaf.invariant.reads.same.size) c.loop-leaf.invariant.within;
+  within = subst (λ (n : ℕ). IsWayWithin n c.loop-leaf.way) (sym c.loop-leaf.invariant.reads.same.size) c.loop-leaf.invariant.within;
 }
 
 pub returns-in_err-block-clause-refused : goal.returns-in_err-block-clause-refused
 returns-in_err-block-clause-refused g c =
     let t = c.in_err-block.field-0.0 in
-    passed (IsTrouble g.D.Disk c.args.at.0 c.args.disk.now c.get.new.disk) c.from_residual.result t c.from_residual.ensures.1
-    (trouble_after_reads g.D.Disk c.args.at.0 c.args.disk.now c.loop-leaf.disk c.get.new.disk _ t c.loop-leaf.invariant.reads (way_refused g.D.Disk c.args.at.0 c.args.root.now c.loop-leaf.disk c.get.new.disk t c.in_err-block.ensures.refused))
+    passed (IsTrouble g.D.Disk (root_top c.args.at.0 c.args.root.now) c.args.disk.now c.get.new.disk) c.from_residual.result t c.from_residual.ensures.1
+    (trouble_after_reads g.D.Disk (root_top c.args.at.0 c.args.root.now) c.args.disk.now c.loop-leaf.disk c.get.new.disk _ t c.loop-leaf.invariant.reads (way_refused g.D.Disk c.args.at.0 c.args.root.now c.loop-leaf.disk c.get.new.disk t c.in_err-block.ensures.refused))
 
 pub returns-in_err-block-clause-sound : goal.returns-in_err-block-clause-sound
 returns-in_err-block-clause-sound g c = λ f tells file rooted.
@@ -39,8 +40,8 @@ returns-in_err-content-clause-refused g c =
     let one = c.in_ok-block.ensures.reads 0 (omega arith) (λ d none. absurd (omega (arith, none))) in
     let before = read_before (c.args.offset / 512) c.loop-leaf.leaf in
     let both = reads_then g.D.Disk c.args.disk.now c.loop-leaf.disk c.get.new.disk before node_levels (before + node_levels) c.loop-leaf.invariant.reads one (omega arith) in
-    passed (IsTrouble g.D.Disk c.args.at.0 c.args.disk.now c.read_block.new.disk) c.from_residual-in_err-content.result t c.from_residual-in_err-content.ensures.1
-    (trouble_after_reads g.D.Disk c.args.at.0 c.args.disk.now c.get.new.disk c.read_block.new.disk _ t both (stopped_is g.D.Disk c.args.at.0 c.get.new.disk c.read_block.new.disk t c.in_err-content.ensures.refused))
+    passed (IsTrouble g.D.Disk (root_top c.args.at.0 c.args.root.now) c.args.disk.now c.read_block.new.disk) c.from_residual-in_err-content.result t c.from_residual-in_err-content.ensures.1
+    (trouble_after_reads g.D.Disk (root_top c.args.at.0 c.args.root.now) c.args.disk.now c.get.new.disk c.read_block.new.disk _ t both (stopped_is g.D.Disk (root_top c.args.at.0 c.args.root.now) c.get.new.disk c.read_block.new.disk t c.in_err-content.ensures.refused))
 
 pub returns-in_err-content-clause-sound : goal.returns-in_err-content-clause-sound
 returns-in_err-content-clause-sound g c = λ f tells file rooted.
@@ -71,7 +72,7 @@ loop-leaf-preserved g c =
     let both = reads_then g.D.Disk d mid c.get.new.disk (read_before from l) node_levels (read_before from l + node_levels) reads one (omega arith) in
     record {
       long = ap (length {A = ℕ}) c.read_part.ensures ∙ length-overlaid c.args.offset c.loop-leaf.into (512 * l) c.in_ok-content.content ∙ before.long;
-      within = subst (λ (n : ℕ). IsWithin n c.get.new.self) reads.same.size got.within;
+      within = subst (λ (n : ℕ). IsWayWithin n c.get.new.self) reads.same.size got.within;
       way = λ tells. subst (λ (i : Image). IsWay i c.args.root.now c.get.new.self) reads.content
           (got.way (tells_after g.D.Disk d mid reads tells) (subst (λ (i : Image). IsWay i c.args.root.now c.loop-leaf.way) (sym reads.content) (before.way tells)));
       last = λ more. subst (λ (k : ℕ). IsTo k c.get.new.self) (let e : l ≡ l + 1 - 1 = omega arith in e) got.to;
@@ -86,7 +87,7 @@ loop-leaf-preserved g c =
           (omega (arith, got.there, reads.same.size, size)) (c.in_ok-content.ensures.content (tells_after g.D.Disk d c.get.new.disk both tells)) in
           let leaf = leaf_in (tree_in image (block_at image c.args.at.0)) in
           subst (λ (part : List ℕ). IsReadTo (l + 1) c.args.root.now.fill leaf c.args.offset part)
-          (ap (λ (content : List ℕ). with_leaf l content c.args.offset c.loop-leaf.into) (sym is) ∙ sym c.read_part.ensures)
+          (ap (λ (content : List ℕ). with_leaf_copied l content c.args.offset c.loop-leaf.into) (sym is) ∙ sym c.read_part.ensures)
           (read_more c.args.root.now.fill leaf c.args.offset c.loop-leaf.into l (before.read tells rooted));
     }
 

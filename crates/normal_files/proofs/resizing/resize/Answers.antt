@@ -3,13 +3,15 @@ use Rattle.normal_files.specs.Ends.{is_damaged}
 use Rattle.normal_files.specs.WriteRefusal.{is_untried}
 use Rattle.normal_files.specs.Frees.{IsResizeRefusal}
 use Rattle.normal_files.proofs.Come.{reads_none}
-use Rattle.normal_files.proofs.FileCalls.{becomes_on, damage_same, handed_file, images_read, none_on, read_troubled, shrink_refused, troubled_untried, becomes_as, file_size, partly_as, view, view_on}
+use Rattle.normal_files.proofs.FileCalls.{becomes_on, damage_same, handed_file, images_read, none_on, read_troubled, shrink_refused, troubled_untried, becomes_as, file_size, partly_as, view, view_on, shrink_on_disk}
 use Rattle.normal_files.proofs.Refusals.{root_trouble, stopped_undamaged}
 use Rattle.normal_files.proofs.resizing.resize.Goals as goal
+use Rattle.leaf_changes.specs.Tops.{disk_top}
 
 pub returns-in-Err-shrink-clause-refused : goal.returns-in-Err-shrink-clause-refused
-returns-in-Err-shrink-clause-refused g c = subst (IsResizeRefusal g.D.Disk c.args.at.0 c.args.floor c.args.disk.now c.shrink.new.disk c.args.space.now) (sym c.from-in-Err-shrink.ensures)
-    (shrink_refused g.D.Disk c.args.at.0 c.args.floor c.args.disk.now c.read_root.new.disk c.shrink.new.disk c.in-Ok-read_root.ensures.reads c.args.space.now c.in-Err-shrink.trouble c.in-Err-shrink.ensures.refused)
+returns-in-Err-shrink-clause-refused g c = subst (IsResizeRefusal g.D.Disk (disk_top g.D.Disk c.args.at.0 c.args.disk.now) c.args.floor c.args.disk.now c.shrink.new.disk c.args.space.now) (sym c.from-in-Err-shrink.ensures)
+    (shrink_refused g.D.Disk (disk_top g.D.Disk c.args.at.0 c.args.disk.now) c.args.floor c.args.disk.now c.read_root.new.disk c.shrink.new.disk c.in-Ok-read_root.ensures.reads c.args.space.now c.in-Err-shrink.trouble
+    (shrink_on_disk g.D.Disk c.args.at.0 c.in-Ok-read_root.root c.args.disk.now c.read_root.new.disk c.shrink.new.disk c.in-Ok-read_root.ensures.root c.in-Err-shrink.trouble c.in-Err-shrink.ensures.refused))
 
 pub returns-in-Err-clause-untried : goal.returns-in-Err-clause-untried
 returns-in-Err-clause-untried g c = λ h. (refl, reads_within g.D.Disk c.args.disk.now c.args.disk.now 0 3 (omega arith) (reads_none g.D.Disk c.args.disk.now))
@@ -101,6 +103,6 @@ returns-in-Err-shrink-clause-resizes g c = λ h.
     }
 
 pub returns-in-Err-read_root-clause-refused : goal.returns-in-Err-read_root-clause-refused
-returns-in-Err-read_root-clause-refused g c = subst (IsResizeRefusal g.D.Disk c.args.at.0 c.args.floor c.args.disk.now c.read_root.new.disk c.args.space.now) (sym c.from.ensures)
-    (shrink_refused g.D.Disk c.args.at.0 c.args.floor c.args.disk.now c.args.disk.now c.read_root.new.disk (reads_none g.D.Disk c.args.disk.now) c.args.space.now c.in-Err-read_root.trouble
-    (read_troubled g.D.Disk c.args.at.0 c.args.disk.now c.read_root.new.disk c.in-Err-read_root.trouble (root_trouble g.D.Disk c.args.at.0 c.args.disk.now c.read_root.new.disk c.in-Err-read_root.trouble c.in-Err-read_root.ensures.refused)))
+returns-in-Err-read_root-clause-refused g c = subst (IsResizeRefusal g.D.Disk (disk_top g.D.Disk c.args.at.0 c.args.disk.now) c.args.floor c.args.disk.now c.read_root.new.disk c.args.space.now) (sym c.from.ensures)
+    (shrink_refused g.D.Disk (disk_top g.D.Disk c.args.at.0 c.args.disk.now) c.args.floor c.args.disk.now c.args.disk.now c.read_root.new.disk (reads_none g.D.Disk c.args.disk.now) c.args.space.now c.in-Err-read_root.trouble
+    (read_troubled g.D.Disk (disk_top g.D.Disk c.args.at.0 c.args.disk.now) c.args.disk.now c.read_root.new.disk c.in-Err-read_root.trouble (root_trouble g.D.Disk (disk_top g.D.Disk c.args.at.0 c.args.disk.now) c.args.disk.now c.read_root.new.disk c.in-Err-read_root.trouble c.in-Err-read_root.ensures.refused)))

@@ -4,6 +4,7 @@ use Rattle.normal_files.proofs.Refusals.{stopped_later, tells_after}
 use Rattle.normal_files.proofs.WriteParts.{after_is}
 use Rattle.cfs_base.specs.declared.refusal.Trouble.TheVariants as trouble
 use Rattle.normal_files.proofs.shrink.shrink.Goals as goal
+use Rattle.leaf_changes.specs.Tops.{root_top}
 
 pub returns-in-Err-clause-shrunk : goal.returns-in-Err-clause-shrunk
 returns-in-Err-clause-shrunk g c = λ v less. (
@@ -13,7 +14,7 @@ returns-in-Err-clause-shrunk g c = λ v less. (
 )
 
 pub returns-in-Err-clause-refused : goal.returns-in-Err-clause-refused
-returns-in-Err-clause-refused g c = read_troubled g.D.Disk c.args.at.0 c.args.disk.now c.read_end.new.disk c.in-Err.trouble c.in-Err.ensures.refused
+returns-in-Err-clause-refused g c = read_troubled g.D.Disk (root_top c.args.at.0 c.args.root.now) c.args.disk.now c.read_end.new.disk c.in-Err.trouble c.in-Err.ensures.refused
 
 pub returns-in-Err-trim-clause-shrunk : goal.returns-in-Err-trim-clause-shrunk
 returns-in-Err-trim-clause-shrunk g c = λ v less.
@@ -21,7 +22,7 @@ returns-in-Err-trim-clause-shrunk g c = λ v less.
     (becomes_on c.in-Ok.ensures.reads v (record { done = tt; images = trim_images z c.trim.new.disk c.in-Err-trim.ensures.images }), tt, ap is_damage c.in-Err-trim.ensures.tried)
 
 pub returns-in-Err-trim-clause-refused : goal.returns-in-Err-trim-clause-refused
-returns-in-Err-trim-clause-refused g c = stop_troubled g.D.Disk c.args.at.0 c.args.disk.now c.trim.new.disk c.in-Err-trim.trouble (stopped_later g.D.Disk c.args.disk.now c.read_end.new.disk c.trim.new.disk c.in-Err-trim.trouble c.in-Ok.ensures.reads c.in-Err-trim.ensures.stopped)
+returns-in-Err-trim-clause-refused g c = stop_troubled g.D.Disk (root_top c.args.at.0 c.args.root.now) c.args.disk.now c.trim.new.disk c.in-Err-trim.trouble (stopped_later g.D.Disk c.args.disk.now c.read_end.new.disk c.trim.new.disk c.in-Err-trim.trouble c.in-Ok.ensures.reads c.in-Err-trim.ensures.stopped)
 
 pub returns-in-Err-write_through-clause-shrunk : goal.returns-in-Err-write_through-clause-shrunk
 returns-in-Err-write_through-clause-shrunk g c = λ v less.
@@ -53,7 +54,7 @@ returns-clause-shrunk g c = λ v less.
     (becomes_on c.in-Ok.ensures.reads v all.0, none_on c.in-Ok.ensures.reads c.free_past.new.disk c.free_past.result all.1, all.2)
 
 pub returns-clause-refused : goal.returns-clause-refused
-returns-clause-refused g c = drop_troubled g.D.Disk c.args.at.0 c.args.disk.now c.free_past.new.disk c.free_past.result (c.free_past.ensures.follows.stopped c.args.disk.now (record {
+returns-clause-refused g c = drop_troubled g.D.Disk (root_top c.args.at.0 c.args.root.now) c.args.disk.now c.free_past.new.disk c.free_past.result (c.free_past.ensures.follows.stopped c.args.disk.now (record {
   n = 7;
   t = 5;
   told = λ b was. c.in-Ok-write_through.ensures.ends.told b (c.in-Ok-trim.ensures.told b (c.in-Ok.ensures.reads.told b was));

@@ -8,13 +8,14 @@ use Rattle.normal_files.proofs.NeedOf.{parts_need}
 use Rattle.cfs_base.specs.declared.refusal.Refused.TheVariants as refusals
 use Rattle.cfs_base.specs.declared.refusal.Trouble.TheVariants as trouble
 use Rattle.normal_files.proofs.writing.write.Goals as goal
+use Rattle.leaf_changes.specs.Tops.{root_top}
 
 never : (t : Trouble) → trouble_had_tried t ≡ false → refused_by t ≡ refusals.Disk true → ⊥
 never (trouble.Disk tried) none is = (let no : false ≡ true = sym none ∙ ap had_tried is in cc)
 never (trouble.Damaged damage) none is = cc
 
 pub returns-in-Err-clause-refused : goal.returns-in-Err-clause-refused
-returns-in-Err-clause-refused g c = subst (IsWriteRefusal g.D.Disk c.args.at.0 c.args.floor c.args.disk.now c.read.new.disk c.args.space.now c.args.space.now) (sym c.from.ensures) (read_refused g.D.Disk c.args.at.0 c.args.floor c.args.disk.now c.read.new.disk c.args.space.now c.args.space.now c.in-Err.trouble c.in-Err.ensures.refused)
+returns-in-Err-clause-refused g c = subst (IsWriteRefusal g.D.Disk (root_top c.args.at.0 c.args.root.now) c.args.floor c.args.disk.now c.read.new.disk c.args.space.now c.args.space.now) (sym c.from.ensures) (read_refused g.D.Disk (root_top c.args.at.0 c.args.root.now) c.args.floor c.args.disk.now c.read.new.disk c.args.space.now c.args.space.now c.in-Err.trouble c.in-Err.ensures.refused)
 
 pub returns-in-Err-clause-untried : goal.returns-in-Err-clause-untried
 returns-in-Err-clause-untried g c = λ h. (refl, reads_within g.D.Disk c.args.disk.now c.read.new.disk 2 72 (omega arith) c.in-Err.ensures.reads)
@@ -23,7 +24,7 @@ pub returns-in-Err-clause-calls : goal.returns-in-Err-clause-calls
 returns-in-Err-clause-calls g c = makes_within g.D.Disk c.args.disk.now c.read.new.disk 2 0 _ _ (omega arith) (omega arith) (reads_make g.D.Disk c.args.disk.now c.read.new.disk _ c.in-Err.ensures.reads)
 
 pub returns-in-Err-has_room-clause-refused : goal.returns-in-Err-has_room-clause-refused
-returns-in-Err-has_room-clause-refused g c = room_refused g.D.Disk c.args.at.0 c.args.floor _ c.args.disk.now c.read.new.disk c.args.space.now c.args.space.now c.in-Err-has_room.error c.in-Err-has_room.ensures.full.0 c.in-Err-has_room.ensures.full.1
+returns-in-Err-has_room-clause-refused g c = room_refused g.D.Disk (root_top c.args.at.0 c.args.root.now) c.args.floor _ c.args.disk.now c.read.new.disk c.args.space.now c.args.space.now c.in-Err-has_room.error c.in-Err-has_room.ensures.full.0 c.in-Err-has_room.ensures.full.1
 
 pub returns-in-Err-has_room-clause-untried : goal.returns-in-Err-has_room-clause-untried
 returns-in-Err-has_room-clause-untried g c = λ h. (refl, reads_within g.D.Disk c.args.disk.now c.read.new.disk 2 72 (omega arith) c.in-Ok.ensures.reads)
@@ -36,7 +37,7 @@ returns-in-Ok-write_parts-clause-calls g c = makes_then g.D.Disk c.args.disk.now
 
 pub returns-in-Err-write_parts-clause-refused : goal.returns-in-Err-write_parts-clause-refused
 returns-in-Err-write_parts-clause-refused g c =
-    parts_refused g.D.Disk c.args.at.0 c.args.floor c.args.disk.now c.write_parts.new.disk c.args.space.now c.write_parts.new.space c.in-Err-write_parts.error ((gone_err false c.in-Err-write_parts.error (gone_come (come_reads c.in-Ok.ensures.reads) c.args.space.now) c.in-Err-write_parts.ensures.ends).refused (omega (arith, c.need-low.ensures.count, c.need-high.ensures.count, c.in-Ok-has_room.ensures.room)))
+    parts_refused g.D.Disk (root_top c.args.at.0 c.args.root.now) c.args.floor c.args.disk.now c.write_parts.new.disk c.args.space.now c.write_parts.new.space c.in-Err-write_parts.error ((gone_err false c.in-Err-write_parts.error (gone_come (come_reads c.in-Ok.ensures.reads) c.args.space.now) c.in-Err-write_parts.ensures.ends).refused (omega (arith, c.need-low.ensures.count, c.need-high.ensures.count, c.in-Ok-has_room.ensures.room)))
 
 pub returns-in-Err-write_parts-clause-untried : goal.returns-in-Err-write_parts-clause-untried
 returns-in-Err-write_parts-clause-untried g c = λ h.

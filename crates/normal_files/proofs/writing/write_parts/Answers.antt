@@ -2,14 +2,14 @@ use Rattle.normal_files.proofs.Words.{◌∙◌, Err, ap, sym, subst, arith, ◌
 use Rattle.normal_files.specs.Ends.{Halts, is_damaged}
 use Rattle.normal_files.specs.Parts.{part_need}
 use Rattle.normal_files.specs.View.{way_of}
-use Rattle.normal_files.specs.Writes.{Wrote}
+use Rattle.normal_files.specs.Writes.{WroteFile}
 use Rattle.normal_files.proofs.Ending.{gone_come, gone_err, gone_then, gone_within, halts_come, halts_within, still_sound, stopped_sound, gone_last, same_disk}
 use Rattle.normal_files.proofs.WriteParts.{begun, end_images, end_wrote, may, refused_wrote}
 use Rattle.normal_files.proofs.writing.write_parts.Goals as goal
 
 pub returns-in-Err-clause-writes : goal.returns-in-Err-clause-writes
 returns-in-Err-clause-writes g c = λ v is.
-    subst (Wrote v c.args.offset c.args.bytes.now c.put_both.new.disk c.args.space.now) (ap Err (sym c.from.ensures))
+    subst (WroteFile v c.args.offset c.args.bytes.now c.put_both.new.disk c.args.space.now) (ap Err (sym c.from.ensures))
     (refused_wrote is _ (c.in-Err.ensures.puts c.args.at.0 (way_of v) c.args.space.now (begun is) is.low_is is.high_is) (stopped_sound g.D.Disk c.args.disk.now c.put_both.new.disk c.in-Err.trouble c.in-Err.ensures.ends.stopped))
 
 pub returns-in-Err-clause-ends : goal.returns-in-Err-clause-ends
@@ -22,7 +22,7 @@ pub returns-in-Err-take_both-clause-writes : goal.returns-in-Err-take_both-claus
 returns-in-Err-take_both-clause-writes g c = λ v is.
     let put = c.in-Ok.ensures.puts c.args.at.0 (way_of v) c.args.space.now (begun is) is.low_is is.high_is in
     let two = c.in-Err-take_both.ensures.takes (way_of v) (may is put.0 put.1) in
-    subst (Wrote v c.args.offset c.args.bytes.now c.take_both.new.disk c.take_both.new.space) (ap Err (sym c.refused.ensures)) (refused_wrote is _ two.0 (still_sound c.in-Ok.tried c.in-Err-take_both.error two.1))
+    subst (WroteFile v c.args.offset c.args.bytes.now c.take_both.new.disk c.take_both.new.space) (ap Err (sym c.refused.ensures)) (refused_wrote is _ two.0 (still_sound c.in-Ok.tried c.in-Err-take_both.error two.1))
 
 pub returns-in-Err-take_both-clause-ends : goal.returns-in-Err-take_both-clause-ends
 returns-in-Err-take_both-clause-ends g c =

@@ -1,5 +1,5 @@
 use Rattle.std.proofs.Common.{◌≡◌, ◌+◌, ◌<◌, ℕ, suc, IsTrue, List, ◌∷◌, length, drop, get_or, sym, ◌∙◌, ap, subst, length-set, add-one}
-use Rattle.pair_disk.proofs.Words.{AreBlocks, Image, IsImage, TornPick, and_parts, drop-cons, drop_all, may_tear, picked}
+use Rattle.pair_disk.proofs.Words.{AreBlocks, Image, IsTornImage, TornPick, and_parts, drop-cons, drop_all, may_tear, picked}
 use Rattle.pair_disk.proofs.Images.{blocks_set, image_set}
 use Rattle.pair_disk.proofs.replay.tear.Goals as goal
 
@@ -21,7 +21,7 @@ loop-pick-preserved c =
       allowed = λ s is may.
           let so = i.allowed s is may in
           let both = and_parts (s.torn pick.block) (may_tear s (drop (n + 1) picks)) (subst (λ (l : List TornPick). IsTrue (may_tear s l)) here so.1) in
-          (subst (IsImage s) (sym put) (image_set s was pick.block pick.content so.0 both.0 c.put_pick.ensures.block), both.1);
+          (subst (IsTornImage s) (sym put) (image_set s was pick.block pick.content so.0 both.0 c.put_pick.ensures.block), both.1);
       size = ap (λ (j : Image). length j) put ∙ length-set was pick.block pick.content ∙ i.size;
       blocks = λ are. let P : Image → Type 0 = AreBlocks in subst P (sym put) (blocks_set was pick.block pick.content (i.blocks are) c.put_pick.ensures.block);
     }

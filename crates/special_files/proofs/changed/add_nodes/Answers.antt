@@ -1,5 +1,5 @@
-use Rattle.std.proofs.Common.{ℕ, ◌∙◌, ap, subst, arith}
-use Rattle.special_files.proofs.Words.{Image, leaves_at, tells_on}
+use Rattle.std.proofs.Common.{ℕ, ◌∙◌, ap, subst, arith, inl, inr}
+use Rattle.special_files.proofs.Words.{Image, leaves_at, tells_on, nodes_top}
 use Rattle.special_files.specs.Changed.{Adds}
 use Rattle.special_files.proofs.ChangedRun.{node_adds, node_told}
 use Rattle.special_files.proofs.Refusals.{node_trouble, trouble_after_reads}
@@ -7,10 +7,10 @@ use Rattle.special_files.proofs.changed.add_nodes.Goals as goal
 
 pub returns-in-Err-read_node-clause-refused : goal.returns-in-Err-read_node-clause-refused
 returns-in-Err-read_node-clause-refused g c = λ kept.
-    trouble_after_reads g.D.Disk c.args.at.0 c.args.disk.now c.read_node.new.disk c.read_node-2.new.disk kept 1 c.in-Err-read_node.trouble c.in-Ok.ensures.reads (node_trouble g.D.Disk c.args.new c.args.at.0 c.read_node.new.disk c.read_node-2.new.disk kept c.in-Err-read_node.trouble c.in-Err-read_node.ensures.reads c.in-Err-read_node.ensures.refused)
+    trouble_after_reads g.D.Disk (nodes_top c.args.at.0 c.args.own c.args.new) c.args.disk.now c.read_node.new.disk c.read_node-2.new.disk kept 1 c.in-Err-read_node.trouble c.in-Ok.ensures.reads (node_trouble g.D.Disk c.args.new (nodes_top c.args.at.0 c.args.own c.args.new) c.read_node.new.disk c.read_node-2.new.disk kept c.in-Err-read_node.trouble (λ size past. inr past) c.in-Err-read_node.ensures.reads c.in-Err-read_node.ensures.refused)
 
 pub returns-in-Err-clause-refused : goal.returns-in-Err-clause-refused
-returns-in-Err-clause-refused g c = λ kept. node_trouble g.D.Disk c.args.own c.args.at.0 c.args.disk.now c.read_node.new.disk kept c.in-Err.trouble c.in-Err.ensures.reads c.in-Err.ensures.refused
+returns-in-Err-clause-refused g c = λ kept. node_trouble g.D.Disk c.args.own (nodes_top c.args.at.0 c.args.own c.args.new) c.args.disk.now c.read_node.new.disk kept c.in-Err.trouble (λ size past. inl past) c.in-Err.ensures.reads c.in-Err.ensures.refused
 
 pub returns-clause-taken : goal.returns-clause-taken
 returns-clause-taken g c = λ tells.

@@ -1,5 +1,5 @@
 use Rattle.std.proofs.Common.{Some, ◌≡◌, ◌≢◌, ℕ, ◌+◌, ◌*◌, ◌<◌, false, length, None, refl, sym, ◌∙◌, ap, subst, arith}
-use Rattle.special_files.proofs.Words.{All, AreOnDisk, Holds, Image, IsChanged, IsReady, IsTrouble, Tells, Trouble, block_at, is_damage, makes_then, number_if, opened_as, reads_make, root_spelling, still_tells, tells_on, then, tree_in, tried_then}
+use Rattle.special_files.proofs.Words.{All, AreOnDisk, Holds, Image, IsChanged, IsReady, IsDraftTrouble, Tells, Trouble, block_at, is_damage, makes_then, number_if, opened_as, reads_make, root_spelling, still_tells, tells_on, then, tree_in, tried_then, roots_top}
 use Rattle.cfs_base.specs.declared.refusal.Trouble.TheVariants as troubles
 use Rattle.special_files.proofs.Amid.{amid_reads}
 use Rattle.special_files.proofs.CommitDraft.{after_damage, amid1, below_all, finish_apart, finish_tried, ready1, root1, shadow_leaves, store1, tree1, tried_apart}
@@ -34,8 +34,8 @@ returns-in-Err-changed g c =
       commits = λ was v made parts makes. commit_stops g.D.Disk v.graph v.ds v.id v.draft.object made c.args.disk.now c.changed.new.disk c.args.space.now _
           (then g.D.Disk c.args.disk.now c.write_own.new.disk c.changed.new.disk (λ k. Holds k v.graph) (λ k. ⊥) (shadow_leaves g.D.Disk v.graph v.ds v.id v.object c.args.disk.now c.write_own.new.disk c.changed.new.disk c.args.space.now was v.draft c.args.shadow.0 c.encode-content.result v.store v.at v.opened parts.shadow_is c.write_own.ensures.images) reads.images (λ k no. absurd no))
           (subst (λ (t : Trouble). is_damage t ≡ false) (sym c.after_try.ensures) (after_damage c.in-Err-changed.trouble (c.in-Err-changed.ensures.sound c.args.space.now was (view (store1 g.D.Disk v.graph v.ds v.id v.object c.args.disk.now c.write_own.new.disk c.changed.new.disk c.args.space.now was v.draft c.args.shadow.0 c.encode-content.result v.store v.at v.opened parts.shadow_is c.write_own.ensures.images c.in-Ok.ensures.written told c.write_own.ensures.calls.same) v.at v.opened) parts.own_is parts.root_is)));
-      refused = subst (λ (t : Trouble). IsTrouble g.D.Disk c.args.at.0 c.args.disk.now c.changed.new.disk c.args.space.now t) (sym c.after_try.ensures)
-          (trouble_after_tried g.D.Disk c.args.at.0 0 c.args.disk.now c.write_own.new.disk c.changed.new.disk c.args.space.now 1 1 c.write_own.ensures.calls c.write_own.ensures.tried told c.in-Err-changed.trouble (c.in-Err-changed.ensures.refused c.args.space.now));
+      refused = subst (λ (t : Trouble). IsDraftTrouble g.D.Disk (roots_top c.args.at.0 c.args.own.now c.args.root.now) c.args.disk.now c.changed.new.disk c.args.space.now t) (sym c.after_try.ensures)
+          (trouble_after_tried g.D.Disk (roots_top c.args.at.0 c.args.own.now c.args.root.now) 0 c.args.disk.now c.write_own.new.disk c.changed.new.disk c.args.space.now 1 1 c.write_own.ensures.calls c.write_own.ensures.tried told c.in-Err-changed.trouble (c.in-Err-changed.ensures.refused c.args.space.now));
       made = tried_then g.D.Disk c.args.disk.now c.write_own.new.disk c.changed.new.disk 240 0 c.write_own.ensures.tried (reads_make g.D.Disk c.write_own.new.disk c.changed.new.disk 240 reads);
       untried = subst (λ (t : Trouble). t ≢ troubles.Disk false) (sym c.after_try.ensures) (tried_apart c.in-Err-changed.trouble);
       settled = λ tells. tt;
@@ -82,7 +82,7 @@ returns g c =
           (ap (λ (i : Image). block_at i c.args.shadow.0) reads.content ∙ root1 g.D.Disk v.graph v.ds v.id v.object c.args.disk.now c.write_own.new.disk c.changed.new.disk c.args.space.now was v.draft c.args.shadow.0 c.encode-content.result v.store v.at v.opened parts.shadow_is c.write_own.ensures.images c.in-Ok.ensures.written told c.write_own.ensures.calls.same (c.encode-content.ensures.spelled ∙ ap root_spelling (sym parts.root_is)))
           (λ none. let no : Some c.args.shadow.0 ≡ None = sym parts.shadow_is ∙ none in cc)
           made makes c.args.at.0 (v.opened.at ∙ parts.at_is) c.finish.new.disk c.finish.new.space c.finish.result c.finish.ensures.finishes;
-      refused = finish_tried g.D.Disk c.args.at.0 c.args.disk.now c.changed.new.disk c.finish.new.disk c.finish.new.space 241 1 _ _ first tells_amid c.finish.ensures.calls tried c.finish.result c.finish.ensures.fails;
+      refused = finish_tried g.D.Disk (roots_top c.args.at.0 c.args.own.now c.args.root.now) c.args.disk.now c.changed.new.disk c.finish.new.disk c.finish.new.space 241 1 _ _ first tells_amid c.finish.ensures.calls tried c.finish.result c.finish.ensures.fails;
       made = tried;
       untried = finish_apart g.D.Disk c.args.at.0 c.changed.new.disk c.finish.new.disk c.finish.new.space c.finish.result c.finish.ensures.fails;
       settled = λ tells. c.finish.ensures.settled (tells_amid tells);

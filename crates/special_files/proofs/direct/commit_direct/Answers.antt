@@ -1,10 +1,11 @@
 use Rattle.std.proofs.Common.{refl, subst, sym}
-use Rattle.special_files.proofs.Words.{Image, Makes, number_if, tells_on}
+use Rattle.special_files.proofs.Words.{Image, Makes, number_if, tells_on, roots_top}
 use Rattle.special_files.proofs.Begun.{store_reads}
 use Rattle.special_files.proofs.CommitStore.{commit_after, commit_stops}
 use Rattle.special_files.proofs.WriteLeaf.{leaves_read}
 use Rattle.special_files.proofs.View.{view}
 use Rattle.special_files.proofs.direct.commit_direct.Goals as goal
+use Rattle.special_files.proofs.Refusals.{still_as, if_err, trouble_after_reads}
 
 pub returns-in-Err-clause-commits : goal.returns-in-Err-clause-commits
 returns-in-Err-clause-commits g c = λ was v made parts makes.
@@ -30,3 +31,7 @@ pub returns-clause-settled : goal.returns-clause-settled
 returns-clause-settled g c = λ tells.
     let d1 = c.changed.new.disk in
     c.commit_listed.ensures.settled (tells_on g.D.Disk c.args.disk.now d1 d1 240 c.changed.ensures.reads tells)
+
+pub returns-clause-refused : goal.returns-clause-refused
+returns-clause-refused g c = if_err c.commit_listed.result (λ t is. trouble_after_reads g.D.Disk (roots_top c.args.at.0 c.args.own.now c.args.root.now) c.args.disk.now c.changed.new.disk c.commit_listed.new.disk c.commit_listed.new.space 240 t c.changed.ensures.reads
+    (still_as g.D.Disk (roots_top c.args.at.0 c.args.own.now c.args.root.now) c.changed.new.disk c.commit_listed.new.disk c.commit_listed.new.space t is)) c.commit_listed.ensures.refused

@@ -1,5 +1,5 @@
 use Rattle.std.proofs.Common.{arith, ℕ, Ok, Err, refl, ◌∙◌, ap, subst, sym}
-use Rattle.special_files.proofs.Words.{Enters, ShadowRoot, intended, number_if, makes_then, opened_as, still_tells, tried_then, refused_by, root_spelling}
+use Rattle.special_files.proofs.Words.{Enters, ShadowRoot, intended, number_if, makes_then, opened_as, still_tells, tried_then, refused_by, root_spelling, still_top}
 use Rattle.special_files.proofs.CommitDraft.{finish_tried}
 use Rattle.special_files.proofs.CommitDirect.{amid2, direct_claim, direct_has, direct_leaves, direct_ready, direct_sound, direct_write_leaves}
 use Rattle.special_files.proofs.CommitStore.{commit_ends, commit_stops}
@@ -59,7 +59,7 @@ returns-clause-refused g c =
     let wrote = c.write_own.ensures.calls in
     let first = makes_then G d0 d1 d2 2 1 3 1 1 2 entered.calls wrote (omega arith) (omega arith) in
     let tried = tried_then G d0 d2 d3 _ _ (tried_then G d0 d1 d2 1 1 entered.made wrote) c.finish.ensures.calls in
-    finish_tried G c.args.at.0 d0 d2 d3 c.finish.new.space 3 2 _ _ first (λ tells. still_tells G (still_tells G tells entered.told entered.calls.same) c.in-Ok-write_own.ensures.told wrote.same) c.finish.ensures.calls tried c.finish.result c.finish.ensures.fails
+    finish_tried G (still_top c.args.at.0) d0 d2 d3 c.finish.new.space 3 2 _ _ first (λ tells. still_tells G (still_tells G tells entered.told entered.calls.same) c.in-Ok-write_own.ensures.told wrote.same) c.finish.ensures.calls tried c.finish.result c.finish.ensures.fails
 
 pub returns-clause-settled : goal.returns-clause-settled
 returns-clause-settled g c = λ tells.

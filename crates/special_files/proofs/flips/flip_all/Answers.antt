@@ -1,27 +1,36 @@
-use Rattle.std.proofs.Common.{◌≡◌, ℕ, ◌*◌, List, length, take, Ok, subst, ap, ◌∙◌, arith}
-use Rattle.special_files.proofs.Words.{Flip, Flips, flips, take-length}
-use Rattle.special_files.proofs.CommitRuns.{flips_fail, flips_on, flips_passed, more_calls, no_flips}
+use Rattle.std.proofs.Common.{◌≡◌, ℕ, ◌*◌, List, length, Ok, subst, ap, arith, length-drop}
+use Rattle.std.proofs.lemmas.List.{drop_all, take_all, take_rest}
+use Rattle.intentions.specs.Runs.{runs}
+use Rattle.special_files.proofs.CommitRuns.{by_length, no_flips, run_fail, run_on}
+use Rattle.special_files.proofs.Words.{Flips, flips}
 use Rattle.special_files.proofs.flips.flip_all.Goals as goal
 
-pub loop-block-init : goal.loop-block-init
-loop-block-init g c = record { so_far = no_flips g.D.Disk c.args.disk.now 0 0 }
+pub loop-done-init : goal.loop-done-init
+loop-done-init g c = record { within = omega arith; so_far = (0, omega arith, no_flips g.D.Disk c.args.disk.now 0 0) }
 
-pub loop-block-preserved : goal.loop-block-preserved
-loop-block-preserved g c = record {
-  so_far = flips_on g.D.Disk c.args.how c.args.blocks.now c.loop-block.block-index c.args.disk.now c.loop-block.disk c.flip.new.disk c.loop-block-test.true c.loop-block.invariant.so_far c.in_ok-flip.ensures.flips;
-}
+pub loop-done-preserved : goal.loop-done-preserved
+loop-done-preserved g c =
+    let ns = c.args.blocks.now in
+    let was = c.loop-done.invariant in
+    let made = rw take_rest at c.in-Ok.ensures in
+    record {
+      within = omega (arith, made.0, length-drop c.loop-done.done ns, was.within);
+      so_far = run_on g.D.Disk c.args.how ns c.loop-done.done was.so_far.0 c.args.disk.now c.loop-done.disk c.flip_run.new.disk was.so_far.2 was.so_far.1 c.in-Ok.count made;
+    }
 
-pub returns-in_err-flip : goal.returns-in_err-flip
-returns-in_err-flip g c = record {
-  flips = flips_passed g.D.Disk (2 * length c.args.blocks.now) (length c.args.blocks.now) (flips c.args.how c.args.blocks.now) c.args.disk.now c.flip.new.disk _ c.in_err-flip.field-0.0 c.from_residual.ensures.1
-      (flips_fail g.D.Disk c.args.how c.args.blocks.now c.loop-block.block-index c.args.disk.now c.loop-block.disk c.flip.new.disk c.loop-block-test.true c.loop-block.invariant.so_far _ c.in_err-flip.ensures.flips);
-}
+pub returns-in-Err : goal.returns-in-Err
+returns-in-Err g c =
+    let ns = c.args.blocks.now in
+    let was = c.loop-done.invariant in
+    let all = run_fail g.D.Disk c.args.how ns c.loop-done.done was.so_far.0 c.args.disk.now c.loop-done.disk c.flip_run.new.disk was.so_far.2 was.so_far.1 c.loop-done-test.true c.in-Err.trouble (rw take_rest at c.in-Err.ensures) in
+    record { flips = by_length g.D.Disk ns (flips c.args.how ns) c.args.disk.now c.flip_run.new.disk _ all; by_map = all.calls }
 
 pub returns : goal.returns
 returns g c =
-    let end : c.loop-block.block-index ≡ length c.args.blocks.now = omega arith in
-    let all : take c.loop-block.block-index c.args.blocks.now ≡ c.args.blocks.now = ap (λ (i : ℕ). take i c.args.blocks.now) end ∙ take-length c.args.blocks.now in
-    record {
-      flips = subst (λ (fs : List Flip). Flips g.D.Disk (2 * length c.args.blocks.now) (length c.args.blocks.now) fs c.args.disk.now c.loop-block.disk (Ok tt)) (ap (flips c.args.how) all)
-          (more_calls g.D.Disk c.args.disk.now c.loop-block.disk (2 * c.loop-block.block-index) c.loop-block.block-index (2 * length c.args.blocks.now) (length c.args.blocks.now) _ (Ok tt) (omega (arith, end)) (omega (arith, end)) c.loop-block.invariant.so_far);
-    }
+    let ns = c.args.blocks.now in
+    let was = c.loop-done.invariant in
+    let end : length ns ≡ c.loop-done.done = omega (arith, was.within, c.loop-done-test.false) in
+    let count : was.so_far.0 ≡ runs ns = omega (arith, was.so_far.1, ap runs (drop_all c.loop-done.done ns (omega (arith, end)))) in
+    let all = subst (λ (k : ℕ). Flips g.D.Disk (2 * k) k (flips c.args.how ns) c.args.disk.now c.loop-done.disk (Ok tt)) count
+    (subst (λ (l : List ℕ). Flips g.D.Disk (2 * was.so_far.0) was.so_far.0 (flips c.args.how l) c.args.disk.now c.loop-done.disk (Ok tt)) (take_all c.loop-done.done ns (omega (arith, end))) was.so_far.2) in
+    record { flips = by_length g.D.Disk ns (flips c.args.how ns) c.args.disk.now c.loop-done.disk (Ok tt) all; by_map = all.calls }

@@ -1,5 +1,5 @@
 use Rattle.std.proofs.Common.{◌≡◌, ℕ, false, List, [], ◌++◌, ◌+◌, ◌/◌, ◌-◌, sym, ◌∙◌, ap, subst, arith, get_or}
-use Rattle.special_files.proofs.Words.{both_ways, fresh_in, list_if, slice_index, tells_on, ◌==◌}
+use Rattle.special_files.proofs.Words.{both_ways, fresh_in, list_if, slice_index, tells_on, ◌==◌, root_top}
 use Rattle.special_files.proofs.Refusals.{trouble_after_reads}
 use Rattle.special_files.proofs.ShedListing.{ListRun, near_now, run_all, run_lists, run_skips}
 use Rattle.special_files.proofs.freed.list_from.Goals as goal
@@ -7,7 +7,7 @@ use Rattle.special_files.proofs.freed.list_from.Goals.{then-has+in-Ok, else-has}
 
 pub returns-in-Err-clause-refused : goal.returns-in-Err-clause-refused
 returns-in-Err-clause-refused g c = λ kept.
-    trouble_after_reads g.D.Disk c.args.at.0 c.args.disk.now c.loop-number.disk c.node_again.new.disk kept (c.loop-number.number - c.args.from / 128) c.in-Err.trouble c.loop-number.invariant.run.reads (c.in-Err.ensures.refused kept)
+    trouble_after_reads g.D.Disk (root_top c.args.at.0 c.args.root.now) c.args.disk.now c.loop-number.disk c.node_again.new.disk kept (c.loop-number.number - c.args.from / 128) c.in-Err.trouble c.loop-number.invariant.run.reads (c.in-Err.ensures.refused kept)
 
 pub returns-in-Err-clause-sound : goal.returns-in-Err-clause-sound
 returns-in-Err-clause-sound g c = λ space was v parts.

@@ -1,5 +1,5 @@
 use Rattle.std.proofs.Common.{◌∙◌, sym}
-use Rattle.trail_text.proofs.WordsBack.{id_decoded}
+use Rattle.trail_text.proofs.Back.{id_decoded}
 use Rattle.trail_text.proofs.read_word.id_in.Goals as goal
 
 pub returns : goal.returns

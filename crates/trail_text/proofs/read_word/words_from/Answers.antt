@@ -1,4 +1,4 @@
-use Rattle.trail_text.proofs.Parts.{texts_left}
+use Rattle.trail_text.proofs.Lines.{texts_left}
 use Rattle.trail_text.proofs.read_word.words_from.Goals as goal
 
 pub returns : goal.returns

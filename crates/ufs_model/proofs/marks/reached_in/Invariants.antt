@@ -1,5 +1,5 @@
 use Rattle.std.proofs.Common.{◌≡◌, true, map}
-use Rattle.ufs_model.proofs.Words.{IsReachedBy, Puid, end_of, is_among}
+use Rattle.ufs_model.proofs.Words.{IsReachedBy, Puid, seen_end, is_among}
 use Rattle.ufs_model.proofs.Reached.{outside}
 use Rattle.ufs_model.proofs.marks.reached_in.Given as goal
 
@@ -8,4 +8,4 @@ invariant-rounds l = (x : Puid) → is_among x l.reached.keys ≡ true → IsRea
 
 -- what is not reached yet
 abbrev pub decreases-rounds : goal.decreases-rounds
-decreases-rounds l = outside (map end_of l.seen) l.reached.keys
+decreases-rounds l = outside (map seen_end l.seen) l.reached.keys

@@ -1,7 +1,7 @@
 use Rattle.std.proofs.Common.{◌≡◌, ◌+◌, ◌-◌, ◌<◌, ℕ, List, length, get_or, take, refl, sym, ◌∙◌, ap, subst, arith}
 use Rattle.block_tree.proofs.Words.{All, Image, Node, length-take, node_levels, pointer, reads_then, reads_within, tells_on}
 use Rattle.block_tree.proofs.Descents.{HasTop, last_below, leaf_on, length-path, on_way, places, reads_none, way_trouble_after}
-use Rattle.block_tree.specs.Along.{IsWay, IsWithin, pointer_on}
+use Rattle.block_tree.specs.Along.{IsWay, IsWayWithin, pointer_on}
 use Rattle.block_tree.specs.Path.{SamePlaces, no_node, path_of}
 use Rattle.block_tree.specs.Reads.{IsNear}
 use Rattle.block_tree.proofs.along.Way.get.Goals as goal
@@ -25,7 +25,7 @@ loop-depth-preserved g c =
     record {
       read = done.read ∙ ap (λ (n : ℕ). n + 1) before.read;
       path = done.path ∙ before.path;
-      within = subst (λ (n : ℕ). IsWithin n c.go_down.new.self) size done.within;
+      within = subst (λ (n : ℕ). IsWayWithin n c.go_down.new.self) size done.within;
       way = λ tells is.
           let was = before.way tells is in
           subst (λ (i : Image). IsWay i c.args.root.now c.go_down.new.self) before.reads.content
@@ -37,7 +37,7 @@ pub returns-in-Err-clause-refused : goal.returns-in-Err-clause-refused
 returns-in-Err-clause-refused g c = way_trouble_after g.D.Disk c.args.at.0 c.args.root.now c.args.disk.now c.loop-depth.disk c.go_down.new.disk _ c.in-Err.trouble c.loop-depth.invariant.reads c.in-Err.ensures.refused
 
 pub returns-in-Err-clause-within : goal.returns-in-Err-clause-within
-returns-in-Err-clause-within g c = subst (λ (n : ℕ). IsWithin n c.go_down.new.self) c.loop-depth.invariant.reads.same.size c.in-Err.ensures.within
+returns-in-Err-clause-within g c = subst (λ (n : ℕ). IsWayWithin n c.go_down.new.self) c.loop-depth.invariant.reads.same.size c.in-Err.ensures.within
 
 pub returns-in-Err-clause-way : goal.returns-in-Err-clause-way
 returns-in-Err-clause-way g c tells is =

@@ -12,7 +12,7 @@ returns-in-Some g c = asks_stopped g.D.Disk c.args.self.now c.args.who c.args.re
 
 pub returns-in-Err : goal.returns-in-Err
 returns-in-Err g c =
-    let k : Kernel _ = record { disk = c.self.inside.disk; root = c.self.inside.root; names = c.self.inside.names; space = c.self.inside.space; words = c.self.inside.words; handles = c.self.inside.handles.handles; collections = c.self.inside.collections; stop = c.self.inside.stop } in
+    let k : Kernel _ = record { disk = c.self.inside.disk; root = c.self.inside.root; directory = c.self.inside.directory; space = c.self.inside.space; words = c.self.inside.words; handles = c.self.inside.handles.handles; collections = c.self.inside.collections; stop = c.self.inside.stop } in
     subst (λ x. Asks g.D.Disk x (record k { collections = c.make_room.new.self }) c.args.who c.args.request.now replies.Memory) c.self.view_is
     (asks_starved g.D.Disk k c.make_room.new.self c.make_room.ensures.same c.make_room.ensures.called c.make_room.ensures.finished c.args.who c.args.request.now c.in_default.is)
 
@@ -21,7 +21,7 @@ tell-requires g c = record { room = subst (λ x. HasRoomFor c.args.request.now x
 
 pub returns-in-Ok : goal.returns-in-Ok
 returns-in-Ok g c =
-    let k : Kernel _ = record { disk = c.self.inside.disk; root = c.self.inside.root; names = c.self.inside.names; space = c.self.inside.space; words = c.self.inside.words; handles = c.self.inside.handles.handles; collections = c.self.inside.collections; stop = c.self.inside.stop } in
+    let k : Kernel _ = record { disk = c.self.inside.disk; root = c.self.inside.root; directory = c.self.inside.directory; space = c.self.inside.space; words = c.self.inside.words; handles = c.self.inside.handles.handles; collections = c.self.inside.collections; stop = c.self.inside.stop } in
     subst (λ r. Asks g.D.Disk c.args.self.now c.tell.new.self c.args.who c.args.request.now r) (sym c.tell.ensures.told)
     (subst (λ x. Asks g.D.Disk c.args.self.now x c.args.who c.args.request.now c.in-Ok.reply) (sym c.tell.ensures.new)
     (subst (λ x. Asks g.D.Disk x (record c.answer.new.self { collections = c.tell.new.self.collections }) c.args.who c.args.request.now c.in-Ok.reply) c.self.view_is
@@ -30,7 +30,7 @@ returns-in-Ok g c =
 
 pub returns-in-Err-answer : goal.returns-in-Err-answer
 returns-in-Err-answer g c =
-    let k : Kernel _ = record { disk = c.self.inside.disk; root = c.self.inside.root; names = c.self.inside.names; space = c.self.inside.space; words = c.self.inside.words; handles = c.self.inside.handles.handles; collections = c.self.inside.collections; stop = c.self.inside.stop } in
+    let k : Kernel _ = record { disk = c.self.inside.disk; root = c.self.inside.root; directory = c.self.inside.directory; space = c.self.inside.space; words = c.self.inside.words; handles = c.self.inside.handles.handles; collections = c.self.inside.collections; stop = c.self.inside.stop } in
     subst (λ r. Asks g.D.Disk c.args.self.now c.refuse.new.self c.args.who c.args.request.now r) (sym c.refuse.ensures.told)
     (subst (λ x. Asks g.D.Disk x c.refuse.new.self c.args.who c.args.request.now (reply_to c.in-Err-answer.refused (g.D.Disk.moment c.answer.new.self.disk))) c.self.view_is
     (asks_refused g.D.Disk g.met.D.Disk.left_sized g.met.D.Disk.sized k c.make_room.new.self c.make_room.ensures.same c.make_room.ensures.called c.make_room.ensures.finished c.answer.new.self c.answer.ensures.went.size c.args.who c.args.request.now c.in_default.is c.in-Err-answer.refused c.refuse.new.self c.refuse.ensures.stop c.in-Err-answer.ensures))

@@ -1,5 +1,5 @@
 use Rattle.std.proofs.Common.{◌≡◌, Option, Some, None, Ok, refl, sym, ◌∙◌, ap, subst, true, false, not, IsSome, is_some}
-use Rattle.cfs_core.proofs.Words.{grant_in, grant_of}
+use Rattle.cfs_core.proofs.Words.{session_grant, grant_of}
 use Rattle.open_table.specs.declared.grant.Grant as handles
 use Rattle.ufs_model.specs.declared.asked.Reply.TheVariants as replies
 use Rattle.ufs_model.specs.declared.asked.Request.TheVariants as asks
@@ -25,7 +25,7 @@ pub returns-then-is_none : goal.returns-then-is_none
 returns-then-is_none g c =
     tries_refusal g.D.Disk g.met.D.Disk.left_sized g.met.D.Disk.sized c.args.self.now c.args.who (asks.Close c.args.grant c.args.commit) replies.NoGrant tt
     (λ s serves. close_none 0 s c.args.who c.args.grant c.args.commit
-    (none_there (grant_of s c.args.who c.args.grant) (sym (is_none_of c.find.result (c.is_none.ensures ∙ ap not c.if-is_none.true)) ∙ c.find.ensures ∙ ap (λ gs. grant_in gs c.args.who c.args.grant) (ap (λ x. grants_in x.handles) c.self.view_is ∙ serves.front.grants)
+    (none_there (grant_of s c.args.who c.args.grant) (sym (is_none_of c.find.result (c.is_none.ensures ∙ ap not c.if-is_none.true)) ∙ c.find.ensures ∙ ap (λ gs. session_grant gs c.args.who c.args.grant) (ap (λ x. grants_in x.handles) c.self.view_is ∙ serves.front.grants)
     ∙ c.table_follows_the_model.ensures.found s c.args.who c.args.grant)))
 
 pub invariant_of-self : goal.invariant_of-self
@@ -33,9 +33,9 @@ invariant_of-self g c = sized_taken c.self.invariant c.args.grant.draw c.take.ne
 
 pub end-requires : goal.end-requires
 end-requires g c = record {
-  ready = subst (λ n. is_ready_for n c.in-Some.draft ≡ true) c.self.invariant.room (ready_at c.self.inside.names.room c.args.grant.draw c.self.inside.handles.handles c.self.invariant.ready c.in-Some.draft (sym c.take.ensures.draft ∙ c.in-Some.is));
+  ready = subst (λ n. is_ready_for n c.in-Some.draft ≡ true) c.self.invariant.room (ready_at c.self.inside.directory.room c.args.grant.draw c.self.inside.handles.handles c.self.invariant.ready c.in-Some.draft (sym c.take.ensures.draft ∙ c.in-Some.is));
   taken = ap (have_draft (is_at c.args.grant.draw)) c.take.ensures.handles ∙ none_taken c.args.grant.draw c.self.inside.handles.handles;
-  found = subst (λ gs. IsSome (grant_in gs c.args.who c.args.grant)) (sym (ap grants_in c.take.ensures.handles ∙ grants_with c.args.grant.draw None c.self.inside.handles.handles))
+  found = subst (λ gs. IsSome (session_grant gs c.args.who c.args.grant)) (sym (ap grants_in c.take.ensures.handles ∙ grants_with c.args.grant.draw None c.self.inside.handles.handles))
       (subst (λ o. IsSome o) c.find.ensures (is_some_of c.find.result (c.is_none.ensures ∙ ap not c.if-is_none.false)));
   left = ap (λ x. x.space.left) c.self.view_is ∙ c.requires.left;
 }
@@ -45,12 +45,12 @@ close_bare-requires g c = record { undrafted = ap (have_draft (is_at c.args.gran
 
 pub returns-in-Some : goal.returns-in-Some
 returns-in-Some g c =
-    let k : Kernel _ = record { disk = c.self.inside.disk; root = c.self.inside.root; names = c.self.inside.names; space = c.self.inside.space; words = c.self.inside.words; handles = c.self.inside.handles.handles; collections = c.self.inside.collections; stop = c.self.inside.stop } in
+    let k : Kernel _ = record { disk = c.self.inside.disk; root = c.self.inside.root; directory = c.self.inside.directory; space = c.self.inside.space; words = c.self.inside.words; handles = c.self.inside.handles.handles; collections = c.self.inside.collections; stop = c.self.inside.stop } in
     subst (λ x. Tries g.D.Disk x c.end.new.self c.args.who (asks.Close c.args.grant c.args.commit) c.end.result) c.self.view_is
     (c.end.ensures k.handles c.take.ensures.handles (sym c.take.ensures.draft ∙ c.in-Some.is))
 
 pub returns-in-None : goal.returns-in-None
 returns-in-None g c =
-    let k : Kernel _ = record { disk = c.self.inside.disk; root = c.self.inside.root; names = c.self.inside.names; space = c.self.inside.space; words = c.self.inside.words; handles = c.self.inside.handles.handles; collections = c.self.inside.collections; stop = c.self.inside.stop } in
+    let k : Kernel _ = record { disk = c.self.inside.disk; root = c.self.inside.root; directory = c.self.inside.directory; space = c.self.inside.space; words = c.self.inside.words; handles = c.self.inside.handles.handles; collections = c.self.inside.collections; stop = c.self.inside.stop } in
     subst (λ x. Tries g.D.Disk x c.close_bare.new.self c.args.who (asks.Close c.args.grant c.args.commit) (Ok c.close_bare.result)) c.self.view_is
     (subst (λ ss. Tries g.D.Disk (record k { handles = ss }) c.close_bare.new.self c.args.who (asks.Close c.args.grant c.args.commit) (Ok c.close_bare.result)) (c.take.ensures.kept c.in-None.is) c.close_bare.ensures)

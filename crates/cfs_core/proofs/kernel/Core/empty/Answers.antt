@@ -15,7 +15,7 @@ carry_on-requires g c = c.delete-ended.ensures.calls.same.size ∙ c.self.invari
 
 pub returns : goal.returns
 returns g c = λ to.
-    let k : Kernel _ = record { disk = c.self.inside.disk; root = c.self.inside.root; names = c.self.inside.names; space = c.self.inside.space; words = c.self.inside.words; handles = c.self.inside.handles.handles; collections = c.self.inside.collections; stop = c.self.inside.stop } in
+    let k : Kernel _ = record { disk = c.self.inside.disk; root = c.self.inside.root; directory = c.self.inside.directory; space = c.self.inside.space; words = c.self.inside.words; handles = c.self.inside.handles.handles; collections = c.self.inside.collections; stop = c.self.inside.stop } in
     let d2 = c.carry_on.new.disk in
     let k2 = c.carry_on.new.space in
     let new : Kernel _ = record k { disk = d2; space = k2 } in

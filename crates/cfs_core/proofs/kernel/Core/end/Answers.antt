@@ -1,6 +1,6 @@
 use Rattle.std.proofs.Common.{◌≡◌, true, None, Ok, Err, sym, ◌∙◌, ap, subst, IsSome}
-use Rattle.cfs_core.proofs.Words.{grant_in, refused_by}
-use Rattle.open_table.specs.Grants.{is_grant}
+use Rattle.cfs_core.proofs.Words.{session_grant, refused_by}
+use Rattle.open_table.specs.Grants.{is_session_grant}
 use Rattle.ufs_model.specs.declared.asked.Reply.TheVariants as replies
 use Rattle.ufs_model.specs.declared.asked.Request.TheVariants as asks
 use Rattle.cfs_core.specs.Calls.{Tries}
@@ -19,16 +19,16 @@ close-requires g c = record { undrafted = ap (λ x. have_draft (is_at c.args.gra
 
 pub invariant_of-self : goal.invariant_of-self
 invariant_of-self g c =
-    let left = closed_handles c.args.who c.args.grant c.close.result c.self.inside.handles.handles c.close.new.self.handles (subst (λ x. IsSome (grant_in (grants_in x.handles) c.args.who c.args.grant)) (sym c.self.view_is) c.requires.found) c.close.ensures.handles c.close.ensures.none in
-    let fewer = sized_but c.self.invariant (is_grant c.args.who c.args.grant) c.close.new.self.handles left in
+    let left = closed_handles c.args.who c.args.grant c.close.result c.self.inside.handles.handles c.close.new.self.handles (subst (λ x. IsSome (session_grant (grants_in x.handles) c.args.who c.args.grant)) (sym c.self.view_is) c.requires.found) c.close.ensures.handles c.close.ensures.none in
+    let fewer = sized_but c.self.invariant (is_session_grant c.args.who c.args.grant) c.close.new.self.handles left in
     sized_with fewer c.end_draft.new.disk c.end_draft.new.space _ _ c.end_draft.ensures.calls.calls.same.size c.end_draft.ensures.cylinders fewer.drawn_all fewer.ready
 
 pub returns-in-Ok : goal.returns-in-Ok
 returns-in-Ok g c = λ handles was drafting.
-    let k : Kernel _ = record { disk = c.self.inside.disk; root = c.self.inside.root; names = c.self.inside.names; space = c.self.inside.space; words = c.self.inside.words; handles = c.self.inside.handles.handles; collections = c.self.inside.collections; stop = c.self.inside.stop } in
-    let had = subst (λ gs. IsSome (grant_in gs c.args.who c.args.grant)) (ap grants_in was ∙ grants_with c.args.grant.draw None handles) c.requires.found in
-    let left = closed_handles c.args.who c.args.grant c.close.result c.self.inside.handles.handles c.close.new.self.handles (subst (λ x. IsSome (grant_in (grants_in x.handles) c.args.who c.args.grant)) (sym c.self.view_is) c.requires.found) c.close.ensures.handles c.close.ensures.none
-    ∙ ap (handles_but (is_grant c.args.who c.args.grant)) (ap (λ x. x.handles) c.self.view_is ∙ was) in
+    let k : Kernel _ = record { disk = c.self.inside.disk; root = c.self.inside.root; directory = c.self.inside.directory; space = c.self.inside.space; words = c.self.inside.words; handles = c.self.inside.handles.handles; collections = c.self.inside.collections; stop = c.self.inside.stop } in
+    let had = subst (λ gs. IsSome (session_grant gs c.args.who c.args.grant)) (ap grants_in was ∙ grants_with c.args.grant.draw None handles) c.requires.found in
+    let left = closed_handles c.args.who c.args.grant c.close.result c.self.inside.handles.handles c.close.new.self.handles (subst (λ x. IsSome (session_grant (grants_in x.handles) c.args.who c.args.grant)) (sym c.self.view_is) c.requires.found) c.close.ensures.handles c.close.ensures.none
+    ∙ ap (handles_but (is_session_grant c.args.who c.args.grant)) (ap (λ x. x.handles) c.self.view_is ∙ was) in
     subst (λ x. Tries g.D.Disk (record x { handles = handles }) (record k { disk = c.end_draft.new.disk; space = c.end_draft.new.space; handles = c.close.new.self.handles }) c.args.who (asks.Close c.args.grant c.args.commit) (Ok replies.Done)) c.self.view_is
     (subst (λ ss. Tries g.D.Disk (record k { handles = handles }) (record k { disk = c.end_draft.new.disk; space = c.end_draft.new.space; handles = ss }) c.args.who (asks.Close c.args.grant c.args.commit) (Ok replies.Done)) (sym left)
     (tries_ended g.D.Disk g.met.D.Disk.left_sized g.met.D.Disk.sized (record k { handles = handles }) c.args.who c.args.grant c.args.draft drafting (ready_for _ c.args.draft c.requires.ready).bare
@@ -40,8 +40,8 @@ invariant_of-self-in-Err g c = sized_with c.self.invariant c.end_draft.new.disk 
 
 pub returns-in-Err : goal.returns-in-Err
 returns-in-Err g c = λ handles was drafting.
-    let k : Kernel _ = record { disk = c.self.inside.disk; root = c.self.inside.root; names = c.self.inside.names; space = c.self.inside.space; words = c.self.inside.words; handles = c.self.inside.handles.handles; collections = c.self.inside.collections; stop = c.self.inside.stop } in
-    let had = subst (λ gs. IsSome (grant_in gs c.args.who c.args.grant)) (ap grants_in was ∙ grants_with c.args.grant.draw None handles) c.requires.found in
+    let k : Kernel _ = record { disk = c.self.inside.disk; root = c.self.inside.root; directory = c.self.inside.directory; space = c.self.inside.space; words = c.self.inside.words; handles = c.self.inside.handles.handles; collections = c.self.inside.collections; stop = c.self.inside.stop } in
+    let had = subst (λ gs. IsSome (session_grant gs c.args.who c.args.grant)) (ap grants_in was ∙ grants_with c.args.grant.draw None handles) c.requires.found in
     subst (λ e. Tries g.D.Disk (record c.args.self.now { handles = handles }) (record k { disk = c.end_draft.new.disk; space = c.end_draft.new.space }) c.args.who (asks.Close c.args.grant c.args.commit) (Err e)) (sym c.from.ensures)
     (subst (λ x. Tries g.D.Disk (record x { handles = handles }) (record k { disk = c.end_draft.new.disk; space = c.end_draft.new.space }) c.args.who (asks.Close c.args.grant c.args.commit) (Err (refused_by c.in-Err.trouble))) c.self.view_is
     (subst (λ ss. Tries g.D.Disk (record k { handles = handles }) (record k { disk = c.end_draft.new.disk; space = c.end_draft.new.space; handles = ss }) c.args.who (asks.Close c.args.grant c.args.commit) (Err (refused_by c.in-Err.trouble))) (sym (ap (λ x. x.handles) c.self.view_is ∙ was))

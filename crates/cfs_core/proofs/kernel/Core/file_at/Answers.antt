@@ -14,7 +14,7 @@ returns-in-Ok-default-Normal-clause-reached g c = λ request by. (
       let came = c.in-Ok-default-Normal.ensures.arrived request by s serves in
       let f = file_there came.0 (ap (λ x. unfit_of AFile (Some x)) (kind_is g.D.Disk c.args.self.now s serves c.in-Ok-default-Normal.id came.0 c.in-Ok-default-Normal.field-0-1 c.in-Ok-default-Normal.ensures.kind came.1.there) ∙ c.in-Ok-default-Normal.ensures.wanted) in
       (f.0, reaches s c.args.who request c.in-Ok-default-Normal.id _ (subst (Arrives s c.args.who request c.in-Ok-default-Normal.id) f.1 came.1) (ap (draft_of s c.args.who) by.to ∙ c.requires.bare s serves), c.shuts.ensures s c.in-Ok-default-Normal.id serves (sym (ap (named s c.args.who) by.to) ∙ came.1.name) (c.requires.bare s serves) (c.in-Ok-default-Normal.ensures.free s serves))),
-  named_root c.args.self.now.names.named c.in-Ok-default-Normal.id c.in-Ok-default-Normal.field-0-1 c.in-Ok-default-Normal.ensures.kind,
+  named_root c.args.self.now.directory.named c.in-Ok-default-Normal.id c.in-Ok-default-Normal.field-0-1 c.in-Ok-default-Normal.ensures.kind,
 )
 
 pub returns-in-Ok-default-Normal-clause-kind : goal.returns-in-Ok-default-Normal-clause-kind
@@ -27,7 +27,7 @@ returns-in-Ok-default-Special-clause-reached g c = λ request by. (
       let came = c.in-Ok-default-Special.ensures.arrived request by s serves in
       let f = file_there came.0 (ap (λ x. unfit_of AFile (Some x)) (kind_is g.D.Disk c.args.self.now s serves c.in-Ok-default-Special.id came.0 c.in-Ok-default-Special.field-0-1 c.in-Ok-default-Special.ensures.kind came.1.there) ∙ c.in-Ok-default-Special.ensures.wanted) in
       (f.0, reaches s c.args.who request c.in-Ok-default-Special.id _ (subst (Arrives s c.args.who request c.in-Ok-default-Special.id) f.1 came.1) (ap (draft_of s c.args.who) by.to ∙ c.requires.bare s serves), c.shuts.ensures s c.in-Ok-default-Special.id serves (sym (ap (named s c.args.who) by.to) ∙ came.1.name) (c.requires.bare s serves) (c.in-Ok-default-Special.ensures.free s serves))),
-  named_root c.args.self.now.names.named c.in-Ok-default-Special.id c.in-Ok-default-Special.field-0-1 c.in-Ok-default-Special.ensures.kind,
+  named_root c.args.self.now.directory.named c.in-Ok-default-Special.id c.in-Ok-default-Special.field-0-1 c.in-Ok-default-Special.ensures.kind,
 )
 
 pub returns-in-Ok-default-Special-clause-kind : goal.returns-in-Ok-default-Special-clause-kind

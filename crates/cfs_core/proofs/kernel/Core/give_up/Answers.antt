@@ -17,7 +17,7 @@ none_of (Some x) is = cc
 
 pub returns-in-Err : goal.returns-in-Err
 returns-in-Err g c =
-    let k : Kernel _ = record { disk = c.self.inside.disk; root = c.self.inside.root; names = c.self.inside.names; space = c.self.inside.space; words = c.self.inside.words; handles = c.self.inside.handles.handles; collections = c.self.inside.collections; stop = c.self.inside.stop } in
+    let k : Kernel _ = record { disk = c.self.inside.disk; root = c.self.inside.root; directory = c.self.inside.directory; space = c.self.inside.space; words = c.self.inside.words; handles = c.self.inside.handles.handles; collections = c.self.inside.collections; stop = c.self.inside.stop } in
     let runs = none_of c.self.inside.stop (sym c.is_some.ensures ∙ c.if-is_some.false) in
     let after : Kernel _ = record k { disk = c.abort.new.disk; space = c.abort.new.space } in
     subst (λ x. GivesUp g.D.Disk c.args.draft x c.refuse.new.self) c.self.view_is
@@ -26,7 +26,7 @@ returns-in-Err g c =
 
 pub returns-in_default : goal.returns-in_default
 returns-in_default g c =
-    let k : Kernel _ = record { disk = c.self.inside.disk; root = c.self.inside.root; names = c.self.inside.names; space = c.self.inside.space; words = c.self.inside.words; handles = c.self.inside.handles.handles; collections = c.self.inside.collections; stop = c.self.inside.stop } in
+    let k : Kernel _ = record { disk = c.self.inside.disk; root = c.self.inside.root; directory = c.self.inside.directory; space = c.self.inside.space; words = c.self.inside.words; handles = c.self.inside.handles.handles; collections = c.self.inside.collections; stop = c.self.inside.stop } in
     let runs = none_of c.self.inside.stop (sym c.is_some.ensures ∙ c.if-is_some.false) in
     subst (λ x. GivesUp g.D.Disk c.args.draft x (record k { disk = c.abort.new.disk; space = c.abort.new.space })) c.self.view_is
     (given_up g.D.Disk c.args.draft k c.abort.new.disk c.abort.new.space _ _ c.abort.ensures.calls runs c.abort.ensures.left c.abort.ensures.leaves c.in_default.ensures.done)

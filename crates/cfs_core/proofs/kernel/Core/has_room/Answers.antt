@@ -8,11 +8,11 @@ use Rattle.cfs_core.proofs.kernel.Core.has_room.Goals as goal
 pub returns-clause-room : goal.returns-clause-room
 returns-clause-room g c = λ s serves calm.
     let k = c.args.self.now in
-    let ready = ap (λ x. list_all (is_ready x.names.room) x.handles) (sym c.self.view_is) ∙ c.self.invariant.ready in
+    let ready = ap (λ x. list_all (is_ready x.directory.room) x.handles) (sym c.self.view_is) ∙ c.self.invariant.ready in
     omega (arith, room_is g.D.Disk k s serves (sum k.space.free) calm refl, drafts_take _ _ k.handles s.grants ready serves.drafts)
 
 pub returns-clause-lost : goal.returns-clause-lost
 returns-clause-lost g c = λ s serves.
     let k = c.args.self.now in
-    let ready = ap (λ x. list_all (is_ready x.names.room) x.handles) (sym c.self.view_is) ∙ c.self.invariant.ready in
+    let ready = ap (λ x. list_all (is_ready x.directory.room) x.handles) (sym c.self.view_is) ∙ c.self.invariant.ready in
     omega (arith, room_with g.D.Disk k s serves, drafts_take _ _ k.handles s.grants ready serves.drafts)

@@ -14,5 +14,5 @@ returns-in-Ok-clause-reached g c = λ request by. (
       let i = index_there came.0 (ap (λ x. unfit_of AnIndex (Some x)) (kind_is g.D.Disk c.args.self.now s serves id came.0 c.in-Ok.field-0-1 c.in-Ok.ensures.kind came.1.there) ∙ c.in-Ok.ensures.wanted) in
       let there = came.1.there ∙ ap (λ o. Some o) i.1 in
       (i.0, reaches s c.args.who request id _ (subst (Arrives s c.args.who request id) i.1 came.1) (no_draft s c.args.who (target request) id i.0 serves.state came.1.name there), shut g.D.Disk c.args.self.now s serves id i.0 there)),
-  named_root c.args.self.now.names.named c.in-Ok.id c.in-Ok.field-0-1 c.in-Ok.ensures.kind,
+  named_root c.args.self.now.directory.named c.in-Ok.id c.in-Ok.field-0-1 c.in-Ok.ensures.kind,
 )

@@ -10,8 +10,8 @@ found (Some kind) h = (kind, refl)
 pub returns-clause-on_disk : goal.returns-clause-on_disk
 returns-clause-on_disk g c = λ some.
     let kind = found c.kind.result some in
-    let below = kind_below c.self.inside.names c.args.id kind.0 c.room.ensures.listing (sym c.kind.ensures ∙ kind.1) in
+    let below = kind_below c.self.inside.directory c.args.id kind.0 c.room.ensures.listing (sym c.kind.ensures ∙ kind.1) in
     omega (arith, below, c.self.invariant.room, ap (λ k. g.D.Disk.blocks k.disk) c.self.view_is)
 
 pub returns-clause-some : goal.returns-clause-some
-returns-clause-some g c = λ some. let kind = found c.kind.result some in named_some c.self.inside.names.named c.args.id kind.0 c.self.invariant.some (sym c.kind.ensures ∙ kind.1)
+returns-clause-some g c = λ some. let kind = found c.kind.result some in named_some c.self.inside.directory.named c.args.id kind.0 c.self.invariant.some (sym c.kind.ensures ∙ kind.1)

@@ -1,5 +1,5 @@
 use Rattle.std.proofs.Common.{◌≡◌, Some, refl, sym, ◌∙◌, ap, subst, IsSome}
-use Rattle.cfs_core.proofs.Words.{first_of, grant_in-first, grants_of-fewer}
+use Rattle.cfs_core.proofs.Words.{first_grant, session_grant-first, grants_of-fewer}
 use Rattle.ufs_model.specs.declared.asked.Event.TheVariants as events
 use Rattle.cfs_core.specs.Asked.{Happens, halted}
 use Rattle.cfs_core.specs.Kernel.{grants_in}
@@ -15,18 +15,18 @@ loop-grant-preserved g c = sheds_then g.D.Disk c.args.who _ _ _ c.loop-grant.inv
 
 pub loop-grant-smaller : goal.loop-grant-smaller
 loop-grant-smaller g c =
-    let first : first_of (grants_in c.loop-grant.self.handles) c.args.who ≡ Some c.in-Some.grant = ap (λ x. first_of (grants_in x.handles) c.args.who) (sym c.self-in-loop-grant.view_is) ∙ sym c.next_of.ensures ∙ c.in-Some.is in
+    let first : first_grant (grants_in c.loop-grant.self.handles) c.args.who ≡ Some c.in-Some.grant = ap (λ x. first_grant (grants_in x.handles) c.args.who) (sym c.self-in-loop-grant.view_is) ∙ sym c.next_of.ensures ∙ c.in-Some.is in
     rw c.drop_grant.ensures.gone (grants_of-fewer (grants_in c.loop-grant.self.handles) c.args.who c.in-Some.grant first)
 
 pub drop_grant-requires : goal.drop_grant-requires
 drop_grant-requires g c =
-    let first : first_of (grants_in c.loop-grant.self.handles) c.args.who ≡ Some c.in-Some.grant = ap (λ x. first_of (grants_in x.handles) c.args.who) (sym c.self-in-loop-grant.view_is) ∙ sym c.next_of.ensures ∙ c.in-Some.is in
-    record { found = subst (λ o. IsSome o) (sym (grant_in-first (grants_in c.loop-grant.self.handles) c.args.who c.in-Some.grant first)) refl }
+    let first : first_grant (grants_in c.loop-grant.self.handles) c.args.who ≡ Some c.in-Some.grant = ap (λ x. first_grant (grants_in x.handles) c.args.who) (sym c.self-in-loop-grant.view_is) ∙ sym c.next_of.ensures ∙ c.in-Some.is in
+    record { found = subst (λ o. IsSome o) (sym (session_grant-first (grants_in c.loop-grant.self.handles) c.args.who c.in-Some.grant first)) refl }
 
 pub returns-clause-event : goal.returns-clause-event
 returns-clause-event g c = λ s stands.
     subst (λ r. Happens g.D.Disk c.args.self.now c.loop-grant.self s (events.Leave c.args.who (halted r))) (sym (c.halt_of.ensures ∙ ap (λ x. halt_of x.stop c.self-2.inside.stop) c.self.view_is ∙ ap (λ x. halt_of c.args.self.now.stop x.stop) c.self-2.view_is))
-    (has_left g.D.Disk c.args.who g.met.D.Disk.left_sized g.met.D.Disk.sized c.args.self.now c.loop-grant.self c.loop-grant.invariant (ap (λ x. first_of (grants_in x.handles) c.args.who) (sym c.self-in-loop-grant.view_is) ∙ sym c.next_of.ensures ∙ c.in_default.is) s stands)
+    (has_left g.D.Disk c.args.who g.met.D.Disk.left_sized g.met.D.Disk.sized c.args.self.now c.loop-grant.self c.loop-grant.invariant (ap (λ x. first_grant (grants_in x.handles) c.args.who) (sym c.self-in-loop-grant.view_is) ∙ sym c.next_of.ensures ∙ c.in_default.is) s stands)
 
 pub returns-clause-words : goal.returns-clause-words
 returns-clause-words g c = c.loop-grant.invariant.words

@@ -1,15 +1,15 @@
 use Rattle.std.proofs.Common.{◌≡◌, ◌*◌, inl, inr, ℕ, Ok, Err, refl, sym, ◌∙◌, ap, subst, Result, sum}
-use Rattle.cfs_core.proofs.Words.{blocks_of, cases_lt, Kind, kind_of, made_of, Puid, PutsObject, Refused, refused_by}
+use Rattle.cfs_core.proofs.Words.{blocks_of, cases_lt, Kind, object_kind, made_of, Puid, PutsObject, Refused, refused_by}
 use Rattle.cfs_base.specs.declared.kind.Kind.TheVariants as kinds
 use Rattle.cfs_core.specs.Kernel.{Kernel}
 use Rattle.cfs_core.specs.Calls.{TriesOn}
-use Rattle.cfs_core.specs.Makes.{Names}
+use Rattle.cfs_core.specs.Makes.{NamesMade}
 use Rattle.cfs_core.proofs.Carried.{places_done, places_late, places_not}
 use Rattle.cfs_core.proofs.Putting.{tries_want_on}
 use Rattle.cfs_core.proofs.Placed.{tries_made, tries_short, tries_unmade}
 use Rattle.cfs_core.proofs.kernel.Core.make.Goals as goal
 
-kind_is : (kind : Kind) (fill size : ℕ) → kind_of (made_of kind fill size) ≡ kind
+kind_is : (kind : Kind) (fill size : ℕ) → object_kind (made_of kind fill size) ≡ kind
 kind_is kinds.Normal fill size = refl
 kind_is kinds.Special fill size = refl
 kind_is kinds.Index fill size = refl
@@ -34,7 +34,7 @@ returns-in-Err g c = λ request making. tries_want_on g.D.Disk g.met.D.Disk.left
 
 pub returns-in-Ok-finish : goal.returns-in-Ok-finish
 returns-in-Ok-finish g c = λ request making.
-    let k : Kernel _ = record { disk = c.self.inside.disk; root = c.self.inside.root; names = c.self.inside.names; space = c.self.inside.space; words = c.self.inside.words; handles = c.self.inside.handles.handles; collections = c.self.inside.collections; stop = c.self.inside.stop } in
+    let k : Kernel _ = record { disk = c.self.inside.disk; root = c.self.inside.root; directory = c.self.inside.directory; space = c.self.inside.space; words = c.self.inside.words; handles = c.self.inside.handles.handles; collections = c.self.inside.collections; stop = c.self.inside.stop } in
     let o = made_of c.args.kind c.args.fill c.args.size in
     let d2 = c.finish.new.disk in
     let k2 = c.finish.new.space in
@@ -44,13 +44,13 @@ returns-in-Ok-finish g c = λ request making.
           let puts = subst (λ r. PutsObject g.D.Disk c.args.index.block c.args.slot o c.ahead-word.result k.disk c.create.new.disk k.space c.create.new.space r) c.in-Ok-create.is (c.create.ensures.makes enough) in
           tries_made g.D.Disk g.met.D.Disk.left_sized g.met.D.Disk.sized k d2 k2 c.self.invariant.room c.args.index c.args.slot o (one_block c.args.kind c.args.fill c.args.size) c.ahead-word.result c.ahead-word.ensures
           (Ok c.in-Ok-create.id) (places_done g.D.Disk k.disk c.create.new.disk d2 k.space c.create.new.space k2 c.args.index.block c.args.slot o c.ahead-word.result c.in-Ok-create.id puts c.in-Ok-finish.ensures) enough request making c.in-Ok-create.id refl
-          c.name.new.self c.name.result (subst (λ kind. Names (record k { disk = d2; space = k2 }) c.name.new.self c.in-Ok-create.id kind c.name.result) (sym (kind_is c.args.kind c.args.fill c.args.size)) c.name.ensures)
+          c.name.new.self c.name.result (subst (λ kind. NamesMade (record k { disk = d2; space = k2 }) c.name.new.self c.in-Ok-create.id kind c.name.result) (sym (kind_is c.args.kind c.args.fill c.args.size)) c.name.ensures)
     ] in
     subst (λ x. TriesOn g.D.Disk x c.name.new.self c.args.index c.args.slot request c.name.result) c.self.view_is done
 
 pub returns-in-Err-finish : goal.returns-in-Err-finish
 returns-in-Err-finish g c = λ request making.
-    let k : Kernel _ = record { disk = c.self.inside.disk; root = c.self.inside.root; names = c.self.inside.names; space = c.self.inside.space; words = c.self.inside.words; handles = c.self.inside.handles.handles; collections = c.self.inside.collections; stop = c.self.inside.stop } in
+    let k : Kernel _ = record { disk = c.self.inside.disk; root = c.self.inside.root; directory = c.self.inside.directory; space = c.self.inside.space; words = c.self.inside.words; handles = c.self.inside.handles.handles; collections = c.self.inside.collections; stop = c.self.inside.stop } in
     let o = made_of c.args.kind c.args.fill c.args.size in
     let d2 = c.finish.new.disk in
     let k2 = c.finish.new.space in
@@ -67,7 +67,7 @@ returns-in-Err-finish g c = λ request making.
 
 pub returns-in-Err-create : goal.returns-in-Err-create
 returns-in-Err-create g c = λ request making.
-    let k : Kernel _ = record { disk = c.self.inside.disk; root = c.self.inside.root; names = c.self.inside.names; space = c.self.inside.space; words = c.self.inside.words; handles = c.self.inside.handles.handles; collections = c.self.inside.collections; stop = c.self.inside.stop } in
+    let k : Kernel _ = record { disk = c.self.inside.disk; root = c.self.inside.root; directory = c.self.inside.directory; space = c.self.inside.space; words = c.self.inside.words; handles = c.self.inside.handles.handles; collections = c.self.inside.collections; stop = c.self.inside.stop } in
     let o = made_of c.args.kind c.args.fill c.args.size in
     let new : Kernel _ = record k { disk = c.create.new.disk; space = c.create.new.space } in
     let done : TriesOn g.D.Disk k new c.args.index c.args.slot request (Err c.in-Err-create.refused) = elim (cases_lt (sum k.space.free) 8) [

@@ -1,12 +1,12 @@
 use Rattle.std.proofs.Common.{◌≡◌, ◌+◌, ◌++◌, [], ◌∷◌, length, is_some, false, None, Some, Ok, Err, refl, sym, ◌∙◌, ap, subst, ◌<◌, ◌*◌, IsSome, nat_le}
-use Rattle.cfs_core.proofs.Words.{Draws, fault_of, grants_of, is_locked, kind_in, list_all, mode_against, MOST_GRANTS, refusal_of, State, Tuid, word}
+use Rattle.cfs_core.proofs.Words.{Draws, fault_of, grants_of, is_locked, directory_kind, list_all, mode_against, MOST_GRANTS, refusal_of, State, Tuid, word}
 use Rattle.cfs_base.specs.declared.refusal.Refused.TheVariants as refusals
 use Rattle.open_table.specs.declared.grant.Grant.{Grant}
 use Rattle.ufs_model.specs.declared.asked.Reply.TheVariants as replies
 use Rattle.ufs_model.specs.declared.asked.Request.TheVariants as asks
 use Rattle.cfs_core.specs.Calls.{Tries}
 use Rattle.cfs_core.specs.Kernel.{Kernel, grants_in, is_drawn_by, is_ready}
-use Rattle.cfs_core.specs.StandsFor.{Serves}
+use Rattle.cfs_core.specs.StandsFor.{CoreServes}
 use Rattle.cfs_core.specs.Opening.{Begins, gets_draft, reply_to_fault}
 use Rattle.cfs_core.proofs.Answering.{memory, reads_none, tries_refusal, tries_so}
 use Rattle.cfs_core.proofs.Granted.{drawn_push, not_drawn}
@@ -29,7 +29,7 @@ returns-then-is_unfit g c =
 
 pub returns-in-Err : goal.returns-in-Err
 returns-in-Err g c =
-    let k : Kernel _ = record { disk = c.self.inside.disk; root = c.self.inside.root; names = c.self.inside.names; space = c.self.inside.space; words = c.self.inside.words; handles = c.self.inside.handles.handles; collections = c.self.inside.collections; stop = c.self.inside.stop } in
+    let k : Kernel _ = record { disk = c.self.inside.disk; root = c.self.inside.root; directory = c.self.inside.directory; space = c.self.inside.space; words = c.self.inside.words; handles = c.self.inside.handles.handles; collections = c.self.inside.collections; stop = c.self.inside.stop } in
     let request = asks.OpenFor c.args.id c.args.mode in
     subst (λ x. Tries g.D.Disk x (record k { handles = c.reserve.new.self.handles }) c.args.who request (Err c.from.result)) c.self.view_is
     (subst (λ e. Tries g.D.Disk k (record k { handles = c.reserve.new.self.handles }) c.args.who request (Err e)) (sym c.from.ensures)
@@ -39,9 +39,9 @@ returns-in-Err g c =
 
 pub returns-in-Some-fault : goal.returns-in-Some-fault
 returns-in-Some-fault g c =
-    let k : Kernel _ = record { disk = c.self.inside.disk; root = c.self.inside.root; names = c.self.inside.names; space = c.self.inside.space; words = c.self.inside.words; handles = c.self.inside.handles.handles; collections = c.self.inside.collections; stop = c.self.inside.stop } in
+    let k : Kernel _ = record { disk = c.self.inside.disk; root = c.self.inside.root; directory = c.self.inside.directory; space = c.self.inside.space; words = c.self.inside.words; handles = c.self.inside.handles.handles; collections = c.self.inside.collections; stop = c.self.inside.stop } in
     let request = asks.OpenFor c.args.id c.args.mode in
-    let listed = ap (λ x. kind_in x.names.named c.args.id) c.self.view_is ∙ sym c.kind.ensures.kind ∙ c.in-Some.is in
+    let listed = ap (λ x. directory_kind x.directory.named c.args.id) c.self.view_is ∙ sym c.kind.ensures.kind ∙ c.in-Some.is in
     let gs = grants_in c.reserve.new.self.handles in
     let grant : Grant = (record { tuid = record { draw = c.drawn.result + 1; word = c.ahead.result }; session = c.args.who; id = c.args.id; mode = c.args.mode }) in
     subst (λ r. Tries g.D.Disk c.args.self.now (record k { handles = c.reserve.new.self.handles }) c.args.who request (Ok r)) (sym c.told_of.ensures)
@@ -62,16 +62,16 @@ open-requires-clause-new g c = not_drawn c.reserve.new.self.handles c.self.insid
 
 pub returns-in-Err-first_draft : goal.returns-in-Err-first_draft
 returns-in-Err-first_draft g c =
-    let k : Kernel _ = record { disk = c.self.inside.disk; root = c.self.inside.root; names = c.self.inside.names; space = c.self.inside.space; words = c.self.inside.words; handles = c.self.inside.handles.handles; collections = c.self.inside.collections; stop = c.self.inside.stop } in
+    let k : Kernel _ = record { disk = c.self.inside.disk; root = c.self.inside.root; directory = c.self.inside.directory; space = c.self.inside.space; words = c.self.inside.words; handles = c.self.inside.handles.handles; collections = c.self.inside.collections; stop = c.self.inside.stop } in
     let request = asks.OpenFor c.args.id c.args.mode in
-    let listed : kind_in k.names.named c.args.id ≡ Some c.in-Some.kind = ap (λ x. kind_in x.names.named c.args.id) c.self.view_is ∙ sym c.kind.ensures.kind ∙ c.in-Some.is in
+    let listed : directory_kind k.directory.named c.args.id ≡ Some c.in-Some.kind = ap (λ x. directory_kind x.directory.named c.args.id) c.self.view_is ∙ sym c.kind.ensures.kind ∙ c.in-Some.is in
     let gs = grants_in c.reserve.new.self.handles in
     let tuid : Tuid = record { draw = c.drawn.result + 1; word = c.ahead.result } in
     let grant : Grant = (record { tuid = tuid; session = c.args.who; id = c.args.id; mode = c.args.mode }) in
     let tuid_is : tuid ≡ record { draw = k.words.drawn + 1; word = word k.words.seed (k.words.drawn + 1) } =
     ap (λ n. record { draw = n + 1; word = c.ahead.result }) c.drawn.ensures ∙ ap (λ w. record { draw = c.self.inside.words.drawn + 1; word = w }) c.ahead.ensures in
     let none : fault_of gs grant ≡ None = sym c.fault.ensures ∙ c.in_default-fault.is in
-    let goes : (s : State) → Serves g.D.Disk k s → (refusal_of s c.args.who request ≡ None) × (is_locked s c.args.who request ≡ false) =
+    let goes : (s : State) → CoreServes g.D.Disk k s → (refusal_of s c.args.who request ≡ None) × (is_locked s c.args.who request ≡ false) =
     λ s serves.
     let table = ap grants_in c.reserve.ensures.handles ∙ serves.front.grants in
     let there = there_now g.D.Disk k s serves c.args.id c.in-Some.kind listed in
@@ -100,23 +100,23 @@ invariant_of-self-2 g c =
       kept = c.self.invariant.kept;
       drawn_all = ap (list_all (is_drawn_by c.next.new.self.drawn)) c.open.ensures
           ∙ drawn_push c.reserve.new.self.handles _ c.self.inside.words.drawn c.next.new.self.drawn next (ap (λ n. n + 1) c.drawn.ensures ∙ sym next) (ap (list_all (is_drawn_by c.self.inside.words.drawn)) c.reserve.ensures.handles ∙ c.self.invariant.drawn_all);
-      ready = ap (list_all (is_ready c.self.inside.names.room)) c.open.ensures
-          ∙ all_push (is_ready c.self.inside.names.room) c.reserve.new.self.handles _ (ap (list_all (is_ready c.self.inside.names.room)) c.reserve.ensures.handles ∙ c.self.invariant.ready)
-          (begun_ready c.self.inside.names.room c.in-Some.kind grant c.in-Ok.draft begins.ready below);
+      ready = ap (list_all (is_ready c.self.inside.directory.room)) c.open.ensures
+          ∙ all_push (is_ready c.self.inside.directory.room) c.reserve.new.self.handles _ (ap (list_all (is_ready c.self.inside.directory.room)) c.reserve.ensures.handles ∙ c.self.invariant.ready)
+          (begun_ready c.self.inside.directory.room c.in-Some.kind grant c.in-Ok.draft begins.ready below);
     }
 
 pub returns : goal.returns
 returns g c =
-    let k : Kernel _ = record { disk = c.self.inside.disk; root = c.self.inside.root; names = c.self.inside.names; space = c.self.inside.space; words = c.self.inside.words; handles = c.self.inside.handles.handles; collections = c.self.inside.collections; stop = c.self.inside.stop } in
+    let k : Kernel _ = record { disk = c.self.inside.disk; root = c.self.inside.root; directory = c.self.inside.directory; space = c.self.inside.space; words = c.self.inside.words; handles = c.self.inside.handles.handles; collections = c.self.inside.collections; stop = c.self.inside.stop } in
     let request = asks.OpenFor c.args.id c.args.mode in
-    let listed : kind_in k.names.named c.args.id ≡ Some c.in-Some.kind = ap (λ x. kind_in x.names.named c.args.id) c.self.view_is ∙ sym c.kind.ensures.kind ∙ c.in-Some.is in
+    let listed : directory_kind k.directory.named c.args.id ≡ Some c.in-Some.kind = ap (λ x. directory_kind x.directory.named c.args.id) c.self.view_is ∙ sym c.kind.ensures.kind ∙ c.in-Some.is in
     let gs = grants_in c.reserve.new.self.handles in
     let tuid : Tuid = record { draw = c.drawn.result + 1; word = c.ahead.result } in
     let grant : Grant = (record { tuid = tuid; session = c.args.who; id = c.args.id; mode = c.args.mode }) in
     let tuid_is : tuid ≡ record { draw = k.words.drawn + 1; word = word k.words.seed (k.words.drawn + 1) } =
     ap (λ n. record { draw = n + 1; word = c.ahead.result }) c.drawn.ensures ∙ ap (λ w. record { draw = c.self.inside.words.drawn + 1; word = w }) c.ahead.ensures in
     let none : fault_of gs grant ≡ None = sym c.fault.ensures ∙ c.in_default-fault.is in
-    let goes : (s : State) → Serves g.D.Disk k s → (refusal_of s c.args.who request ≡ None) × (is_locked s c.args.who request ≡ false) =
+    let goes : (s : State) → CoreServes g.D.Disk k s → (refusal_of s c.args.who request ≡ None) × (is_locked s c.args.who request ≡ false) =
     λ s serves.
     let table = ap grants_in c.reserve.ensures.handles ∙ serves.front.grants in
     let there = there_now g.D.Disk k s serves c.args.id c.in-Some.kind listed in

@@ -20,7 +20,7 @@ carry_on-requires g c = elim (cases_lt (sum c.self.inside.space.free) 7) [
 
 pub returns : goal.returns
 returns g c = λ to.
-    let k : Kernel _ = record { disk = c.self.inside.disk; root = c.self.inside.root; names = c.self.inside.names; space = c.self.inside.space; words = c.self.inside.words; handles = c.self.inside.handles.handles; collections = c.self.inside.collections; stop = c.self.inside.stop } in
+    let k : Kernel _ = record { disk = c.self.inside.disk; root = c.self.inside.root; directory = c.self.inside.directory; space = c.self.inside.space; words = c.self.inside.words; handles = c.self.inside.handles.handles; collections = c.self.inside.collections; stop = c.self.inside.stop } in
     let d1 = c.retain-ended.new.disk in
     let k1 = c.retain-ended.new.space in
     let d2 = c.carry_on.new.disk in

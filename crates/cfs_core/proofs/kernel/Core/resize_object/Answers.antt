@@ -6,11 +6,12 @@ use Rattle.ufs_model.specs.declared.object.Object.TheVariants as objects
 use Rattle.cfs_core.specs.Calls.{Tries}
 use Rattle.cfs_core.specs.Kernel.{Kernel}
 use Rattle.cfs_core.specs.Looks.{ReachesAll}
-use Rattle.cfs_core.specs.StandsFor.{Serves}
+use Rattle.cfs_core.specs.StandsFor.{CoreServes}
 use Rattle.cfs_core.proofs.Answering.{reads_none, tries_refusal, tries_want}
 use Rattle.cfs_core.proofs.Carried.{alters, ends_altered}
 use Rattle.cfs_core.proofs.Filed.{resize_changes, tries_changed}
 use Rattle.cfs_core.proofs.Refusing.{resize_goes, resize_range}
+use Rattle.leaf_changes.specs.Tops.{disk_top}
 use Rattle.cfs_core.proofs.kernel.Core.resize_object.Goals as goal
 
 above : (size : ℕ) → 7864320 < size → nat_lt 7864320 size ≡ true
@@ -42,7 +43,7 @@ carry_on-requires g c =
 
 pub returns : goal.returns
 returns g c =
-    let k : Kernel _ = record { disk = c.self.inside.disk; root = c.self.inside.root; names = c.self.inside.names; space = c.self.inside.space; words = c.self.inside.words; handles = c.self.inside.handles.handles; collections = c.self.inside.collections; stop = c.self.inside.stop } in
+    let k : Kernel _ = record { disk = c.self.inside.disk; root = c.self.inside.root; directory = c.self.inside.directory; space = c.self.inside.space; words = c.self.inside.words; handles = c.self.inside.handles.handles; collections = c.self.inside.collections; stop = c.self.inside.stop } in
     let request = asks.Resize c.args.to c.args.size in
     let reach = subst (λ x. ReachesAll g.D.Disk objects.File x c.args.who request c.in-Ok.there.0) (sym c.self.view_is) (c.in-Ok.ensures.reached request (record { to = refl; each = λ s who. refl })) in
     let at = c.in-Ok.there.0.block in
@@ -56,6 +57,7 @@ returns g c =
     let done = tries_changed g.D.Disk g.met.D.Disk.left_sized g.met.D.Disk.sized 0 k k.disk d2 k2 (reads_none g.D.Disk 0 k.disk) c.in-Ok.there.0 kind (SetSize c.args.size) request
     (resize_changes c.args.to c.args.size) c.carry_on.result
     (λ tells. alters g.D.Disk k.disk d1 d2 k.space k1 k2 at kind 4 (SetSize c.args.size) c.resize-ended.result c.carry_on.result c.resize-ended.ensures.changes c.carry_on.ensures)
-    (ends_altered g.D.Disk k.disk d1 d2 k.space k1 k2 at kind 4 (SetSize c.args.size) c.resize-ended.result c.carry_on.result c.resize-ended.ensures.changes.ends c.carry_on.ensures) c.args.who reach
-    (λ s f serves r knows. (c.in-Ok.ensures.kind s f (subst (λ x. Serves g.D.Disk x s) c.self.view_is serves) r.there, less, resize_goes k.words.seed s c.args.who c.args.to c.in-Ok.there.0 f c.args.size r (within c.args.size less))) in
+    (disk_top g.D.Disk at k.disk) refl (λ size far. far)
+    (ends_altered g.D.Disk k.disk d1 d2 k.space k1 k2 (disk_top g.D.Disk at k.disk) kind 4 (SetSize c.args.size) c.resize-ended.result c.carry_on.result c.resize-ended.ensures.changes.ends c.carry_on.ensures) c.args.who reach
+    (λ s f serves r knows. (c.in-Ok.ensures.kind s f (subst (λ x. CoreServes g.D.Disk x s) c.self.view_is serves) r.there, less, resize_goes k.words.seed s c.args.who c.args.to c.in-Ok.there.0 f c.args.size r (within c.args.size less))) in
     subst (λ x. Tries g.D.Disk x new c.args.who request c.done.result) c.self.view_is (subst (λ r. Tries g.D.Disk k new c.args.who request r) (sym c.done.ensures) done)

@@ -22,7 +22,7 @@ put-requires-clause-id g c = c.in-Ok.ensures.also c.args.id refl
 
 pub returns-in-Ok-true : goal.returns-in-Ok-true
 returns-in-Ok-true g c =
-    let k : Kernel _ = record { disk = c.self.inside.disk; root = c.self.inside.root; names = c.self.inside.names; space = c.self.inside.space; words = c.self.inside.words; handles = c.self.inside.handles.handles; collections = c.self.inside.collections; stop = c.self.inside.stop } in
+    let k : Kernel _ = record { disk = c.self.inside.disk; root = c.self.inside.root; directory = c.self.inside.directory; space = c.self.inside.space; words = c.self.inside.words; handles = c.self.inside.handles.handles; collections = c.self.inside.collections; stop = c.self.inside.stop } in
     let request = asks.Retain c.args.to c.args.slot c.args.id in
     let reach = subst (λ x. ReachesAll g.D.Disk objects.Index x c.args.who request c.in-Ok.index) (sym c.self.view_is) (c.in-Ok.ensures.reached request (record { to = refl; each = λ s who. refl })) in
     subst (λ x. Tries g.D.Disk x c.put.new.self c.args.who request c.put.result) c.self.view_is
@@ -33,7 +33,7 @@ returns-in-Ok-true g c =
 
 pub returns-in-Ok-false : goal.returns-in-Ok-false
 returns-in-Ok-false g c =
-    let k : Kernel _ = record { disk = c.self.inside.disk; root = c.self.inside.root; names = c.self.inside.names; space = c.self.inside.space; words = c.self.inside.words; handles = c.self.inside.handles.handles; collections = c.self.inside.collections; stop = c.self.inside.stop } in
+    let k : Kernel _ = record { disk = c.self.inside.disk; root = c.self.inside.root; directory = c.self.inside.directory; space = c.self.inside.space; words = c.self.inside.words; handles = c.self.inside.handles.handles; collections = c.self.inside.collections; stop = c.self.inside.stop } in
     let request = asks.Retain c.args.to c.args.slot c.args.id in
     let reach = subst (λ x. ReachesAll g.D.Disk objects.Index x c.args.who request c.in-Ok.index) (sym c.self.view_is) (c.in-Ok.ensures.reached request (record { to = refl; each = λ s who. refl })) in
     subst (λ x. Tries g.D.Disk x (record k { disk = c.has_slot.new.disk }) c.args.who request (Ok replies.Slot)) c.self.view_is
@@ -42,7 +42,7 @@ returns-in-Ok-false g c =
 
 pub returns-in-Err-has_slot : goal.returns-in-Err-has_slot
 returns-in-Err-has_slot g c =
-    let k : Kernel _ = record { disk = c.self.inside.disk; root = c.self.inside.root; names = c.self.inside.names; space = c.self.inside.space; words = c.self.inside.words; handles = c.self.inside.handles.handles; collections = c.self.inside.collections; stop = c.self.inside.stop } in
+    let k : Kernel _ = record { disk = c.self.inside.disk; root = c.self.inside.root; directory = c.self.inside.directory; space = c.self.inside.space; words = c.self.inside.words; handles = c.self.inside.handles.handles; collections = c.self.inside.collections; stop = c.self.inside.stop } in
     let request = asks.Retain c.args.to c.args.slot c.args.id in
     let reach = subst (λ x. ReachesAll g.D.Disk objects.Index x c.args.who request c.in-Ok.index) (sym c.self.view_is) (c.in-Ok.ensures.reached request (record { to = refl; each = λ s who. refl })) in
     subst (λ x. Tries g.D.Disk x (record k { disk = c.has_slot.new.disk }) c.args.who request (Err c.in-Err-has_slot.refused)) c.self.view_is

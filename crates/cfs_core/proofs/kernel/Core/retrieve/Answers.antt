@@ -13,7 +13,7 @@ returns-in-Err g c = c.in-Err.ensures.refused (asks.Retrieve c.args.to c.args.sl
 
 pub returns : goal.returns
 returns g c =
-    let k : Kernel _ = record { disk = c.self.inside.disk; root = c.self.inside.root; names = c.self.inside.names; space = c.self.inside.space; words = c.self.inside.words; handles = c.self.inside.handles.handles; collections = c.self.inside.collections; stop = c.self.inside.stop } in
+    let k : Kernel _ = record { disk = c.self.inside.disk; root = c.self.inside.root; directory = c.self.inside.directory; space = c.self.inside.space; words = c.self.inside.words; handles = c.self.inside.handles.handles; collections = c.self.inside.collections; stop = c.self.inside.stop } in
     let request = asks.Retrieve c.args.to c.args.slot in
     let reach = subst (λ x. ReachesAll g.D.Disk objects.Index x c.args.who request c.in-Ok.index) (sym c.self.view_is) (c.in-Ok.ensures.reached request (record { to = refl; each = λ s who. refl })) in
     subst (λ x. Tries g.D.Disk x (record k { disk = c.look.new.disk }) c.args.who request c.look.result) c.self.view_is

@@ -1,5 +1,5 @@
 use Rattle.std.proofs.Common.{◌≡◌, Some, refl, sym, ◌∙◌, ap, subst, ◌+◌, ◌<◌, ◌≤◌, ℕ, length, arith, IsSome, option_copied}
-use Rattle.cfs_core.proofs.Words.{Drafting, grant_in, is_range, list_all, Overwrite, Through}
+use Rattle.cfs_core.proofs.Words.{Drafting, session_grant, is_range, list_all, Overwrite, Through}
 use Rattle.ufs_model.specs.declared.asked.Reply.TheVariants as replies
 use Rattle.ufs_model.specs.declared.asked.Request.TheVariants as asks
 use Rattle.cfs_core.specs.Calls.{Tries}
@@ -30,25 +30,25 @@ pub write-requires-clause-within : goal.write-requires-clause-within
 write-requires-clause-within g c =
     let same : c.in-Some.draft.now ≡ c.requires.drafting = same_draft _ _ (sym (ap option_copied c.in-Some.is) ∙ c.draft.ensures ∙ ap (λ x. drafting_at x.handles c.args.grant.draw) c.self.view_is ∙ c.requires.has) in
     if_some (λ d. (d.at < g.D.Disk.blocks c.self.inside.disk) × (c.args.offset + length c.args.bytes.now ≤ d.root.size)) _ c.requires.drafting (ap (λ x. drafting_at x.handles c.args.grant.draw) c.self.view_is ∙ c.requires.has) (
-      subst (λ n. c.requires.drafting.at < n) c.self.invariant.room (ready_for c.self.inside.names.room c.requires.drafting (ready_at c.self.inside.names.room c.args.grant.draw c.self.inside.handles.handles c.self.invariant.ready c.requires.drafting (ap (λ x. drafting_at x.handles c.args.grant.draw) c.self.view_is ∙ c.requires.has))).on_disk,
+      subst (λ n. c.requires.drafting.at < n) c.self.invariant.room (ready_for c.self.inside.directory.room c.requires.drafting (ready_at c.self.inside.directory.room c.args.grant.draw c.self.inside.handles.handles c.self.invariant.ready c.requires.drafting (ap (λ x. drafting_at x.handles c.args.grant.draw) c.self.view_is ∙ c.requires.has))).on_disk,
       (range_parts c.requires.drafting.root.size c.args.offset (length c.args.bytes.now) (ap (λ (n : ℕ). is_range n c.args.offset (length c.args.bytes.now)) (ap (λ (d : Drafting). d.root.size) (sym same) ∙ sym c.size-held.ensures) ∙ sym c.is_range.ensures ∙ c.if-not-is_range.false)).2,
     )
 
 pub invariant_of-self : goal.invariant_of-self
 invariant_of-self g c =
     let done = some_if (λ was. (now : Drafting) × (c.write.new.self.handles ≡ with_drafting c.args.grant.draw (Some now) c.self.inside.handles.handles) × ChangesDraft g.D.Disk (Overwrite c.args.offset c.args.bytes.now) c.self.inside.disk c.write.new.disk c.self.inside.space c.write.new.space was now c.write.result) _ c.requires.drafting (ap (λ x. drafting_at x.handles c.args.grant.draw) c.self.view_is ∙ c.requires.has) c.write.ensures in
-    let ready = ready_for c.self.inside.names.room c.requires.drafting (ready_at c.self.inside.names.room c.args.grant.draw c.self.inside.handles.handles c.self.invariant.ready c.requires.drafting (ap (λ x. drafting_at x.handles c.args.grant.draw) c.self.view_is ∙ c.requires.has)) in
-    let still = for_ready c.self.inside.names.room done.0 (record { on_disk = omega (arith, ready.on_disk, done.2.at); shadow = (ready.shadow.0, done.2.shadow ∙ ready.shadow.1); bare = done.2.created ∙ ready.bare }) in
+    let ready = ready_for c.self.inside.directory.room c.requires.drafting (ready_at c.self.inside.directory.room c.args.grant.draw c.self.inside.handles.handles c.self.invariant.ready c.requires.drafting (ap (λ x. drafting_at x.handles c.args.grant.draw) c.self.view_is ∙ c.requires.has)) in
+    let still = for_ready c.self.inside.directory.room done.0 (record { on_disk = omega (arith, ready.on_disk, done.2.at); shadow = (ready.shadow.0, done.2.shadow ∙ ready.shadow.1); bare = done.2.created ∙ ready.bare }) in
     sized_with c.self.invariant c.write.new.disk c.write.new.space c.write.new.self.handles _ done.2.calls.same.size done.2.cylinders
     (ap (list_all (is_drawn_by c.self.inside.words.drawn)) done.1 ∙ drawn_put c.self.inside.words.drawn c.args.grant.draw (Some done.0) c.self.inside.handles.handles c.self.invariant.drawn_all)
-    (ap (list_all (is_ready c.self.inside.names.room)) done.1 ∙ ready_put c.self.inside.names.room c.args.grant.draw done.0 still c.self.inside.handles.handles c.self.invariant.ready)
+    (ap (list_all (is_ready c.self.inside.directory.room)) done.1 ∙ ready_put c.self.inside.directory.room c.args.grant.draw done.0 still c.self.inside.handles.handles c.self.invariant.ready)
 
 pub returns : goal.returns
 returns g c =
-    let k : Kernel _ = record { disk = c.self.inside.disk; root = c.self.inside.root; names = c.self.inside.names; space = c.self.inside.space; words = c.self.inside.words; handles = c.self.inside.handles.handles; collections = c.self.inside.collections; stop = c.self.inside.stop } in
+    let k : Kernel _ = record { disk = c.self.inside.disk; root = c.self.inside.root; directory = c.self.inside.directory; space = c.self.inside.space; words = c.self.inside.words; handles = c.self.inside.handles.handles; collections = c.self.inside.collections; stop = c.self.inside.stop } in
     let request = asks.Write (Through c.args.grant) c.args.offset c.args.bytes.now in
     let done = some_if (λ was. (now : Drafting) × (c.write.new.self.handles ≡ with_drafting c.args.grant.draw (Some now) c.self.inside.handles.handles) × ChangesDraft g.D.Disk (Overwrite c.args.offset c.args.bytes.now) c.self.inside.disk c.write.new.disk c.self.inside.space c.write.new.space was now c.write.result) _ c.requires.drafting (ap (λ x. drafting_at x.handles c.args.grant.draw) c.self.view_is ∙ c.requires.has) c.write.ensures in
-    let held = held_in g.D.Disk k c.args.who c.args.grant c.requires.drafting (ap (λ x. drafting_at x.handles c.args.grant.draw) c.self.view_is ∙ c.requires.has) (subst (λ o. IsSome o) (sym (ap (λ x. grant_in (grants_in x.handles) c.args.who c.args.grant) c.self.view_is ∙ c.requires.found)) refl) (λ s. c.table_follows_the_model.ensures.found s c.args.who c.args.grant) in
+    let held = held_in g.D.Disk k c.args.who c.args.grant c.requires.drafting (ap (λ x. drafting_at x.handles c.args.grant.draw) c.self.view_is ∙ c.requires.has) (subst (λ o. IsSome o) (sym (ap (λ x. session_grant (grants_in x.handles) c.args.who c.args.grant) c.self.view_is ∙ c.requires.found)) refl) (λ s. c.table_follows_the_model.ensures.found s c.args.who c.args.grant) in
     let same : c.in-Some.draft.now ≡ c.requires.drafting = same_draft _ _ (sym (ap option_copied c.in-Some.is) ∙ c.draft.ensures ∙ (ap (λ x. drafting_at x.handles c.args.grant.draw) c.self.view_is ∙ c.requires.has)) in
     let tried = tries_altered g.D.Disk g.met.D.Disk.left_sized g.met.D.Disk.sized k c.self.invariant.ready c.args.who c.args.grant c.requires.drafting (ap (λ x. drafting_at x.handles c.args.grant.draw) c.self.view_is ∙ c.requires.has) held
     (Overwrite c.args.offset c.args.bytes.now) request (write_changes (Through c.args.grant) c.args.offset c.args.bytes.now c.are_bytes.ensures) refl

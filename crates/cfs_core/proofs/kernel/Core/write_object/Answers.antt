@@ -7,12 +7,14 @@ use Rattle.ufs_model.specs.declared.object.Object.TheVariants as objects
 use Rattle.cfs_core.specs.Calls.{Tries}
 use Rattle.cfs_core.specs.Kernel.{Kernel}
 use Rattle.cfs_core.specs.Looks.{ReachesAll}
-use Rattle.cfs_core.specs.StandsFor.{Serves}
+use Rattle.cfs_core.specs.StandsFor.{CoreServes}
 use Rattle.cfs_core.proofs.Answering.{tries_failed, tries_refused, tries_want}
 use Rattle.cfs_core.proofs.Carried.{alters, ends_altered}
 use Rattle.cfs_core.proofs.Calm.{range_parts}
 use Rattle.cfs_core.proofs.Filed.{tries_changed, write_changes}
 use Rattle.cfs_core.proofs.Refusing.{write_goes, write_range}
+use Rattle.leaf_changes.proofs.Tops.{far_block}
+use Rattle.leaf_changes.specs.Tops.{root_top}
 use Rattle.cfs_core.proofs.kernel.Core.write_object.Goals as goal
 
 pub returns-in-Err : goal.returns-in-Err
@@ -20,7 +22,7 @@ returns-in-Err g c = c.in-Err.ensures.refused (asks.Write c.args.to c.args.offse
 
 pub returns-in-Err-root_in : goal.returns-in-Err-root_in
 returns-in-Err-root_in g c =
-    let k : Kernel _ = record { disk = c.self.inside.disk; root = c.self.inside.root; names = c.self.inside.names; space = c.self.inside.space; words = c.self.inside.words; handles = c.self.inside.handles.handles; collections = c.self.inside.collections; stop = c.self.inside.stop } in
+    let k : Kernel _ = record { disk = c.self.inside.disk; root = c.self.inside.root; directory = c.self.inside.directory; space = c.self.inside.space; words = c.self.inside.words; handles = c.self.inside.handles.handles; collections = c.self.inside.collections; stop = c.self.inside.stop } in
     let request = asks.Write c.args.to c.args.offset c.args.bytes.now in
     let reach = subst (λ x. ReachesAll g.D.Disk objects.File x c.args.who request c.in-Ok.there.0) (sym c.self.view_is) (c.in-Ok.ensures.reached request (record { to = refl; each = λ s who. refl })) in
     subst (λ x. Tries g.D.Disk x (record k { disk = c.root_in.new.disk }) c.args.who request (Err c.in-Err-root_in.refused)) c.self.view_is
@@ -28,7 +30,7 @@ returns-in-Err-root_in g c =
 
 pub returns-then-not-is_range : goal.returns-then-not-is_range
 returns-then-not-is_range g c =
-    let k : Kernel _ = record { disk = c.self.inside.disk; root = c.self.inside.root; names = c.self.inside.names; space = c.self.inside.space; words = c.self.inside.words; handles = c.self.inside.handles.handles; collections = c.self.inside.collections; stop = c.self.inside.stop } in
+    let k : Kernel _ = record { disk = c.self.inside.disk; root = c.self.inside.root; directory = c.self.inside.directory; space = c.self.inside.space; words = c.self.inside.words; handles = c.self.inside.handles.handles; collections = c.self.inside.collections; stop = c.self.inside.stop } in
     let request = asks.Write c.args.to c.args.offset c.args.bytes.now in
     let reach = subst (λ x. ReachesAll g.D.Disk objects.File x c.args.who request c.in-Ok.there.0) (sym c.self.view_is) (c.in-Ok.ensures.reached request (record { to = refl; each = λ s who. refl })) in
     subst (λ x. Tries g.D.Disk x (record k { disk = c.root_in.new.disk }) c.args.who request (Ok replies.Range)) c.self.view_is
@@ -38,7 +40,7 @@ returns-then-not-is_range g c =
 
 pub returns-in-Err-room_for : goal.returns-in-Err-room_for
 returns-in-Err-room_for g c =
-    let k : Kernel _ = record { disk = c.self.inside.disk; root = c.self.inside.root; names = c.self.inside.names; space = c.self.inside.space; words = c.self.inside.words; handles = c.self.inside.handles.handles; collections = c.self.inside.collections; stop = c.self.inside.stop } in
+    let k : Kernel _ = record { disk = c.self.inside.disk; root = c.self.inside.root; directory = c.self.inside.directory; space = c.self.inside.space; words = c.self.inside.words; handles = c.self.inside.handles.handles; collections = c.self.inside.collections; stop = c.self.inside.stop } in
     let request = asks.Write c.args.to c.args.offset c.args.bytes.now in
     let new : Kernel _ = record k { disk = c.root_in.new.disk } in
     subst (λ x. Tries g.D.Disk x new c.args.who request (Err c.in-Err-room_for.refused)) c.self.view_is
@@ -51,7 +53,7 @@ carry_on-requires g c =
 
 pub returns : goal.returns
 returns g c =
-    let k : Kernel _ = record { disk = c.self.inside.disk; root = c.self.inside.root; names = c.self.inside.names; space = c.self.inside.space; words = c.self.inside.words; handles = c.self.inside.handles.handles; collections = c.self.inside.collections; stop = c.self.inside.stop } in
+    let k : Kernel _ = record { disk = c.self.inside.disk; root = c.self.inside.root; directory = c.self.inside.directory; space = c.self.inside.space; words = c.self.inside.words; handles = c.self.inside.handles.handles; collections = c.self.inside.collections; stop = c.self.inside.stop } in
     let request = asks.Write c.args.to c.args.offset c.args.bytes.now in
     let reach = subst (λ x. ReachesAll g.D.Disk objects.File x c.args.who request c.in-Ok.there.0) (sym c.self.view_is) (c.in-Ok.ensures.reached request (record { to = refl; each = λ s who. refl })) in
     let change = Overwrite c.args.offset c.args.bytes.now in
@@ -67,8 +69,9 @@ returns g c =
     (write_changes c.args.to c.args.offset c.args.bytes.now c.are_bytes.ensures) c.carry_on.result
     (λ tells. alters g.D.Disk d0 d1 d2 k.space k1 k2 at kind 4 change c.write-ended.result c.carry_on.result
     (c.write-ended.ensures.changes (subst (λ (a : Image). IsRootAt a at c.in-Ok-root_in.root) (sym c.root_in.ensures.calm.reads.content) (c.in-Ok-root_in.ensures.rooted tells))) c.carry_on.ensures)
-    (ends_altered g.D.Disk d0 d1 d2 k.space k1 k2 at kind 4 change c.write-ended.result c.carry_on.result c.write-ended.ensures.ends c.carry_on.ensures) c.args.who reach
+    (root_top at c.in-Ok-root_in.root) refl (λ size far tells. far_block size at (g.D.Disk.content k.disk) c.in-Ok-root_in.root (c.in-Ok-root_in.ensures.rooted tells) far)
+    (ends_altered g.D.Disk d0 d1 d2 k.space k1 k2 (root_top at c.in-Ok-root_in.root) kind 4 change c.write-ended.result c.carry_on.result c.write-ended.ensures.ends c.carry_on.ensures) c.args.who reach
     (λ s f serves r knows.
     let range = ap (λ (n : ℕ). is_range n c.args.offset (length c.args.bytes.now)) (sym (c.in-Ok-root_in.ensures.exact f knows)) ∙ sym c.is_range.ensures ∙ c.if-not-is_range.false in
-    (c.in-Ok.ensures.kind s f (subst (λ x. Serves g.D.Disk x s) c.self.view_is serves) r.there, (range_parts (length f.bytes) c.args.offset (length c.args.bytes.now) range).2, write_goes k.words.seed s c.args.who c.args.to c.in-Ok.there.0 f c.args.offset c.args.bytes.now r range)) in
+    (c.in-Ok.ensures.kind s f (subst (λ x. CoreServes g.D.Disk x s) c.self.view_is serves) r.there, (range_parts (length f.bytes) c.args.offset (length c.args.bytes.now) range).2, write_goes k.words.seed s c.args.who c.args.to c.in-Ok.there.0 f c.args.offset c.args.bytes.now r range)) in
     subst (λ x. Tries g.D.Disk x new c.args.who request c.done.result) c.self.view_is (subst (λ r. Tries g.D.Disk k new c.args.who request r) (sym c.done.ensures) done)

@@ -4,12 +4,12 @@ use Rattle.cfs_base.specs.Replay.{Left, all_before}
 use Rattle.cfs_base.proofs.Replays.{before_more, replay_kept, left_kept, left_now_kept, left_earlier, replay_kept_before}
 use Rattle.cfs_fakes.specs.declared.kept.KeptCall.{KeptCall}
 use Rattle.cfs_fakes.specs.declared.recorder.Recorder.{Recorder}
-use Rattle.cfs_fakes.specs.Replay.{zeros, made, made_at, replay, IsImage}
+use Rattle.cfs_fakes.specs.Replay.{zeros, made, made_at, replayed_calls, IsImage}
 use Rattle.cfs_fakes.proofs.recorder.Recorder.keep.Goals as goal
 
 -- a crash may leave it after these calls, up to this moment
 abbrev LeftBy : Recorder → ℕ → List KeptCall → ℕ → Image → Type 0
-LeftBy r now kept t i = IsTrue r.keeps × Left IsImage (λ m. replay (zeros r.blocks) m kept) now t i
+LeftBy r now kept t i = IsTrue r.keeps × Left IsImage (λ m. replayed_calls (zeros r.blocks) m kept) now t i
 
 -- the list that a push left as it was
 pub returns-in_default-clause-images : goal.returns-in_default-clause-images
@@ -37,7 +37,7 @@ invariant_of-self-2 c =
 pub returns-clause-kept : goal.returns-clause-kept
 returns-clause-kept c =
     let r = c.args.self.now in
-    λ does. ap (λ (l : List KeptCall). replay (zeros r.blocks) (r.moment + 1) l) c.in-Ok.ensures.items ∙ replay_kept made_at made (zeros r.blocks) r.moment r.kept.items r.past (record { moment = r.moment; call = c.args.call }) refl
+    λ does. ap (λ (l : List KeptCall). replayed_calls (zeros r.blocks) (r.moment + 1) l) c.in-Ok.ensures.items ∙ replay_kept made_at made (zeros r.blocks) r.moment r.kept.items r.past (record { moment = r.moment; call = c.args.call }) refl
 
 pub returns-clause-images : goal.returns-clause-images
 returns-clause-images c =
@@ -65,4 +65,4 @@ returns-clause-earlier c =
 pub returns-clause-past : goal.returns-clause-past
 returns-clause-past c =
     let r = c.args.self.now in
-    λ t le. ap (λ (l : List KeptCall). replay (zeros r.blocks) t l) c.in-Ok.ensures.items ∙ replay_kept_before made_at made (zeros r.blocks) r.moment r.kept.items r.past (record { moment = r.moment; call = c.args.call }) refl t le
+    λ t le. ap (λ (l : List KeptCall). replayed_calls (zeros r.blocks) t l) c.in-Ok.ensures.items ∙ replay_kept_before made_at made (zeros r.blocks) r.moment r.kept.items r.past (record { moment = r.moment; call = c.args.call }) refl t le

@@ -6,13 +6,13 @@ use Rattle.cfs_recover.proofs.found.Walk.learn.Goals as goal
 
 pub prove-unreachable-requires : goal.prove-unreachable-requires
 prove-unreachable-requires c =
-    let below = is_below c.args.self.now.names c.room-room.ensures.listing c.args.id c.requires in
+    let below = is_below c.args.self.now.directory c.room-room.ensures.listing c.args.id c.requires in
     omega (arith, below, c.room-room.ensures.room, c.if-prove.true)
 
 pub add-requires-clause-free : goal.add-requires-clause-free
 add-requires-clause-free c =
     ap (λ (n : List (Puid × Kind)). has_root_in n c.args.id.block) c.remove.ensures.named
-    ∙ root_is_free c.args.self.now.names c.room-room.ensures.listing c.args.id c.requires
+    ∙ root_is_free c.args.self.now.directory c.room-room.ensures.listing c.args.id c.requires
 
 pub returns-clause-told : goal.returns-clause-told
 returns-clause-told c image done o walk next kind taken =

@@ -6,7 +6,7 @@ use Rattle.cfs_recover.proofs.found.Walk.lists.Goals as goal
 
 pub returns-then-id-room-clause-alone : goal.returns-then-id-room-clause-alone
 returns-then-id-room-clause-alone c is other there same =
-    is_alone c.args.self.now.names c.room.ensures.listing other c.args.id there (search rules) same
+    is_alone c.args.self.now.directory c.room.ensures.listing other c.args.id there (search rules) same
 
 pub returns-else-id-room-clause-lists : goal.returns-else-id-room-clause-lists
 returns-else-id-room-clause-lists c =
@@ -15,5 +15,5 @@ returns-else-id-room-clause-lists c =
     no ∙ at (spec.lists c.args.self.now c.args.id) refl
   where
     at : (b : Bool) → spec.lists c.args.self.now c.args.id ≡ b → false ≡ b
-    at true is = let below = is_below c.args.self.now.names c.room.ensures.listing c.args.id is in absurd (omega (arith, below, c.room.ensures.room, c.if-id-room.false))
+    at true is = let below = is_below c.args.self.now.directory c.room.ensures.listing c.args.id is in absurd (omega (arith, below, c.room.ensures.room, c.if-id-room.false))
     at false is = refl

@@ -14,7 +14,7 @@ returns-in_err-check_slot-clause-told c image done walk named =
       | inl none ↦ inl none
       | inr past ↦ inr (inl (omega (arith, past, c.room.ensures.room, walk.room)))
     ] in
-    told_err _ _ _ _ c.from_residual.ensures.1 (subst (spec.IsFault image) (sym c.in_err-check_slot.ensures.0) (named_nothing image c.args.id c.args.by named nothing))
+    told_err _ _ _ _ c.from_residual.ensures.1 (subst (spec.IsFaultOf image) (sym c.in_err-check_slot.ensures.0) (named_nothing image c.args.id c.args.by named nothing))
 
 pub returns-then-has_root-clause-told : goal.returns-then-has_root-clause-told
 returns-then-has_root-clause-told c image done walk named =
@@ -31,16 +31,16 @@ invariant_of-self-2 c =
 
 pub returns-clause-told : goal.returns-clause-told
 returns-clause-told c image done walk named =
-    let names = c.add.ensures.named in
+    let directory = c.add.ensures.named in
     let room = c.add.ensures.room in
-    add_walk image c.args.self.now _ c.args.id c.args.by (λ i. record { named = names i; room = room i }) c.in_ok-push.ensures.items refl refl done walk named c.in_ok-check_slot.ensures.0 (sym c.if-has_root.ensures)
+    add_walk image c.args.self.now _ c.args.id c.args.by (λ i. record { named = directory i; room = room i }) c.in_ok-push.ensures.items refl refl done walk named c.in_ok-check_slot.ensures.0 (sym c.if-has_root.ensures)
 
 pub returns-clause-noted : goal.returns-clause-noted
 returns-clause-noted c =
-    inl (subst (λ (n : List (Puid × Kind)). listed n c.args.id ≡ true) (sym c.add.ensures.named) (listed_new c.args.self.now.names.named c.args.id kinds.Index))
+    inl (subst (λ (n : List (Puid × Kind)). listed n c.args.id ≡ true) (sym c.add.ensures.named) (listed_new c.args.self.now.directory.named c.args.id kinds.Index))
 
 pub returns-clause-grows : goal.returns-clause-grows
 returns-clause-grows c =
-    let names = c.add.ensures.named in
+    let directory = c.add.ensures.named in
     let room = c.add.ensures.room in
-    add_grows [] c.args.self.now _ c.args.id c.args.by (λ i. record { named = names i; room = room i }) c.in_ok-push.ensures.items refl refl
+    add_grows [] c.args.self.now _ c.args.id c.args.by (λ i. record { named = directory i; room = room i }) c.in_ok-push.ensures.items refl refl

@@ -16,14 +16,14 @@ loop-slot-preserved c = record {
         | in_default w ↦ subst (λ (v : Walk). spec.IsWalk image v done) (sym w.self-is) before
       ];
   noted = λ s id less slot. elim c.match-slot_at.branch [
-    | in-Some+in_ok-note w ↦ subst (λ (v : Walk). spec.IsNoted v id) (sym w.self-is) (elim (cases_lt s c.loop-slot.slot) [
+    | in-Some+in_ok-note w ↦ subst (λ (v : Walk). spec.IsNotedIn v id) (sym w.self-is) (elim (cases_lt s c.loop-slot.slot) [
       | inl before ↦ noted_on _ _ w.in_ok-note.ensures.grows id (c.loop-slot.invariant.noted s id before slot)
       | inr last ↦
           let here : s ≡ c.loop-slot.slot = omega arith in
           let is : w.in-Some.id ≡ id = same_Some _ _ (sym (sym c.slot_at.ensures ∙ w.in-Some.is) ∙ ap (slot_in c.args.content.now) (sym here) ∙ slot.2) in
-          subst (spec.IsNoted w.note.new.self) is w.in_ok-note.ensures.noted
+          subst (spec.IsNotedIn w.note.new.self) is w.in_ok-note.ensures.noted
     ])
-    | in_default w ↦ subst (λ (v : Walk). spec.IsNoted v id) (sym w.self-is) (elim (cases_lt s c.loop-slot.slot) [
+    | in_default w ↦ subst (λ (v : Walk). spec.IsNotedIn v id) (sym w.self-is) (elim (cases_lt s c.loop-slot.slot) [
       | inl before ↦ c.loop-slot.invariant.noted s id before slot
       | inr last ↦
           let here : s ≡ c.loop-slot.slot = omega arith in

@@ -1,5 +1,5 @@
 use Rattle.std.proofs.Common.{◌<◌, ◌∙◌, ap, refl, subst, sym, arith}
-use Rattle.cfs_serve.proofs.Cited.{AreCounted, first_fault, is_recorded}
+use Rattle.cfs_serve.proofs.Cited.{CountsFaults, first_fault, is_recorded}
 use Rattle.cfs_serve.proofs.Raising.{counted_step}
 use Rattle.cfs_serve.proofs.Workers.{acts, as_told, few_on, fewer_now, heard_on, quiet_on, room_on}
 use Rattle.cfs_serve.proofs.hall.Hall.collector_turn.Goals as goal
@@ -52,7 +52,7 @@ invariant_of-self g c =
       λ over whole. c.collect-progress.ensures.idle (rest.idle over whole),
       rest.on,
       counted_step g.A.Server.faults g.A.Asker.stands t old new c.collect-progress.ensures.raised c.after-self-inside.result.refused
-          (subst (λ o. AreCounted g.A.Server.faults g.A.Asker.stands t (first_fault o) old.server old.events) (k.7 some) k.8) (λ quiet. c.collect-progress.ensures.quiet (rw rest.refused at quiet)),
+          (subst (λ o. CountsFaults g.A.Server.faults g.A.Asker.stands t (first_fault o) old.server old.events) (k.7 some) k.8) (λ quiet. c.collect-progress.ensures.quiet (rw rest.refused at quiet)),
       rw rest.refused c.collect-progress.ensures.refusal,
       λ wants. c.collect-progress.ensures.wanting (sym rest.refused ∙ wants),
     )

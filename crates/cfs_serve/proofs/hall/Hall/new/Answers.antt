@@ -1,5 +1,5 @@
 use Rattle.std.proofs.Common.{◌≡◌, ◌+◌, ◌*◌, ◌<◌, ◌≤◌, ℕ, inl, inr, Option, None, arith, ap, length, subst, sym}
-use Rattle.cfs_serve.proofs.Cited.{AreCounted, CollectFault, Rest, TellsStop, cases_lt, first_fault}
+use Rattle.cfs_serve.proofs.Cited.{CountsFaults, CollectFault, Rest, TellsStop, cases_lt, first_fault}
 use Rattle.cfs_serve.proofs.Served.{fresh_heard}
 use Rattle.cfs_serve.proofs.hall.Hall.new.Goals as goal
 
@@ -46,7 +46,7 @@ invariant_of-result g c =
         | inr none ↦ (let called : t.collections ≡ 0 = omega (arith, none, c.requires.charter) in rw made.events (sym called))
       ],
       λ some. rest.refused,
-      subst (λ (o : Option CollectFault). AreCounted g.A.Server.faults g.A.Asker.stands t (first_fault o) c.new.result.server c.new.result.events) (sym rest.refused)
+      subst (λ (o : Option CollectFault). CountsFaults g.A.Server.faults g.A.Asker.stands t (first_fault o) c.new.result.server c.new.result.events) (sym rest.refused)
           (rw (made.events, made.server) (record {
             told = λ begun at. (c.requires.told.since begun at).later;
             stops = λ begun graph at standing. (c.requires.told.since begun at).later;

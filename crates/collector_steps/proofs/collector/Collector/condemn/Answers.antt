@@ -1,5 +1,5 @@
 use Rattle.std.proofs.Common.{◌≡◌, ◌∙◌, List, [], ap, arith, refl, subst, sym, vec_len, vec_capacity, length, ◌++◌, Vec, Global, not}
-use Rattle.collector_steps.proofs.Words.{Collecting, Collects, Image, IsMarking, IsPaced, IsReady, MayVanish, Phase, Puid, Rescue, State, allowed, blocks_of, colours_in, colours_of, condemned_may_vanish, filter, ids_of, is_among, kept_by, keys_of, kinds_of, pace_end, taken_by, unmarked, volume_of, well, without}
+use Rattle.collector_steps.proofs.Words.{Collecting, Collects, Image, IsMarking, IsPaced, IsPhaseReady, MayVanish, Phase, Puid, Rescue, State, allowed, blocks_marked, colours_in, colours_of, condemned_may_vanish, filter, ids_of, is_among, kept_by, keys_of, kinds_of, pace_end, taken_by, unmarked, volume_of, well, without}
 use Rattle.collector_steps.specs.declared.phase.Phase.TheVariants as phases
 use Rattle.ufs_model.specs.declared.collection.Collection.TheVariants as collections
 use Rattle.collector_steps.proofs.Directories.{few_named, taken_unmarked}
@@ -11,20 +11,20 @@ pub take_unmarked-requires : goal.take_unmarked-requires
 take_unmarked-requires c =
     let inside = c.self.inside in
     let phase = ap (λ (k : Collecting). k.phase) c.self.view_is ∙ c.requires.phase in
-    let ready = subst (λ (p : Phase). IsReady p (blocks_of inside.marks) (vec_capacity inside.condemned)) phase c.self.invariant.1.ready in
-    let room = few_named c.args.names.now c.room-room.ensures.listing in
+    let ready = subst (λ (p : Phase). IsPhaseReady p (blocks_marked inside.marks) (vec_capacity inside.condemned)) phase c.self.invariant.1.ready in
+    let room = few_named c.args.directory.now c.room-room.ensures.listing in
     let none : vec_len inside.condemned ≡ 0 = inside.condemned.ok.0 ∙ ap length c.self.invariant.0 in
     rw (c.replace-gone.ensures.value) (omega (arith, ready, room, c.requires.blocks, ap volume_of c.self.view_is, none))
 
 -- those that were taken out
-taken : (c : goal.After-new-2) → c.new-2.result ≡ taken_by (colours_in c.args.self.now).marked c.args.names.now.named
+taken : (c : goal.After-new-2) → c.new-2.result ≡ taken_by (colours_in c.args.self.now).marked c.args.directory.now.named
 taken c =
     c.new-2.ensures ∙ c.take_unmarked.ensures.gone
-    ∙ ap (λ (items : List Puid). items ++ taken_by (colours_of c.self.inside.marks).marked c.args.names.now.named) (ap (λ (gone : Vec Puid Global). gone.items) c.replace-gone.ensures.value ∙ c.self.invariant.0)
-    ∙ ap (λ (k : Collecting). taken_by (colours_in k).marked c.args.names.now.named) c.self.view_is
+    ∙ ap (λ (items : List Puid). items ++ taken_by (colours_of c.self.inside.marks).marked c.args.directory.now.named) (ap (λ (gone : Vec Puid Global). gone.items) c.replace-gone.ensures.value ∙ c.self.invariant.0)
+    ∙ ap (λ (k : Collecting). taken_by (colours_in k).marked c.args.directory.now.named) c.self.view_is
 
 pub returns-clause-ids : goal.returns-clause-ids
-returns-clause-ids c = taken c ∙ taken_unmarked (colours_in c.args.self.now) c.args.names.now.named
+returns-clause-ids c = taken c ∙ taken_unmarked (colours_in c.args.self.now) c.args.directory.now.named
 
 -- nothing waits
 marking : (c : goal.After-new-2) (s : State) (image : Image) → Collects image s c.args.self.now → IsMarking s (colours_in c.args.self.now) [] × IsPaced s.graph (colours_in c.args.self.now) [] c.args.self.now.steps c.args.self.now.added
@@ -52,9 +52,9 @@ pub returns-clause-left : goal.returns-clause-left
 returns-clause-left c = λ seed s t named gone.
     let goes = taken c in
     c.take_unmarked.ensures.named
-    ∙ ap (λ (k : Collecting). kept_by (colours_in k).marked c.args.names.now.named) c.self.view_is
-    ∙ sym (c.taken_are_left_out.ensures (colours_in c.args.self.now).marked c.args.names.now.named)
-    ∙ ap (λ (ids : List Puid). filter (λ e. not (is_among e.0 ids)) c.args.names.now.named) (sym goes)
+    ∙ ap (λ (k : Collecting). kept_by (colours_in k).marked c.args.directory.now.named) c.self.view_is
+    ∙ sym (c.taken_are_left_out.ensures (colours_in c.args.self.now).marked c.args.directory.now.named)
+    ∙ ap (λ (ids : List Puid). filter (λ e. not (is_among e.0 ids)) c.args.directory.now.named) (sym goes)
     ∙ ap (filter (λ e. not (is_among e.0 c.new-2.result))) named
     ∙ sym (c.kinds_follow_the_graph.ensures.gone s.graph c.new-2.result)
     ∙ ap (λ (u : State). kinds_of u.graph) (allowed _ (vanished s c.new-2.result) t gone).1

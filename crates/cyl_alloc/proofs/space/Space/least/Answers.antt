@@ -1,6 +1,6 @@
 use Rattle.std.proofs.Common.{◌∙◌, ◌*◌, ℕ, List, ap, sym, subst, refl, inr, arith, Some}
 use Rattle.cyl_alloc.proofs.Words.{IsFirstAbove, Kept, entries_of, sum}
-use Rattle.cyl_alloc.proofs.Counted.{is_least, no_counts}
+use Rattle.cyl_alloc.proofs.Counted.{is_least, none_in_map}
 use Rattle.cyl_alloc.proofs.Finds.{first_at, find_refused}
 use Rattle.cyl_alloc.proofs.Sums.{none_above}
 use Rattle.cyl_alloc.proofs.space.Space.least.Goals as goal
@@ -20,7 +20,14 @@ returns-in-None-clause-refused g c =
       block = omega arith;
       on_disk = omega (arith, above.0, c.requires.size);
       first = first_at c.args.self.now.free c.in-Some.cylinder (64 * c.in-Some.cylinder) above refl;
-      why = inr (refl, λ tells. no_counts (g.D.Disk.content c.args.disk.now) c.args.self.now c.in-Some.cylinder (entries_of c.load_map.new.map) above (c.in-Ok.ensures.map tells) (c.in-None.ensures.none.0 refl));
+      why = inr (
+        refl,
+        record {
+          map = omega arith;
+          counted = (first_at c.args.self.now.free c.in-Some.cylinder (64 * c.in-Some.cylinder) above refl).1;
+          none = λ tells. none_in_map (g.D.Disk.content c.args.disk.now) (64 * c.in-Some.cylinder) (entries_of c.load_map.new.map) (c.in-Ok.ensures.map tells) (c.in-None.ensures.none.0 refl);
+        },
+      );
     }
 
 pub returns-in-Err-clause-refused : goal.returns-in-Err-clause-refused

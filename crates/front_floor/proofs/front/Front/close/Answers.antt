@@ -1,6 +1,6 @@
 use Rattle.std.proofs.Common.{rules, ◌≡◌, ◌∙◌, ◌∷◌, ◌++◌, [], ap, option_to_list}
 use Rattle.std.proofs.lemmas.List.Elements.{All-pop}
-use Rattle.front_floor.specs.Knows.{Knows}
+use Rattle.front_floor.specs.Knows.{PassKnows}
 use Rattle.front_floor.proofs.Deals.{all_heard, took}
 use Rattle.front_floor.proofs.front.Front.close.Goals as goal
 
@@ -16,7 +16,7 @@ loop-pass-preserved g c =
       idle = next.0;
       parts = next.1;
       told = next.2;
-      of = (All-pop (λ (p : Knows g.row.M-Entry.Denot). p.table ≡ c.self.inside.rows.shared.table_id) c.loop-pass.out.items out c.pop.result c.pop.ensures.items now.of).0;
+      of = (All-pop (λ (p : PassKnows g.row.M-Entry.Denot). p.table ≡ c.self.inside.rows.shared.table_id) c.loop-pass.out.items out c.pop.result c.pop.ensures.items now.of).0;
     }
 
 pub returns : goal.returns

@@ -1,5 +1,5 @@
 use Rattle.std.proofs.Common.{◌≡◌, ◌+◌, ◌++◌, ◌^◌, length, map, All}
-use Rattle.front_floor.specs.Knows.{Knows}
+use Rattle.front_floor.specs.Knows.{PassKnows}
 use Rattle.front_floor.specs.Seats.{IsIdle, SitsAt}
 use Rattle.front_floor.proofs.front.Front.close.Given as goal
 
@@ -8,8 +8,8 @@ invariant-loop-pass g l = record {
   table : SitsAt l.rows.shared.table_id l.keeper.table_id;
   idle : IsIdle l.keeper.me;
   parts : l.keeper.me.0.parts + length l.out.items ≡ 2 ^ 32;
-  told : map (λ (p : Knows g.row.M-Entry.Denot). p.heard) l.out.items ++ l.keeper.me.0.told ≡ map (λ (p : Knows g.row.M-Entry.Denot). p.heard) l.fn.passes.passes;
-  of : All (λ (p : Knows g.row.M-Entry.Denot). p.table ≡ l.rows.shared.table_id) l.out.items;
+  told : map (λ (p : PassKnows g.row.M-Entry.Denot). p.heard) l.out.items ++ l.keeper.me.0.told ≡ map (λ (p : PassKnows g.row.M-Entry.Denot). p.heard) l.fn.passes.passes;
+  of : All (λ (p : PassKnows g.row.M-Entry.Denot). p.table ≡ l.rows.shared.table_id) l.out.items;
 }
 
 abbrev pub decreases-loop-pass : goal.decreases-loop-pass

@@ -1,5 +1,8 @@
-use Rattle.index_drafts.proofs.Words.{◌/◌, Err, Ok, refl, sym, ◌∙◌, ap, subst, arith, true, AreClaimed, Drafting, Ends, IsLeastFree, IsOpen, Option, Refused, StaysBut, Swap, leaf_claims, draft_takes, puid_at, still_sound}
+use Rattle.index_drafts.proofs.Words.{◌/◌, Err, Ok, refl, sym, ◌∙◌, ap, subst, arith, true, AreClaimed, Drafting, EndsCall, IsLeastFree, IsOpen, Option, Refused, StaysBut, Swap, leaf_claims, draft_takes, puid_at, still_sound}
 use Rattle.index_ops.specs.Creates.{made_of}
+use Rattle.leaf_changes.specs.Tops.{still_top}
+use Rattle.special_files.proofs.Endings.{ends_at}
+use Rattle.special_files.specs.Refusal.{top_of}
 use Rattle.index_drafts.specs.Creates.{CreateCall, CreateEnds}
 use Rattle.index_drafts.proofs.Drafts.{as_asked, create_stops, created, fill_done, fill_stops, least1, least_stops, leaves2, leaves3, make_stops, need_is, some_put, store1, then2}
 use Rattle.index_drafts.proofs.Makings.{passed_on}
@@ -50,7 +53,7 @@ returns-in_err-make_at-clause-call g c =
     let takes = c.slot_takes.ensures.takes ∙ ap (λ (w : Drafting). draft_takes w (c.args.slot / 64)) c.self.view_is in
     passed_on (CreateCall g.D.Disk c.args.slot c.args.floor c.args.disk.now c.make_at.new.disk c.args.space.now c.make_at.new.space was was) _ c.in_err-make_at.field-0.0 c.from_residual-in_err-make_at.ensures.1
     (make_stops g.D.Disk c.args.slot c.args.floor c.args.disk.now c.least.new.disk c.args.space.now was c.least.ensures.reads (omega (arith, c.in_ok-has_room.ensures.room, takes)) c.make_at.new.disk c.make_at.new.space c.in_err-make_at.field-0.0
-    (c.in_err-make_at.ensures.ends was.at) c.in_err-make_at.ensures.spare)
+    (ends_at {at = still_top was.at} {now = top_of was} refl (λ far. absurd far) (c.in_err-make_at.ensures.ends was.at)) c.in_err-make_at.ensures.spare)
 
 -- ---- it is
 
@@ -98,8 +101,8 @@ returns-in-Err-clause-call g c =
     let takes = c.slot_takes.ensures.takes ∙ ap (λ (w : Drafting). draft_takes w (c.args.slot / 64)) same in
     subst (λ (x : Refused). CreateCall G c.args.slot c.args.floor c.args.disk.now d3 c.args.space.now k3 was c.fill.new.self (Err x)) (sym c.after_try.ensures)
     (fill_stops G c.args.slot c.args.floor c.args.disk.now c.least.new.disk c.args.space.now was c.least.ensures.reads (omega (arith, c.in_ok-has_room.ensures.room, takes)) d2 d3 k2 k3 c.fill.new.self
-    (subst (λ (w : Drafting). StaysBut w c.fill.new.self) same c.fill.ensures.stays) (c.in_ok-make_at.ensures.ends was.at) c.in_ok-make_at.ensures.tried e
-    (subst (λ (w : Drafting). Ends {A = Option Swap} G w.at 0 8 4 (draft_takes w (c.args.slot / 64)) d2 d3 k2 k3 (Err e)) same c.in-Err.ensures.ends)
+    (subst (λ (w : Drafting). StaysBut w c.fill.new.self) same c.fill.ensures.stays) (ends_at {at = still_top was.at} {now = top_of was} refl (λ far. absurd far) (c.in_ok-make_at.ensures.ends was.at)) c.in_ok-make_at.ensures.tried e
+    (subst (λ (w : Drafting). EndsCall {A = Option Swap} G (top_of w) 0 8 4 (draft_takes w (c.args.slot / 64)) d2 d3 k2 k3 (Err e)) same c.in-Err.ensures.ends)
     (λ enough. c.in-Err.ensures.room (omega (arith, enough, ap (λ (w : Drafting). draft_takes w (c.args.slot / 64)) same))))
 
 pub returns-clause-creates : goal.returns-clause-creates
@@ -146,5 +149,5 @@ returns-clause-call g c =
     let k3 = c.fill.new.space in
     let takes = c.slot_takes.ensures.takes ∙ ap (λ (w : Drafting). draft_takes w (c.args.slot / 64)) same in
     fill_done G c.args.slot c.args.floor c.args.disk.now c.least.new.disk c.args.space.now was c.least.ensures.reads (omega (arith, c.in_ok-has_room.ensures.room, takes)) d2 d3 k2 k3 c.fill.new.self
-    (subst (λ (w : Drafting). StaysBut w c.fill.new.self) same c.fill.ensures.stays) (c.in_ok-make_at.ensures.ends was.at) c.in-Ok.field-0 (puid_at c.in_ok-block.block.0 c.args.word)
-    (subst (λ (w : Drafting). Ends {A = Option Swap} G w.at 0 8 4 (draft_takes w (c.args.slot / 64)) d2 d3 k2 k3 (Ok c.in-Ok.field-0)) same c.in-Ok.ensures.ends)
+    (subst (λ (w : Drafting). StaysBut w c.fill.new.self) same c.fill.ensures.stays) (ends_at {at = still_top was.at} {now = top_of was} refl (λ far. absurd far) (c.in_ok-make_at.ensures.ends was.at)) c.in-Ok.field-0 (puid_at c.in_ok-block.block.0 c.args.word)
+    (subst (λ (w : Drafting). EndsCall {A = Option Swap} G (top_of w) 0 8 4 (draft_takes w (c.args.slot / 64)) d2 d3 k2 k3 (Ok c.in-Ok.field-0)) same c.in-Ok.ensures.ends)

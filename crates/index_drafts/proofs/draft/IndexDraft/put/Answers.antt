@@ -1,4 +1,4 @@
-use Rattle.index_drafts.proofs.Words.{◌/◌, sym, ◌∙◌, subst, AreClaimed, Drafting, Goes, IsOpen, SameBeside, leaf_claims, root_spelling, tree_in}
+use Rattle.index_drafts.proofs.Words.{◌/◌, sym, ◌∙◌, subst, AreClaimed, Drafting, GoesHolding, IsOpen, SameBeside, leaf_claims, root_spelling, tree_in}
 use Rattle.index_drafts.specs.Puts.{PutsInDraft}
 use Rattle.index_drafts.proofs.Drafts.{need_is, put_done}
 use Rattle.index_drafts.proofs.Makings.{passed_on}
@@ -11,7 +11,7 @@ pub returns-in_err-fill-clause-puts : goal.returns-in_err-fill-clause-puts
 returns-in_err-fill-clause-puts g c = λ i.
     let v = i.view in
     let opened = subst (λ (w : Drafting). IsOpen v.ds v.id w v.draft) (sym c.self.view_is) v.opened in
-    passed_on (λ r. Goes {A = Unit {0}} g.D.Disk v.graph (PutsInDraft i c.args.slot c.args.what c.fill.new.disk c.fill.new.space c.fill.new.self) c.args.disk.now c.fill.new.disk r) _ c.in_err-fill.field-0.0 c.from_residual-in_err-fill.ensures.1 (record {
+    passed_on (λ r. GoesHolding {A = Unit {0}} g.D.Disk v.graph (PutsInDraft i c.args.slot c.args.what c.fill.new.disk c.fill.new.space c.fill.new.self) c.args.disk.now c.fill.new.disk r) _ c.in_err-fill.field-0.0 c.from_residual-in_err-fill.ensures.1 (record {
       done = tt;
       leaves = c.fill.ensures.leaves v.graph v.ds v.id v.object v.draft v.store v.at opened;
       sound = c.in_err-fill.ensures.sound v.graph v.ds v.id v.object v.draft v.store v.at opened;

@@ -1,6 +1,7 @@
-use Rattle.index_drafts.proofs.Words.{◌≡◌, false, subst, Drafting, Graph, IfErr, IfOk, Index, IsOpen, IsTrouble, Kept, List, Object, Opened, Puid, Some, StoreIs, is_damage, object_at, slot_of}
+use Rattle.index_drafts.proofs.Words.{◌≡◌, false, subst, Drafting, Graph, IfErr, IfOk, Index, IsOpen, IsDraftTrouble, Kept, List, Object, Opened, Puid, Some, StoreIs, is_damage, object_at, slot_of}
 use Rattle.ufs_model.specs.declared.object.Draft as drafts
 use Rattle.ufs_model.specs.declared.object.Object.TheVariants as objects
+use Rattle.special_files.specs.Refusal.{top_of}
 use Rattle.index_drafts.proofs.draft.IndexDraft.retrieve.Goals as goal
 
 pub returns-clause-slot : goal.returns-clause-slot
@@ -9,7 +10,7 @@ returns-clause-slot g c =
     c.self.view_is c.slot.ensures.slot
 
 pub returns-clause-refused : goal.returns-clause-refused
-returns-clause-refused g c = λ kept. subst (λ (w : Drafting). IfErr c.slot.result (IsTrouble g.D.Disk w.at c.args.disk.now c.slot.new.disk kept)) c.self.view_is (c.slot.ensures.refused kept)
+returns-clause-refused g c = λ kept. subst (λ (w : Drafting). IfErr c.slot.result (IsDraftTrouble g.D.Disk (top_of w) c.args.disk.now c.slot.new.disk kept)) c.self.view_is (c.slot.ensures.refused kept)
 
 pub returns-clause-sound : goal.returns-clause-sound
 returns-clause-sound g c =

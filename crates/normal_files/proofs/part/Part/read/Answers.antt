@@ -2,6 +2,8 @@ use Rattle.normal_files.proofs.Words.{inl, inr, sym, ◌∙◌, ap, subst, arith
 use Rattle.normal_files.proofs.Refusals.{node_trouble}
 use Rattle.normal_files.proofs.Trees.{near_none}
 use Rattle.normal_files.proofs.part.Part.read.Goals as goal
+use Rattle.leaf_changes.specs.Tops.{root_top}
+use Rattle.block_tree.specs.Reads.{IsPast}
 
 pub returns-in-Ok-clause-read : goal.returns-in-Ok-clause-read
 returns-in-Ok-clause-read g c = record {
@@ -29,4 +31,8 @@ pub returns-in-Ok-clause-there : goal.returns-in-Ok-clause-there
 returns-in-Ok-clause-there g c = λ some. let same = c.touched_node-block.ensures.node some in omega (arith, same, c.in-Ok.ensures.there)
 
 pub returns-in-Err-clause-refused : goal.returns-in-Err-clause-refused
-returns-in-Err-clause-refused g c = node_trouble g.D.Disk _ c.args.at.0 c.args.disk.now c.read_node.new.disk c.in-Err.trouble c.in-Err.ensures.refused
+returns-in-Err-clause-refused g c = node_trouble g.D.Disk c.touched_node-block.result (root_top c.args.at.0 c.args.root.now) c.args.disk.now c.read_node.new.disk c.in-Err.trouble
+    (λ past. elim c.touched_node-block.ensures.none [
+      | inl none ↦ absurd (past.0 none)
+      | inr node ↦ (c.args.number, subst (IsPast (g.D.Disk.blocks c.args.disk.now)) node past)
+    ]) c.in-Err.ensures.refused

@@ -1,6 +1,6 @@
 use Rattle.normal_files.proofs.Words.{◌≡◌, ◌<◌, true, length, Ok}
 use Rattle.normal_files.specs.Laid.{node_of}
-use Rattle.normal_files.specs.Takes.{HasTaken, Takes}
+use Rattle.normal_files.specs.Takes.{HasTaken, TakesBlocks}
 use Rattle.normal_files.proofs.TakeOne.{Passed}
 use Rattle.normal_files.proofs.part.Part.take_leaves.Given as goal
 
@@ -11,6 +11,6 @@ invariant-loop-leaf g l = record {
   left : l.space.left ≡ l.initial.space.left;
   near : l.self.leaves.from < l.self.leaves.to → l.next.block < g.D.Disk.blocks l.initial.disk;
   grown : l.next.grown ≡ true → l.self.leaves.from < l.leaf;
-  takes : Takes g.D.Disk l.at.0 l.offset l.bytes l.initial.disk l.disk l.initial.space l.space (Ok l.next) (λ a c next. HasTaken a c l.at.0 l.root.fill l.offset l.bytes l.self (node_of l.root l.self.number) l.leaf next);
+  takes : TakesBlocks g.D.Disk l.at.0 l.offset l.bytes l.initial.disk l.disk l.initial.space l.space (Ok l.next) (λ a c next. HasTaken a c l.at.0 l.root.fill l.offset l.bytes l.self (node_of l.root l.self.number) l.leaf next);
   run : Passed g.D.Disk l.root l.self l.leaf l.next l.initial.disk l.disk l.initial.space l.space;
 }

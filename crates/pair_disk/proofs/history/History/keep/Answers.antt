@@ -1,11 +1,11 @@
 use Rattle.std.proofs.Common.{inl, ⊎_elim, ℕ, ◌+◌, List, [], ◌∷◌, ◌++◌, IsTrue, length, refl, sym, ◌∙◌, ap, subst, arith}
-use Rattle.pair_disk.proofs.Words.{History, Image, IsImage, IsOfBlocks, KeptCall, Left, all_before, before_more, left_earlier, left_kept, left_now_kept, made, made_at, replay, replay_kept, unwritten}
+use Rattle.pair_disk.proofs.Words.{History, Image, IsTornImage, IsOfBlocks, KeptCall, Left, all_before, before_more, left_earlier, left_kept, left_now_kept, torn_by, call_moment, replayed_writes, replay_kept, unwritten}
 use Rattle.pair_disk.proofs.Replays.{size_more}
 use Rattle.pair_disk.proofs.history.History.keep.Goals as goal
 
 -- a crash may leave it after these calls, up to this moment
 abbrev LeftBy : History → ℕ → List KeptCall → ℕ → Image → Type 0
-LeftBy h now calls t i = Left IsImage (λ m. replay (unwritten h.first.items) m calls) now t i
+LeftBy h now calls t i = Left IsTornImage (λ m. replayed_writes (unwritten h.first.items) m calls) now t i
 
 pub returns-then-self-clause-images : goal.returns-then-self-clause-images
 returns-then-self-clause-images c =
@@ -32,17 +32,17 @@ returns-in_default-clause-images c =
 pub invariant_of-self-2-clause-past : goal.invariant_of-self-2-clause-past
 invariant_of-self-2-clause-past c =
     let r = c.args.self.now in
-    subst (λ (l : List KeptCall). IsTrue (all_before made_at (r.moment + 1) l)) (sym c.in-Ok.ensures.items) (before_more made_at r.moment r.kept.items (record { moment = r.moment; call = c.args.call }) refl r.past)
+    subst (λ (l : List KeptCall). IsTrue (all_before call_moment (r.moment + 1) l)) (sym c.in-Ok.ensures.items) (before_more call_moment r.moment r.kept.items (record { moment = r.moment; call = c.args.call }) refl r.past)
 
 pub invariant_of-self-2-clause-sized : goal.invariant_of-self-2-clause-sized
 invariant_of-self-2-clause-sized c = λ t.
     let r = c.args.self.now in
-    subst (λ (l : List KeptCall). IsOfBlocks (length r.first.items) (replay (unwritten r.first.items) t l)) (sym c.in-Ok.ensures.items) (size_more (length r.first.items) t (unwritten r.first.items) r.kept.items (record { moment = r.moment; call = c.args.call }) c.requires (r.sized t))
+    subst (λ (l : List KeptCall). IsOfBlocks (length r.first.items) (replayed_writes (unwritten r.first.items) t l)) (sym c.in-Ok.ensures.items) (size_more (length r.first.items) t (unwritten r.first.items) r.kept.items (record { moment = r.moment; call = c.args.call }) c.requires (r.sized t))
 
 pub returns-clause-kept : goal.returns-clause-kept
 returns-clause-kept c =
     let r = c.args.self.now in
-    ap (λ (l : List KeptCall). replay (unwritten r.first.items) (r.moment + 1) l) c.in-Ok.ensures.items ∙ replay_kept made_at made (unwritten r.first.items) r.moment r.kept.items r.past (record { moment = r.moment; call = c.args.call }) refl
+    ap (λ (l : List KeptCall). replayed_writes (unwritten r.first.items) (r.moment + 1) l) c.in-Ok.ensures.items ∙ replay_kept call_moment torn_by (unwritten r.first.items) r.moment r.kept.items r.past (record { moment = r.moment; call = c.args.call }) refl
 
 pub returns-clause-images : goal.returns-clause-images
 returns-clause-images c =
@@ -50,7 +50,7 @@ returns-clause-images c =
     let e : KeptCall = record { moment = r.moment; call = c.args.call } in
     let is : (t : ℕ) (i : Image) → LeftBy r (r.moment + 1) c.push.new.self.items t i → LeftBy r (r.moment + 1) (r.kept.items ++ e ∷ []) t i =
     λ t i h. subst (λ (l : List KeptCall). LeftBy r (r.moment + 1) l t i) c.in-Ok.ensures.items h in
-    let kept = left_kept made_at made IsImage (unwritten r.first.items) r.moment r.kept.items r.past e refl in
+    let kept = left_kept call_moment torn_by IsTornImage (unwritten r.first.items) r.moment r.kept.items r.past e refl in
     record {
       later = omega arith;
       since = λ t i le h. kept t t i (omega arith) le (is t i h);
@@ -60,9 +60,9 @@ returns-clause-images c =
 pub returns-clause-here : goal.returns-clause-here
 returns-clause-here c =
     let r = c.args.self.now in
-    λ i h. left_now_kept made_at made IsImage (unwritten r.first.items) r.moment r.kept.items r.past (record { moment = r.moment; call = c.args.call }) refl i (subst (λ (l : List KeptCall). LeftBy r (r.moment + 1) l (r.moment + 1) i) c.in-Ok.ensures.items h)
+    λ i h. left_now_kept call_moment torn_by IsTornImage (unwritten r.first.items) r.moment r.kept.items r.past (record { moment = r.moment; call = c.args.call }) refl i (subst (λ (l : List KeptCall). LeftBy r (r.moment + 1) l (r.moment + 1) i) c.in-Ok.ensures.items h)
 
 pub returns-clause-keeps : goal.returns-clause-keeps
 returns-clause-keeps c =
     let r = c.args.self.now in
-    λ t i le h. subst (λ (l : List KeptCall). LeftBy r (r.moment + 1) l t i) (sym c.in-Ok.ensures.items) (left_earlier made_at made IsImage (unwritten r.first.items) r.moment r.kept.items r.past (record { moment = r.moment; call = c.args.call }) refl t i h)
+    λ t i le h. subst (λ (l : List KeptCall). LeftBy r (r.moment + 1) l t i) (sym c.in-Ok.ensures.items) (left_earlier call_moment torn_by IsTornImage (unwritten r.first.items) r.moment r.kept.items r.past (record { moment = r.moment; call = c.args.call }) refl t i h)

@@ -1,5 +1,5 @@
 use Rattle.std.proofs.Common.{ℕ, ◌/◌, ◌<◌, Ok, Err, length, sym, ◌∙◌, ap, subst, arith, ◌≡◌, false}
-use Rattle.special_files.proofs.Words.{All, AreShed, Drafting, DropCall, Forgets, HasParts, IsRead, IsSafe, IsTrouble, PutsWithin, given_all, is_fresh_node, node_of, opened_as, refusal_after}
+use Rattle.special_files.proofs.Words.{All, AreShed, Drafting, DropCall, Forgets, HasParts, IsRead, IsSafe, IsDraftTrouble, PutsWithin, given_all, is_fresh_node, pointer_to_node, opened_as, refusal_after, top_of}
 use Rattle.special_files.proofs.ShedDrop.{drop_done, drop_ok_call, drop_put_err, drop_undo_err, list_err_call, put_ends, put_err_call, undo_err_call}
 use Rattle.special_files.proofs.WriteLeaf.{goes_stopped}
 use Rattle.special_files.proofs.draft.Draft.drop_from.Goals as goal
@@ -20,7 +20,7 @@ returns-in-Err-clause-goes g c = λ v is keeps.
 pub returns-in-Err-clause-calls : goal.returns-in-Err-clause-calls
 returns-in-Err-clause-calls g c = subst (λ (w : Drafting). DropCall g.D.Disk c.args.from c.args.disk.now c.list_from.new.disk c.args.space.now c.args.space.now c.args.self.now w (Err c.from.result)) (sym c.self.view_is)
     (list_err_call c.in-Err.ensures.reads (λ stale. (c.list_from.ensures.none (λ n. ap (λ (w : Drafting). is_fresh_node w n) c.self.view_is ∙ stale n)).2) c.args.from c.args.space.now c.in-Err.trouble _ c.from.ensures
-    (subst (λ (w : Drafting). IsTrouble g.D.Disk w.at c.args.disk.now c.list_from.new.disk c.args.space.now c.in-Err.trouble) c.self.view_is (c.in-Err.ensures.refused c.args.space.now)))
+    (subst (λ (w : Drafting). IsDraftTrouble g.D.Disk (top_of w) c.args.disk.now c.list_from.new.disk c.args.space.now c.in-Err.trouble) c.self.view_is (c.in-Err.ensures.refused c.args.space.now)))
 
 -- ---- the node
 
@@ -28,7 +28,7 @@ pub put_within-requires-clause-safe : goal.put_within-requires-clause-safe
 put_within-requires-clause-safe g c = λ within.
     let number = c.requires.here within in
     let below = (c.requires.safe (omega (arith, within, number, c.requires.limit))).0 in
-    subst (λ (w : Drafting). node_of w.root (c.args.from / 128) < g.D.Disk.blocks c.list_from.new.disk) (sym c.self.view_is) (omega (arith, below, ap (node_of c.args.self.now.root) number, c.in-Ok.ensures.reads.same.size))
+    subst (λ (w : Drafting). pointer_to_node w.root (c.args.from / 128) < g.D.Disk.blocks c.list_from.new.disk) (sym c.self.view_is) (omega (arith, below, ap (pointer_to_node c.args.self.now.root) number, c.in-Ok.ensures.reads.same.size))
 
 pub returns-in-Err-put_within-clause-goes : goal.returns-in-Err-put_within-clause-goes
 returns-in-Err-put_within-clause-goes g c = λ v is keeps.

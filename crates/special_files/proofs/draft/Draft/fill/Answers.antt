@@ -1,5 +1,5 @@
 use Rattle.std.proofs.Common.{◌≡◌, ℕ, ◌/◌, ◌<◌, Option, sym, ap, subst, arith, false}
-use Rattle.special_files.proofs.Words.{AreClaimed, Drafting, FitsLeaf, Image, Index, IsRead, IsSafe, SameBeside, Swap, View, filled_draft, is_damaged, leaf_claims, root_spelling, tree_in}
+use Rattle.special_files.proofs.Words.{AreClaimed, Drafting, FitsLeaf, Image, Index, IsRead, IsSafe, SameBeside, Swap, DraftView, filled_draft, has_met_damage, leaf_claims, root_spelling, tree_in, top_of}
 use Rattle.ufs_model.specs.declared.object.Object.TheVariants as objects
 use Rattle.special_files.proofs.Endings.{ends_err}
 use Rattle.special_files.proofs.Fills.{ended_by, put_fits, slot_put, stays_empty}
@@ -11,13 +11,13 @@ use Rattle.special_files.proofs.draft.Draft.fill.Goals as goal
 
 pub returns-in_err-content-clause-ends : goal.returns-in_err-content-clause-ends
 returns-in_err-content-clause-ends g c =
-    ended_by {A = Option Swap} g.D.Disk c.args.self.now.at 8 4 _ c.args.disk.now c.leaf_bytes.new.disk c.args.space.now c.args.space.now c.from_residual.result c.in_err-content.field-0.0 c.from_residual.ensures.1
+    ended_by {A = Option Swap} g.D.Disk (top_of c.args.self.now) 8 4 _ c.args.disk.now c.leaf_bytes.new.disk c.args.space.now c.args.space.now c.from_residual.result c.in_err-content.field-0.0 c.from_residual.ensures.1
     (λ e is. ends_trouble c.in_err-content.ensures.turns.reads 4 _ 8 c.in_err-content.field-0.0 e is (omega arith) (c.in_err-content.ensures.turns.refused c.args.space.now))
 
 pub returns-in_err-content-clause-sound : goal.returns-in_err-content-clause-sound
 returns-in_err-content-clause-sound g c = λ graph ds id o d store at opened.
     let t = c.in_err-content.field-0.0 in
-    told (λ e. is_damaged e ≡ false) c.from_residual.result t c.from_residual.ensures.1 (damaged_by t (c.in_err-content.ensures.turns.sound (view_tree (view store at opened))))
+    told (λ e. has_met_damage e ≡ false) c.from_residual.result t c.from_residual.ensures.1 (damaged_by t (c.in_err-content.ensures.turns.sound (view_tree (view store at opened))))
 
 pub returns-then-is_empty_already-clause-filled : goal.returns-then-is_empty_already-clause-filled
 returns-then-is_empty_already-clause-filled g c = λ graph ds id o d i store at opened index.
@@ -39,13 +39,13 @@ returns-in-Ok g c =
     let reads = turns.reads in
     let calls = leaf_since reads 8 c.in-Ok.ensures.calls (omega arith) in
     let none : IsRead (G.content d0) was c.nothing-read.result = λ few. absurd (omega (arith, few, c.nothing-read.ensures)) in
-    let puts = λ (v : View G d0 k0 was).
+    let puts = λ (v : DraftView G d0 k0 was).
     c.in-Ok.ensures.goes (view_reads v reads) (subst (λ (a : Image). IsRead a was c.leaf_bytes.new.read) (sym reads.content) (turns.node v.store.carries.tells none))
     (subst (FitsLeaf was.root leaf) (sym c.put_slot.ensures.put) (put_fits v c.args.slot c.args.what c.requires.within c.in_ok-content.content (c.in_ok-content.ensures.bytes (view_tree v) none))) in
-    let filled = λ (v : View G d0 k0 was) (i : Index) (index : v.draft.object ≡ objects.Index i).
+    let filled = λ (v : DraftView G d0 k0 was) (i : Index) (index : v.draft.object ≡ objects.Index i).
     slot_put v i index reads c.args.slot c.args.what c.requires.within c.in_ok-content.content (c.in_ok-content.ensures.bytes (view_tree v) none) c.is_empty_already.result c.is_empty_already.ensures c.if-is_empty_already.false
     c.requires.slot d2 c.put_leaf.new.space now c.put_leaf.new.read c.put_slot.new.block c.put_slot.ensures.put calls.stays (puts v).done in
-    let beside = λ (v : View G d0 k0 was) (i : Index) (index : v.draft.object ≡ objects.Index i).
+    let beside = λ (v : DraftView G d0 k0 was) (i : Index) (index : v.draft.object ≡ objects.Index i).
     subst (λ (a : Image). SameBeside leaf (tree_in a (root_spelling was.root)) (tree_in (G.content d2) (root_spelling now.root))) reads.content (puts v).done.beside in
     let few : leaf < 15360 = omega (arith, c.requires.within, c.if-prove.false, ap (λ (x : Drafting). x.root.size) c.self.view_is) in
     let size = calls.ends.calls.same.size in
@@ -78,7 +78,7 @@ returns-in-Err-clause-leaves g c = λ graph ds id o d store at opened. images_si
 
 pub returns-in-Err-clause-ends : goal.returns-in-Err-clause-ends
 returns-in-Err-clause-ends g c =
-    ends_err g.D.Disk c.args.self.now.at 0 8 4 _ c.args.disk.now c.put_leaf.new.disk c.args.space.now c.put_leaf.new.space c.in-Err.error (ends_since c.in_ok-content.ensures.turns.reads 8 c.in-Err.ensures.calls.ends (omega arith))
+    ends_err g.D.Disk (top_of c.args.self.now) 0 8 4 _ c.args.disk.now c.put_leaf.new.disk c.args.space.now c.put_leaf.new.space c.in-Err.error (ends_since c.in_ok-content.ensures.turns.reads 8 c.in-Err.ensures.calls.ends (omega arith))
 
 pub returns-in-Err-clause-sound : goal.returns-in-Err-clause-sound
 returns-in-Err-clause-sound g c = λ graph ds id o d store at opened. (c.in-Err.ensures.goes (view_reads (view store at opened) c.in_ok-content.ensures.turns.reads)

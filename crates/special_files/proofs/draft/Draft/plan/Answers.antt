@@ -1,5 +1,5 @@
 use Rattle.std.proofs.Common.{◌-◌, ◌∙◌, ap, ℕ, ◌/◌, ◌+◌, length, sym, subst, arith}
-use Rattle.special_files.proofs.Words.{Drafting, IsBorder, IsPlan, both_ways, is_full_refusal, last_node, shadow_need, shrink_takes}
+use Rattle.special_files.proofs.Words.{Drafting, IsBorder, IsPlan, both_ways, is_full_refusal, last_draft_node, shadow_need, shrink_takes}
 use Rattle.special_files.proofs.ShrinkCall.{resize_stopped, call_full}
 use Rattle.special_files.proofs.View.{view_tree}
 use Rattle.special_files.proofs.WriteLeaf.{goes_stopped, not_full}
@@ -22,7 +22,7 @@ pub returns-in-Err-has_room-clause-full : goal.returns-in-Err-has_room-clause-fu
 returns-in-Err-has_room-clause-full g c = λ v f file full.
     let was = c.args.self.now in
     let number = ap (λ (n : ℕ). n / 128) (c.saturating_sub-number.ensures ∙ ap (λ (t : ℕ). t - 1) c.leaves_in-to.ensures) in
-    let border = subst (λ (t : ℕ). IsBorder c.turn_to.new.read.node.leaves (last_node c.args.size) t c.border-from.result) c.leaves_in-to.ensures (subst (λ (n : ℕ). IsBorder c.turn_to.new.read.node.leaves n c.leaves_in-to.result c.border-from.result) number c.border-from.ensures) in
+    let border = subst (λ (t : ℕ). IsBorder c.turn_to.new.read.node.leaves (last_draft_node c.args.size) t c.border-from.result) c.leaves_in-to.ensures (subst (λ (n : ℕ). IsBorder c.turn_to.new.read.node.leaves n c.leaves_in-to.result c.border-from.result) number c.border-from.ensures) in
     let plan : IsPlan g.D.Disk c.args.size was c.args.disk.now c.turn_to.new.disk (record { read = c.turn_to.new.read; from = c.border-from.result; cut = c.is_cut-cut.result }) = record {
       reads = c.in-Ok.ensures.turns.reads;
       less = c.requires.less;

@@ -4,10 +4,11 @@ use Rattle.special_files.proofs.ReadLeaves.{read_then, read_whole}
 use Rattle.special_files.proofs.Refusals.{trouble_after_reads}
 use Rattle.special_files.proofs.View.{draft_tree, tree_reads}
 use Rattle.special_files.proofs.draft.Draft.read.Goals as goal
+use Rattle.special_files.proofs.Words.{top_of}
 
 pub returns-in-Err-clause-refused : goal.returns-in-Err-clause-refused
 returns-in-Err-clause-refused g c = λ kept.
-    trouble_after_reads g.D.Disk c.args.self.now.at c.args.disk.now c.loop-leaf.disk c.leaf_bytes.new.disk kept (2 * (c.loop-leaf.leaf - c.args.offset / 512)) c.in-Err.trouble c.loop-leaf.invariant.reads (c.in-Err.ensures.turns.refused kept)
+    trouble_after_reads g.D.Disk (top_of c.args.self.now) c.args.disk.now c.loop-leaf.disk c.leaf_bytes.new.disk kept (2 * (c.loop-leaf.leaf - c.args.offset / 512)) c.in-Err.trouble c.loop-leaf.invariant.reads (c.in-Err.ensures.turns.refused kept)
 
 pub returns-in-Err-clause-sound : goal.returns-in-Err-clause-sound
 returns-in-Err-clause-sound g c = λ graph ds space id o d store at opened. c.in-Err.ensures.turns.sound (tree_reads (draft_tree g.D.Disk graph ds c.args.disk.now space store at opened) c.loop-leaf.invariant.reads)

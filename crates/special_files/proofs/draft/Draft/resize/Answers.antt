@@ -1,5 +1,5 @@
 use Rattle.std.proofs.Common.{inl, refl, ap, arith}
-use Rattle.special_files.proofs.Words.{Drafting, is_damaged}
+use Rattle.special_files.proofs.Words.{Drafting, has_met_damage}
 use Rattle.special_files.proofs.Refusals.{if_err, on_ok}
 use Rattle.special_files.proofs.ShrinkRun.{grown_call}
 use Rattle.special_files.proofs.View.{view}
@@ -19,10 +19,11 @@ returns-then-self-size g c =
       spared = calls.spared;
       room = λ graph ds id o d f store at opened file. on_ok c.grow.result (λ is. is.room) (c.grow.ensures.resized (view store at opened) f file);
       told = calls.told;
+      near = calls.near;
       ends = calls.ends;
       grown = λ more. (refl, refl);
       kept = calls.kept;
-      sound = λ graph ds id o d store at opened. if_err c.grow.result (λ e short. ap is_damaged short.0) c.grow.ensures.short;
+      sound = λ graph ds id o d store at opened. if_err c.grow.result (λ e short. ap has_met_damage short.0) c.grow.ensures.short;
     }
 
 -- ---- to less
@@ -39,6 +40,7 @@ returns g c =
       spared = calls.spared;
       room = λ graph ds id o d f store at opened file. on_ok c.shrink.result (λ is. (is f file).room) (c.shrink.ensures.goes (view store at opened)).done;
       told = calls.told;
+      near = calls.near;
       ends = calls.ends;
       grown = λ more. absurd (omega (arith, more, c.if-self-size.false, ap (λ (w : Drafting). w.root.size) c.self.view_is));
       kept = calls.kept;

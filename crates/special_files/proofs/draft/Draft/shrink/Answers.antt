@@ -1,5 +1,5 @@
 use Rattle.std.proofs.Common.{◌≡◌, Ok, sym, subst}
-use Rattle.special_files.proofs.Words.{Drafting, File, Goes, ResizeCall, Resized, sized}
+use Rattle.special_files.proofs.Words.{Drafting, File, GoesHolding, ResizeCall, Resized, sized}
 use Rattle.special_files.proofs.ShrinkCall.{cut_err_call, cut_err_full, cut_err_goes, drop_err_call, drop_err_full, drop_err_goes, drop_ok_call, drop_ok_goes}
 use Rattle.ufs_model.specs.declared.object.Object.TheVariants as objects
 use Rattle.special_files.proofs.draft.Draft.shrink.Goals as goal
@@ -35,7 +35,7 @@ returns-in-Err-drop_from-clause-calls g c = drop_err_call c.in-Ok.ensures.planne
 
 pub returns-clause-goes : goal.returns-clause-goes
 returns-clause-goes g c = λ v.
-    subst (λ (w : Drafting). Goes {A = Unit {0}} g.D.Disk v.graph ((f : File) → v.draft.object ≡ objects.File f → Resized g.D.Disk v.graph v.ds v.id v.draft c.args.size c.args.floor c.args.disk.now c.drop_from.new.disk c.args.space.now c.drop_from.new.space c.args.self.now (sized w c.args.size)) c.args.disk.now c.drop_from.new.disk (Ok tt)) (sym c.self.view_is)
+    subst (λ (w : Drafting). GoesHolding {A = Unit {0}} g.D.Disk v.graph ((f : File) → v.draft.object ≡ objects.File f → Resized g.D.Disk v.graph v.ds v.id v.draft c.args.size c.args.floor c.args.disk.now c.drop_from.new.disk c.args.space.now c.drop_from.new.space c.args.self.now (sized w c.args.size)) c.args.disk.now c.drop_from.new.disk (Ok tt)) (sym c.self.view_is)
     (drop_ok_goes c.in-Ok.ensures.planned c.args.floor c.args.space.now c.in-Ok.ensures.room c.in-Ok-cut_if.ensures _ _ _ c.in-Ok-drop_from.ensures.calls v c.in-Ok-drop_from.ensures.goes)
 
 pub returns-clause-calls : goal.returns-clause-calls

@@ -1,0 +1,126 @@
+//! The first of some blocks, which lie in one map: their entries are changed by one write of it.
+ghost use Rattle.std.specs.Prelude.{◌≡◌, ℕ, ◌+◌, ◌<◌, if◌then◌else◌, drop};
+ghost use Rattle.cfs_base.specs.Disk.{Image, block_at};
+ghost use Rattle.cyl_alloc.specs.Space.{HasMoreFree};
+ghost use Rattle.cyl_map.specs.Map as maps;
+ghost use Rattle.cyl_map.specs.Volume.{map_of};
+ghost use Rattle.intentions.specs.Entries.{FitsEntry};
+ghost use Rattle.intentions.specs.Flips.{flip};
+ghost use Rattle.intentions.specs.Runs as spec;
+
+use crate::change::Change;
+use crate::entry::change_in;
+use cfs_base::{Block, BlockNo, Disk, Trouble};
+use cyl_alloc::KnownMaps;
+use cyl_map::{BlockState, MapEntry};
+
+/// Which change the entry of each of some blocks gets.
+#[derive(Clone, Copy, Debug, PartialEq, Eq)]
+pub enum Rule {
+    /// The same to each.
+    Alike(Change),
+    /// The intentions are carried out, but that with the shadow root is taken back.
+    Settle { shadow: BlockNo },
+}
+
+impl Rule {
+    /// The change of the entry of a block.
+    fn of(self, block: BlockNo) -> Change
+        requires { spec.AllFit self }
+        ensures value { result ≡ spec.how_of self block.0 }
+        ensures fits { FitsEntry result }
+    {
+        match self {
+            Rule::Alike(how) => how,
+            Rule::Settle { shadow } => {
+                if block.0 == shadow.0 {
+                    Change::Undo
+                } else {
+                    Change::Finish
+                }
+            }
+        }
+    }
+}
+
+/// The first of some blocks, which lie in one map: how many they are, and how many of them became Free.
+#[derive(Clone, Copy, Debug, PartialEq, Eq)]
+pub struct Run {
+    pub count: usize,
+    pub freed: u32,
+}
+
+fn is_free(entry: MapEntry) -> bool
+    ensures { result ≡ maps.is_free entry }
+{
+    match entry.state {
+        BlockState::Free => true,
+        BlockState::Allocated | BlockState::IntendAllocate | BlockState::IntendDeallocate => false,
+    }
+}
+
+/// Whether a block became Free.
+pub fn is_freed(was: MapEntry, now: MapEntry) -> bool
+    ensures { result ≡ spec.is_freed was now }
+{
+    if is_free(was) {
+        return false;
+    }
+    is_free(now)
+}
+
+/// Changes the entry of a block in its map, which was read. Answers whether the block became Free.
+fn flip_in(map: &mut Block, block: BlockNo, how: Change) -> bool
+    requires spells { maps.SpellsMap map.old }
+    requires fits { FitsEntry how }
+    ensures spells { maps.SpellsMap map.new }
+    ensures now { (image : Image) → block_at image (map_of block.0) ≡ map.old
+        → block_at (flip image (record { block = block.0; how = how })) (map_of block.0) ≡ map.new }
+    ensures freed { spec.KeepsFree how → (image other : Image) (n count : ℕ) → map_of block.0 ≡ map_of n
+        → block_at other (map_of block.0) ≡ map.old → HasMoreFree image n count other
+        → HasMoreFree image n (count + (if result then 1 else 0))
+        (flip other (record { block = block.0; how = how })) }
+{
+    let was = change_in(map, block, how);
+    is_freed(was, how.of(was))
+}
+
+/// Changes in a map that was read the entries of those of the blocks that lie in it, up to the first that doesn't.
+pub fn change_first(map: &mut Block, blocks: &[u32], rule: Rule, first: u32) -> Run
+    requires spells { maps.SpellsMap map.old }
+    requires fits { spec.AllFit rule }
+    requires first { spec.IsFirst first blocks.now }
+    ensures flips { spec.FlipsFirst rule first result.count result.freed blocks.now map.old map.new }
+    ensures runs { 1 + spec.runs (drop result.count blocks.now) ≡ spec.runs blocks.now }
+{
+    let mut freed = 0u32;
+    for (count, block) in blocks.iter().enumerate() {
+        if *block / 64 != first / 64 {
+            return Run { count, freed };
+        }
+        let block = BlockNo(*block);
+        let is_freed = flip_in(map, block, rule.of(block));
+        freed = freed.saturating_add(is_freed as u32);
+    }
+    Run {
+        count: blocks.len(),
+        freed,
+    }
+}
+
+/// Writes a map that was read and changed.
+pub fn write_map<D: Disk>(
+    disk: &mut D,
+    known: &mut KnownMaps,
+    block: u32,
+    map: &Block,
+) -> Result<(), Trouble>
+    requires on_disk { map_of block < D.blocks disk.old }
+    requires spells { maps.SpellsMap map.now }
+    ensures { spec.WritesMap D.Disk (map_of block) map.now disk.old disk.new result }
+{
+    match known.store_map(disk, block, map) {
+        Ok(()) => Ok(()),
+        Err(_) => Err(Trouble::Disk { tried: true }),
+    }
+}
