@@ -1,5 +1,5 @@
 //! Work that is made in turns.
-ghost use Rattle.std.specs.Prelude.{◌≡◌, ◌≢◌, ℕ, ◌<◌, ◌≤◌, Bool, true, false, List, length};
+ghost use Rattle.std.specs.Prelude.{◌≡◌, ℕ, ◌<◌, ◌≤◌, Bool, true, false, List, length};
 
 /// Work that workers make in turns. Workers are numbered from 0.
 pub trait Machine {
@@ -31,8 +31,8 @@ pub trait Machine {
         ensures nearer { done self.old worker ≡ false → left self.new worker < left self.old worker }
         ensures turned { done self.old worker ≡ false → turned self.old worker self.new }
         ensures still { done self.old worker ≡ true → self.new ≡ self.old }
-        // Whether others are done is no matter of this worker's.
-        ensures others { (w : ℕ) → w ≢ worker → done self.new w ≡ done self.old w }
+        // Whether those before it are done is no matter of this worker's. It may leave work to those after it.
+        ensures others { (w : ℕ) → w < worker → done self.new w ≡ done self.old w }
         ensures workers { worker_count self.new ≡ worker_count self.old };
 
     /// There is nobody beyond the workers.

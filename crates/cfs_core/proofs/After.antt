@@ -1,16 +1,18 @@
 -- A call that reads, and then goes on.
-use Rattle.std.proofs.Common.{◌≡◌, ℕ, ◌<◌, length, true, false, None, Result, Ok, Err, refl, subst, sum, ◌+◌, arith}
+use Rattle.std.proofs.Common.{◌≡◌, ℕ, ◌<◌, length, true, false, Option, None, Result, Ok, Err, refl, ◌∙◌, ap, subst, ◌+◌, arith}
 use Rattle.cfs_core.proofs.Words.{Ghosts, Image, Index, Leaves, OnlyReads, Puid, refusal_of, Refused, Reply, Request, State, then, wider, reads_then}
 use Rattle.cfs_base.specs.declared.refusal.Refused.TheVariants as refusals
+use Rattle.cyl_alloc.specs.Left.{LeftCommit}
+use Rattle.intentions.specs.Left.{coming}
 use Rattle.ufs_model.specs.declared.asked.Reply.TheVariants as replies
 use Rattle.ufs_model.specs.declared.object.Object.TheVariants as objects
-use Rattle.cfs_core.specs.Calls.{AddsNoStray, Answers, EndsSo, Owes, Tries, TriesOn}
+use Rattle.cfs_core.specs.Calls.{AddsNoStray, Answers, EndsSo, IsAsItWas, Owes, TriesWith, TriesOnWith}
 use Rattle.cfs_core.specs.Claimed.{TakesForRequest}
 use Rattle.cfs_core.specs.Kernel.{Kernel}
 use Rattle.cfs_core.specs.Looks.{ReachesAll}
-use Rattle.cfs_core.specs.StandsFor.{CoreServes}
+use Rattle.cfs_core.specs.StandsFor.{ServesWith, end_in, free_with}
 use Rattle.cfs_core.specs.Ways.{Reaches}
-use Rattle.cfs_core.proofs.Serving.{serves_on}
+use Rattle.cfs_core.proofs.Serving.{free_same, serves_is, serves_on}
 use Rattle.cfs_core.proofs.Went.{went_then}
 
 module _ {D : Type 0} (g : Ghosts D) (n : ℕ) (old : Kernel D) (d : D) (new : Kernel D) (reads : OnlyReads g n old.disk d) (request : Request) where
@@ -20,16 +22,33 @@ module _ {D : Type 0} (g : Ghosts D) (n : ℕ) (old : Kernel D) (d : D) (new : K
   first : (P : Image → Type 0) → Leaves g d new.disk P → Leaves g old.disk new.disk P
   first P leaves = then g old.disk d new.disk P P (wider g old.disk d _ P reads.images (λ c no. absurd no)) leaves (λ c p. p)
 
-  module _ (s : State) (who : ℕ) where
-    answers : (reply : Reply) → Answers g mid new s who request reply → Answers g old new s who request reply
+  still_then : IsAsItWas g mid new → IsAsItWas g old new
+  still_then was = record { same = was.same; most = n + was.most; reads = reads_then g old.disk d new.disk n was.most (n + was.most) reads was.reads (omega arith) }
+
+  module _ (w : Option LeftCommit) (s : State) (who : ℕ) where
+    answers : (reply : Reply) → Answers g w mid new s who request reply → Answers g w old new s who request reply
     answers reply is = record {
-      event = record { after = is.event.after; step = is.event.step; stores = is.event.stores; strays = subst (λ (i : Image). AddsNoStray i (g.content new.disk) s.graph is.event.after.graph) reads.content is.event.strays; survives = record { crashes = first _ is.event.survives.crashes; now = is.event.survives.now } };
-      still = λ all. let was = is.still all in record { same = was.same; most = n + was.most; reads = reads_then g old.disk d new.disk n was.most (n + was.most) reads was.reads (omega arith) };
-      owed = subst (λ (i : Image). Owes old.words.seed s who request i (sum old.space.free) reply) reads.content is.owed;
-      taken = λ done. subst (λ (i : Image). TakesForRequest old.handles s who request reply i (g.content new.disk)) reads.content (is.taken done);
+      event = record {
+        after = is.event.after;
+        step = is.event.step;
+        stores = is.event.stores;
+        strays = subst (λ (i : Image). AddsNoStray (coming i w) (end_in g new) s.graph is.event.after.graph) reads.content is.event.strays;
+        survives = record { crashes = first _ is.event.survives.crashes; now = is.event.survives.now };
+      };
+      still = λ all. still_then (is.still all);
+      full = λ full. let was = is.full full in record {
+        same = was.same;
+        none = was.none;
+        content = was.content ∙ ap (λ (i : Image). coming i w) reads.content;
+        still = λ nothing. still_then (was.still nothing);
+      };
+      owed = subst (λ (i : Image). Owes old.words.seed s who request (coming i w) (free_with g old w) reply) reads.content
+          (subst (λ (f : ℕ). Owes old.words.seed s who request (coming (g.content d) w) f reply) (free_same g old d w reads.content) is.owed);
+      taken = λ done. subst (λ (i : Image). TakesForRequest old.handles s who request reply (coming i w) (end_in g new)) reads.content (is.taken done);
+      noted = is.noted;
     }
 
-    pub ends : (r : Result Reply Refused) → EndsSo g mid new s who request r → EndsSo g old new s who request r
+    pub ends : (r : Result Reply Refused) → EndsSo g w mid new s who request r → EndsSo g w old new s who request r
     ends (Ok reply) is = answers reply is
     ends (Err (refusals.Full need)) is = answers (replies.Full need) is
     ends (Err (refusals.Disk false)) is = answers (replies.Disk None) is
@@ -37,12 +56,12 @@ module _ {D : Type 0} (g : Ghosts D) (n : ℕ) (old : Kernel D) (d : D) (new : K
     ends (Err (refusals.Damaged damage)) is = is
     ends (Err refusals.Memory) is = answers replies.Memory is
 
-  pub tries_then : (index : Puid) (slot : ℕ) (who : ℕ) (result : Result Reply Refused) → ReachesAll g objects.Index old who request index → TriesOn g mid new index slot request result
-      → ((s : State) (i : Index) → CoreServes g old s → Reaches s who request index (objects.Index i) → (slot < length i.slots) × (refusal_of s who request ≡ None)) → Tries g old new who request result
-  tries_then index slot who result reaches tries goes = record {
+  pub tries_then : {w : Option LeftCommit} (index : Puid) (slot : ℕ) (who : ℕ) (result : Result Reply Refused) → ReachesAll g objects.Index old who request index → TriesOnWith g w mid new index slot request result
+      → ((s : State) (i : Index) → ServesWith g old s w → Reaches s who request index (objects.Index i) → (slot < length i.slots) × (refusal_of s who request ≡ None)) → TriesWith g w old new who request result
+  tries_then {w} index slot who result reaches tries goes = record {
     ends = λ s serves none.
-        let i = reaches.0 s serves in
+        let i = reaches.0 s (serves_is g old s serves) in
         let may = goes s i.0 serves i.1 in
-        ends s who result (tries.ends s who i.0 (serves_on g n old mid reads refl s serves) none i.1 may.0 may.1);
+        ends w s who result (tries.ends s who i.0 (serves_on g n old mid reads refl s serves) none i.1 may.0 may.1);
     went = went_then g n old d new reads request result (tries.went reaches.1);
   }

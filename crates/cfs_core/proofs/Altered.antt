@@ -1,36 +1,33 @@
--- A file through a grant with a draft: when a request on it is refused, what it is told, and what a change makes of the state.
-use Rattle.std.proofs.Common.{◌≡◌, ◌⊎◌, inl, inr, ℕ, zero, suc, ◌+◌, ◌<◌, ◌≤◌, List, [], ◌∷◌, ◌++◌, length, get_or, Bool, true, false, cond, not, Option, Some, None, Ok, Err, IsTrue, refl, sym, ◌∙◌, ap, subst, arith, IfErr, IfOk, Result, filter, find, map, nat_lt, option_and_then, option_to_list, sum}
-use Rattle.cfs_core.proofs.Words.{and_parts, DraftBecomes, blocks_taken, Change, change_need, changed, changed_draft, changed_object, Draft, draft_blocks, draft_of, Drafting, File, file_to_leaves, Fill, filter-rises, first_level, fresh_of, Ghosts, Grant, grant_of, Graph, has_number, HasDraft, held_levels, here, Holds, Image, in_filter, in_with, has_met_damage, is_draft_of, is_grant, is_normal}
-use Rattle.cfs_core.proofs.Words.{is_range, is_reading, IsOpen, IsPlainReply, Kept, later, Leaves, list_all, MapEntry, merged, missing, need_beside, need_of, next, next_keeps, next_levels, numbers-rise, numbers_rise, Object, object_at, of_draft, OnlyReads, Opened, opened_as, outcome_legal, Overwrite, Puid, put_draft-at, range_with_len, refusal_of, Refused, replaced, Reply, Request, same_puid}
-use Rattle.cfs_core.proofs.Words.{same_puid_itself, seen, seen_draft, SetSize, shadow_need, shared, State, StoreHas, sum_by, sum_by-cons, target, the_draft, Through, Tuid, wider, with_draft, with_numbers, within, without_draft, written_anew}
+-- A file through a grant with a draft: what a change of it makes of the state.
+use Rattle.std.proofs.Common.{◌≡◌, ◌⊎◌, inl, inr, ℕ, zero, suc, ◌+◌, ◌<◌, ◌≤◌, List, [], ◌∷◌, ◌++◌, length, get_or, Bool, true, false, cond, not, Option, Some, None, Ok, Err, IsTrue, refl, sym, ◌∙◌, ap, subst, arith, Result, filter, map, option_and_then, option_to_list, sum}
+use Rattle.cfs_core.proofs.Words.{and_parts, DraftBecomes, blocks_taken, Change, change_need, changed, changed_draft, changed_object, Draft, draft_blocks, Drafting, File, Fill, filter-rises, first_level, fresh_of, Ghosts, Grant, grant_of, has_number, held_levels, here, Holds, Image, in_filter, in_with, is_grant, is_normal, ChangesOnly}
+use Rattle.cfs_core.proofs.Words.{Kept, later, Leaves, list_all, MapEntry, merged, missing, need_beside, need_of, next, next_keeps, next_levels, numbers-rise, numbers_rise, Object, of_draft, OnlyReads, Opened, opened_as, outcome_legal, Overwrite, Puid, put_draft-at, range_with_len, refusal_of, Refused, replaced, Reply, Request, same_puid}
+use Rattle.cfs_core.proofs.Words.{same_puid_itself, seen, seen_draft, SetSize, shadow_need, shared, State, sum_by, sum_by-cons, target, Through, Tuid, wider, with_draft, with_numbers, within, without_draft, written_anew}
 use Rattle.cfs_base.specs.declared.refusal.Need as needs
 use Rattle.cfs_base.specs.declared.refusal.Refused.TheVariants as refusals
 use Rattle.special_files.specs.Drafting.{set_in}
 use Rattle.ufs_model.specs.declared.asked.Event.TheVariants as events
 use Rattle.ufs_model.specs.declared.asked.Reply.TheVariants as replies
-use Rattle.ufs_model.specs.declared.asked.Request.TheVariants as asks
 use Rattle.ufs_model.specs.declared.object.Object.TheVariants as objects
-use Rattle.cfs_core.specs.Calls.{Answers, ByOutcome, ByWant, EndsSo, IsInDoubt, Tries, Undone, done_or}
+use Rattle.cfs_core.specs.Calls.{Answers, ByOutcome, ByWant, EndsSo, IsInDoubt, TriesWith, Undone, done_or}
 use Rattle.cfs_core.specs.Drafts.{AltersDraft, ChangesDraft, KnowsDraft}
 use Rattle.cfs_core.specs.Kernel.{Kernel, Handle, is_ready}
-use Rattle.cfs_core.specs.Looks.{IsDraftCause, content_reply, measured}
-use Rattle.cfs_core.specs.Handles.{drafting_at, is_drawn, with_drafting}
-use Rattle.cfs_core.specs.StandsFor.{HasDraftOf, CoreServes, bare, drafts_of_handles}
-use Rattle.intentions.proofs.Shown.{store_whole}
-use Rattle.intentions.specs.Left.{StoreIs}
-use Rattle.cfs_core.proofs.Answering.{disk_failed, memory, owes, reads_none, seen as told, tries_so}
-use Rattle.cfs_core.proofs.Drafted.{changed_drafts, changed_have, drawn, has_draft, place_of, special, with_is, written}
-use Rattle.cfs_core.proofs.Ended.{IsHeld, alone_take, block, find_drawn, of_its_draft, open_in, so}
+use Rattle.cfs_core.specs.Handles.{drafting_at, with_drafting}
+use Rattle.cfs_core.specs.StandsFor.{CoreServes, bare, drafts_of_handles, free_to_come}
+use Rattle.intentions.specs.Left.{StoreWith, coming, final_image}
+use Rattle.cfs_core.proofs.Answering.{disk_failed, full_still, owes}
+use Rattle.cfs_core.proofs.Drafted.{changed_drafts, changed_have, special, with_is}
+use Rattle.cfs_core.proofs.Ended.{IsHeld, alone_take, block, of_its_draft, open_in}
 use Rattle.cfs_core.proofs.Few.{few_more}
 use Rattle.cfs_core.proofs.Damages.{told_of_draft}
 use Rattle.cfs_core.proofs.Went.{went_done}
 use Rattle.cfs_core.proofs.Filed.{IsChanging}
 use Rattle.cfs_core.proofs.Readied.{ready_at, ready_for}
-use Rattle.cfs_core.proofs.Refusing.{IsSeen}
+use Rattle.cfs_core.proofs.Reached.{files, written_in}
 use Rattle.cfs_core.proofs.Handled.{grants_with}
 use Rattle.cfs_core.proofs.Serving.{fits, running, stays}
 use Rattle.cfs_core.proofs.Moved.{HasStepped, IsStepped, four_left, makes_stepped}
-use Rattle.cfs_core.specs.Claimed.{ClaimsInOrder, TakesForRequest, claims_for, claims_in_draft, commits_alone, is_beside, owners_of, claims_in_file, claims_through, root_reached}
+use Rattle.cfs_core.specs.Claimed.{ClaimsInOrder, TakesForRequest, claims_for, claims_in_draft, is_beside, owners_of, claims_in_file, claims_through, root_reached}
 use Rattle.cfs_core.proofs.Claimed.{takes_alone}
 use Rattle.std.specs.Prelude.{◌&&◌, is_none}
 use Rattle.ufs_model.specs.State.{file_seen}
@@ -111,41 +108,10 @@ bare_with who t d (x ∷ grants) = elim (is_grant who t x) as (λ b. bare (cond 
 
 -- ---- kinds
 
-file_in : (o d : Object) → is_draft_of o d ≡ true → ((f : File) × (o ≡ objects.File f)) × ((e : File) × (d ≡ objects.File e))
-file_in (objects.File f) (objects.File e) is = ((f, refl), (e, refl))
-file_in (objects.File f) (objects.Index i) is = cc
-file_in (objects.Index i) d is = cc
-
 still_special : (c : Change) (f : File) → is_normal (objects.File f) ≡ false → is_normal (changed_object c (objects.File f)) ≡ false
 still_special (Overwrite offset bytes) f is = is
 still_special (SetSize size) f is = is
 still_special (Fill slot what) f is = is
-
--- ---- what is asked through a grant with a draft
-
-module _ (s : State) (who : ℕ) (t : Tuid) (x : Grant) (d : Draft) (f f0 : File) (found : grant_of s who t ≡ Some x) (has : x.draft ≡ Some d) (file_is : d.object ≡ objects.File f) (there : object_at s.graph x.id ≡ Some (objects.File f0)) where
-  size_by : (seed : ℕ) → IsSeen seed s who (asks.Size (Through t)) (measured f)
-  size_by seed = inr (rw (found, there) refl, λ b. rw (found, has, file_is) refl)
-
-  read_by : (seed offset count : ℕ) → IsSeen seed s who (asks.Read (Through t) offset count) (content_reply f offset count)
-  read_by seed offset count = at (is_range (length f.bytes) offset count) refl
-    where
-      at : (b : Bool) → is_range (length f.bytes) offset count ≡ b → IsSeen seed s who (asks.Read (Through t) offset count) (content_reply f offset count)
-      at true is = inr (rw (found, there, has, file_is, is) refl, λ b. rw (found, has, file_is, is) refl)
-      at false is = inl (rw (found, there, has, file_is, is) refl)
-
-  module _ (writes : is_reading x.mode ≡ false) where
-    write_by : (offset : ℕ) (bytes : List ℕ) → is_range (length f.bytes) offset (length bytes) ≡ true → refusal_of s who (asks.Write (Through t) offset bytes) ≡ None
-    write_by offset bytes is = rw (found, there, writes, has, file_is, is) refl
-
-    write_not_by : (offset : ℕ) (bytes : List ℕ) → is_range (length f.bytes) offset (length bytes) ≡ false → refusal_of s who (asks.Write (Through t) offset bytes) ≡ Some replies.Range
-    write_not_by offset bytes is = rw (found, there, writes, has, file_is, is) refl
-
-    resize_by : (size : ℕ) → nat_lt 7864320 size ≡ false → refusal_of s who (asks.Resize (Through t) size) ≡ None
-    resize_by size is = rw (found, there, writes, is) refl
-
-    resize_not_by : (size : ℕ) → nat_lt 7864320 size ≡ true → refusal_of s who (asks.Resize (Through t) size) ≡ Some replies.Range
-    resize_not_by size is = rw (found, there, writes, is) refl
 
 need_by : (s : State) (who : ℕ) (t : Tuid) (x : Grant) (d : Draft) (change : Change) → grant_of s who t ≡ Some x → x.draft ≡ Some d → is_normal d.object ≡ false
     → change_need s who (Through t) change ≡ missing (written_anew change d.object d.fresh) d.fresh
@@ -158,62 +124,17 @@ none_needed was n is = rw is refl
 -- ---- a grant with a draft, as the core has it
 
 module _ {D : Type 0} (g : Ghosts D) (k : Kernel D) (s : State) (serves : CoreServes g k s) (who : ℕ) (t : Tuid) (was : Drafting) (held : IsHeld g k s who t was) where
-  abbrev pub ds : List Opened
+  abbrev ds : List Opened
   ds = drafts_of_handles k.handles s.grants
 
-  abbrev pub id : Puid
+  abbrev id : Puid
   id = held.handle.grant.id
 
-  abbrev pub before : Draft
+  abbrev before : Draft
   before = held.before
 
-  pub files : ((f : File) × (held.object ≡ objects.File f)) × ((e : File) × (before.object ≡ objects.File e))
-  files = file_in held.object before.object (so g k s serves who t was held)
-
-  abbrev pub file : File
-  file = files.1.0
-
-  pub file_is : before.object ≡ objects.File file
-  file_is = files.1.1
-
-  is_file_there : object_at s.graph held.x.id ≡ Some (objects.File files.0.0)
-  is_file_there = held.there_x ∙ ap (λ (y : Object). Some y) files.0.1
-
   pub knows : KnowsDraft g s.graph ds k.disk k.space id was before
-  knows = record { store = serves.store; object = held.object; there = held.there; is_open = open_in g k s serves who t was held; file = file; is_file = file_is }
-
-  had : HasDraft (g.content k.disk) id (opened_as id was before)
-  had = the_draft (g.content k.disk) ds id was before (open_in g k s serves who t was held) (serves.store.account.drafts id held.object held.there)
-
-  -- its size is in the root that the object is to get
-  pub size_is : was.root.size ≡ length file.bytes
-  size_is = sym (file_to_leaves was.root _ file (had.tree.object ∙ file_is)).size
-
-  written_in : is_reading held.handle.grant.mode ≡ false
-  written_in = written who t k.handles s.grants held.handle held.x held.place serves.drafts was before held.drafting held.draft_was
-
-  writes : is_reading held.x.mode ≡ false
-  writes = ap is_reading (sym (ap (λ e. e.mode) held.place.here)) ∙ written_in
-
-  -- ---- what is asked of it
-
-  pub size_told : (seed : ℕ) → IsSeen seed s who (asks.Size (Through t)) (measured file)
-  size_told = size_by s who t held.x before file files.0.0 held.found held.draft_was file_is is_file_there
-
-  pub read_told : (seed offset count : ℕ) → IsSeen seed s who (asks.Read (Through t) offset count) (content_reply file offset count)
-  read_told = read_by s who t held.x before file files.0.0 held.found held.draft_was file_is is_file_there
-
-  pub write_goes : (offset : ℕ) (bytes : List ℕ) → is_range (length file.bytes) offset (length bytes) ≡ true → refusal_of s who (asks.Write (Through t) offset bytes) ≡ None
-  write_goes = write_by s who t held.x before file files.0.0 held.found held.draft_was file_is is_file_there writes
-
-  pub write_range : (offset : ℕ) (bytes : List ℕ) → is_range (length file.bytes) offset (length bytes) ≡ false → refusal_of s who (asks.Write (Through t) offset bytes) ≡ Some replies.Range
-  write_range = write_not_by s who t held.x before file files.0.0 held.found held.draft_was file_is is_file_there writes
-
-  pub resize_goes : (size : ℕ) → nat_lt 7864320 size ≡ false → refusal_of s who (asks.Resize (Through t) size) ≡ None
-  resize_goes = resize_by s who t held.x before file files.0.0 held.found held.draft_was file_is is_file_there writes
-
-  pub resize_range : (size : ℕ) → nat_lt 7864320 size ≡ true → refusal_of s who (asks.Resize (Through t) size) ≡ Some replies.Range
-  resize_range = resize_not_by s who t held.x before file files.0.0 held.found held.draft_was file_is is_file_there writes
+  knows = record { store = serves.store; object = held.object; there = held.there; is_open = open_in g k s serves who t was held; file = (files g k s serves who t was held).1.0; is_file = (files g k s serves who t was held).1.1 }
 
   -- ---- it is changed
 
@@ -243,6 +164,10 @@ module _ {D : Type 0} (g : Ghosts D) (k : Kernel D) (s : State) (serves : CoreSe
     legal none = subst (λ (p : Reply × State). next k.words.seed s (events.Ask who request p.0) ≡ Some p.1) (is.outcome k.words.seed s who 0 ∙ ap (λ (y : State). (replies.Done, y)) changed_is)
         (outcome_legal k.words.seed s who request 0 (running g k s serves none) goes (λ made. let no : true ≡ false = sym made ∙ is.makes in cc))
 
+    -- it isn't changed beside itself
+    not_beside : is_beside s who (target request) ≡ false
+    not_beside = ap (is_beside s who) goes_to ∙ ap (λ (o : Option Draft). is_none o && not (is_normal (seen s who (Through t)).object)) (ap (option_and_then (λ (x : Grant). x.draft)) held.found ∙ held.draft_was)
+
     takes : (disk : D) → ClaimsInOrder (claims_in_draft change before was) (id.block ∷ []) (g.content k.disk) (g.content disk) → TakesForRequest k.handles s who request replies.Done (g.content k.disk) (g.content disk)
     takes disk order =
         let here : held.x.id ≡ id = sym (ap (λ e. e.id) held.place.here) in
@@ -250,8 +175,7 @@ module _ {D : Type 0} (g : Ghosts D) (k : Kernel D) (s : State) (serves : CoreSe
         ∙ ap (λ (o : Option Draft). elim o [ None ↦ claims_in_file (root_reached s who (Through t)) change (file_seen s who (Through t)) | Some e ↦ option_map_or (claims_in_draft change e) (drafting_at k.handles t.draw) [] ]) (ap (option_and_then (λ (x : Grant). x.draft)) held.found ∙ held.draft_was)
         ∙ ap (λ o. option_map_or (claims_in_draft change before) o []) held.at in
         let owners : owners_of s who request replies.Done ≡ id.block ∷ [] = rw (is.makes, goes_to, held.found) (ap (λ (x : Puid). x.block ∷ []) here) in
-        let alone : commits_alone s who request ≡ false = is.alone s who ∙ ap (is_beside s who) goes_to ∙ ap (λ (o : Option Draft). is_none o && not (is_normal (seen s who (Through t)).object)) (ap (option_and_then (λ (x : Grant). x.draft)) held.found ∙ held.draft_was) in
-        takes_alone k.handles s who request replies.Done (g.content k.disk) (g.content disk) alone (subst (λ (cs : List MapEntry). ClaimsInOrder cs (owners_of s who request replies.Done) (g.content k.disk) (g.content disk)) (sym claims)
+        takes_alone k.handles s who request replies.Done (g.content k.disk) (g.content disk) (is.alone s who ∙ not_beside) (subst (λ (cs : List MapEntry). ClaimsInOrder cs (owners_of s who request replies.Done) (g.content k.disk) (g.content disk)) (sym claims)
         (subst (λ (ns : List ℕ). ClaimsInOrder (claims_in_draft change before was) ns (g.content k.disk) (g.content disk)) (sym owners) order))
 
     module _ (now : Drafting) (disk : D) (space : Kept) where
@@ -281,8 +205,15 @@ module _ {D : Type 0} (g : Ghosts D) (k : Kernel D) (s : State) (serves : CoreSe
       }
 
       module _ (becomes : DraftBecomes g s.graph ds id d k.disk disk space now) (left_same : space.left ≡ k.space.left) (shadow : now.shadow ≡ was.shadow) (created : now.created ≡ was.created) (room : need_beside change before was + 4 ≤ sum k.space.free) where
-        has : HasStepped g k new s s.graph T es
-        has = record { store = becomes.steps.store; only = becomes.steps.only; these = of_its_draft s.graph id (block g k s serves who t was held); left = left_same ∙ serves.left }
+        -- nothing is left, so the content is what is to come
+        nothing : space.left ≡ None
+        nothing = left_same ∙ serves.left
+
+        end_is : final_image g disk space ≡ g.content disk
+        end_is = ap (coming (g.content disk)) nothing
+
+        has : HasStepped g None k new s s.graph T es
+        has = record { store = subst (StoreWith g s.graph es disk space) (sym nothing) becomes.steps.store; only = subst (ChangesOnly T (g.content k.disk)) (sym end_is) becomes.steps.only; these = of_its_draft s.graph id (block g k s serves who t was held) }
 
         rising : list_all numbers_rise d.fresh ≡ true
         rising = all_rise d.fresh (λ n. ap numbers_rise (becomes.is_open.fresh n) ∙ level n)
@@ -304,19 +235,21 @@ module _ {D : Type 0} (g : Ghosts D) (k : Kernel D) (s : State) (serves : CoreSe
           need_is,
         )
 
-        four : 4 ≤ sum space.free
+        four : 4 ≤ free_to_come g new
         four = four_left g k new s after s.graph serves T es has (need_of s who request) few (omega (arith, room, beside_is))
 
         pub altered : ((c : D) (n : ℕ) (i : Image) → g.left_since c n i → length i ≡ g.blocks c) → length (g.content k.disk) ≡ g.blocks disk → k.stop ≡ None → Leaves g k.disk disk (λ c. Holds c s.graph)
-            → ClaimsInOrder (claims_in_draft change before was) (id.block ∷ []) (g.content k.disk) (g.content disk) → Answers g k new s who request replies.Done
+            → ClaimsInOrder (claims_in_draft change before was) (id.block ∷ []) (g.content k.disk) (g.content disk) → Answers g None k new s who request replies.Done
         altered left_sized wide none leaves order = record {
           event = makes_stepped g k new s after s.graph serves T es has stepped (next_keeps k.words.seed s after (events.Ask who request replies.Done) serves.state (is.speaks who) (legal none))
               (changed_drafts who t k.handles s.grants held.handle held.x held.place serves.drafts was before held.drafting held.draft_was now d)
               (changed_have who t k.handles s.grants held.handle held.x held.place serves.drafts was before held.drafting held.draft_was now d
-              (record { is_open = becomes.is_open; writes = written_in; special = subst (λ (y : Object). is_normal (changed_object change y) ≡ false) (sym file_is) (still_special change file (subst (λ (y : Object). is_normal y ≡ false) file_is not_normal)) })) four
+              (record { is_open = becomes.is_open; writes = written_in g k s serves who t was held; special = subst (λ (y : Object). is_normal (changed_object change y) ≡ false) (sym (files g k s serves who t was held).1.1) (still_special change (files g k s serves who t was held).1.0 (subst (λ (y : Object). is_normal y ≡ false) (files g k s serves who t was held).1.1 not_normal)) })) four
               left_sized wide (events.Ask who request replies.Done) (legal none) refl leaves;
           still = λ all. let no : true ≡ false = sym all in cc;
-          taken = λ done. takes disk order;
+          full = λ full. let no : false ≡ true = full in cc;
+          taken = λ done. subst (TakesForRequest k.handles s who request replies.Done (g.content k.disk)) (sym end_is) (takes disk order);
+          noted = λ done some. let no : true ≡ false = sym some ∙ is.commits_is s who ∙ not_beside in cc;
           owed = owes k.words.seed s who request (g.content k.disk) (sum k.space.free) replies.Done tt (ByOutcome goes (record {
             block = 0;
             least = λ made. let no : true ≡ false = sym made ∙ is.makes in cc;
@@ -345,7 +278,7 @@ module _ {D : Type 0} (g : Ghosts D) (k : Kernel D) (s : State) (serves : CoreSe
         wide = sized k.disk serves.store.carries.tells.honest ∙ sym changes.calls.same.size
 
         full : (n : needs.Need) → refusals.Full n ≡ refusals.Full (record { free = sum k.space.free; need = need_beside change before was }) → sum k.space.free < need_beside change before was + 4
-            → OnlyReads g 31092 k.disk disk → space ≡ k.space → now ≡ was → Answers g k new s who request (replies.Full n)
+            → OnlyReads g 31092 k.disk disk → space ≡ k.space → now ≡ was → Answers g None k new s who request (replies.Full n)
         full n told short reads same before_it =
             let is_need : n ≡ record { free = sum k.space.free; need = need_beside change before was } = cc in
             let need_so : n.need ≡ need_of s who request = ap (λ (y : needs.Need). y.need) is_need ∙ beside_is in
@@ -353,8 +286,10 @@ module _ {D : Type 0} (g : Ghosts D) (k : Kernel D) (s : State) (serves : CoreSe
             record {
               event = stays g 31092 k new reads (as_it_was same before_it) s serves left_sized (sized k.disk serves.store.carries.tells.honest) (events.Ask who request (replies.Full n))
                   (is.full k.words.seed s who n (running g k s serves none) goes need_so (omega (arith, short, need_so, free_so, beside_is)));
-              still = λ all. record { same = as_it_was same before_it; most = 31092; reads = reads };
+              still = λ all. let no : false ≡ true = all in cc;
+              full = λ _. full_still g left_sized sized 31092 k new reads (as_it_was same before_it) s who serves none refl;
               taken = λ done. let no : false ≡ true = done in cc;
+              noted = λ done. let no : false ≡ true = done in cc;
               owed = ByWant goes (record { delete = is.delete; few = omega (arith, short, beside_is) })
                   (ap (λ (y : needs.Need). replies.Full y) is_need ∙ ap (λ (y : ℕ). replies.Full (record { free = sum k.space.free; need = y })) beside_is);
             }
@@ -368,7 +303,7 @@ module _ {D : Type 0} (g : Ghosts D) (k : Kernel D) (s : State) (serves : CoreSe
           leaves = wider g k.disk disk _ _ alters.leaves (λ c holds. record { graph = s.graph; may = Undone; fits = fits g k s serves (g.blocks disk) wide; holds = holds });
         }
 
-        did : (r : Result (Unit {0}) Refused) → r ≡ result → EndsSo g k new s who request (done_or r)
+        did : (r : Result (Unit {0}) Refused) → r ≡ result → EndsSo g None k new s who request (done_or r)
         did (Ok u) same =
             altered (rw (← same) at alters.done) changes.left changes.shadow changes.created (rw (← same) at alters.room) left_sized wide none alters.leaves (rw (← same) at alters.order)
         did (Err (refusals.Full n)) same =
@@ -380,77 +315,20 @@ module _ {D : Type 0} (g : Ghosts D) (k : Kernel D) (s : State) (serves : CoreSe
         did (Err (refusals.Damaged damage)) same = let no : true ≡ false = rw (← same) at alters.sound in cc
         did (Err refusals.Memory) same = absurd (rw (← same) at changes.refused)
 
-        pub ends_so : EndsSo g k new s who request (done_or result)
+        pub ends_so : EndsSo g None k new s who request (done_or result)
         ends_so = did result refl
-
--- ---- a grant without a draft
-
-pub undrafted : {D : Type 0} (g : Ghosts D) (k : Kernel D) (s : State) → CoreServes g k s → (who : ℕ) (t : Tuid) → drafting_at k.handles t.draw ≡ None → draft_of s who (Through t) ≡ None
-undrafted g k s serves who t none = at (grant_of s who t) refl
-  where
-    at : (o : Option Grant) → grant_of s who t ≡ o → option_and_then (λ (x : Grant). x.draft) o ≡ None
-    at None found = refl
-    at (Some x) found =
-        let two = place_of who t k.handles s.grants x serves.front.grants serves.state.rising found in
-        let is_none : two.0.drafting ≡ None = sym (ap (option_and_then (λ (e : Handle). e.drafting)) (ap (find (is_drawn t.draw)) two.1.handles_are ∙ find_drawn t.draw two.0 two.1.ss2 two.1.ss1 (drawn who t k.handles s.grants two.0 x two.1) two.1.none_first)) ∙ none in
-        bare_handle two.0 x.draft (subst (λ (o : Option Drafting). HasDraftOf (drafts_of_handles k.handles s.grants) two.0 o x.draft) is_none (has_draft who t k.handles s.grants two.0 x two.1 serves.drafts))
-      where
-        bare_handle : (here : Handle) (d : Option Draft) → HasDraftOf (drafts_of_handles k.handles s.grants) here None d → d ≡ None
-        bare_handle here None it_has = refl
-        bare_handle here (Some d) it_has = absurd it_has
-
--- ---- calls that only read
-
-module _ {D : Type 0} (g : Ghosts D) (left_sized : (d : D) (t : ℕ) (c : Image) → g.left_since d t c → length c ≡ g.blocks d) (sized : (d : D) → IsTrue (g.honest d) → length (g.content d) ≡ g.blocks d)
-    (k : Kernel D) (who : ℕ) (t : Tuid) (was : Drafting) (drafting : drafting_at k.handles t.draw ≡ Some was) (the : (s : State) → CoreServes g k s → IsHeld g k s who t was) where
-  pub tries_size : Tries g k k who (asks.Size (Through t)) (Ok (replies.Number was.root.size))
-  tries_size = tries_so g left_sized sized 0 k k (reads_none g 0 k.disk) refl who (asks.Size (Through t)) (Ok (replies.Number was.root.size))
-      (λ s serves none. told g left_sized sized 0 k k (reads_none g 0 k.disk) refl s who serves none (asks.Size (Through t)) (replies.Number was.root.size) refl refl refl refl
-      (subst (IsSeen k.words.seed s who (asks.Size (Through t))) (ap replies.Number (sym (size_is g k s serves who t was (the s serves)))) (size_told g k s serves who t was (the s serves) k.words.seed)))
-      tt tt
-
-  module _ (n : ℕ) (d : D) (reads : OnlyReads g n k.disk d) (offset count : ℕ) where
-    abbrev read : Request
-    read = asks.Read (Through t) offset count
-
-    whole : (s : State) (serves : CoreServes g k s) → StoreHas g s.graph (drafts_of_handles k.handles s.grants) k.disk k.space → StoreIs g s.graph (drafts_of_handles k.handles s.grants) k.disk k.space
-    whole s serves store = store_whole g s.graph (drafts_of_handles k.handles s.grants) k.disk k.space serves.left store
-
-    pub tries_read : (result : Result Reply Refused)
-        → ((graph : Graph) (ds : List Opened) (space : Kept) (id : Puid) (o : Object) (m : Draft) (f : File) → StoreIs g graph ds k.disk space → object_at graph id ≡ Some o → IsOpen ds id was m → m.object ≡ objects.File f → length f.bytes ≡ was.root.size
-        → IfOk result (λ reply. reply ≡ content_reply f offset count))
-        → IfOk result IsPlainReply
-        → ((graph : Graph) (ds : List Opened) (space : Kept) (id : Puid) (o : Object) (m : Draft) → StoreIs g graph ds k.disk space → object_at graph id ≡ Some o → IsOpen ds id was m → IfErr result (λ e. has_met_damage e ≡ false))
-        → IfErr result (IsDraftCause g (top_of was) k.disk d) → Tries g k (record k { disk = d }) who read result
-    unfolding knows files
-    tries_read (Ok reply) exact plain sound cause = tries_so g left_sized sized n k (record k { disk = d }) reads refl who read (Ok reply)
-        (λ s serves none.
-        let knows = knows g k s serves who t was (the s serves) in
-        told g left_sized sized n k (record k { disk = d }) reads refl s who serves none read reply refl refl refl refl
-        (subst (IsSeen k.words.seed s who read) (sym (exact s.graph (drafts_of_handles k.handles s.grants) k.space _ knows.object _ knows.file (whole s serves knows.store) knows.there knows.is_open knows.is_file (sym (size_is g k s serves who t was (the s serves)))))
-        (read_told g k s serves who t was (the s serves) k.words.seed offset count)))
-        plain tt
-    tries_read (Err (refusals.Full need)) exact plain sound cause = absurd cause
-    tries_read (Err (refusals.Disk tried)) exact plain sound cause = subst (λ (b : Bool). Tries g k (record k { disk = d }) who read (Err (refusals.Disk b))) (sym cause.0)
-        (tries_so g left_sized sized n k (record k { disk = d }) reads refl who read (Err (refusals.Disk false)) (λ s serves none. disk_failed g left_sized sized n k (record k { disk = d }) reads refl s who serves none read) tt cause.1)
-    tries_read (Err (refusals.Damaged damage)) exact plain sound cause = tries_so g left_sized sized n k (record k { disk = d }) reads refl who read (Err (refusals.Damaged damage))
-        (λ s serves none. let knows = knows g k s serves who t was (the s serves) in
-        let no : true ≡ false = sound s.graph (drafts_of_handles k.handles s.grants) k.space _ knows.object _ (whole s serves knows.store) knows.there knows.is_open in cc) tt
-        (told_of_draft g k (record k { disk = d }) (Some read) was.at (inr (t.draw, was, drafting, refl)) damage reads.same.size t.draw was drafting refl (damage_as g (top_of was) (draft_top was) refl k.disk d k.space (λ far. FarRoots (inr far)) damage (cause k.space)))
-    tries_read (Err refusals.Memory) exact plain sound cause = tries_so g left_sized sized n k (record k { disk = d }) reads refl who read (Err refusals.Memory)
-        (λ s serves none. memory g left_sized sized n k (record k { disk = d }) reads refl s who serves none read) tt tt
 
 -- the whole call, of a grant that has a draft
 pub tries_altered : {D : Type 0} (g : Ghosts D) (left_sized : (d : D) (t : ℕ) (c : Image) → g.left_since d t c → length c ≡ g.blocks d) (sized : (d : D) → IsTrue (g.honest d) → length (g.content d) ≡ g.blocks d)
     (k : Kernel D) (ready : list_all (is_ready k.directory.room) k.handles ≡ true) (who : ℕ) (t : Tuid) (was : Drafting) (drafting : drafting_at k.handles t.draw ≡ Some was) (the : (s : State) → CoreServes g k s → IsHeld g k s who t was)
     (change : Change) (request : Request) (is : IsChanging request change) (goes_to : target request ≡ Through t) → ((s : State) → CoreServes g k s → refusal_of s who request ≡ None)
     → (now : Drafting) (disk : D) (space : Kept) (result : Result (Unit {0}) Refused) → ChangesDraft g change k.disk disk k.space space was now result
-    → Tries g k (record k { disk = disk; space = space; handles = with_drafting t.draw (Some now) k.handles }) who request (done_or result)
+    → TriesWith g None k (record k { disk = disk; space = space; handles = with_drafting t.draw (Some now) k.handles }) who request (done_or result)
 tries_altered g left_sized sized k ready who t was drafting the change request is goes_to goes now disk space result changes = record {
   ends = λ s serves none.
       ends_so g k s serves who t was (the s serves) ready change request is goes_to (goes s serves) now disk space left_sized sized none result changes;
   went = went_done g k disk space (with_drafting t.draw (Some now) k.handles) changes.calls.same.size changes.calls.faults changes.calls.later request result (λ tried is. rw is at changes.refused)
-      (λ damage met. told_of_draft g k (record k { disk = disk; space = space; handles = with_drafting t.draw (Some now) k.handles }) (Some request) was.at (inr (t.draw, was, drafting, refl)) damage changes.calls.same.size t.draw was drafting refl
+      (λ damage met. told_of_draft g k (record k { disk = disk; space = space; handles = with_drafting t.draw (Some now) k.handles }) (Some request) was.at (inr (inl (t.draw, was, drafting, refl))) damage changes.calls.same.size t.draw was drafting refl
       (damage_as g (top_of was) (draft_top was) refl k.disk disk space (λ far. FarRoots (inr far)) damage (rw met at changes.refused)))
       (λ need want. let why = rw want at changes.refused in let kept = ((rw want at changes.spared) refl).1 in (is.delete, why.0 ∙ ap (λ (x : Kept). sum x.free) kept, why.1));
 }

@@ -1,24 +1,28 @@
 -- How a call ends that only reads: a refusal, what was asked for, or the failure of a device call.
-use Rattle.std.proofs.Common.{◌≡◌, inl, inr, ℕ, [], length, Bool, true, false, Option, Some, None, Result, Ok, Err, IsTrue, refl, sym, ◌∙◌, ap, subst, arith, IfErr, IfOk, sum, List}
+use Rattle.std.proofs.Common.{◌≡◌, inl, inr, ℕ, [], length, Bool, true, false, Option, Some, None, Result, Ok, Err, IsTrue, refl, sym, ◌∙◌, ap, subst, arith, IfErr, IfOk, List}
 use Rattle.cfs_core.proofs.Words.{AFile, AnIndex, answer_legal, creates, drafts_of, Either, Event, Ghosts, Image, Index, has_met_damage, IsPlainReply, Kind, need_of, next, Object, object_at, OnlyReads, outcome_legal, outcome_plain, Puid, refusal_of, Refused, refused_answer, refused_plain, Reply, Request, State, Wanted, MapEntry}
 use Rattle.cfs_base.specs.declared.kind.Kind.TheVariants as kinds
 use Rattle.cfs_base.specs.declared.refusal.Refused.TheVariants as refusals
 use Rattle.ufs_model.specs.declared.asked.Event.TheVariants as events
 use Rattle.ufs_model.specs.declared.asked.Reply.TheVariants as replies
 use Rattle.ufs_model.specs.declared.object.Object.TheVariants as objects
-use Rattle.cfs_core.specs.Calls.{Answers, ByOutcome, ByRefusal, EndsSo, IsCause, IsOwed, MakesEvent, Owes, Tries, Went}
+use Rattle.std.specs.Prelude.{if◌then◌else◌, not, ◌&&◌, ◌==◌}
+use Rattle.cyl_alloc.specs.Left.{LeftCommit, block_shown}
+use Rattle.intentions.specs.Left.{coming}
+use Rattle.puid_space.specs.Directory.{has_root_in}
+use Rattle.cfs_core.specs.Calls.{Answers, ByOutcome, ByRefusal, EndsSo, IsCause, IsFinished, IsOwed, MakesEvent, Owes, Tries, TriesWith, Went, is_full_reply}
+use Rattle.cfs_core.specs.Commits.{commits}
 use Rattle.cfs_core.specs.Kernel.{Kernel}
 use Rattle.cfs_core.specs.Looks.{IsCalm, IsCalmCause, KnowsObject, ReachesAll}
-use Rattle.intentions.proofs.Shown.{shown_whole}
-use Rattle.cfs_core.specs.StandsFor.{CoreServes, drafts_of_handles}
+use Rattle.cfs_core.specs.StandsFor.{ServesIs, ServesWith, drafts_of_handles, end_in, free_with}
 use Rattle.cfs_core.specs.Ways.{Reaches, unfit_of}
 use Rattle.cfs_core.proofs.Refusing.{IsSeen}
 use Rattle.cfs_core.specs.Damage.{IsRootHere}
 use Rattle.cfs_core.proofs.Damages.{told_of_read}
 use Rattle.cfs_core.proofs.Went.{went_so}
-use Rattle.cfs_core.proofs.Serving.{running, shut, stays}
-use Rattle.cfs_core.specs.Claimed.{ClaimsInOrder, claims_for, commits_alone, owners_of}
-use Rattle.cfs_core.proofs.Claimed.{claims_none, refused_undone, takes_alone}
+use Rattle.cfs_core.proofs.Serving.{end_same, honest, running, shut, stays}
+use Rattle.cfs_core.specs.Claimed.{ClaimsInOrder, claims_for, owners_of}
+use Rattle.cfs_core.proofs.Claimed.{alone_not, claims_none, refused_undone, takes_alone}
 
 -- what is owed is so of a reply in which no device call failed
 pub owes : (seed : ℕ) (s : State) (who : ℕ) (request : Request) (image : Image) (free : ℕ) (reply : Reply) → IsPlainReply reply → IsOwed seed s who request image free reply → Owes seed s who request image free reply
@@ -40,24 +44,31 @@ reads_none g n d = record {
   calls = omega arith;
 }
 
-module _ {D : Type 0} (g : Ghosts D) (left_sized : (d : D) (t : ℕ) (c : Image) → g.left_since d t c → length c ≡ g.blocks d) (sized : (d : D) → IsTrue (g.honest d) → length (g.content d) ≡ g.blocks d)
-    (n : ℕ) (old new : Kernel D) (reads : OnlyReads g n old.disk new.disk) (same : new ≡ record old { disk = new.disk }) where
-  module _ (s : State) (who : ℕ) (serves : CoreServes g old s) (none : old.stop ≡ None) where
-    on : (e : Event) → next old.words.seed s e ≡ Some s → MakesEvent g old new s e
-    on e step = stays g n old new reads same s serves left_sized (sized old.disk serves.store.carries.tells.honest) e step
+-- a reply that tells of no disk is never Full
+pub plain_unfull : (reply : Reply) → IsPlainReply reply → is_full_reply reply ≡ false
+plain_unfull (replies.Full need) plain = absurd plain
+plain_unfull reply plain = refl
 
-    pub refused : (request : Request) (reply : Reply) → refusal_of s who request ≡ Some reply → Answers g old new s who request reply
+module _ {D : Type 0} {w : Option LeftCommit} (g : Ghosts D) (left_sized : (d : D) (t : ℕ) (c : Image) → g.left_since d t c → length c ≡ g.blocks d) (sized : (d : D) → IsTrue (g.honest d) → length (g.content d) ≡ g.blocks d)
+    (n : ℕ) (old new : Kernel D) (reads : OnlyReads g n old.disk new.disk) (same : new ≡ record old { disk = new.disk }) where
+  module _ (s : State) (who : ℕ) (serves : ServesWith g old s w) (none : old.stop ≡ None) where
+    on : (e : Event) → next old.words.seed s e ≡ Some s → MakesEvent g w old new s e
+    on e step = stays g n old new reads same s serves left_sized (sized old.disk (honest g old s serves)) e step
+
+    pub refused : (request : Request) (reply : Reply) → refusal_of s who request ≡ Some reply → Answers g w old new s who request reply
     refused request reply is = record {
       event = on (events.Ask who request reply) (answer_legal old.words.seed s who request reply s (running g old s serves none) (refused_answer old.words.seed s who request reply is));
       still = λ all. record { same = same; most = n; reads = reads };
-      owed = owes old.words.seed s who request (g.content old.disk) (sum old.space.free) reply (refused_plain s who request reply is) (ByRefusal is);
+      full = λ full. let no : true ≡ false = sym full ∙ plain_unfull reply (refused_plain s who request reply is) in cc;
+      owed = owes old.words.seed s who request (coming (g.content old.disk) w) (free_with g old w) reply (refused_plain s who request reply is) (ByRefusal is);
       taken = λ done. let no : true ≡ false = sym done ∙ refused_undone s who request reply is in cc;
+      noted = λ done. let no : true ≡ false = sym done ∙ refused_undone s who request reply is in cc;
     }
 
     -- what was asked for, or a refusal
-    pub seen : (request : Request) (reply : Reply) → need_of s who request ≡ 0 → creates request ≡ false → claims_for old.handles s who request reply ≡ [] → commits_alone s who request ≡ false → IsSeen old.words.seed s who request reply → Answers g old new s who request reply
-    seen request reply need makes claims alone (inl is) = refused request reply is
-    seen request reply need makes claims alone (inr two) =
+    pub seen : (request : Request) (reply : Reply) → need_of s who request ≡ 0 → creates request ≡ false → commits s who request ≡ false → claims_for old.handles s who request reply ≡ [] → IsSeen old.words.seed s who request reply → Answers g w old new s who request reply
+    seen request reply need makes still claims (inl is) = refused request reply is
+    seen request reply need makes still claims (inr two) =
         let done = two.1 0 in
         let legal = outcome_legal old.words.seed s who request 0 (running g old s serves none) two.0 (λ made. let no : true ≡ false = sym made ∙ makes in cc) in
         let step : next old.words.seed s (events.Ask who request reply) ≡ Some s = subst (λ (p : Reply × State). next old.words.seed s (events.Ask who request p.0) ≡ Some p.1) done legal in
@@ -65,50 +76,87 @@ module _ {D : Type 0} (g : Ghosts D) (left_sized : (d : D) (t : ℕ) (c : Image)
         record {
           event = on (events.Ask who request reply) step;
           still = λ all. record { same = same; most = n; reads = reads };
-          owed = owes old.words.seed s who request (g.content old.disk) (sum old.space.free) reply plain (ByOutcome two.0 (record {
+          full = λ full. let no : true ≡ false = sym full ∙ plain_unfull reply plain in cc;
+          noted = λ done some. let no : true ≡ false = sym some ∙ still in cc;
+          owed = owes old.words.seed s who request (coming (g.content old.disk) w) (free_with g old w) reply plain (ByOutcome two.0 (record {
             block = 0;
             least = λ made. let no : true ≡ false = sym made ∙ makes in cc;
             reply_is = sym (ap (λ (p : Reply × State). p.0) done);
             room = λ short. omega (arith, short.few, serves.four, need);
           }));
-          taken = λ taken. takes_alone old.handles s who request reply (g.content old.disk) (g.content new.disk) alone (subst (λ (cs : List MapEntry). ClaimsInOrder cs (owners_of s who request reply) (g.content old.disk) (g.content new.disk)) (sym claims)
-              (claims_none (owners_of s who request reply) (g.content old.disk) (g.content new.disk) reads.content));
+          taken = λ taken. takes_alone old.handles s who request reply (coming (g.content old.disk) w) (end_in g new) (alone_not s who request still) (subst (λ (cs : List MapEntry). ClaimsInOrder cs (owners_of s who request reply) (coming (g.content old.disk) w) (end_in g new)) (sym claims)
+              (claims_none (owners_of s who request reply) (coming (g.content old.disk) w) (end_in g new) (end_same g n old new reads same s serves)));
         }
 
-    pub disk_failed : (request : Request) → Answers g old new s who request (replies.Disk None)
-    disk_failed request = record { event = on (events.Ask who request (replies.Disk None)) (rw (running g old s serves none) refl); still = λ all. record { same = same; most = n; reads = reads }; owed = tt; taken = λ done. let no : false ≡ true = done in cc }
+    pub disk_failed : (request : Request) → Answers g w old new s who request (replies.Disk None)
+    disk_failed request = record {
+      event = on (events.Ask who request (replies.Disk None)) (rw (running g old s serves none) refl);
+      still = λ all. record { same = same; most = n; reads = reads };
+      full = λ full. let no : false ≡ true = full in cc;
+      owed = tt;
+      taken = λ done. let no : false ≡ true = done in cc;
+      noted = λ done. let no : false ≡ true = done in cc;
+    }
 
-    pub memory : (request : Request) → Answers g old new s who request replies.Memory
-    memory request = record { event = on (events.Ask who request replies.Memory) refl; still = λ all. record { same = same; most = n; reads = reads }; owed = tt; taken = λ done. let no : false ≡ true = done in cc }
+    pub memory : (request : Request) → Answers g w old new s who request replies.Memory
+    memory request = record {
+      event = on (events.Ask who request replies.Memory) refl;
+      still = λ all. record { same = same; most = n; reads = reads };
+      full = λ full. let no : false ≡ true = full in cc;
+      owed = tt;
+      taken = λ done. let no : false ≡ true = done in cc;
+      noted = λ done. let no : false ≡ true = done in cc;
+    }
+
+    -- nothing was written, so where nothing was left it is as after a finishing
+    pub full_still : w ≡ None → IsFinished g w old new
+    full_still nothing = record {
+      same = subst (λ (k : Kernel D). k ≡ record old { disk = k.disk; space = k.space }) (sym same) refl;
+      none = ap (λ (k : Kernel D). k.space.left) same ∙ serves.left ∙ nothing;
+      content = reads.content ∙ ap (coming (g.content old.disk)) (sym nothing);
+      still = λ _. record { same = same; most = n; reads = reads };
+    }
 
   -- what the call itself owes
-  pub tries_so : (who : ℕ) (request : Request) (result : Result Reply Refused) → ((s : State) → CoreServes g old s → old.stop ≡ None → EndsSo g old new s who request result)
-      → IfOk result IsPlainReply → IfErr result (IsCause g old new (Some request)) → Tries g old new who request result
+  pub tries_so : (who : ℕ) (request : Request) (result : Result Reply Refused) → ((s : State) → ServesWith g old s w → old.stop ≡ None → EndsSo g w old new s who request result)
+      → IfOk result IsPlainReply → IfErr result (IsCause g old new (Some request)) → TriesWith g w old new who request result
   tries_so who request result ends plain cause = record {
     ends = ends;
     went = subst (λ (k : Kernel D). Went g old k request result) (sym same) (went_so g old new.disk old.space old.handles reads.same.size reads.faults reads.images.later request result plain (subst (λ (k : Kernel D). IfErr result (IsCause g old k (Some request))) same cause));
   }
 
   -- memory is wanted
-  pub tries_want : (who : ℕ) (request : Request) (e : Refused) → e ≡ refusals.Memory → Tries g old new who request (Err e)
-  tries_want who request e is = subst (λ (x : Refused). Tries g old new who request (Err x)) (sym is) (tries_so who request (Err refusals.Memory) (λ s serves none. memory s who serves none request) tt tt)
+  pub tries_want : (who : ℕ) (request : Request) (e : Refused) → e ≡ refusals.Memory → TriesWith g w old new who request (Err e)
+  tries_want who request e is = subst (λ (x : Refused). TriesWith g w old new who request (Err x)) (sym is) (tries_so who request (Err refusals.Memory) (λ s serves none. memory s who serves none request) tt tt)
 
   -- a read that failed, where such an object is
   failed : {A : Type 0} (sort : A → Object) (at : ℕ) (e : Refused) → ((a : A) → KnowsObject g old.disk at (sort a) → has_met_damage e ≡ false) → IsCalmCause g at old.disk new.disk e → (who : ℕ) (request : Request) → IsRootHere old (Some request) at
-      → ((s : State) → CoreServes g old s → (a : A) × KnowsObject g old.disk at (sort a)) → Tries g old new who request (Err e)
+      → ((s : State) → ServesWith g old s w → (a : A) × KnowsObject g old.disk at (sort a)) → TriesWith g w old new who request (Err e)
   failed sort at (refusals.Full need) sound cause who request here knows = absurd cause
-  failed sort at (refusals.Disk tried) sound cause who request here knows = subst (λ (b : Bool). Tries g old new who request (Err (refusals.Disk b))) (sym cause.0)
+  failed sort at (refusals.Disk tried) sound cause who request here knows = subst (λ (b : Bool). TriesWith g w old new who request (Err (refusals.Disk b))) (sym cause.0)
       (tries_so who request (Err (refusals.Disk false)) (λ s serves none. disk_failed s who serves none request) tt cause.1)
   failed sort at (refusals.Damaged damage) sound cause who request here knows = tries_so who request (Err (refusals.Damaged damage))
       (λ s serves none. let k = knows s serves in let no = sound k.0 k.1 in cc) tt (told_of_read g old new request at damage here cause)
   failed sort at refusals.Memory sound cause who request here knows = tries_so who request (Err refusals.Memory) (λ s serves none. memory s who serves none request) tt tt
 
--- the store has the object that is reached, of which there is no draft
-pub knows_that : {D : Type 0} (g : Ghosts D) (k : Kernel D) (s : State) → CoreServes g k s → (id : Puid) (o : Object) → object_at s.graph id ≡ Some o → drafts_of (drafts_of_handles k.handles s.grants) id ≡ [] → KnowsObject g k.disk id.block o
-knows_that g k s serves id o there shut = record { graph = s.graph; drafts = drafts_of_handles k.handles s.grants; space = k.space; id = id; seen = shown_whole g s.graph (drafts_of_handles k.handles s.grants) k.disk k.space id o id.block serves.left serves.store there refl; shut = shut }
+-- the store has the object that is reached, which is shown at this block, and of which there is no draft
+pub knows_that : {D : Type 0} (g : Ghosts D) (k : Kernel D) (s : State) → ServesIs g k s → (id : Puid) (o : Object) (at : ℕ) → at ≡ block_shown k.space.left id.block → object_at s.graph id ≡ Some o → drafts_of (drafts_of_handles k.handles s.grants) id ≡ [] → KnowsObject g k.disk at o
+knows_that g k s serves id o at shown there shut = record { graph = s.graph; drafts = drafts_of_handles k.handles s.grants; space = k.space; id = id; seen = record { store = serves.store; there = there; shown = shown }; shut = shut }
 
-pub known : {D : Type 0} (g : Ghosts D) (k : Kernel D) (s : State) → CoreServes g k s → (index : Puid) (i : Index) → object_at s.graph index ≡ Some (objects.Index i) → KnowsObject g k.disk index.block (objects.Index i)
-known g k s serves index i there = knows_that g k s serves index (objects.Index i) there (shut g k s serves index i there)
+pub known : {D : Type 0} (g : Ghosts D) (k : Kernel D) (s : State) → ServesIs g k s → (index : Puid) (i : Index) (at : ℕ) → at ≡ block_shown k.space.left index.block → object_at s.graph index ≡ Some (objects.Index i) → KnowsObject g k.disk at (objects.Index i)
+known g k s serves index i at shown there = knows_that g k s serves index (objects.Index i) at shown there (shut g k s serves index i there)
+
+-- the block at which an object is shown that has a name
+pub shown_here : {D : Type 0} (k : Kernel D) (request : Request) (root at : ℕ) → at ≡ block_shown k.space.left root → has_root_in k.directory.named root ≡ true → IsRootHere k (Some request) at
+shown_here k request root at shown named = subst (IsRootHere k (Some request)) (sym shown) (by k.space.left refl)
+  where
+    in_place : (l : LeftCommit) → k.space.left ≡ Some l → (b : Bool) → IsRootHere k (Some request) (if b then l.shadow else root)
+    in_place l left true = inr (inr (l, left, refl))
+    in_place l left false = inl named
+
+    by : (w : Option LeftCommit) → k.space.left ≡ w → IsRootHere k (Some request) (block_shown w root)
+    by None left = inl named
+    by (Some l) left = in_place l left ((l.root == root) && not l.copied)
 
 -- a request for something else than an object of this kind
 pub unfit_plain : (wants : Wanted) (k : Option Kind) (reply : Reply) → unfit_of wants k ≡ Some reply → IsPlainReply reply
@@ -123,36 +171,36 @@ unfit_plain Either (Some k) reply is = cc
 
 -- a request that is refused as the core stands
 pub tries_refusal : {D : Type 0} (g : Ghosts D) (left_sized : (d : D) (t : ℕ) (c : Image) → g.left_since d t c → length c ≡ g.blocks d) (sized : (d : D) → IsTrue (g.honest d) → length (g.content d) ≡ g.blocks d)
-    (k : Kernel D) (who : ℕ) (request : Request) (reply : Reply) → IsPlainReply reply → ((s : State) → CoreServes g k s → refusal_of s who request ≡ Some reply) → Tries g k k who request (Ok reply)
+    (k : Kernel D) (who : ℕ) (request : Request) (reply : Reply) → IsPlainReply reply → ((s : State) → ServesIs g k s → refusal_of s who request ≡ Some reply) → Tries g k k who request (Ok reply)
 tries_refusal g left_sized sized k who request reply plain is = tries_so g left_sized sized 0 k k (reads_none g 0 k.disk) refl who request (Ok reply)
     (λ s serves none. refused g left_sized sized 0 k k (reads_none g 0 k.disk) refl s who serves none request reply (is s serves)) plain tt
 
 -- ---- a request that reads an object
 
 module _ {D A : Type 0} (g : Ghosts D) (left_sized : (d : D) (t : ℕ) (c : Image) → g.left_since d t c → length c ≡ g.blocks d) (sized : (d : D) → IsTrue (g.honest d) → length (g.content d) ≡ g.blocks d)
-    (sort : A → Object) (k : Kernel D) (id : Puid) (who : ℕ) (request : Request) (reaches : ReachesAll g sort k who request id) (n : ℕ) (d : D) where
+    (sort : A → Object) (k : Kernel D) (id : Puid) (at : ℕ) (shown : at ≡ block_shown k.space.left id.block) (who : ℕ) (request : Request) (reaches : ReachesAll g sort k who request id) (n : ℕ) (d : D) where
   abbrev IsReplied : (A → Reply) → Type 0
-  IsReplied says = (s : State) (a : A) → CoreServes g k s → Reaches s who request id (sort a) → (need_of s who request ≡ 0) × IsSeen k.words.seed s who request (says a)
+  IsReplied says = (s : State) (a : A) → ServesIs g k s → Reaches s who request id (sort a) → (need_of s who request ≡ 0) × IsSeen k.words.seed s who request (says a)
 
-  abbrev knows : (s : State) → CoreServes g k s → (a : A) × KnowsObject g k.disk id.block (sort a)
-  knows s serves = let r = reaches.0 s serves in (r.0, knows_that g k s serves id (sort r.0) r.1.there r.2)
+  abbrev knows : (s : State) → ServesIs g k s → (a : A) × KnowsObject g k.disk at (sort a)
+  knows s serves = let r = reaches.0 s serves in (r.0, knows_that g k s serves id (sort r.0) at shown r.1.there r.2)
 
   -- the disk couldn't be read
-  pub tries_failed : (e : Refused) → OnlyReads g n k.disk d → ((a : A) → KnowsObject g k.disk id.block (sort a) → has_met_damage e ≡ false) → IsCalmCause g id.block k.disk d e → Tries g k (record k { disk = d }) who request (Err e)
-  tries_failed e reads sound cause = failed g left_sized sized n k (record k { disk = d }) reads refl sort id.block e sound cause who request (inl reaches.1) knows
+  pub tries_failed : (e : Refused) → OnlyReads g n k.disk d → ((a : A) → KnowsObject g k.disk at (sort a) → has_met_damage e ≡ false) → IsCalmCause g at k.disk d e → Tries g k (record k { disk = d }) who request (Err e)
+  tries_failed e reads sound cause = failed g left_sized sized n k (record k { disk = d }) reads refl sort at e sound cause who request (shown_here k request id.block at shown reaches.1) knows
 
-  pub tries_seen : (says : A → Reply) (result : Result Reply Refused) → creates request ≡ false → ((s : State) (reply : Reply) → (claims_for k.handles s who request reply ≡ []) × (commits_alone s who request ≡ false)) → IsReplied says → IfOk result IsPlainReply
-      → ((a : A) → KnowsObject g k.disk id.block (sort a) → IfOk result (λ reply. reply ≡ says a)) → IsCalm g sort n id.block k.disk d result → Tries g k (record k { disk = d }) who request result
-  tries_seen says (Ok reply) makes claims replied plain exact calm = tries_so g left_sized sized n k (record k { disk = d }) calm.reads refl who request (Ok reply)
+  pub tries_seen : (says : A → Reply) (result : Result Reply Refused) → creates request ≡ false → ((s : State) → commits s who request ≡ false) → ((s : State) (reply : Reply) → claims_for k.handles s who request reply ≡ []) → IsReplied says → IfOk result IsPlainReply
+      → ((a : A) → KnowsObject g k.disk at (sort a) → IfOk result (λ reply. reply ≡ says a)) → IsCalm g sort n at k.disk d result → Tries g k (record k { disk = d }) who request result
+  tries_seen says (Ok reply) makes still claims replied plain exact calm = tries_so g left_sized sized n k (record k { disk = d }) calm.reads refl who request (Ok reply)
       (λ s serves none.
       let r = reaches.0 s serves in
       let two = replied s r.0 serves r.1 in
-      subst (Answers g k (record k { disk = d }) s who request) (sym (exact r.0 (knows s serves).1)) (seen g left_sized sized n k (record k { disk = d }) calm.reads refl s who serves none request (says r.0) two.0 makes (claims s (says r.0)).0 (claims s (says r.0)).1 two.1))
+      subst (Answers g k.space.left k (record k { disk = d }) s who request) (sym (exact r.0 (knows s serves).1)) (seen g left_sized sized n k (record k { disk = d }) calm.reads refl s who serves none request (says r.0) two.0 makes (still s) (claims s (says r.0)) two.1))
       plain tt
-  tries_seen says (Err e) makes claims replied plain exact calm = tries_failed e calm.reads calm.sound calm.cause
+  tries_seen says (Err e) makes still claims replied plain exact calm = tries_failed e calm.reads calm.sound calm.cause
 
   -- it is refused
   pub tries_refused : (reply : Reply) → IsPlainReply reply → OnlyReads g n k.disk d
-      → ((s : State) (a : A) → CoreServes g k s → Reaches s who request id (sort a) → KnowsObject g k.disk id.block (sort a) → refusal_of s who request ≡ Some reply) → Tries g k (record k { disk = d }) who request (Ok reply)
+      → ((s : State) (a : A) → ServesIs g k s → Reaches s who request id (sort a) → KnowsObject g k.disk at (sort a) → refusal_of s who request ≡ Some reply) → Tries g k (record k { disk = d }) who request (Ok reply)
   tries_refused reply plain reads is = tries_so g left_sized sized n k (record k { disk = d }) reads refl who request (Ok reply)
       (λ s serves none. let r = reaches.0 s serves in refused g left_sized sized n k (record k { disk = d }) reads refl s who serves none request reply (is s r.0 serves r.1 (knows s serves).1)) plain tt

@@ -1,6 +1,6 @@
 -- A request that was asked: of a core that stopped, answered, or refused by what lies below.
 use Rattle.std.proofs.Common.{◌≡◌, inl, inr, ⊎_elim, ℕ, ◌-◌, ◌≤◌, List, [], length, true, false, Option, Some, None, Ok, Err, IsTrue, refl, sym, ◌∙◌, ap, subst, arith, sum, eq-eqb}
-use Rattle.cfs_core.proofs.Words.{After, call, CutInDoubt, Event, Ghosts, Graph, Image, InDoubt, is_carried_out, IsPlainReply, Late, Listing, next, refusal_of, Refused, Reply, Request, Rescue, rescues_of, State, stopped_at, wider}
+use Rattle.cfs_core.proofs.Words.{After, call, CutInDoubt, Event, Ghosts, Graph, Image, InDoubt, is_carried_out, IsPlainReply, Kept, Late, Listing, next, refusal_of, Refused, Reply, Request, Rescue, rescues_of, State, stopped_at, wider}
 use Rattle.cfs_base.specs.declared.refusal.Refused.TheVariants as refusals
 use Rattle.ufs_model.specs.declared.asked.Event.TheVariants as events
 use Rattle.ufs_model.specs.declared.asked.Reply.TheVariants as replies
@@ -8,14 +8,16 @@ use Rattle.cfs_core.specs.declared.collecting.Collections.{Collections}
 use Rattle.cfs_core.specs.declared.kernel.Stop.{Stop}
 use Rattle.cfs_core.specs.Asked.{Asks, Happens, IsShortContent, IsToldCause, stopped_by, reply_to}
 use Rattle.cfs_core.proofs.Damages.{told_as, told_asked}
-use Rattle.cfs_core.specs.Calls.{Answers, CutShort, EndsSo, IsAsItWas, IsCause, IsInDoubt, MayBeRead, Owes, Tries, Undone, Whole, leaves_all}
+use Rattle.cfs_core.specs.Calls.{Answers, CutShort, EndsSo, IsAsItWas, IsCauseOf, IsFinished, IsInDoubt, IsWant, MayBeRead, Owes, Tries, Undone, Whole, is_full_reply, leaves_all}
+use Rattle.cfs_core.specs.Damage.{IsDamageTold, IsMet}
 use Rattle.cfs_core.specs.Kernel.{Kernel}
 use Rattle.cfs_core.specs.Rescues.{AreRescued}
-use Rattle.cfs_core.specs.StandsFor.{IsFront, CoreServes, Stands}
+use Rattle.cfs_core.specs.StandsFor.{IsFront, ServesIs, Stands, end_in, free_to_come}
 use Rattle.cfs_core.proofs.Answering.{reads_none}
 use Rattle.cfs_core.proofs.Collected.{collection_asked, collection_ready, rescued_after, same_rescued}
 use Rattle.cfs_core.proofs.Lefts.{adds_none, adds_one}
-use Rattle.cfs_core.proofs.Serving.{fewer_lost, fits, pending, running, serves_from, stands_from, stored}
+use Rattle.cfs_core.proofs.Serving.{fewer_lost, fits, free_called, honest, pending, running, serves_from, stands_from, stored}
+use Rattle.cfs_core.proofs.Stored.{length_in}
 
 plain_goes_on : (reply : Reply) → IsPlainReply reply → (before : Option Stop) → stopped_by reply before ≡ before
 plain_goes_on (replies.Disk doubt) plain before = absurd plain
@@ -45,22 +47,22 @@ module _ {D : Type 0} (g : Ghosts D) (old : Kernel D) (x : Collections) (ready :
   abbrev roomy : Kernel D
   roomy = record old { collections = x }
 
-  pub serves_roomy : (s : State) → CoreServes g old s → CoreServes g roomy s
-  serves_roomy s serves = stored g old s serves x (collection_ready (g.content old.disk) s old.collections.collector x.collector ready serves.collecting)
+  pub serves_roomy : (s : State) → ServesIs g old s → ServesIs g roomy s
+  serves_roomy s serves = stored g old s serves x (collection_ready (end_in g old) s old.collections.collector x.collector ready serves.collecting)
 
-  happens : ((d : D) → IsTrue (g.honest d) → length (g.content d) ≡ g.blocks d) → (mid : Kernel D) → g.blocks mid.disk ≡ g.blocks old.disk → (y : Collections) (s : State) (who : ℕ) (request : Request) (reply : Reply) → mid.stop ≡ None → AreRescued x.collector y.collector (rescues_of s who request reply) → CoreServes g old s
-      → Answers g roomy mid s who request reply → Happens g old (record mid { collections = y }) s (events.Ask who request reply)
+  happens : ((d : D) → IsTrue (g.honest d) → length (g.content d) ≡ g.blocks d) → (mid : Kernel D) → g.blocks mid.disk ≡ g.blocks old.disk → (y : Collections) (s : State) (who : ℕ) (request : Request) (reply : Reply) → mid.stop ≡ None → AreRescued x.collector y.collector (rescues_of s who request reply) → ServesIs g old s
+      → Answers g old.space.left roomy mid s who request reply → Happens g old (record mid { collections = y }) s (events.Ask who request reply)
   happens sized mid size y s who request reply none rescued serves is = record {
     after = is.event.after;
     step = is.event.step;
     stands = stands_from g (record mid { collections = y }) is.event.after none now;
     survives = inl is.event.survives;
-    lost = λ _. fewer_lost (g.content old.disk) (g.content mid.disk) s.graph is.event.after.graph
-        (sized mid.disk now.store.carries.tells.honest ∙ size ∙ sym (sized old.disk serves.store.carries.tells.honest)) is.event.strays;
+    lost = λ _. fewer_lost (end_in g old) (end_in g mid) s.graph is.event.after.graph
+        (length_in (g.content mid.disk) mid.space.left ∙ sized mid.disk (honest g (record mid { collections = y }) is.event.after now) ∙ size ∙ sym (sized old.disk (honest g old s serves)) ∙ sym (length_in (g.content old.disk) old.space.left)) is.event.strays;
   }
     where
-      now : CoreServes g (record mid { collections = y }) is.event.after
-      now = is.event.stores y (collection_asked (g.content old.disk) (g.content mid.disk) old.words.seed s is.event.after who request reply is.event.step serves.state is.event.strays x.collector y.collector rescued (serves_roomy s serves).collecting)
+      now : ServesIs g (record mid { collections = y }) is.event.after
+      now = is.event.stores y (collection_asked (end_in g old) (end_in g mid) old.words.seed s is.event.after who request reply is.event.step serves.state is.event.strays x.collector y.collector rescued (serves_roomy s serves).collecting)
 
   -- there was no memory for the rescue
   pub asks_starved : x.called ≡ old.collections.called → x.finished ≡ old.collections.finished → (who : ℕ) (request : Request) → old.stop ≡ None → Asks g old roomy who request replies.Memory
@@ -74,7 +76,9 @@ module _ {D : Type 0} (g : Ghosts D) (old : Kernel D) (x : Collections) (ready :
     };
     owed = λ _ s stands. tt;
     still = λ _ s stands all. record { same = refl; most = 0; reads = reads_none g 0 old.disk };
+    full = λ _ s stands full. let no : false ≡ true = full in cc;
     taken = λ _ s stands done. let no : false ≡ true = done in cc;
+    noted = λ _ s stands done. let no : false ≡ true = done in cc;
     stopped = λ stop is. cc;
     stops = λ _. none;
     cause = λ _. tt;
@@ -97,7 +101,9 @@ asks_stopped g k who request stop is = record {
   event = λ s stands. record { after = s; step = step s (subst (Stands g k s) is stands); stands = stands; survives = inr (record { disk = refl; after = s; step = step s (subst (Stands g k s) is stands); graph = refl }); lost = λ _. omega arith };
   owed = λ none. cc;
   still = λ none. cc;
+  full = λ none. cc;
   taken = λ none. cc;
+  noted = λ none. cc;
   stopped = λ other same. let one : stop ≡ other = cc in (refl, ap (λ (x : Stop). replies.Stopped x.moment) one);
   stops = λ none. cc;
   cause = λ none. absurd (cc (is, none));
@@ -120,16 +126,23 @@ asks_stopped g k who request stop is = record {
 -- one that answered
 pub asks_answered : {D : Type 0} (g : Ghosts D) → ((d : D) → IsTrue (g.honest d) → length (g.content d) ≡ g.blocks d) → (old : Kernel D) (x : Collections) → AreRescued old.collections.collector x.collector []
     → x.called ≡ old.collections.called → x.finished ≡ old.collections.finished → (mid : Kernel D) (y : Collections) (who : ℕ) (request : Request) (reply : Reply) (more : List Rescue)
-    → ((s : State) → CoreServes g (record old { collections = x }) s → more ≡ rescues_of s who request reply) → AreRescued mid.collections.collector y.collector more → y.called ≡ mid.collections.called → y.finished ≡ mid.collections.finished → old.stop ≡ None
+    → ((s : State) → ServesIs g (record old { collections = x }) s → more ≡ rescues_of s who request reply) → AreRescued mid.collections.collector y.collector more → y.called ≡ mid.collections.called → y.finished ≡ mid.collections.finished → old.stop ≡ None
     → length more ≤ 1 → Tries g (record old { collections = x }) mid who request (Ok reply) → Asks g old (record mid { collections = y }) who request reply
 asks_answered {D = D} g sized old x ready called finished mid y who request reply more are rescued called_on finished_on none few tries = record {
   event = λ s stands. let serves = serves_from g old s none stands in
       happens g old x ready sized mid tries.went.size y s who request reply (tries.went.stop ∙ none) (all_rescued s serves) serves
       (tries.ends s (serves_roomy g old x ready s serves) none);
-  owed = λ _ s stands. (tries.ends s (serves_roomy g old x ready s (serves_from g old s none stands)) none).owed;
+  owed = λ _ s stands. subst (λ (f : ℕ). Owes old.words.seed s who request (end_in g old) f reply) (free_called g old x old.space.left) (tries.ends s (serves_roomy g old x ready s (serves_from g old s none stands)) none).owed;
   still = λ _ s stands all. let was = (tries.ends s (serves_roomy g old x ready s (serves_from g old s none stands)) none).still all in
       record { same = ap (λ (k : Kernel D). record k { collections = y }) was.same; most = was.most; reads = was.reads };
+  full = λ _ s stands full. let was = (tries.ends s (serves_roomy g old x ready s (serves_from g old s none stands)) none).full full in record {
+    same = ap (λ (k : Kernel D). record k { collections = y }) was.same;
+    none = was.none;
+    content = was.content;
+    still = λ nothing. let still = was.still nothing in record { same = ap (λ (k : Kernel D). record k { collections = y }) still.same; most = still.most; reads = still.reads };
+  };
   taken = λ _ s stands. (tries.ends s (serves_roomy g old x ready s (serves_from g old s none stands)) none).taken;
+  noted = λ _ s stands. (tries.ends s (serves_roomy g old x ready s (serves_from g old s none stands)) none).noted;
   stopped = λ stop is. cc;
   stops = λ _. tries.went.stop ∙ none ∙ sym (plain_goes_on reply tries.went.plain None);
   cause = λ _. plain_cause g old (record mid { collections = y }) request reply tries.went.plain;
@@ -147,7 +160,7 @@ asks_answered {D = D} g sized old x ready called finished mid y who request repl
   drawn = tries.went.drawn;
 }
   where
-    all_rescued : (s : State) → CoreServes g old s → AreRescued x.collector y.collector (rescues_of s who request reply)
+    all_rescued : (s : State) → ServesIs g old s → AreRescued x.collector y.collector (rescues_of s who request reply)
     all_rescued s serves = subst (AreRescued x.collector y.collector) (are s (serves_roomy g old x ready s serves)) (subst (λ (c : Collections). AreRescued c.collector y.collector more) tries.went.collections rescued)
 
 -- one that was refused from below
@@ -159,12 +172,12 @@ module _ {D : Type 0} (g : Ghosts D) (left_sized : (d : D) (t : ℕ) (c : Image)
   abbrev doubted : ℕ → Event
   doubted moment = events.Ask who request (replies.Disk (Some moment))
 
-  late : (s : State) (moment : ℕ) → CoreServes g old s → refusal_of s who request ≡ None → (h : Graph) → MayBeRead old.words.seed s who request h → Late old.words.seed s (doubted moment) h
+  late : (s : State) (moment : ℕ) → ServesIs g old s → refusal_of s who request ≡ None → (h : Graph) → MayBeRead old.words.seed s who request h → Late old.words.seed s (doubted moment) h
   late s moment serves allowed h Undone = After (doubted moment) (stopped_at moment s) (rw (running g old s serves none) refl)
   late s moment serves allowed h (Whole b names) = InDoubt who b moment request allowed names
   late s moment serves allowed h (CutShort id was now f changes between) = CutInDoubt who moment request id was now f changes between
 
-  in_doubt : (s : State) (moment : ℕ) → CoreServes g old s → IsInDoubt g (roomy g old x ready) mid s who request → Happens g old (stopped_as (replies.Disk (Some moment))) s (events.Ask who request (replies.Disk (Some moment)))
+  in_doubt : (s : State) (moment : ℕ) → ServesIs g old s → IsInDoubt g (roomy g old x ready) mid s who request → Happens g old (stopped_as (replies.Disk (Some moment))) s (events.Ask who request (replies.Disk (Some moment)))
   in_doubt s moment serves is = record {
     after = stopped_at moment s;
     step = rw (running g old s serves none) refl;
@@ -178,7 +191,7 @@ module _ {D : Type 0} (g : Ghosts D) (left_sized : (d : D) (t : ℕ) (c : Image)
     survives = inl (call g left_sized old.words.seed s (doubted moment) old.disk mid.disk (record {
       crashes = wider g old.disk mid.disk _ _ is.leaves (λ c some. record { graph = some.graph; may = inr (late s moment serves is.allowed some.graph some.may); fits = some.fits; holds = some.holds });
       now = λ c left. ⊎_elim
-          (λ was. record { graph = s.graph; may = late s moment serves is.allowed s.graph Undone; fits = fits g old s serves (g.blocks mid.disk) (sized old.disk serves.store.carries.tells.honest ∙ sym size); holds = pending g old s serves c was })
+          (λ was. record { graph = s.graph; may = late s moment serves is.allowed s.graph Undone; fits = fits g old s serves (g.blocks mid.disk) (sized old.disk (honest g old s serves) ∙ sym size); holds = pending g old s serves c was })
           (λ some. record { graph = some.graph; may = late s moment serves is.allowed some.graph some.may; fits = some.fits; holds = some.holds }) (is.leaves.now c left);
     }));
   }
@@ -187,21 +200,21 @@ module _ {D : Type 0} (g : Ghosts D) (left_sized : (d : D) (t : ℕ) (c : Image)
   nothing : (s : State) (reply : Reply) → is_carried_out reply ≡ false → rescues_of s who request reply ≡ []
   nothing s reply undone = rw undone refl
 
-  refused_so : (reply : Reply) (s : State) → mid.stop ≡ None → mid.collections ≡ x → is_carried_out reply ≡ false → CoreServes g old s → Answers g (roomy g old x ready) mid s who request reply → Happens g old mid s (events.Ask who request reply)
+  refused_so : (reply : Reply) (s : State) → mid.stop ≡ None → mid.collections ≡ x → is_carried_out reply ≡ false → ServesIs g old s → Answers g old.space.left (roomy g old x ready) mid s who request reply → Happens g old mid s (events.Ask who request reply)
   refused_so reply s runs same undone serves is =
       happens g old x ready sized mid size mid.collections s who request reply runs
       (subst (λ (more : List Rescue). AreRescued x.collector mid.collections.collector more) (sym (nothing s reply undone))
       (subst (λ (c : Collections). AreRescued x.collector c.collector []) (sym same) (same_rescued x.collector))) serves is
 
-  told_happens : (refused : Refused) (moment : ℕ) (s : State) → mid.stop ≡ None → mid.collections ≡ x → CoreServes g old s → EndsSo g (roomy g old x ready) mid s who request (Err refused) → Happens g old (stopped_as (reply_to refused moment)) s (events.Ask who request (reply_to refused moment))
+  told_happens : (refused : Refused) (moment : ℕ) (s : State) → mid.stop ≡ None → mid.collections ≡ x → ServesIs g old s → EndsSo g old.space.left (roomy g old x ready) mid s who request (Err refused) → Happens g old (stopped_as (reply_to refused moment)) s (events.Ask who request (reply_to refused moment))
   told_happens (refusals.Full need) moment s runs same serves is = refused_so (replies.Full need) s runs same refl serves is
   told_happens (refusals.Disk false) moment s runs same serves is = refused_so (replies.Disk None) s runs same refl serves is
   told_happens (refusals.Disk true) moment s runs same serves is = in_doubt s (moment - 1) serves is
   told_happens (refusals.Damaged damage) moment s runs same serves is = absurd is
   told_happens refusals.Memory moment s runs same serves is = refused_so replies.Memory s runs same refl serves is
 
-  told_owed : (refused : Refused) (moment : ℕ) (s : State) → EndsSo g (roomy g old x ready) mid s who request (Err refused) → Owes old.words.seed s who request (g.content old.disk) (sum old.space.free) (reply_to refused moment)
-  told_owed (refusals.Full need) moment s is = is.owed
+  told_owed : (refused : Refused) (moment : ℕ) (s : State) → EndsSo g old.space.left (roomy g old x ready) mid s who request (Err refused) → Owes old.words.seed s who request (end_in g old) (free_to_come g old) (reply_to refused moment)
+  told_owed (refusals.Full need) moment s is = subst (λ (f : ℕ). Owes old.words.seed s who request (end_in g old) f (replies.Full need)) (free_called g old x old.space.left) is.owed
   told_owed (refusals.Disk false) moment s is = tt
   told_owed (refusals.Disk true) moment s is = tt
   told_owed (refusals.Damaged damage) moment s is = absurd is
@@ -210,18 +223,40 @@ module _ {D : Type 0} (g : Ghosts D) (left_sized : (d : D) (t : ℕ) (c : Image)
   still_roomy : IsAsItWas g (roomy g old x ready) mid → IsAsItWas g (record old { collections = mid.collections }) mid
   still_roomy is = record { same = is.same ∙ ap (λ (c : Collections). record old { disk = mid.disk; collections = c }) (sym (ap (λ (k : Kernel D). k.collections) is.same)); most = is.most; reads = is.reads }
 
-  told_still : (refused : Refused) (moment : ℕ) (s : State) → EndsSo g (roomy g old x ready) mid s who request (Err refused) → leaves_all (reply_to refused moment) ≡ true → IsAsItWas g (record old { collections = mid.collections }) (stopped_as (reply_to refused moment))
-  told_still (refusals.Full need) moment s is leaves = still_roomy (is.still leaves)
+  told_still : (refused : Refused) (moment : ℕ) (s : State) → EndsSo g old.space.left (roomy g old x ready) mid s who request (Err refused) → leaves_all (reply_to refused moment) ≡ true → IsAsItWas g (record old { collections = mid.collections }) (stopped_as (reply_to refused moment))
+  told_still (refusals.Full need) moment s is leaves = let no : false ≡ true = leaves in cc
   told_still (refusals.Disk false) moment s is leaves = still_roomy (is.still leaves)
   told_still (refusals.Disk true) moment s is leaves = absurd (cc leaves)
   told_still (refusals.Damaged damage) moment s is leaves = absurd (cc leaves)
   told_still refusals.Memory moment s is leaves = still_roomy (is.still leaves)
 
-  told_cause : (refused : Refused) → (stop : Option Stop) → IsCause g (roomy g old x ready) mid (Some request) refused → IsToldCause g old (record mid { stop = stop }) request (reply_to refused (g.moment mid.disk))
-  told_cause (refusals.Full need) stop is = is
+  told_full : (refused : Refused) (moment : ℕ) (s : State) → EndsSo g old.space.left (roomy g old x ready) mid s who request (Err refused) → is_full_reply (reply_to refused moment) ≡ true → IsFinished g old.space.left (record old { collections = mid.collections }) (stopped_as (reply_to refused moment))
+  told_full (refusals.Full need) moment s is full =
+      let was = is.full full in
+      record {
+        same = was.same ∙ ap (λ (c : Collections). record old { disk = mid.disk; space = mid.space; collections = c }) (sym (ap (λ (k : Kernel D). k.collections) was.same));
+        none = was.none;
+        content = was.content;
+        still = λ nothing. still_roomy (was.still nothing);
+      }
+  told_full (refusals.Disk false) moment s is full = let no : false ≡ true = full in cc
+  told_full (refusals.Disk true) moment s is full = let no : false ≡ true = full in cc
+  told_full (refusals.Damaged damage) moment s is full = let no : false ≡ true = full in cc
+  told_full refusals.Memory moment s is full = let no : false ≡ true = full in cc
+
+  -- what is met is so of the core without its room
+  met_asked : (Of Is : Kernel D → Type 0) → ((d : D) (space : Kept) → Of (record (roomy g old x ready) { disk = d; space = space }) → Is (record old { disk = d; space = space })) → IsMet g (roomy g old x ready) Of → IsMet g old Is
+  met_asked Of Is asked met = record { disk = met.disk; space = met.space; most = met.most; calls = met.calls; none = met.none; is = asked met.disk met.space met.is }
+
+  told_cause : (refused : Refused) → (stop : Option Stop) → IsCauseOf g (roomy g old x ready) mid request refused → IsToldCause g old (record mid { stop = stop }) request (reply_to refused (g.moment mid.disk))
+  told_cause (refusals.Full need) stop is = met_asked (λ k. IsWant (Some request) (sum k.space.free) need) (λ k. IsWant (Some request) (sum k.space.free) need) (λ d space was. was) is
   told_cause (refusals.Disk false) stop is = is
   told_cause (refusals.Disk true) stop is = (is, refl)
-  told_cause (refusals.Damaged damage) stop is = (told_as g old mid (record mid { stop = stop }) (Some request) damage refl refl (told_asked g old mid x request damage is), refl)
+  told_cause (refusals.Damaged damage) stop is = (
+    met_asked (λ k. IsDamageTold g k mid (Some request) damage) (λ k. IsDamageTold g k (record mid { stop = stop }) (Some request) damage)
+        (λ d space was. told_as g (record old { disk = d; space = space }) mid (record mid { stop = stop }) (Some request) damage refl refl (told_asked g (record old { disk = d; space = space }) mid x request damage was)) is,
+    refl,
+  )
   told_cause refusals.Memory stop is = tt
 
   undone : (refused : Refused) (moment : ℕ) → is_carried_out (reply_to refused moment) ≡ false
@@ -236,7 +271,9 @@ module _ {D : Type 0} (g : Ghosts D) (left_sized : (d : D) (t : ℕ) (c : Image)
     event = λ s stands. let serves = serves_from g old s none stands in told_happens refused (g.moment mid.disk) s (tries.went.stop ∙ none) tries.went.collections serves (tries.ends s (serves_roomy g old x ready s serves) none);
     still = λ _ s stands. told_still refused (g.moment mid.disk) s (tries.ends s (serves_roomy g old x ready s (serves_from g old s none stands)) none);
     owed = λ _ s stands. told_owed refused (g.moment mid.disk) s (tries.ends s (serves_roomy g old x ready s (serves_from g old s none stands)) none);
+    full = λ _ s stands. told_full refused (g.moment mid.disk) s (tries.ends s (serves_roomy g old x ready s (serves_from g old s none stands)) none);
     taken = λ _ s stands done. let no : true ≡ false = sym done ∙ undone refused (g.moment mid.disk) in cc;
+    noted = λ _ s stands done. let no : true ≡ false = sym done ∙ undone refused (g.moment mid.disk) in cc;
     stopped = λ stop same. cc;
     stops = λ _. ap (λ (o : Option Stop). stopped_by (reply_to refused (g.moment mid.disk)) o) (tries.went.stop ∙ none);
     cause = λ _. told_cause refused _ tries.went.cause;

@@ -1,5 +1,5 @@
 -- Calls that only read a file, as the core has them.
-use Rattle.std.proofs.Common.{◌≡◌, ℕ, ◌+◌, ◌≤◌, Bool, true, false, Err, refl, sym, subst, arith}
+use Rattle.std.proofs.Common.{◌≡◌, ◌≢◌, ℕ, ◌+◌, ◌≤◌, Bool, true, false, Err, refl, sym, ◌∙◌, subst, arith}
 use Rattle.cfs_core.proofs.Words.{Ghosts, had_tried, HasStopped, Image, Index, has_met_damage, is_range, IsReadRefusal, nat_tests, Object, OnlyReads, reads_then, Refused, refused_by, stopped_after_reads, Trouble, trouble_had_tried}
 use Rattle.cfs_base.specs.declared.refusal.Refused.TheVariants as refusals
 use Rattle.cfs_base.specs.declared.refusal.Trouble.TheVariants as trouble
@@ -51,6 +51,11 @@ calm_after g sort n m k at old mid new e first reads few sound untried top same 
 pub read_refusal : {D : Type 0} (g : Ghosts D) (at : Top) (old new : D) (t : Trouble) → IsTrouble g at old new t → IsReadRefusal g at old new (refused_by t)
 read_refusal g at old new (trouble.Disk tried) is = is
 read_refusal g at old new (trouble.Damaged damage) is = is
+
+-- no trouble is told as a want of memory
+pub told_never : (t : Trouble) (e : Refused) → e ≡ refused_by t → e ≢ refusals.Memory
+told_never (trouble.Disk tried) e is = λ same. let no : refusals.Memory ≡ refusals.Disk tried = sym same ∙ is in cc
+told_never (trouble.Damaged damage) e is = λ same. let no : refusals.Memory ≡ refusals.Damaged damage = sym same ∙ is in cc
 
 -- a call on a file that was refused by the first that it makes
 pub calm_trouble : {D A B : Type 0} (g : Ghosts D) (sort : A → Object) (n at : ℕ) (old new : D) (t : Trouble) → OnlyReads g n old new → ((a : A) → KnowsObject g old at (sort a) → is_damage t ≡ false) → trouble_had_tried t ≡ false → IsTrouble g (still_top at) old new t

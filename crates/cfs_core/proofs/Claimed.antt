@@ -19,7 +19,9 @@ use Rattle.vol_owners.specs.Change.{IsOpenTo}
 use Rattle.vol_owners.specs.Owner.{is_owned_by}
 use Rattle.std.proofs.lemmas.Bool.{cases_eq}
 use Rattle.cfs_core.specs.Claimed.{ClaimsInOrder, TakesForRequest, claims_for, commits_alone, owners_of, root_reached}
+use Rattle.cfs_core.specs.Commits.{commits}
 use Rattle.cfs_core.specs.Kernel.{Handle}
+use Rattle.ufs_model.specs.declared.asked.Request.TheVariants as asks
 
 -- ---- what is refused isn't done
 
@@ -83,6 +85,11 @@ claims_meant owners a b only = record { mid = a; in_order = λ m. refl; rest = �
 pub record Commits (claims : List MapEntry) (owners : List ℕ) (at : ℕ) (a b : Image) : Type 0 where
   pub order : ClaimsInOrder claims owners a b
   pub shadow : TakesShadow at order.mid b
+
+-- one that commits nothing is no commit of its own
+pub alone_not : (s : State) (who : ℕ) (request : Request) → commits s who request ≡ false → commits_alone s who request ≡ false
+alone_not s who (asks.Close t commit) none = refl
+alone_not s who request none = none
 
 -- a request that isn't a commit of its own
 pub takes_alone : (handles : List Handle) (s : State) (who : ℕ) (request : Request) (reply : Reply) (a b : Image) → commits_alone s who request ≡ false → ClaimsInOrder (claims_for handles s who request reply) (owners_of s who request reply) a b

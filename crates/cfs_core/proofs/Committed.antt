@@ -1,6 +1,6 @@
 -- How a call ends that makes an outcome of the definitions durable by one commit.
-use Rattle.std.proofs.Common.{◌≡◌, ◌⊎◌, inl, inr, ℕ, ◌+◌, ◌≤◌, List, length, Bool, true, false, Option, Some, None, IsTrue, sym, ◌∙◌, ap, subst, arith, sum}
-use Rattle.cfs_core.proofs.Words.{After, Before, call, ChangesInPlace, closed_graph, creates, Cut, Early, Event, File, FitsDisk, frames_hold, Ghosts, Grant, Graph, graph_blocks, Holds, HoldsSome, Image, is_free_root, IsBetween, IsClosedGraph, IsLeastFree, IsPlainReply, IsSpeakable, IsState, Late, Leaves, MapEntry, next, next_keeps, of_owners, Opened, outcome_legal, outcome_of, Puid, refusal_of, Reply}
+use Rattle.std.proofs.Common.{◌≡◌, ◌⊎◌, inl, inr, ℕ, ◌+◌, ◌≤◌, List, length, Bool, true, false, Option, Some, None, IsTrue, IsSome, sym, ◌∙◌, ap, subst, arith, sum}
+use Rattle.cfs_core.proofs.Words.{After, Before, call, ChangesInPlace, closed_graph, creates, Cut, Early, Event, File, FitsDisk, Ghosts, Grant, Graph, graph_blocks, Holds, HoldsSome, Image, is_free_root, IsBetween, IsClosedGraph, IsLeastFree, IsPlainReply, IsSpeakable, IsState, Late, Leaves, MapEntry, next, next_keeps, of_owners, Opened, outcome_legal, outcome_of, Puid, refusal_of, Reply}
 use Rattle.cfs_core.proofs.Words.{Request, State, wider, with_object}
 use Rattle.ufs_model.specs.declared.asked.Event.TheVariants as events
 use Rattle.ufs_model.specs.declared.asked.Reply.TheVariants as replies
@@ -8,8 +8,10 @@ use Rattle.ufs_model.specs.declared.object.Object.TheVariants as objects
 use Rattle.cfs_core.specs.Calls.{Answers, ByOutcome, CutShort, IsInDoubt, IsShortOfBlocks, MayBeRead, Undone, Whole, leaves_all}
 use Rattle.cfs_core.specs.Claimed.{TakesForRequest}
 use Rattle.cfs_core.specs.Kernel.{Kernel, grants_in}
-use Rattle.cfs_core.specs.StandsFor.{AreDraftsOf, CoreServes, drafts_of_handles}
-use Rattle.cfs_core.proofs.Answering.{owes}
+use Rattle.cfs_core.specs.Commits.{commits}
+use Rattle.cfs_core.specs.StandsFor.{AreDraftsOf, CoreServes, drafts_of_handles, end_in, free_to_come}
+use Rattle.cfs_core.proofs.Answering.{owes, plain_unfull}
+use Rattle.cfs_core.proofs.Stored.{holds_in}
 use Rattle.cfs_core.proofs.Moved.{HasStepped, IsStepped, four_left, stores_stepped, strays_stepped}
 use Rattle.cfs_core.proofs.Serving.{fits, may_fit, running}
 
@@ -75,7 +77,7 @@ module _ {D : Type 0} (g : Ghosts D) (left_sized : (d : D) (t : ℕ) (c : Image)
       stood c (inl (inr after)) = record { graph = h; may = subst (MayBeRead old.words.seed s who request) (ap (λ (p : Reply × State). p.1.graph) is.out ∙ is.graph) (Whole b is.names); fits = fits_after; holds = after }
       stood c (inr cut) = record { graph = with_object s.graph cut.id (objects.File cut.file); may = CutShort cut.id cut.was cut.now cut.file cut.changes cut.between; fits = cut.fits; holds = cut.holds }
 
-  module _ (stepped : IsStepped old new s after h) (handles : new.handles ≡ old.handles) (grants : after.grants ≡ s.grants) (rs : List ℕ) (has : HasStepped g old new s h (λ entry. of_owners rs entry) (drafts_of_handles old.handles s.grants)) where
+  module _ (stepped : IsStepped old new s after h) (handles : new.handles ≡ old.handles) (grants : after.grants ≡ s.grants) (rs : List ℕ) (has : HasStepped g None old new s h (λ entry. of_owners rs entry) (drafts_of_handles old.handles s.grants)) where
     abbrev drafts : List Opened
     drafts = drafts_of_handles old.handles s.grants
 
@@ -88,11 +90,11 @@ module _ {D : Type 0} (g : Ghosts D) (left_sized : (d : D) (t : ℕ) (c : Image)
     have : AreDraftsOf drafts new.handles after.grants
     have = subst (λ x. AreDraftsOf drafts x after.grants) (sym handles) (subst (λ (gs : List Grant). AreDraftsOf drafts old.handles gs) (sym grants) serves.drafts)
 
-    four : 4 ≤ sum new.space.free
+    four : 4 ≤ free_to_come g new
     four = four_left g old new s after h serves T drafts has n (omega (arith, is.few)) is.free
 
-    pub did : IsPlainReply reply → leaves_all reply ≡ false → (¬ IsShortOfBlocks s who request (sum old.space.free)) → (creates request ≡ true → IsLeastFree (g.content old.disk) b) → TakesForRequest old.handles s who request reply (g.content old.disk) (g.content new.disk) → Answers g old new s who request reply
-    did plain changes short least takes = record {
+    pub did : IsPlainReply reply → leaves_all reply ≡ false → (¬ IsShortOfBlocks s who request (sum old.space.free)) → (creates request ≡ true → IsLeastFree (g.content old.disk) b) → TakesForRequest old.handles s who request reply (g.content old.disk) (end_in g new) → (commits s who request ≡ true → IsSome new.space.left) → Answers g None old new s who request reply
+    did plain changes short least takes noted = record {
       event = record {
         after = after;
         step = step;
@@ -100,11 +102,13 @@ module _ {D : Type 0} (g : Ghosts D) (left_sized : (d : D) (t : ℕ) (c : Image)
         strays = strays_stepped g old new s after h serves T drafts has stepped state same_drafts have four;
         survives = call g left_sized old.words.seed s e old.disk new.disk (record {
           crashes = wider g old.disk new.disk _ _ leaves (λ c holds. stood c holds);
-          now = λ c left. record { graph = h; may = late; fits = fits_after; holds = frames_hold (g.content new.disk) c h has.store.account.holds (has.store.carries.here c left) };
+          now = λ c left. record { graph = h; may = late; fits = fits_after; holds = holds_in g h drafts new.disk new.space new.space.left has.store c left };
         });
       };
       still = λ all. let no : true ≡ false = sym all ∙ changes in cc;
+      full = λ full. let no : true ≡ false = sym full ∙ plain_unfull reply plain in cc;
       taken = λ done. takes;
+      noted = λ done. noted;
       owed = owes old.words.seed s who request (g.content old.disk) (sum old.space.free) reply plain
           (ByOutcome is.allowed (record { block = b; least = least; reply_is = sym (ap (λ (p : Reply × State). p.0) is.out); room = short }));
     }

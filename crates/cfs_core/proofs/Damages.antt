@@ -1,8 +1,8 @@
 -- What a damage of one call of the store tells of the core's call.
 use Rattle.std.proofs.Common.{◌≡◌, ◌⊎◌, inl, inr, ℕ, ◌/◌, ◌%◌, ◌<◌, ◌*◌, ◌+◌, Some, None, Option, true, refl, sym, ◌∙◌, ap, subst, arith, List, slice_index, sum, [], ◌∷◌}
 use Rattle.cfs_core.proofs.Words.{Ghosts, Image, IsIndexRefusal, IsOpenMap, OnlyReads, Request}
-use Rattle.cfs_base.proofs.Calls.{tells_on}
 use Rattle.cfs_base.specs.Codes.{past_disk}
+use Rattle.cfs_base.proofs.Calls.{tells_on}
 use Rattle.cfs_base.specs.Disk.{block_at}
 use Rattle.cfs_base.specs.Run.{Tells}
 use Rattle.cfs_base.specs.declared.refusal.Damage.{Damage}

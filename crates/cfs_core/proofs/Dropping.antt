@@ -1,5 +1,5 @@
 -- A grant of a session that leaves is dropped.
-use Rattle.std.proofs.Common.{◌≡◌, inl, ℕ, List, [], ◌∷◌, Bool, true, false, cond, not, Some, None, refl, sym, ◌∙◌, ap, subst, arith, ◌==◌, filter}
+use Rattle.std.proofs.Common.{◌≡◌, ◌⊎◌, inl, inr, ℕ, List, [], ◌∷◌, Bool, true, false, cond, not, Option, Some, None, refl, sym, ◌∙◌, ap, subst, arith, ◌==◌, filter}
 use Rattle.cfs_core.proofs.Words.{closed, Drafting, Ghosts, Grant, grant_of, Holds, is_grant, next, outcome_legal, State, Tuid, without_session-without_grant}
 use Rattle.open_table.specs.declared.grant.Grant as handles
 use Rattle.open_table.specs.Grants as tables
@@ -7,12 +7,18 @@ use Rattle.ufs_model.specs.declared.asked.Event.TheVariants as events
 use Rattle.ufs_model.specs.declared.asked.Reply.TheVariants as replies
 use Rattle.ufs_model.specs.declared.asked.Request.TheVariants as asks
 use Rattle.cfs_core.specs.Kernel.{Kernel, Handle, grants_in}
-use Rattle.cfs_core.specs.Leaving.{GaveUp, GivesUp, ServesFewer, Sheds, of_others}
+use Rattle.cfs_base.specs.Disk.{Image}
+use Rattle.intentions.specs.Left.{final_image}
+use Rattle.cfs_core.specs.declared.kernel.Stop.{Stop}
+use Rattle.cfs_core.specs.Calls.{AddsNoStray}
+use Rattle.cfs_core.specs.Leaving.{GaveUp, GivesUp, IsGivenUp, ServesFewer, Sheds, of_others}
+use Rattle.cfs_core.proofs.Joined.{serves_finished}
 use Rattle.cfs_core.specs.Handles.{drafting_at, have_draft, is_at, handles_but, with_drafting}
-use Rattle.cfs_core.specs.StandsFor.{CoreServes, drafts_of_handles}
+use Rattle.cfs_core.specs.StandsFor.{CoreServes, ServesIs, drafts_of_handles, end_in}
 use Rattle.cfs_core.proofs.Collected.{collection_asked, same_rescued}
 use Rattle.cfs_core.proofs.Damages.{told_of_draft}
-use Rattle.cfs_core.proofs.Ended.{IsHeld, gone_is, held_by, open_in, stores_aborted, strays_aborted}
+use Rattle.cfs_core.proofs.Drafted.{but_with, opened}
+use Rattle.cfs_core.proofs.Ended.{IsHeld, held_by, stores_aborted, strays_aborted}
 use Rattle.cfs_core.proofs.Granted.{close_goes, stores_closed}
 use Rattle.cfs_core.proofs.Handled.{grants_with}
 use Rattle.cfs_core.proofs.Serving.{none_more, running, nothing_left}
@@ -39,8 +45,8 @@ others_stay who t (x ∷ grants) = at (others_stay who t grants) (x.session == w
 
 -- ---- the handle is gone
 
-module _ {D : Type 0} (g : Ghosts D) (k : Kernel D) (who : ℕ) (t : Tuid) (the : (s : State) → CoreServes g k s → (x : Grant) × (grant_of s who t ≡ Some x)) where
-  step : (s : State) → CoreServes g k s → k.stop ≡ None → next k.words.seed s (events.Ask who (asks.Close t false) replies.Done) ≡ Some (closed s who t false)
+module _ {D : Type 0} (g : Ghosts D) (k : Kernel D) (who : ℕ) (t : Tuid) (the : (s : State) → ServesIs g k s → (x : Grant) × (grant_of s who t ≡ Some x)) where
+  step : (s : State) → ServesIs g k s → k.stop ≡ None → next k.words.seed s (events.Ask who (asks.Close t false) replies.Done) ≡ Some (closed s who t false)
   step s serves none = (let x = the s serves in outcome_legal k.words.seed s who (asks.Close t false) 0 (running g k s serves none) (close_goes 0 s who t false x.0 x.1) (λ made. let no : true ≡ false = sym made in cc))
 
   handles_others : (ss : List Handle) → tables.without_session (grants_in (handles_but (tables.is_session_grant who t) ss)) who ≡ tables.without_session (grants_in ss) who
@@ -61,11 +67,12 @@ module _ {D : Type 0} (g : Ghosts D) (k : Kernel D) (who : ℕ) (t : Tuid) (the 
     serves = λ s serves none runs. record {
       grants = (closed s who t false).grants;
       serves = let x = the s serves in stores_closed g k s serves who t false x.0 x.1 none_drawn k.collections
-          (collection_asked (g.content k.disk) (g.content k.disk) k.words.seed s (closed s who t false) who (asks.Close t false) replies.Done (step s serves none) serves.state (none_more (g.content k.disk) (g.content k.disk) s.graph refl)
+          (collection_asked (end_in g k) (end_in g k) k.words.seed s (closed s who t false) who (asks.Close t false) replies.Done (step s serves none) serves.state (none_more (end_in g k) (end_in g k) s.graph refl)
           k.collections.collector k.collections.collector (same_rescued k.collections.collector) serves.collecting);
       others = others_stay who t s.grants;
     };
-    strays = λ s serves none runs. none_more (g.content k.disk) (g.content k.disk) s.graph refl;
+    strays = λ s serves none runs. none_more (end_in g k) (end_in g k) s.graph refl;
+    left = λ runs. inl refl;
     halts = λ stop none is. let no : None ≡ Some stop = sym none ∙ is in cc;
     sound = λ s serves none stop is. let no : None ≡ Some stop = sym none ∙ is in cc;
   }
@@ -76,28 +83,52 @@ module _ {D : Type 0} (g : Ghosts D) (k : Kernel D) (who : ℕ) (t : Tuid) (the 
     mid = record k { handles = handles_but (tables.is_session_grant who t) (with_drafting t.draw None k.handles) }
 
     module _ (gives : GivesUp g was mid new) where
-      held : (s : State) → CoreServes g k s → IsHeld g k s who t was
+      held : (s : State) → ServesIs g k s → IsHeld g k s who t was
       held s serves = held_by g k s serves who t was drafting (the s serves)
 
-      gave : (s : State) (serves : CoreServes g k s) → k.stop ≡ None → GaveUp g s.graph (drafts_of_handles k.handles s.grants) (held s serves).handle.grant.id was.created mid new
-      gave s serves none = gives.ends s.graph _ _ _ _ serves.store (held s serves).there (open_in g k s serves who t was (held s serves)) none
+      gave : (s : State) (serves : ServesIs g k s) → k.stop ≡ None → GaveUp g s.graph (drafts_of_handles k.handles s.grants) (held s serves).handle.grant.id was.created mid new
+      gave s serves none = gives.ends s.graph _ _ _ _ serves.store (held s serves).there (let h = held s serves in opened who t k.handles s.grants h.handle h.x h.place serves.drafts was h.before h.drafting h.draft_was) none
 
-      new_is : (s : State) (serves : CoreServes g k s) → k.stop ≡ None → new.stop ≡ None → new ≡ record k { disk = new.disk; space = new.space; handles = handles_but (tables.is_session_grant who t) k.handles }
-      new_is s serves none runs =
-          gives.same ∙ ap (λ ss. record k { disk = new.disk; space = new.space; handles = ss; stop = new.stop }) (sym (gone_is g k s serves who t was (held s serves) new.disk new.space))
-          ∙ ap (λ o. record k { disk = new.disk; space = new.space; handles = handles_but (tables.is_session_grant who t) k.handles; stop = o }) (runs ∙ sym none)
+      -- the core as it was once nothing was unfinished
+      module _ (s : State) (serves : ServesIs g k s) (none : k.stop ≡ None) (runs : new.stop ≡ None) where
+        given : IsGivenUp g s.graph (drafts_of_handles k.handles s.grants) (held s serves).handle.grant.id was.created mid new
+        given = (gave s serves none).given runs
 
-      fewer : (s : State) → CoreServes g k s → k.stop ≡ None → new.stop ≡ None → ServesFewer g new s who
-      fewer s serves none runs =
-          let dropped = (gave s serves none).dropped runs in
-          subst (λ (j : Kernel D). ServesFewer g j s who) (sym (new_is s serves none runs)) (record {
-            grants = (closed s who t false).grants;
-            serves = stores_aborted g k s serves who t was (held s serves) new.disk new.space bare (gives.left ∙ serves.left) dropped k.collections
-                (collection_asked (g.content k.disk) (g.content new.disk) k.words.seed s (closed s who t false) who (asks.Close t false) replies.Done (step s serves none) serves.state
-                (strays_aborted g k s serves who t was (held s serves) new.disk new.space bare (gives.left ∙ serves.left) dropped)
-                k.collections.collector k.collections.collector (same_rescued k.collections.collector) serves.collecting);
-            others = others_stay who t s.grants;
-          })
+        abbrev calm : Kernel D
+        calm = record k { disk = given.mid; space = given.space }
+
+        calm_serves : CoreServes g calm s
+        calm_serves = serves_finished g k given.mid given.space s serves given.store given.none given.content
+
+        abbrev calm_held : IsHeld g calm s who t was
+        calm_held =
+            let h = held s serves in
+            record { at = h.at; x = h.x; found = h.found; handle = h.handle; place = h.place; drafting = h.drafting; before = h.before; draft_was = h.draft_was; object = h.object; there = h.there; there_x = h.there_x }
+
+        finished : new.space.left ≡ None
+        finished = gives.left none runs
+
+        new_is : new ≡ record calm { disk = new.disk; space = new.space; handles = handles_but (tables.is_session_grant who t) k.handles }
+        new_is =
+            gives.same ∙ ap (λ ss. record k { disk = new.disk; space = new.space; handles = ss; stop = new.stop }) (let h = held s serves in but_with who t k.handles s.grants h.handle h.x h.place)
+            ∙ ap (λ o. record k { disk = new.disk; space = new.space; handles = handles_but (tables.is_session_grant who t) k.handles; stop = o }) (runs ∙ sym none)
+
+        strays : AddsNoStray (end_in g k) (end_in g new) s.graph s.graph
+        strays = subst (λ (i : Image). AddsNoStray i (end_in g new) s.graph s.graph) given.content (strays_aborted g calm s calm_serves who t was calm_held new.disk new.space bare finished given.dropped)
+
+        fewer : ServesFewer g new s who
+        fewer = subst (λ (j : Kernel D). ServesFewer g j s who) (sym new_is) (record {
+          grants = (closed s who t false).grants;
+          serves = stores_aborted g calm s calm_serves who t was calm_held new.disk new.space bare finished given.dropped k.collections
+              (collection_asked (g.content given.mid) (final_image g new.disk new.space) k.words.seed s (closed s who t false) who (asks.Close t false) replies.Done (step s serves none) serves.state
+              (strays_aborted g calm s calm_serves who t was calm_held new.disk new.space bare finished given.dropped)
+              k.collections.collector k.collections.collector (same_rescued k.collections.collector) calm_serves.collecting);
+          others = others_stay who t s.grants;
+        })
+
+      left_so : new.stop ≡ None → (o : Option Stop) → k.stop ≡ o → (new.space.left ≡ k.space.left) ⊎ (new.space.left ≡ None)
+      left_so runs None none = inr (gives.left none runs)
+      left_so runs (Some stop) is = inl (ap (λ (j : Kernel D). j.space.left) (gives.idle stop is))
 
       pub shed_drafted : Sheds g who k new
       shed_drafted = record {
@@ -111,10 +142,11 @@ module _ {D : Type 0} (g : Ghosts D) (k : Kernel D) (who : ℕ) (t : Tuid) (the 
         idle = λ stop is. let same = gives.idle stop is in (ap (λ (j : Kernel D). j.stop) same ∙ is, ap (λ (j : Kernel D). j.disk) same, ap (λ (j : Kernel D). j.space) same);
         leaves = λ s serves none. (gave s serves none).leaves;
         serves = fewer;
-        strays = λ s serves none runs. strays_aborted g k s serves who t was (held s serves) new.disk new.space bare (gives.left ∙ serves.left) ((gave s serves none).dropped runs);
+        strays = strays;
+        left = λ runs. left_so runs k.stop refl;
         halts = λ stop none is. record {
           failed = gives.failed stop none is;
-          damaged = λ damage met. (let two = gives.damaged stop damage none is met in (record { mid = k; later = omega arith; told = told_of_draft g k new None was.at (inl (t.draw, was, drafting, refl)) damage gives.size t.draw was drafting refl two.0 }, two.1));
+          damaged = λ damage met. (let two = gives.damaged stop damage none is met in (record { mid = record k { disk = two.0.mid }; later = two.0.calls.later; told = told_of_draft g (record k { disk = two.0.mid }) new None was.at (inl (t.draw, was, drafting, refl)) damage (gives.size ∙ sym two.0.calls.same.size) t.draw was drafting refl two.0.is }, two.1));
         };
         sound = λ s serves none. (gave s serves none).sound;
       }

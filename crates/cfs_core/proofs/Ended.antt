@@ -6,7 +6,6 @@ use Rattle.cfs_core.proofs.Words.{Trouble, Tuid, wider, with_object, without_dra
 use Rattle.cfs_base.specs.declared.kind.FileKind.TheVariants as file_kinds
 use Rattle.cfs_base.specs.declared.refusal.Trouble.TheVariants as troubles
 use Rattle.cyl_alloc.specs.Left.{LeftCommit}
-use Rattle.intentions.specs.Left.{StoreWith, coming}
 use Rattle.open_table.specs.Grants as tables
 use Rattle.open_table.specs.declared.grant.Grant as handles
 use Rattle.ufs_model.specs.declared.asked.Event.TheVariants as events
@@ -14,10 +13,14 @@ use Rattle.ufs_model.specs.declared.asked.Reply.TheVariants as replies
 use Rattle.ufs_model.specs.declared.asked.Request.TheVariants as asks
 use Rattle.ufs_model.specs.declared.object.Object.TheVariants as objects
 use Rattle.cfs_core.specs.Calls.{AddsNoStray, Answers, ByOutcome, EndsSo, IsInDoubt, MayBeRead, Owes, Undone, Whole}
-use Rattle.cfs_core.specs.Drafts.{DraftEnds, EndsDraft}
+use Rattle.cfs_core.specs.Drafts.{DraftEnds, EndsDraft, LeavesDraftCommit}
 use Rattle.cfs_core.specs.Kernel.{Kernel, Handle}
 use Rattle.cfs_core.specs.Handles.{drafting_at, is_drawn, handles_but, with_drafting}
-use Rattle.cfs_core.specs.StandsFor.{AreDraftsOf, HasDraftOf, CoreServes, StoresState, drafts_of_handles}
+use Rattle.std.specs.Prelude.{IsSome}
+use Rattle.cyl_alloc.specs.Left.{LeftCommit}
+use Rattle.intentions.specs.Left.{StoreWith, coming, final_image}
+use Rattle.special_files.specs.Committing.{IsNoted}
+use Rattle.cfs_core.specs.StandsFor.{AreDraftsOf, HasDraftOf, CoreServes, ServesWith, StoresState, drafts_of_handles, free_to_come}
 use Rattle.cfs_core.proofs.Answering.{owes}
 use Rattle.cfs_core.proofs.Changed.{of_this}
 use Rattle.cfs_core.proofs.Drafted.{Place, but_with, drawn, gone_drafts, gone_have, has_draft, opened, place_of}
@@ -85,7 +88,7 @@ pub record IsHeld {D : Type 0} (g : Ghosts D) (k : Kernel D) (s : State) (who : 
   pub there : object_at s.graph handle.grant.id ≡ Some object
   pub there_x : object_at s.graph x.id ≡ Some object
 
-pub held_by : {D : Type 0} (g : Ghosts D) (k : Kernel D) (s : State) → CoreServes g k s → (who : ℕ) (t : Tuid) (was : Drafting) → drafting_at k.handles t.draw ≡ Some was → (x : Grant) × (grant_of s who t ≡ Some x) → IsHeld g k s who t was
+pub held_by : {D : Type 0} {w : Option LeftCommit} (g : Ghosts D) (k : Kernel D) (s : State) → ServesWith g k s w → (who : ℕ) (t : Tuid) (was : Drafting) → drafting_at k.handles t.draw ≡ Some was → (x : Grant) × (grant_of s who t ≡ Some x) → IsHeld g k s who t was
 held_by g k s serves who t was drafting found = record {
   at = drafting;
   x = found.0;
@@ -117,6 +120,14 @@ held_by g k s serves who t was drafting found = record {
     object : (o : Object) × (object_at s.graph found.0.id ≡ Some o)
     object = open_there (object_at s.graph found.0.id) found.0.draft (grant_found s who t found.0 serves.state found.1).1
 
+-- whatever is left of a commit
+module _ {D : Type 0} {w : Option LeftCommit} (g : Ghosts D) (k : Kernel D) (s : State) (serves : ServesWith g k s w) (who : ℕ) (t : Tuid) (was : Drafting) (held : IsHeld g k s who t was) where
+  pub open_in : IsOpen (drafts_of_handles k.handles s.grants) held.handle.grant.id was held.before
+  open_in = opened who t k.handles s.grants held.handle held.x held.place serves.drafts was held.before held.drafting held.draft_was
+
+  pub so : is_open_so (Some held.object) (Some held.before) ≡ true
+  so = subst (λ (o : Option Object). is_open_so o (Some held.before) ≡ true) held.there_x (subst (λ (o : Option Draft). is_open_so (object_at s.graph held.x.id) o ≡ true) held.draft_was (grant_found s who t held.x serves.state held.found).1)
+
 module _ {D : Type 0} (g : Ghosts D) (k : Kernel D) (s : State) (serves : CoreServes g k s) (who : ℕ) (t : Tuid) (was : Drafting) (held : IsHeld g k s who t was) where
   abbrev ds : List Opened
   ds = drafts_of_handles k.handles s.grants
@@ -130,14 +141,8 @@ module _ {D : Type 0} (g : Ghosts D) (k : Kernel D) (s : State) (serves : CoreSe
   abbrev object : Object
   object = held.object
 
-  pub open_in : IsOpen ds id was before
-  open_in = opened who t k.handles s.grants held.handle held.x held.place serves.drafts was before held.drafting held.draft_was
-
-  pub so : is_open_so (Some object) (Some before) ≡ true
-  so = subst (λ (o : Option Object). is_open_so o (Some before) ≡ true) held.there_x (subst (λ (o : Option Draft). is_open_so (object_at s.graph held.x.id) o ≡ true) held.draft_was (grant_found s who t held.x serves.state held.found).1)
-
   alike : object_kind before.object ≡ object_kind object
-  alike = kind_alike object before.object so
+  alike = kind_alike object before.object (so g k s serves who t was held)
 
   pub block : has_block s.graph.objects id.block ≡ true
   block = block_there s.graph id object held.there
@@ -179,30 +184,35 @@ module _ {D : Type 0} (g : Ghosts D) (k : Kernel D) (s : State) (serves : CoreSe
     stepped = closed_stepped g k s serves who t false d space s.graph refl refl refl
 
     module _ (bare : was.created ≡ None) (finished : space.left ≡ None) (dropped : Dropped g s.graph ds id was.created k.disk d space) where
-      has : HasStepped g k aborted s s.graph T left
+      -- nothing is left, so the content is what is to come
+      end_is : final_image g d space ≡ g.content d
+      end_is = ap (coming (g.content d)) finished
+
+      has : HasStepped g None k aborted s s.graph T left
       has = record {
-        store = dropped.store;
-        only = subst (λ o. ChangesOnly (λ entry. of_drafts (id.block ∷ option_to_list o) entry) (g.content k.disk) (g.content d)) bare dropped.only;
+        store = subst (StoreWith g s.graph left d space) (sym finished) dropped.store;
+        only = subst (ChangesOnly T (g.content k.disk)) (sym end_is) (subst (λ o. ChangesOnly (λ entry. of_drafts (id.block ∷ option_to_list o) entry) (g.content k.disk) (g.content d)) bare dropped.only);
         these = of_its_draft s.graph id block;
-        left = finished;
       }
 
-      four : 4 ≤ sum space.free
+      four : 4 ≤ free_to_come g aborted
       four = four_left g k aborted s (closed s who t false) s.graph serves T left has 0 (omega (arith, fewer_take (λ e. not (same_puid e.id id)) ds)) (omega (arith, serves.four))
 
       pub stores_aborted : StoresState g aborted (closed s who t false)
       stores_aborted = stores_stepped g k aborted s (closed s who t false) s.graph serves T left has stepped (closed_keeps s who t false serves.state) (drafts_left false) (have_left false) four
 
-      pub strays_aborted : AddsNoStray (g.content k.disk) (g.content d) s.graph s.graph
+      pub strays_aborted : AddsNoStray (g.content k.disk) (final_image g d space) s.graph s.graph
       strays_aborted = strays_stepped g k aborted s (closed s who t false) s.graph serves T left has stepped (closed_keeps s who t false serves.state) (drafts_left false) (have_left false) four
 
-      pub aborts : ((c : D) (n : ℕ) (i : Image) → g.left_since c n i → length i ≡ g.blocks c) → length (g.content k.disk) ≡ g.blocks d → k.stop ≡ None → Leaves g k.disk d (λ c. Holds c s.graph) → Answers g k aborted s who (asks.Close t false) replies.Done
+      pub aborts : ((c : D) (n : ℕ) (i : Image) → g.left_since c n i → length i ≡ g.blocks c) → length (g.content k.disk) ≡ g.blocks d → k.stop ≡ None → Leaves g k.disk d (λ c. Holds c s.graph) → Answers g None k aborted s who (asks.Close t false) replies.Done
       aborts left_sized wide none leaves = record {
         event = makes_stepped g k aborted s (closed s who t false) s.graph serves T left has stepped (closed_keeps s who t false serves.state) (drafts_left false) (have_left false) four
             left_sized wide (events.Ask who (asks.Close t false) replies.Done) (legal false none) refl leaves;
         still = λ all. let no : true ≡ false = sym all in cc;
+        full = λ full. let no : false ≡ true = full in cc;
         owed = owed false;
-        taken = λ done. takes_alone k.handles s who (asks.Close t false) replies.Done (g.content k.disk) (g.content d) refl (subst (λ (ns : List ℕ). ClaimsInOrder [] ns (g.content k.disk) (g.content d)) (sym (owners false)) (claims_meant (id.block ∷ []) (g.content k.disk) (g.content d) has.only));
+        taken = λ done. takes_alone k.handles s who (asks.Close t false) replies.Done (g.content k.disk) (final_image g d space) refl (subst (λ (ns : List ℕ). ClaimsInOrder [] ns (g.content k.disk) (final_image g d space)) (sym (owners false)) (claims_meant (id.block ∷ []) (g.content k.disk) (final_image g d space) has.only));
+        noted = λ done some. let no : false ≡ true = some in cc;
       }
 
     -- what the handles are where it failed
@@ -233,11 +243,11 @@ module _ {D : Type 0} (g : Ghosts D) (k : Kernel D) (s : State) (serves : CoreSe
     unfolding fresh
     few = replaced_blocks s.graph id object before.object (sum_by length before.fresh) serves.store.ordered held.there
         (replaced_few (g.content k.disk) s.graph serves.store.account.holds id object held.there (serves.store.account.objects id object held.there) (opened_as id was before)
-        (the_draft (g.content k.disk) ds id was before open_in (serves.store.account.drafts id object held.there)))
+        (the_draft (g.content k.disk) ds id was before (open_in g k s serves who t was held) (serves.store.account.drafts id object held.there)))
 
     takes : sum_by draft_blocks left + fresh ≤ sum_by draft_blocks ds
     unfolding fresh
-    takes = omega (arith, alone_take id (opened_as id was before) ds open_in.alone)
+    takes = omega (arith, alone_take id (opened_as id was before) ds (open_in g k s serves who t was held).alone)
 
     directory_stays : kinds_of h ≡ kinds_of s.graph
     directory_stays = kinds_in-insert_entry s.graph.objects id before.object
@@ -258,30 +268,23 @@ module _ {D : Type 0} (g : Ghosts D) (k : Kernel D) (s : State) (serves : CoreSe
     abbrev U : Option MapEntry → Bool
     U entry = of_owners (id.block ∷ []) entry
 
-    module _ (finished : space.left ≡ None) (committed : Committed g s.graph ds id before.object None k.disk d space) where
-      -- nothing is left, so the content is what was to come
-      only_now : ChangesOnly U (g.content k.disk) (g.content d)
-      only_now = subst (ChangesOnly U (g.content k.disk)) (ap (coming (g.content d)) finished) committed.only
+    module _ (noted : (l : LeftCommit) × IsNoted was.at space.left l) (committed : Committed g s.graph ds id before.object None k.disk d space) where
+      holds_now : HasStepped g None k aborted s h U left
+      holds_now = record { store = committed.store; only = committed.only; these = of_this s.graph id before.object }
 
-      holds_now : HasStepped g k aborted s h U left
-      holds_now = record {
-        store = subst (λ (w : Option LeftCommit). StoreWith g h left d space w) finished committed.store;
-        only = only_now;
-        these = of_this s.graph id before.object;
-        left = finished;
-      }
-
-      four_now : 4 ≤ sum space.free
+      four_now : 4 ≤ free_to_come g aborted
       four_now = four_left g k aborted s (closed s who t true) h serves U left holds_now 0 (omega (arith, few, takes)) (omega (arith, serves.four))
 
       pub commits : ((c : D) (n : ℕ) (i : Image) → g.left_since c n i → length i ≡ g.blocks c) → length (g.content k.disk) ≡ g.blocks d → k.stop ≡ None → Leaves g k.disk d (IsOldOrNew s.graph s.graph id before.object)
-          → Answers g k aborted s who (asks.Close t true) replies.Done
+          → Answers g None k aborted s who (asks.Close t true) replies.Done
       commits left_sized wide none leaves = record {
         event = makes_committed g k aborted s (closed s who t true) h serves U left holds_now steps state (drafts_left true) (have_left true) four_now
-            left_sized wide (events.Ask who (asks.Close t true) replies.Done) (legal true none) (fits_after wide) committed.settled leaves;
+            left_sized wide (events.Ask who (asks.Close t true) replies.Done) (legal true none) (fits_after wide) leaves;
         still = λ all. let no : true ≡ false = sym all in cc;
+        full = λ full. let no : false ≡ true = full in cc;
         owed = owed true;
-        taken = λ done. takes_alone k.handles s who (asks.Close t true) replies.Done (g.content k.disk) (g.content d) refl (subst (λ (ns : List ℕ). ClaimsInOrder [] ns (g.content k.disk) (g.content d)) (sym (owners true)) (claims_only (id.block ∷ []) (g.content k.disk) (g.content d) only_now));
+        taken = λ done. takes_alone k.handles s who (asks.Close t true) replies.Done (g.content k.disk) (final_image g d space) refl (subst (λ (ns : List ℕ). ClaimsInOrder [] ns (g.content k.disk) (final_image g d space)) (sym (owners true)) (claims_only (id.block ∷ []) (g.content k.disk) (final_image g d space) committed.only));
+        noted = λ done some. subst (λ (w : Option LeftCommit). IsSome w) (sym noted.1.is) refl;
       }
 
     pub commit_in_doubt : length (g.content k.disk) ≡ g.blocks d → Leaves g k.disk d (IsOldOrNew s.graph s.graph id before.object) → IsInDoubt g k doubtful s who (asks.Close t true)
@@ -306,17 +309,17 @@ module _ {D : Type 0} (g : Ghosts D) (k : Kernel D) (s : State) (serves : CoreSe
     gone_is = sym (but_with who t k.handles s.grants held.handle held.x held.place)
 
     module _ (bare : was.created ≡ None) (left_sized : (c : D) (n : ℕ) (i : Image) → g.left_since c n i → length i ≡ g.blocks c) (wide : length (g.content k.disk) ≡ g.blocks d) (none : k.stop ≡ None) (commit : Bool) where
-      pub ended_ok : EndsDraft g commit was k.disk d k.space space (Ok tt) → Answers g k gone s who (asks.Close t commit) replies.Done
-      ended_ok is = subst (λ ss. Answers g k (record k { disk = d; space = space; handles = ss }) s who (asks.Close t commit) replies.Done) gone_is (by commit (is.ends s.graph ds id object before serves.store held.there open_in))
+      pub ended_ok : EndsDraft g commit was k.disk d k.space space (Ok tt) → Answers g None k gone s who (asks.Close t commit) replies.Done
+      ended_ok is = subst (λ ss. Answers g None k (record k { disk = d; space = space; handles = ss }) s who (asks.Close t commit) replies.Done) gone_is (by commit is.left (is.ends s.graph ds id object before serves.store held.there (open_in g k s serves who t was held)))
         where
-          by : (b : Bool) → DraftEnds g b s.graph ds id before was k.disk d space (Ok tt) → Answers g k (aborted d space) s who (asks.Close t b) replies.Done
-          by true e = commits d space is.left e.done left_sized wide none e.leaves
-          by false e = aborts d space bare is.left e.done left_sized wide none e.leaves
+          by : (b : Bool) → LeavesDraftCommit b was.at space.left → DraftEnds g b s.graph ds id before was k.disk d space (Ok tt) → Answers g None k (aborted d space) s who (asks.Close t b) replies.Done
+          by true left e = commits d space left e.done left_sized wide none e.leaves
+          by false left e = aborts d space bare left e.done left_sized wide none e.leaves
 
-      pub ended_err : (e : Trouble) → EndsDraft g commit was k.disk d k.space space (Err e) → EndsSo g k (doubtful d space) s who (asks.Close t commit) (Err (refused_by e))
-      ended_err e is = by commit e is.tried (is.ends s.graph ds id object before serves.store held.there open_in)
+      pub ended_err : (e : Trouble) → EndsDraft g commit was k.disk d k.space space (Err e) → EndsSo g None k (doubtful d space) s who (asks.Close t commit) (Err (refused_by e))
+      ended_err e is = by commit e is.tried (is.ends s.graph ds id object before serves.store held.there (open_in g k s serves who t was held))
         where
-          by : (b : Bool) (x : Trouble) → x ≢ troubles.Disk false → DraftEnds g b s.graph ds id before was k.disk d space (Err x) → EndsSo g k (doubtful d space) s who (asks.Close t b) (Err (refused_by x))
+          by : (b : Bool) (x : Trouble) → x ≢ troubles.Disk false → DraftEnds g b s.graph ds id before was k.disk d space (Err x) → EndsSo g None k (doubtful d space) s who (asks.Close t b) (Err (refused_by x))
           by true (troubles.Disk true) tried e = commit_in_doubt d space wide e.leaves
           by false (troubles.Disk true) tried e = abort_in_doubt d space wide e.leaves
           by b (troubles.Disk false) tried e = absurd (tried refl)

@@ -1,17 +1,17 @@
 -- How a call ends that closes a grant with a draft, on any disk.
-use Rattle.std.proofs.Common.{◌≡◌, inr, ℕ, List, length, Bool, Option, Some, None, Ok, Err, IsTrue, refl, sym, ◌∙◌, ap, subst, IsSome, OnErr, OnOk, Result, option_map}
-use Rattle.cfs_core.proofs.Words.{Drafting, Ghosts, Grant, grant_of, Image, IsDraftTrouble, Kept, NoGrant, refused_by, Request, shown, State, table_of, Trouble, Tuid}
+use Rattle.std.proofs.Common.{◌≡◌, inr, ℕ, List, length, Bool, Option, Some, None, Ok, Err, IsTrue, refl, sym, ◌∙◌, ap, subst, IsSome, OnErr, OnOk, Result, option_map, inl}
+use Rattle.cfs_core.proofs.Words.{Drafting, Ghosts, Grant, grant_of, Image, IsDraftTrouble, Kept, NoGrant, refused_by, Request, shown, State, table_of, Trouble, Tuid, MakesAtMost}
 use Rattle.cfs_base.specs.declared.refusal.Trouble.TheVariants as troubles
 use Rattle.open_table.specs.Grants as tables
 use Rattle.open_table.specs.declared.grant.Grant as handles
 use Rattle.ufs_model.specs.declared.asked.Reply.TheVariants as replies
 use Rattle.ufs_model.specs.declared.asked.Request.TheVariants as asks
-use Rattle.cfs_core.specs.Calls.{IsCause, Tries}
-use Rattle.cfs_core.specs.Carried.{CallsInAll}
+use Rattle.cfs_core.specs.Calls.{IsCause, TriesWith}
 use Rattle.cfs_core.specs.Drafts.{EndsDraft}
 use Rattle.cfs_core.specs.Kernel.{Kernel, Handle, grants_in}
 use Rattle.cfs_core.specs.Handles.{drafting_at, handles_but, with_drafting}
-use Rattle.cfs_core.specs.StandsFor.{CoreServes}
+use Rattle.cyl_alloc.specs.Left.{LeftCommit}
+use Rattle.cfs_core.specs.StandsFor.{CoreServes, ServesWith}
 use Rattle.cfs_core.proofs.Ended.{IsHeld, ended_err, ended_ok, held_by}
 use Rattle.cfs_core.specs.Damage.{IsRootHere}
 use Rattle.cfs_core.proofs.Damages.{told_of_draft}
@@ -41,25 +41,25 @@ closed_handles who t (Ok x) old new some done none = done
 closed_handles who t (Err e) old new some done none = let no = subst (λ (o : Option handles.Grant). IsSome o) none some in cc
 
 -- a grant that the core finds, and of which it has the draft
-pub held_in : {D : Type 0} (g : Ghosts D) (k : Kernel D) (who : ℕ) (t : Tuid) (was : Drafting) → drafting_at k.handles t.draw ≡ Some was → IsSome (tables.session_grant (grants_in k.handles) who t)
-    → ((s : State) → tables.session_grant (table_of s.grants) who t ≡ option_map shown (grant_of s who t)) → (s : State) → CoreServes g k s → IsHeld g k s who t was
+pub held_in : {D : Type 0} {w : Option LeftCommit} (g : Ghosts D) (k : Kernel D) (who : ℕ) (t : Tuid) (was : Drafting) → drafting_at k.handles t.draw ≡ Some was → IsSome (tables.session_grant (grants_in k.handles) who t)
+    → ((s : State) → tables.session_grant (table_of s.grants) who t ≡ option_map shown (grant_of s who t)) → (s : State) → ServesWith g k s w → IsHeld g k s who t was
 held_in g k who t was has some law s serves = held_by g k s serves who t was has (the_grant (tables.session_grant (grants_in k.handles) who t) _ some (ap (λ gs. tables.session_grant gs who t) serves.front.grants ∙ law s))
 
 module _ {D : Type 0} (g : Ghosts D) (left_sized : (d : D) (t : ℕ) (c : Image) → g.left_since d t c → length c ≡ g.blocks d) (sized : (d : D) → IsTrue (g.honest d) → length (g.content d) ≡ g.blocks d)
     (k : Kernel D) (who : ℕ) (t : Tuid) (was : Drafting) (drafting : drafting_at k.handles t.draw ≡ Some was) (bare : was.created ≡ None) (the : (s : State) → CoreServes g k s → IsHeld g k s who t was)
     (d : D) (space : Kept) (commit : Bool) where
-  wide : CallsInAll g 31207 15485 k.disk d → (s : State) → CoreServes g k s → length (g.content k.disk) ≡ g.blocks d
-  wide made s serves = sized k.disk serves.store.carries.tells.honest ∙ sym made.calls.same.size
+  wide : MakesAtMost g 31207 15485 k.disk d → (s : State) → CoreServes g k s → length (g.content k.disk) ≡ g.blocks d
+  wide calls s serves = sized k.disk serves.store.carries.tells.honest ∙ sym calls.same.size
 
-  pub tries_ended : EndsDraft g commit was k.disk d k.space space (Ok tt) → Tries g k (record k { disk = d; space = space; handles = handles_but (tables.is_session_grant who t) (with_drafting t.draw None k.handles) }) who (asks.Close t commit) (Ok replies.Done)
+  pub tries_ended : EndsDraft g commit was k.disk d k.space space (Ok tt) → TriesWith g None k (record k { disk = d; space = space; handles = handles_but (tables.is_session_grant who t) (with_drafting t.draw None k.handles) }) who (asks.Close t commit) (Ok replies.Done)
   tries_ended is = record {
     ends = λ s serves none. ended_ok g k s serves who t was (the s serves) d space bare left_sized (wide is.calls s serves) none commit is;
-    went = went_so g k d space (handles_but (tables.is_session_grant who t) (with_drafting t.draw None k.handles)) is.calls.calls.same.size is.calls.calls.faults is.calls.calls.later (asks.Close t commit) (Ok replies.Done) tt tt;
+    went = went_so g k d space (handles_but (tables.is_session_grant who t) (with_drafting t.draw None k.handles)) is.calls.same.size is.calls.faults is.calls.later (asks.Close t commit) (Ok replies.Done) tt tt;
   }
 
-  pub tries_unended : (e : Trouble) → EndsDraft g commit was k.disk d k.space space (Err e) → Tries g k (record k { disk = d; space = space; handles = with_drafting t.draw None k.handles }) who (asks.Close t commit) (Err (refused_by e))
+  pub tries_unended : (e : Trouble) → EndsDraft g commit was k.disk d k.space space (Err e) → TriesWith g None k (record k { disk = d; space = space; handles = with_drafting t.draw None k.handles }) who (asks.Close t commit) (Err (refused_by e))
   tries_unended e is = record {
     ends = λ s serves none. ended_err g k s serves who t was (the s serves) d space bare left_sized (wide is.calls s serves) none commit e is;
-    went = went_so g k d space (with_drafting t.draw None k.handles) is.calls.calls.same.size is.calls.calls.faults is.calls.calls.later (asks.Close t commit) (Err (refused_by e)) tt
-        (trouble_cause g k (record k { disk = d; space = space; handles = with_drafting t.draw None k.handles }) (Some (asks.Close t commit)) was.at (inr (t.draw, was, drafting, refl)) is.calls.calls.same.size t.draw was drafting refl e is.refused);
+    went = went_so g k d space (with_drafting t.draw None k.handles) is.calls.same.size is.calls.faults is.calls.later (asks.Close t commit) (Err (refused_by e)) tt
+        (trouble_cause g k (record k { disk = d; space = space; handles = with_drafting t.draw None k.handles }) (Some (asks.Close t commit)) was.at (inr (inl (t.draw, was, drafting, refl))) is.calls.same.size t.draw was drafting refl e is.refused);
   }

@@ -2,7 +2,7 @@
 use Rattle.std.proofs.Common.{◌≡◌, ◌⊎◌, inl, inr, ℕ, ◌+◌, ◌<◌, ◌≤◌, [], length, true, false, cond, Some, None, Result, Ok, Err, IsTrue, refl, sym, ◌∙◌, ap, subst, arith, List, ◌∷◌, nat_lt, sum, Option}
 use Rattle.cfs_core.proofs.Words.{and_parts, blocks_of, byte_may_stand, Change, change_need, change_of, changed, changed_object, closed_graph, creates, draft_of, drafts_of, each_from, eq-eqb, File, FileKind, Fill, filter-rises, FitsDisk, Ghosts, Graph, has_number, held_levels, here, Holds, HoldsOfEither, Image, in_filter, in_with, index_has_pair, is_among, is_object, is_running}
 use Rattle.cfs_core.proofs.Words.{is_there, IsInside, IsPartly, IsSpeakable, Kept, object_kind, later, Leaves, leaves_in, list_all, MayChangeFile, MayLeaveFile, named, nat_tests, Need, need_for, need_of, next, numbers_rise, Object, object_at, object_at-with_object, object_whole, OnlyReads, Opened, outcome_of, Overwrite, pair_from_index, Puid, Ref, referred, refusal_of, Refused, Request, resized}
-use Rattle.cfs_core.proofs.Words.{rises-with_object, same_puid, same_puid_is, SetSize, State, still_there, stopped_after_reads, target, touched, wider, with_numbers, with_object, withs-rise, written, MapEntry, ChangesOnly, of_owner, Reply, Draft}
+use Rattle.cfs_core.proofs.Words.{rises-with_object, same_puid, same_puid_is, SetSize, State, still_there, target, touched, wider, with_numbers, with_object, withs-rise, written, MapEntry, ChangesOnly, of_owner, Reply, Draft, HasStopped, has_met_damage, reads_then, stopped_after_reads}
 use Rattle.cfs_base.specs.Run.{Tells}
 use Rattle.cfs_base.specs.declared.kind.FileKind.TheVariants as kinds
 use Rattle.cfs_base.specs.declared.refusal.Refused.TheVariants as refusals
@@ -11,24 +11,33 @@ use Rattle.ufs_model.specs.declared.asked.Reply.TheVariants as replies
 use Rattle.ufs_model.specs.declared.asked.Request.TheVariants as asks
 use Rattle.ufs_model.specs.declared.object.Object.TheVariants as objects
 use Rattle.ufs_model.specs.Graph.{IsClosedGraph}
-use Rattle.cfs_core.specs.Carried.{AltersFile, EndsAltered}
-use Rattle.cfs_core.specs.Calls.{Answers, ByWant, EndsSo, IsInDoubt, IsShortOfBlocks, Tries, Undone, done_or}
+use Rattle.cfs_core.specs.Calls.{Answers, ByWant, EndsSo, IsCause, IsInDoubt, IsShortOfBlocks, IsWant, Tries, Undone, Went, done_or, leaves_all}
 use Rattle.cfs_core.specs.Damage.{IsDamageTold, bytes_wanted, asks_delete, is_set_size}
-use Rattle.file_ops.specs.Changes.{least_size, ClaimsFor, claims_beside}
+use Rattle.file_ops.specs.Changes.{ChangesFile, ClaimsFor, EndsChange, claims_beside, least_size}
 use Rattle.cfs_core.specs.Kernel.{Kernel, Handle}
-use Rattle.cfs_core.specs.Looks.{KnowsObject, ReachesAll}
-use Rattle.cfs_core.specs.StandsFor.{CoreServes, drafts_of_handles}
+use Rattle.cfs_core.specs.Looks.{IsCalmCause, KnowsObject, ReachesAll}
+use Rattle.std.specs.Prelude.{IfOk, IsSome, ◌≢◌, Bool, is_some}
+use Rattle.block_tree.specs.declared.root.Root.{Root}
+use Rattle.cyl_alloc.specs.Left.{LeftCommit, block_shown}
+use Rattle.intentions.proofs.Shown.{store_tells}
+use Rattle.normal_files.specs.Standing.{IsRootAt}
+use Rattle.intentions.specs.Left.{final_image}
+use Rattle.file_ops.specs.Changes.{LeavesFileCommit}
+use Rattle.cfs_core.specs.Commits.{commits}
+use Rattle.cfs_core.specs.Finished.{FinishesLeft, refused_since, since}
+use Rattle.cfs_core.specs.StandsFor.{CoreServes, ServesIs, drafts_of_handles}
 use Rattle.cfs_core.specs.Ways.{Reaches}
-use Rattle.cfs_core.proofs.Damages.{far_on_disk, told_of_file, told_then}
-use Rattle.cfs_core.proofs.Went.{went_done}
+use Rattle.cfs_core.proofs.Damages.{far_on_disk, told_of_file, told_of_read, told_then}
+use Rattle.cfs_core.proofs.Joined.{done_decides, done_never, ends_since, serves_mid, since_none, went_since}
+use Rattle.cfs_core.proofs.Went.{went_done, went_so, went_then}
 use Rattle.cfs_core.proofs.After.{ends}
-use Rattle.cfs_core.proofs.Answering.{disk_failed, knows_that, memory}
+use Rattle.cfs_core.proofs.Answering.{disk_failed, full_still, knows_that, memory}
 use Rattle.cfs_core.proofs.Changed.{object_did, object_in_doubt}
 use Rattle.cfs_core.proofs.Committed.{IsCut, LeavesThese}
 use Rattle.cfs_core.proofs.Few.{blocks_within}
 use Rattle.cfs_core.proofs.Grown.{replaced_blocks}
 use Rattle.cfs_core.proofs.Refusing.{put_is}
-use Rattle.cfs_core.proofs.Serving.{fits, may_fit, running, serves_on, stays}
+use Rattle.cfs_core.proofs.Serving.{fits, may_fit, running, serves_is, serves_on, stays}
 use Rattle.cfs_core.specs.Claimed.{ClaimsInOrder, TakesForRequest, claims_for, claims_in_file, claims_through, commits_alone, is_beside, owners_of, claims_in_place, claims_in_draft, drafting_of, root_reached}
 use Rattle.cfs_core.proofs.Claimed.{Commits, claims_all, claims_only, claims_put, takes_alone, takes_last}
 use Rattle.std.specs.Prelude.{not}
@@ -47,6 +56,7 @@ pub record IsChanging (request : Request) (change : Change) : Type 0 where
   pub need : (s : State) (who : ℕ) → need_of s who request ≡ change_need s who (target request) change
   pub change_is : change_of request ≡ Some change
   pub makes : creates request ≡ false
+  pub commits_is : (s : State) (who : ℕ) → commits s who request ≡ is_beside s who (target request)
   pub claims : (handles : List Handle) (s : State) (who : ℕ) (reply : Reply) → claims_for handles s who request reply ≡ claims_through handles s who (target request) change
   pub alone : (s : State) (who : ℕ) → commits_alone s who request ≡ is_beside s who (target request)
   pub delete : asks_delete request ≡ false
@@ -62,6 +72,7 @@ write_changes to offset bytes small = record {
   need = λ s who. refl;
   change_is = refl;
   makes = refl;
+  commits_is = λ s who. refl;
   claims = λ handles s who reply. refl;
   alone = λ s who. refl;
   delete = refl;
@@ -77,6 +88,7 @@ resize_changes to size = record {
   need = λ s who. refl;
   change_is = refl;
   makes = refl;
+  commits_is = λ s who. refl;
   claims = λ handles s who reply. refl;
   alone = λ s who. refl;
   delete = refl;
@@ -191,7 +203,7 @@ same_need a b is = cc
 
 module _ {D : Type 0} (g : Ghosts D) (left_sized : (d : D) (t : ℕ) (c : Image) → g.left_since d t c → length c ≡ g.blocks d) (sized : (d : D) → IsTrue (g.honest d) → length (g.content d) ≡ g.blocks d)
     (k : Kernel D) (d : D) (space : Kept) (id : Puid) (kind : FileKind) (change : Change) (request : Request) (is : IsChanging request change)
-    (result : Result (Unit {0}) Refused) (changes : AltersFile g id.block kind 4 change k.disk d k.space space result) where
+    (result : Result (Unit {0}) Refused) (changes : ChangesFile g id.block kind 4 change k.disk d k.space space result) where
   abbrev new : Kernel D
   new = record k { disk = d; space = space }
 
@@ -210,7 +222,7 @@ module _ {D : Type 0} (g : Ghosts D) (left_sized : (d : D) (t : ℕ) (c : Image)
     need = is.need s who ∙ need_told s who (target request) id f kind change reach.name reach.bare reach.there kind_is
 
     size : g.blocks d ≡ g.blocks k.disk
-    size = changes.ends.calls.calls.same.size
+    size = changes.ends.calls.same.size
 
     wide : length (g.content k.disk) ≡ g.blocks d
     wide = sized k.disk serves.store.carries.tells.honest ∙ sym size
@@ -257,15 +269,17 @@ module _ {D : Type 0} (g : Ghosts D) (left_sized : (d : D) (t : ℕ) (c : Image)
     as_it_was : (space ≡ k.space) × OnlyReads g 31093 k.disk d → new ≡ record k { disk = d }
     as_it_was two = ap (λ (x : Kept). record k { disk = d; space = x }) two.0
 
-    full : (n : Need) → (n ≡ record { free = sum k.space.free; need = need_for kind change f }) × (sum k.space.free < need_for kind change f + 4) → (space ≡ k.space) × OnlyReads g 31093 k.disk d → Answers g k new s who request (replies.Full n)
+    full : (n : Need) → (n ≡ record { free = sum k.space.free; need = need_for kind change f }) × (sum k.space.free < need_for kind change f + 4) → (space ≡ k.space) × OnlyReads g 31093 k.disk d → Answers g None k new s who request (replies.Full n)
     full n told two =
         let need_is : n.need ≡ need_of s who request = ap (λ (x : Need). x.need) told.0 ∙ sym need in
         let free_is : n.free ≡ sum k.space.free = ap (λ (x : Need). x.free) told.0 in
         record {
           event = stays g 31093 k new two.1 (as_it_was two) s serves left_sized (sized k.disk serves.store.carries.tells.honest) (events.Ask who request (replies.Full n))
               (is.full k.words.seed s who n (running g k s serves none) goes need_is (omega (arith, told.1, need_is, free_is, need)));
-          still = λ all. record { same = as_it_was two; most = 31093; reads = two.1 };
+          still = λ all. let no : false ≡ true = all in cc;
+          full = λ _. full_still g left_sized sized 31093 k new two.1 (as_it_was two) s who serves none refl;
           taken = λ done. let no : false ≡ true = done in cc;
+          noted = λ done. let no : false ≡ true = done in cc;
           owed = ByWant goes (record { delete = is.delete; few = omega (arith, told.1, need) })
               (ap (λ (x : Need). replies.Full x) told.0 ∙ ap (λ (x : ℕ). replies.Full (record { free = sum k.space.free; need = x })) (sym need));
         }
@@ -281,11 +295,11 @@ module _ {D : Type 0} (g : Ghosts D) (left_sized : (d : D) (t : ℕ) (c : Image)
       leaves = wider g k.disk d _ _ still (λ c holds. record { graph = s.graph; may = Undone; fits = fits g k s serves (g.blocks d) wide; holds = holds });
     }
 
-    takes : ChangesOnly (λ entry. of_owner id.block entry) (g.content k.disk) (g.content d) → ClaimsFor kind change id.block f (g.content k.disk) (g.content d) → TakesForRequest k.handles s who request replies.Done (g.content k.disk) (g.content d)
+    takes : ChangesOnly (λ entry. of_owner id.block entry) (g.content k.disk) (final_image g d space) → ClaimsFor kind change id.block f (g.content k.disk) (final_image g d space) → TakesForRequest k.handles s who request replies.Done (g.content k.disk) (final_image g d space)
     takes only order = elim (by kind change kind_is order) [
-      | inl two ↦ takes_alone k.handles s who request replies.Done (g.content k.disk) (g.content d) (is.alone s who ∙ beside_is ∙ ap not two.1)
-          (subst (λ (cs : List MapEntry). ClaimsInOrder cs (owners_of s who request replies.Done) (g.content k.disk) (g.content d)) (sym claims_are) (subst (λ (ns : List ℕ). ClaimsInOrder (claims_in_file id.block change f) ns (g.content k.disk) (g.content d)) (sym owners_are) two.0))
-      | inr last ↦ takes_last k.handles s who request replies.Done (g.content k.disk) (g.content d) (claims_in_file id.block change f) (id.block ∷ []) id.block claims_are owners_are root_is last
+      | inl two ↦ takes_alone k.handles s who request replies.Done (g.content k.disk) (final_image g d space) (is.alone s who ∙ beside_is ∙ ap not two.1)
+          (subst (λ (cs : List MapEntry). ClaimsInOrder cs (owners_of s who request replies.Done) (g.content k.disk) (final_image g d space)) (sym claims_are) (subst (λ (ns : List ℕ). ClaimsInOrder (claims_in_file id.block change f) ns (g.content k.disk) (final_image g d space)) (sym owners_are) two.0))
+      | inr last ↦ takes_last k.handles s who request replies.Done (g.content k.disk) (final_image g d space) (claims_in_file id.block change f) (id.block ∷ []) id.block claims_are owners_are root_is last
     ]
       where
         root_is : root_reached s who (target request) ≡ id.block
@@ -314,50 +328,142 @@ module _ {D : Type 0} (g : Ghosts D) (left_sized : (d : D) (t : ℕ) (c : Image)
         so : (y : Change) (x : FileKind) → f.kind ≡ x → claims_in_file id.block y f ≡ elim x [ kinds.Normal ↦ claims_in_place id.block y f | kinds.Special ↦ claims_beside id.block y f ]
         so y x at = ap (λ (z : FileKind). elim z [ kinds.Normal ↦ claims_in_place id.block y f | kinds.Special ↦ claims_beside id.block y f ]) at
 
-        by : (x : FileKind) (y : Change) → f.kind ≡ x → ClaimsFor x y id.block f (g.content k.disk) (g.content d) → (ClaimsInOrder (claims_in_file id.block y f) (id.block ∷ []) (g.content k.disk) (g.content d) × (is_normal (objects.File f) ≡ true)) ⊎ Commits (claims_in_file id.block y f) (id.block ∷ []) id.block (g.content k.disk) (g.content d)
-        by kinds.Normal (Overwrite offset bytes) at claimed = inl (subst (λ (cs : List MapEntry). ClaimsInOrder cs (id.block ∷ []) (g.content k.disk) (g.content d)) (sym (so (Overwrite offset bytes) kinds.Normal at)) (claims_all (plain.claims_of id.block f offset (length bytes)) (id.block ∷ []) (g.content k.disk) (g.content d) claimed), normal_is at)
-        by kinds.Normal (SetSize n) at none = inl (subst (λ (cs : List MapEntry). ClaimsInOrder cs (id.block ∷ []) (g.content k.disk) (g.content d)) (sym (so (SetSize n) kinds.Normal at)) (claims_only (id.block ∷ []) (g.content k.disk) (g.content d) only), normal_is at)
-        by kinds.Normal (Fill slot what) at none = inl (subst (λ (cs : List MapEntry). ClaimsInOrder cs (id.block ∷ []) (g.content k.disk) (g.content d)) (sym (so (Fill slot what) kinds.Normal at)) (claims_only (id.block ∷ []) (g.content k.disk) (g.content d) only), normal_is at)
-        by kinds.Special y at beside = inr (subst (λ (cs : List MapEntry). Commits cs (id.block ∷ []) id.block (g.content k.disk) (g.content d)) (sym (so y kinds.Special at)) (claims_put id.block (claims_beside id.block y f) (g.content k.disk) (g.content d) beside))
+        by : (x : FileKind) (y : Change) → f.kind ≡ x → ClaimsFor x y id.block f (g.content k.disk) (final_image g d space) → (ClaimsInOrder (claims_in_file id.block y f) (id.block ∷ []) (g.content k.disk) (final_image g d space) × (is_normal (objects.File f) ≡ true)) ⊎ Commits (claims_in_file id.block y f) (id.block ∷ []) id.block (g.content k.disk) (final_image g d space)
+        by kinds.Normal (Overwrite offset bytes) at claimed = inl (subst (λ (cs : List MapEntry). ClaimsInOrder cs (id.block ∷ []) (g.content k.disk) (final_image g d space)) (sym (so (Overwrite offset bytes) kinds.Normal at)) (claims_all (plain.claims_of id.block f offset (length bytes)) (id.block ∷ []) (g.content k.disk) (final_image g d space) claimed), normal_is at)
+        by kinds.Normal (SetSize n) at none = inl (subst (λ (cs : List MapEntry). ClaimsInOrder cs (id.block ∷ []) (g.content k.disk) (final_image g d space)) (sym (so (SetSize n) kinds.Normal at)) (claims_only (id.block ∷ []) (g.content k.disk) (final_image g d space) only), normal_is at)
+        by kinds.Normal (Fill slot what) at none = inl (subst (λ (cs : List MapEntry). ClaimsInOrder cs (id.block ∷ []) (g.content k.disk) (final_image g d space)) (sym (so (Fill slot what) kinds.Normal at)) (claims_only (id.block ∷ []) (g.content k.disk) (final_image g d space) only), normal_is at)
+        by kinds.Special y at beside = inr (subst (λ (cs : List MapEntry). Commits cs (id.block ∷ []) id.block (g.content k.disk) (final_image g d space)) (sym (so y kinds.Special at)) (claims_put id.block (claims_beside id.block y f) (g.content k.disk) (final_image g d space) beside))
 
-    did_so : (r : Result (Unit {0}) Refused) → r ≡ result → EndsSo g k new s who request (done_or r)
+    -- a special file's commit is noted; a normal file's change is none
+    noted : (x : FileKind) → kind ≡ x → LeavesFileCommit x id.block space.left → commits s who request ≡ true → IsSome space.left
+    noted kinds.Special at left some = subst (λ (w : Option LeftCommit). IsSome w) (sym left.1.is) refl
+    noted kinds.Normal at left some =
+        let none_of : is_beside s who (target request) ≡ false = rw (reach.bare, reach.name, reach.there, kind_is ∙ at) refl in
+        let no : true ≡ false = sym some ∙ is.commits_is s who ∙ none_of in cc
+
+    did_so : (r : Result (Unit {0}) Refused) → r ≡ result → EndsSo g None k new s who request (done_or r)
     did_so (Ok u) same =
         let done = rw (← same) at (changes.done s.graph drafts id f has) in
         let free = rw (← same) at (changes.room s.graph drafts id f has) in
         object_did g left_sized sized k new size refl none s after who request serves id (objects.File f) o reach.there (same_kinds change f) (need_for kind change f) more goes is.makes (is.speaks who) out
-        (record { graph = refl; grants = refl; drawn = refl; stopped = refl; sweeping = refl }) (roomy free) free (left free) done.store done.left done.only
-        (takes done.only (rw (← same) at (changes.order s.graph drafts id f has)))
+        (record { graph = refl; grants = refl; drawn = refl; stopped = refl; sweeping = refl }) (roomy free) free (left free) done.store done.only
+        (takes done.only (rw (← same) at (changes.order s.graph drafts id f has))) (noted kind refl (rw (← same) at changes.ends.left))
     did_so (Err (refusals.Full n)) same = let told = (rw (← same) at (changes.full s.graph drafts id f has)) refl in full n (same_need n _ told.0, told.1) ((rw (← same) at changes.ends.untried) refl)
     did_so (Err (refusals.Disk false)) same = let two = (rw (← same) at changes.ends.untried) refl in disk_failed g left_sized sized 31093 k new two.1 (as_it_was two) s who serves none request
     did_so (Err (refusals.Disk true)) same = doubtful ((rw (← same) at (changes.begun s.graph drafts id f has)) refl)
     did_so (Err (refusals.Damaged damage)) same = let no : true ≡ false = rw (← same) at (changes.sound s.graph drafts id f has) in cc
     did_so (Err refusals.Memory) same = let two = (rw (← same) at changes.ends.untried) refl in memory g left_sized sized 31093 k new two.1 (as_it_was two) s who serves none request
 
-    pub did : EndsSo g k new s who request (done_or result)
+    pub did : EndsSo g None k new s who request (done_or result)
     did = did_so result refl
 
--- a call that read the size first, or nothing
-pub tries_changed : {D : Type 0} (g : Ghosts D) (left_sized : (d : D) (t : ℕ) (c : Image) → g.left_since d t c → length c ≡ g.blocks d) (sized : (d : D) → IsTrue (g.honest d) → length (g.content d) ≡ g.blocks d)
-    (n : ℕ) (k : Kernel D) (mid d : D) (space : Kept) → OnlyReads g n k.disk mid → (id : Puid) (kind : FileKind) (change : Change) (request : Request) → IsChanging request change
-    → (result : Result (Unit {0}) Refused) → (Tells g k.disk → AltersFile g id.block kind 4 change mid d k.space space result)
-    → (top : Top) → top.block ≡ id.block → ((size : ℕ) → top.IsFar size → (disk_top g id.block k.disk).IsFar size) → EndsAltered g top kind 4 change mid d k.space space result → (who : ℕ) → ReachesAll g objects.File k who request id
-    → ((s : State) (f : File) → CoreServes g k s → Reaches s who request id (objects.File f) → KnowsObject g k.disk id.block (objects.File f) → (f.kind ≡ kind) × IsInside change (objects.File f) × (refusal_of s who request ≡ None))
-    → Tries g k (record k { disk = d; space = space }) who request (done_or result)
-tries_changed {D = D} g left_sized sized n k mid d space reads id kind change request is result changes top at far end who reaches goes = record {
-  ends = λ s serves none.
-      let r = reaches.0 s serves in
-      let may = goes s r.0 serves r.1 (knows_that g k s serves id (objects.File r.0) r.1.there r.2) in
-      ends g n k mid (record k { disk = d; space = space }) reads request s who (done_or result)
-      (did g left_sized sized (record k { disk = mid }) d space id kind change request is result (changes serves.store.carries.tells) s who r.0 (serves_on g n k (record k { disk = mid }) reads refl s serves) none r.1 r.2 may.0 may.1 may.2);
-  went = went_done g k d space k.handles size (omega (arith, reads.faults, end.calls.calls.faults)) (omega (arith, reads.images.later, end.calls.calls.later)) request result
-      (λ tried is. stopped_after_reads g k.disk mid d n tried reads (rw is at end.refused))
-      (λ damage met. told_of_file g (record k { disk = mid }) new (Some request) id.block (inl reaches.1) damage end.calls.calls.same.size top at (IsDamageTold g k new (Some request) damage) (told_then g k new n mid (Some request) damage reads)
-      (λ code block is. far_on_disk g k new (Some request) id.block (inl reaches.1) damage size code block (far (g.blocks k.disk) (subst top.IsFar reads.same.size is))) kind change is.wants (λ set. inr (is.sets set, refl)) (rw met at end.refused))
-      (λ need want. let why = rw want at end.refused in let kept = ((rw want at end.untried) refl).0 in (is.delete, why.0 ∙ ap (λ (x : Kept). sum x.free) kept, why.1));
-}
-  where
-    new : Kernel D
-    new = record k { disk = d; space = space }
+-- a call that read the size first, or nothing; that carried out what was left; and that read the root again, or didn't
+module _ {D : Type 0} (g : Ghosts D) (left_sized : (d : D) (t : ℕ) (c : Image) → g.left_since d t c → length c ≡ g.blocks d) (sized : (d : D) → IsTrue (g.honest d) → length (g.content d) ≡ g.blocks d)
+    (k : Kernel D) (n : ℕ) (d0 : D) (first : OnlyReads g n k.disk d0) (d1 : D) (space1 : Kept) (tried : Bool) (fin : FinishesLeft g d0 d1 k.space space1 (Ok tried)) (m : ℕ) (d2 : D) (again : OnlyReads g m d1 d2)
+    (id : Puid) (request : Request) (who : ℕ) (reaches : ReachesAll g objects.File k who request id) where
+  abbrev before : Kernel D
+  before = record k { disk = d0 }
 
-    size : g.blocks d ≡ g.blocks k.disk
-    size = end.calls.calls.same.size ∙ reads.same.size
+  abbrev mid : Kernel D
+  mid = record k { disk = d1; space = space1 }
+
+  abbrev read : Kernel D
+  read = record k { disk = d2; space = space1 }
+
+  serves_before : (s : State) → ServesIs g k s → ServesIs g before s
+  serves_before s serves = serves_on g n k before first refl s serves
+
+  serves_there : (s : State) → ServesIs g k s → CoreServes g mid s
+  serves_there s serves = serves_mid g before d1 space1 tried fin s (serves_before s serves)
+
+  -- what was done then is what the call did
+  module _ (new : Kernel D) (result : Result Reply Refused) (size : g.blocks new.disk ≡ g.blocks d1) (decides : IfOk result (λ reply. leaves_all reply ≡ false)) (never : result ≢ Err refusals.Memory) where
+    ends_joined : (s : State) → ServesIs g k s → k.stop ≡ None → refusal_of s who request ≡ None → EndsSo g None mid new s who request result → EndsSo g k.space.left k new s who request (since tried result)
+    ends_joined s serves none goes is = ends g n k d0 new first request k.space.left s who (since tried result)
+        (ends_since g before d1 space1 tried fin left_sized sized new s who request (serves_before s serves) none goes result (λ some. decides) (λ some. never) size is)
+
+    went_joined : Went g mid new request result → Went g k new request (since tried result)
+    went_joined went = went_then g n k d0 new first request (since tried result) (went_since g before d1 space1 tried fin new request result went)
+
+  -- the root couldn't be read again
+  pub tries_unread : (e : Refused) → ((f : File) → KnowsObject g d1 id.block (objects.File f) → has_met_damage e ≡ false) → IsCalmCause g id.block d1 d2 e → e ≢ refusals.Memory
+      → ((s : State) → ServesIs g k s → refusal_of s who request ≡ None) → Tries g k read who request (Err (refused_since tried e))
+  tries_unread e sound cause never goes = record {
+    ends = λ s serves none. ends_joined read (Err e) again.same.size tt other s serves none (goes s serves) (by e s serves none sound cause never);
+    went = went_joined read (Err e) again.same.size tt other (went_so g mid d2 space1 k.handles again.same.size again.faults again.images.later request (Err e) tt (calm_here e cause));
+  }
+    where
+      other : ◌≢◌ {A = Result Reply Refused} (Err e) (Err refusals.Memory)
+      other = λ is. never (let same : e ≡ refusals.Memory = cc in same)
+
+      calm_here : (x : Refused) → IsCalmCause g id.block d1 d2 x → IsCause g mid read (Some request) x
+      calm_here (refusals.Full need) is = absurd is
+      calm_here (refusals.Disk was) is = subst (λ (b : Bool). HasStopped g b d1 d2) (sym is.0) is.1
+      calm_here (refusals.Damaged damage) is = told_of_read g mid read request id.block damage (inl reaches.1) is
+      calm_here refusals.Memory is = tt
+
+      by : (x : Refused) (s : State) → ServesIs g k s → k.stop ≡ None → ((f : File) → KnowsObject g d1 id.block (objects.File f) → has_met_damage x ≡ false) → IsCalmCause g id.block d1 d2 x → x ≢ refusals.Memory → EndsSo g None mid read s who request (Err x)
+      by (refusals.Full need) s serves none calm is other = absurd is
+      by (refusals.Disk was) s serves none calm is other = subst (λ (b : Bool). EndsSo g None mid read s who request (Err (refusals.Disk b))) (sym is.0) (disk_failed g left_sized sized m mid read again refl s who (serves_there s serves) none request)
+      by (refusals.Damaged damage) s serves none calm is other =
+          let r = reaches.0 s serves in
+          let now = serves_there s serves in
+          let no : true ≡ false = calm r.0 (knows_that g mid s (serves_is g mid s now) id (objects.File r.0) id.block (ap (λ (w : Option LeftCommit). block_shown w id.block) (sym fin.done)) r.1.there r.2) in cc
+      by refusals.Memory s serves none calm is other = absurd (other refl)
+
+  -- changed from this root, of which a pointer may lead past the disk as it is then
+  module _ (d : D) (space : Kept) (kind : FileKind) (change : Change) (is : IsChanging request change) (result : Result (Unit {0}) Refused) (top : Top) (at : top.block ≡ id.block) (end : EndsChange g top kind 4 change d2 d space1 space result) where
+    abbrev changed_to : Kernel D
+    changed_to = record k { disk = d; space = space }
+
+    wants : (need : Need) → result ≡ Err (refusals.Full need) → IsWant (Some request) (sum space1.free) need
+    wants need want = let why = rw want at end.refused in let kept = ((rw want at end.untried) refl).0 in (is.delete, why.0 ∙ ap (λ (x : Kept). sum x.free) kept, why.1)
+
+    -- where nothing was left the call only read before
+    went_bare : k.space.left ≡ None → ((size : ℕ) → top.IsFar size → (disk_top g id.block k.disk).IsFar size) → Went g k changed_to request (done_or result)
+    went_bare nothing far =
+        let same = fin.none nothing in
+        let all = reads_then g k.disk d0 d2 n m (n + m) first (subst (λ (x : D). OnlyReads g m x d2) same.0 again) (omega arith) in
+        went_done g k d space k.handles (end.calls.same.size ∙ all.same.size) (omega (arith, all.faults, end.calls.faults)) (omega (arith, all.images.later, end.calls.later)) request result
+        (λ b was. stopped_after_reads g k.disk d2 d (n + m) b all (rw was at end.refused))
+        (λ damage met. told_of_file g (record k { disk = d2 }) changed_to (Some request) id.block (inl reaches.1) damage end.calls.same.size top at (IsDamageTold g k changed_to (Some request) damage) (told_then g k changed_to (n + m) d2 (Some request) damage all)
+        (λ code block past. far_on_disk g k changed_to (Some request) id.block (inl reaches.1) damage (end.calls.same.size ∙ all.same.size) code block (far (g.blocks k.disk) (subst top.IsFar all.same.size past))) kind change is.wants (λ set. inr (is.sets set, refl)) (rw met at end.refused))
+        (λ need want. subst (λ (x : Kept). IsWant (Some request) (sum x.free) need) same.1 (wants need want))
+
+    went_mid : ((size : ℕ) → top.IsFar size → (disk_top g id.block d1).IsFar size) → Went g mid changed_to request (done_or result)
+    went_mid far = went_done g mid d space k.handles (end.calls.same.size ∙ again.same.size) (omega (arith, again.faults, end.calls.faults)) (omega (arith, again.images.later, end.calls.later)) request result
+        (λ b was. stopped_after_reads g d1 d2 d m b again (rw was at end.refused))
+        (λ damage met. told_of_file g read changed_to (Some request) id.block (inl reaches.1) damage end.calls.same.size top at (IsDamageTold g mid changed_to (Some request) damage) (told_then g mid changed_to m d2 (Some request) damage again)
+        (λ code block past. far_on_disk g mid changed_to (Some request) id.block (inl reaches.1) damage (end.calls.same.size ∙ again.same.size) code block (far (g.blocks d1) (subst top.IsFar again.same.size past))) kind change is.wants (λ set. inr (is.sets set, refl)) (rw met at end.refused))
+        wants
+
+    pub tries_filed : (Tells g k.disk → Tells g d1 → ChangesFile g id.block kind 4 change d2 d space1 space result) → (tried ≡ false → (size : ℕ) → top.IsFar size → (disk_top g id.block k.disk).IsFar size) → (tried ≡ true → (size : ℕ) → top.IsFar size → (disk_top g id.block d1).IsFar size)
+        → (kind ≡ kinds.Special → result ≢ Err refusals.Memory) → ((s : State) (f : File) → ServesIs g k s → Reaches s who request id (objects.File f) → drafts_of (drafts_of_handles k.handles s.grants) id ≡ [] → (f.kind ≡ kind) × IsInside change (objects.File f) × (refusal_of s who request ≡ None))
+        → Tries g k changed_to who request (since tried (done_or result))
+    tries_filed changes far_bare far_mid special goes = record {
+      ends = λ s serves none.
+          let r = reaches.0 s serves in
+          let may = goes s r.0 serves r.1 r.2 in
+          let now = serves_there s serves in
+          ends_joined changed_to (done_or result) size (done_decides result) never s serves none may.2
+          (ends g m mid d2 changed_to again request None s who (done_or result)
+          (did g left_sized sized read d space id kind change request is result (changes (store_tells g s.graph (drafts_of_handles k.handles s.grants) k.disk k.space serves.store) now.store.carries.tells) s who r.0 (serves_on g m mid read again refl s now) none r.1 r.2 may.0 may.1 may.2));
+      went = by k.space.left refl;
+    }
+      where
+        size : g.blocks d ≡ g.blocks d1
+        size = end.calls.same.size ∙ again.same.size
+
+        never : done_or result ≢ Err refusals.Memory
+        never = done_never result (λ wanted. special (rw wanted at end.refused) wanted)
+
+        by : (w : Option LeftCommit) → k.space.left ≡ w → Went g k changed_to request (since tried (done_or result))
+        by None nothing =
+            let bare : tried ≡ false = fin.told ∙ ap is_some nothing in
+            subst (λ (b : Bool). Went g k changed_to request (since b (done_or result))) (sym bare) (subst (Went g k changed_to request) (sym (since_none (done_or result))) (went_bare nothing (far_bare bare)))
+        by (Some l) left = went_joined changed_to (done_or result) size (done_decides result) never (went_mid (far_mid (fin.told ∙ ap is_some left)))
+
+-- the root that is there: where nothing was left it is that which was read
+pub root_there : (tried : Bool) (a b : Image) (at seen : ℕ) (was root : Root) → (tried ≡ true → IsRootAt b at root) → (tried ≡ false → (root ≡ was) × (b ≡ a) × (seen ≡ at)) → IsRootAt a seen was → IsRootAt b at root
+root_there true a b at seen was root anew same is = anew refl
+root_there false a b at seen was root anew same is = let three = same refl in rw (three.0, three.1, sym three.2) is

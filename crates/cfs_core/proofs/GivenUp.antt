@@ -1,62 +1,132 @@
 -- How a draft is given up while a session leaves.
-use Rattle.std.proofs.Common.{◌≡◌, ◌≢◌, ◌-◌, ℕ, List, true, false, Some, None, refl, sym, ◌∙◌, ap, subst}
-use Rattle.cfs_core.proofs.Words.{Draft, Drafting, Dropped, Ghosts, Graph, HasFailed, Holds, is_damage, IsOpen, IsDraftTrouble, Kept, Leaves, MakesAtMost, Object, object_at, Opened, Puid, refused_by, StoreHas, Trouble}
+use Rattle.std.proofs.Common.{◌≡◌, ◌≢◌, ◌-◌, ◌≤◌, ℕ, List, Bool, true, false, Some, None, Ok, Err, refl, sym, ◌∙◌, ap, subst, arith}
+use Rattle.cfs_core.proofs.Words.{Draft, Drafting, Dropped, Ghosts, Graph, HasFailed, Holds, is_damage, IsOpen, IsDraftTrouble, Kept, Leaves, MakesAtMost, nothing_made, Object, object_at, Opened, Puid, refused_by, StoreHas, then, Trouble}
 use Rattle.cfs_base.specs.declared.refusal.Trouble.TheVariants as troubles
 use Rattle.cfs_base.specs.declared.refusal.Damage.{Damage}
+use Rattle.special_files.specs.Committing.{draft_top}
 use Rattle.special_files.specs.Refusal.{IsDraftDamage}
 use Rattle.cfs_core.specs.declared.kernel.Stop.{Stop}
 use Rattle.cfs_core.specs.Asked.{stopped_by, reply_to}
 use Rattle.cfs_core.specs.Kernel.{Kernel}
-use Rattle.cfs_core.specs.Leaving.{GivesUp}
-use Rattle.special_files.specs.Committing.{draft_top}
+use Rattle.cfs_base.proofs.Calls.{failed_since}
+use Rattle.cfs_base.specs.Refusals.{trouble_after_try}
+use Rattle.finisher.proofs.Finished.{finished_content, finished_store}
+use Rattle.finisher.specs.Going.{IsLeftTrouble}
+use Rattle.intentions.specs.Left.{StoreIs}
+use Rattle.special_files.specs.Refusal.{NoMap}
+use Rattle.cfs_core.specs.Finished.{FinishesLeft}
+use Rattle.cfs_core.specs.Leaving.{GivesUp, MeetsDamage}
+use Rattle.cfs_core.proofs.Stored.{going_in}
 
-module _ {D : Type 0} (g : Ghosts D) (was : Drafting) (k : Kernel D) (d : D) (space : Kept) (n m : ℕ) (calls : MakesAtMost g n m k.disk d) (runs : k.stop ≡ None) (left_same : space.left ≡ k.space.left)
-    (leaves : (graph : Graph) (ds : List Opened) (id : Puid) (o : Object) (dr : Draft) → StoreHas g graph ds k.disk k.space → object_at graph id ≡ Some o → IsOpen ds id was dr → Leaves g k.disk d (λ c. Holds c graph)) where
+-- A draft wasn't given up, and the core stops.
+stops_so : {D : Type 0} (g : Ghosts D) (was : Drafting) (k : Kernel D) (d : D) (space : Kept) → g.blocks d ≡ g.blocks k.disk → g.faults k.disk ≤ g.faults d → g.moment k.disk ≤ g.moment d → k.stop ≡ None
+    → ((graph : Graph) (ds : List Opened) (id : Puid) (o : Object) (dr : Draft) → StoreIs g graph ds k.disk k.space → object_at graph id ≡ Some o → IsOpen ds id was dr → Leaves g k.disk d (λ c. Holds c graph))
+    → (e : Trouble) → e ≢ troubles.Disk false → ((b : Bool) → e ≡ troubles.Disk b → HasFailed g k.disk d) → ((damage : Damage) → e ≡ troubles.Damaged damage → MeetsDamage g (draft_top was) k (record k { disk = d; space = space }) damage)
+    → ((graph : Graph) (ds : List Opened) (id : Puid) (o : Object) (dr : Draft) → StoreIs g graph ds k.disk k.space → object_at graph id ≡ Some o → IsOpen ds id was dr → is_damage e ≡ false)
+    → GivesUp g was k (record k { disk = d; space = space; stop = stopped_by (reply_to (refused_by e) (g.moment d)) k.stop })
+stops_so g was k d space size faults later runs leaves e untried failed met sound = at e refl untried
+  where
+    no_stop : {A : Type 0} (stop : Stop) → k.stop ≡ Some stop → A
+    no_stop stop is = let no : None ≡ Some stop = sym runs ∙ is in cc
+
+    with_stop : (stop : Stop) → (stop.damage ≡ None → HasFailed g k.disk d × (stop.moment ≡ g.moment d - 1)) → ((damage : Damage) → stop.damage ≡ Some damage → MeetsDamage g (draft_top was) k (record k { disk = d; space = space }) damage × (stop.moment ≡ g.moment d))
+        → ((graph : Graph) (ds : List Opened) (id : Puid) (o : Object) (dr : Draft) → StoreIs g graph ds k.disk k.space → object_at graph id ≡ Some o → IsOpen ds id was dr → stop.damage ≡ None)
+        → GivesUp g was k (record k { disk = d; space = space; stop = Some stop })
+    with_stop stop fails meets calm = record {
+      same = refl;
+      size = size;
+      faults = faults;
+      later = later;
+      idle = λ other is. no_stop other is;
+      left = λ none still. let no : Some stop ≡ None = still in cc;
+      ends = λ graph ds id o dr store there opened none. record {
+        leaves = leaves graph ds id o dr store there opened;
+        given = λ still. let no : Some stop ≡ None = still in cc;
+        sound = λ other is. let same : stop ≡ other = cc in ap (λ (x : Stop). x.damage) (sym same) ∙ calm graph ds id o dr store there opened;
+      };
+      failed = λ other none is quiet. let same : stop ≡ other = cc in rw (← same) (fails (ap (λ (x : Stop). x.damage) same ∙ quiet));
+      damaged = λ other damage none is there. let same : stop ≡ other = cc in
+          let two = meets damage (ap (λ (x : Stop). x.damage) same ∙ there) in
+          (record { mid = two.0.mid; calls = two.0.calls; is = two.0.is }, ap (λ (x : Stop). x.moment) (sym same) ∙ two.1);
+    }
+
+    at : (t : Trouble) → t ≡ e → t ≢ troubles.Disk false → GivesUp g was k (record k { disk = d; space = space; stop = stopped_by (reply_to (refused_by t) (g.moment d)) k.stop })
+    at (troubles.Disk true) is first = with_stop _ (λ none. (failed true (sym is), refl)) (λ damage none. let no : None ≡ Some damage = none in cc) (λ graph ds id o dr store there opened. refl)
+    at (troubles.Disk false) is first = absurd (first refl)
+    at (troubles.Damaged damage) is first = with_stop _ (λ none. let no : Some damage ≡ None = none in cc) (λ other same. let one : damage ≡ other = cc in (met other (sym is ∙ ap (λ (x : Damage). troubles.Damaged x) one), refl))
+        (λ graph ds id o dr store there opened. let no : true ≡ false = ap is_damage is ∙ sound graph ds id o dr store there opened in cc)
+
+-- What was left of a commit was carried out first.
+module _ {D : Type 0} (g : Ghosts D) (was : Drafting) (k : Kernel D) (d1 : D) (space1 : Kept) (tried : Bool) (fin : FinishesLeft g k.disk d1 k.space space1 (Ok tried)) (d : D) (space : Kept) (n m : ℕ) (calls : MakesAtMost g n m d1 d) (runs : k.stop ≡ None) (left_same : space.left ≡ space1.left)
+    (leaves : (graph : Graph) (ds : List Opened) (id : Puid) (o : Object) (dr : Draft) → StoreHas g graph ds d1 space1 → object_at graph id ≡ Some o → IsOpen ds id was dr → Leaves g d1 d (λ c. Holds c graph)) where
   no_stop : {A : Type 0} (stop : Stop) → k.stop ≡ Some stop → A
   no_stop stop is = let no : None ≡ Some stop = sym runs ∙ is in cc
 
-  pub given_up : ((graph : Graph) (ds : List Opened) (id : Puid) (o : Object) (dr : Draft) → StoreHas g graph ds k.disk k.space → object_at graph id ≡ Some o → IsOpen ds id was dr → Dropped g graph ds id was.created k.disk d space)
+  size : g.blocks d ≡ g.blocks k.disk
+  size = calls.same.size ∙ fin.calls.same.size
+
+  store_now : (graph : Graph) (ds : List Opened) → StoreIs g graph ds k.disk k.space → StoreHas g graph ds d1 space1
+  store_now graph ds store = finished_store g graph ds k.disk d1 k.space space1 fin.goes store fin.done
+
+  leaves_all : (graph : Graph) (ds : List Opened) (id : Puid) (o : Object) (dr : Draft) → StoreIs g graph ds k.disk k.space → object_at graph id ≡ Some o → IsOpen ds id was dr → Leaves g k.disk d (λ c. Holds c graph)
+  leaves_all graph ds id o dr store at opened = then g k.disk d1 d _ _ (fin.goes.leaves graph (going_in g graph ds k.disk k.space k.space.left store)) (leaves graph ds id o dr (store_now graph ds store) at opened) (λ c p. p)
+
+  pub given_up : ((graph : Graph) (ds : List Opened) (id : Puid) (o : Object) (dr : Draft) → StoreHas g graph ds d1 space1 → object_at graph id ≡ Some o → IsOpen ds id was dr → Dropped g graph ds id was.created d1 d space)
       → GivesUp g was k (record k { disk = d; space = space })
   given_up done = record {
     same = refl;
-    size = calls.same.size;
-    faults = calls.faults;
-    later = calls.later;
+    size = size;
+    faults = omega (arith, fin.calls.faults, calls.faults);
+    later = omega (arith, fin.calls.later, calls.later);
     idle = λ stop is. no_stop stop is;
-    left = left_same;
-    ends = λ graph ds id o dr store at opened none. record { leaves = leaves graph ds id o dr store at opened; dropped = λ still. done graph ds id o dr store at opened; sound = λ stop is. no_stop stop is };
+    left = λ none still. left_same ∙ fin.done;
+    ends = λ graph ds id o dr store at opened none. record {
+      leaves = leaves_all graph ds id o dr store at opened;
+      given = λ still. record {
+        mid = d1;
+        space = space1;
+        store = store_now graph ds store;
+        none = fin.done;
+        content = finished_content g graph ds k.disk d1 k.space space1 fin.goes store fin.done;
+        dropped = done graph ds id o dr (store_now graph ds store) at opened;
+      };
+      sound = λ stop is. no_stop stop is;
+    };
     failed = λ stop none is quiet. no_stop stop is;
     damaged = λ stop damage none is met. no_stop stop is;
   }
 
   -- it stops
-  pub not_given_up : (e : Trouble) → e ≢ troubles.Disk false → IsDraftTrouble g (draft_top was) k.disk d space e
-      → ((graph : Graph) (ds : List Opened) (id : Puid) (o : Object) (dr : Draft) → StoreHas g graph ds k.disk k.space → object_at graph id ≡ Some o → IsOpen ds id was dr → is_damage e ≡ false)
+  pub not_given_up : (e : Trouble) → e ≢ troubles.Disk false → IsDraftTrouble g (draft_top was) d1 d space e
+      → ((graph : Graph) (ds : List Opened) (id : Puid) (o : Object) (dr : Draft) → StoreHas g graph ds d1 space1 → object_at graph id ≡ Some o → IsOpen ds id was dr → is_damage e ≡ false)
       → GivesUp g was k (record k { disk = d; space = space; stop = stopped_by (reply_to (refused_by e) (g.moment d)) k.stop })
-  not_given_up e tried why sound = at e tried why sound
+  not_given_up e untried why sound = stops_so g was k d space size (omega (arith, fin.calls.faults, calls.faults)) (omega (arith, fin.calls.later, calls.later)) runs leaves_all e untried (at e why) (met e why) (λ graph ds id o dr store there opened. sound graph ds id o dr (store_now graph ds store) there opened)
     where
-      with_stop : (stop : Stop) → (stop.damage ≡ None → HasFailed g k.disk d × (stop.moment ≡ g.moment d - 1)) → ((damage : Damage) → stop.damage ≡ Some damage → IsDraftDamage g (draft_top was) k.disk d space damage × (stop.moment ≡ g.moment d))
-          → ((graph : Graph) (ds : List Opened) (id : Puid) (o : Object) (dr : Draft) → StoreHas g graph ds k.disk k.space → object_at graph id ≡ Some o → IsOpen ds id was dr → stop.damage ≡ None)
-          → GivesUp g was k (record k { disk = d; space = space; stop = Some stop })
-      with_stop stop failed met calm = record {
-        same = refl;
-        size = calls.same.size;
-        faults = calls.faults;
-        later = calls.later;
-        idle = λ other is. no_stop other is;
-        left = left_same;
-        ends = λ graph ds id o dr store at opened none. record {
-          leaves = leaves graph ds id o dr store at opened;
-          dropped = λ still. let no : Some stop ≡ None = still in cc;
-          sound = λ other is. let same : stop ≡ other = cc in ap (λ (x : Stop). x.damage) (sym same) ∙ calm graph ds id o dr store at opened;
-        };
-        failed = λ other none is quiet. let same : stop ≡ other = cc in rw (← same) (failed (ap (λ (x : Stop). x.damage) same ∙ quiet));
-        damaged = λ other damage none is at. let same : stop ≡ other = cc in rw (← same) (met damage (ap (λ (x : Stop). x.damage) same ∙ at));
-      }
+      at : (t : Trouble) → IsDraftTrouble g (draft_top was) d1 d space t → (b : Bool) → t ≡ troubles.Disk b → HasFailed g k.disk d
+      at (troubles.Disk x) is b same = failed_since g k.disk d1 d fin.calls.later fin.calls.faults is.failed
+      at (troubles.Damaged damage) is b same = cc
 
-      at : (t : Trouble) → t ≢ troubles.Disk false → IsDraftTrouble g (draft_top was) k.disk d space t
-          → ((graph : Graph) (ds : List Opened) (id : Puid) (o : Object) (dr : Draft) → StoreHas g graph ds k.disk k.space → object_at graph id ≡ Some o → IsOpen ds id was dr → is_damage t ≡ false)
-          → GivesUp g was k (record k { disk = d; space = space; stop = stopped_by (reply_to (refused_by t) (g.moment d)) k.stop })
-      at (troubles.Disk true) first is calm = with_stop _ (λ none. (is.failed, refl)) (λ damage none. let no : None ≡ Some damage = none in cc) (λ graph ds id o dr store there opened. refl)
-      at (troubles.Disk false) first is calm = absurd (first refl)
-      at (troubles.Damaged damage) first is calm = with_stop _ (λ none. let no : Some damage ≡ None = none in cc) (λ other same. (let one : damage ≡ other = cc in subst (IsDraftDamage g (draft_top was) k.disk d space) one is, refl)) (λ graph ds id o dr store there opened. let no : true ≡ false = calm graph ds id o dr store there opened in cc)
+      met : (t : Trouble) → IsDraftTrouble g (draft_top was) d1 d space t → (damage : Damage) → t ≡ troubles.Damaged damage → MeetsDamage g (draft_top was) k (record k { disk = d; space = space }) damage
+      met (troubles.Disk x) is damage same = cc
+      met (troubles.Damaged damage) is other same = let one : damage ≡ other = cc in record { mid = d1; calls = fin.calls; is = subst (IsDraftDamage g (draft_top was) d1 d space) one is }
+
+-- It couldn't be carried out: the draft is gone, and the core stops, also where nothing was tried.
+pub not_finished : {D : Type 0} (g : Ghosts D) (was : Drafting) (k : Kernel D) (d : D) (space : Kept) (why : Trouble) (fin : FinishesLeft g k.disk d k.space space (Err why)) → k.stop ≡ None → GivesUp g was k (record k { disk = d; space = space; stop = stopped_by (reply_to (refused_by (trouble_after_try why)) (g.moment d)) k.stop })
+not_finished g was k d space why fin runs = stops_so g was k d space fin.calls.same.size fin.calls.faults fin.calls.later runs (λ graph ds id o dr store there opened. fin.goes.leaves graph (going_in g graph ds k.disk k.space k.space.left store)) (trouble_after_try why) (never why) (at why fin.ends.refused) (met why fin.ends.refused)
+    (λ graph ds id o dr store there opened. sound why (fin.goes.sound graph (going_in g graph ds k.disk k.space k.space.left store)))
+  where
+    never : (t : Trouble) → trouble_after_try t ≢ troubles.Disk false
+    never (troubles.Disk x) = λ is. cc
+    never (troubles.Damaged damage) = λ is. cc
+
+    at : (t : Trouble) → IsLeftTrouble g k.disk d t → (b : Bool) → trouble_after_try t ≡ troubles.Disk b → HasFailed g k.disk d
+    at (troubles.Disk x) is b same = is.failed
+    at (troubles.Damaged damage) is b same = cc
+
+    met : (t : Trouble) → IsLeftTrouble g k.disk d t → (damage : Damage) → trouble_after_try t ≡ troubles.Damaged damage → MeetsDamage g (draft_top was) k (record k { disk = d; space = space }) damage
+    met (troubles.Disk x) is damage same = cc
+    met (troubles.Damaged damage) is other same = let one : damage ≡ other = cc in record { mid = k.disk; calls = nothing_made g k.disk _ _; is = subst (IsDraftDamage g (draft_top was) k.disk d space) one (NoMap is.0 is.1 is.2 is.3) }
+
+    sound : (t : Trouble) → is_damage t ≡ false → is_damage (trouble_after_try t) ≡ false
+    sound (troubles.Disk x) is = refl
+    sound (troubles.Damaged damage) is = is

@@ -1,5 +1,5 @@
 -- How an opening for reading ends, and a closing of a grant that has no draft.
-use Rattle.std.proofs.Common.{◌≡◌, ℕ, ◌+◌, List, [], ◌∷◌, ◌++◌, length, Bool, true, false, cond, Option, Some, None, is_some, IsTrue, Ok, refl, sym, ◌∙◌, arith, ◌==◌, nat_le, sum}
+use Rattle.std.proofs.Common.{◌≡◌, ℕ, ◌+◌, List, [], ◌∷◌, ◌++◌, length, Bool, true, false, cond, Option, Some, None, is_some, IsTrue, Ok, refl, sym, ◌∙◌, arith, ◌==◌, nat_le}
 use Rattle.cfs_core.proofs.Words.{AcquireFault, and_parts, closed, closed_keeps, committed, fault_by, Ghosts, Grant, grant_of, Graph, Image, Kept, kinds_of, list_all, list_all-append, list_any, Mode, MOST_GRANTS, nat_tests, outcome_legal, refusal_of, State, Tuid}
 use Rattle.open_table.specs.declared.fault.AcquireFault.TheVariants as faults
 use Rattle.open_table.specs.Grants as tables
@@ -9,13 +9,16 @@ use Rattle.ufs_model.specs.declared.asked.Request.TheVariants as asks
 use Rattle.cfs_core.specs.Calls.{Answers, ByOutcome, Tries}
 use Rattle.cfs_core.specs.Kernel.{Kernel, Handle, is_drawn_by}
 use Rattle.cfs_core.specs.Handles.{have_draft, is_at, is_drawn, handles_but}
-use Rattle.cfs_core.specs.StandsFor.{CoreServes, StoresState}
+use Rattle.std.specs.Prelude.{◌&&◌}
+use Rattle.cyl_alloc.specs.Left.{LeftCommit}
+use Rattle.cfs_core.specs.Commits.{commits}
+use Rattle.cfs_core.specs.StandsFor.{ServesIs, ServesWith, StoresState, end_in, free_to_come}
 use Rattle.cfs_core.proofs.Answering.{owes}
 use Rattle.cfs_core.proofs.Moved.{IsStepped}
 use Rattle.cfs_core.proofs.Regranted.{KeepsDrafts, but_keeps, but_table, draft_none, drawn_more, makes_after, stores_after}
 use Rattle.cfs_core.proofs.Handled.{none_of_grant}
 use Rattle.cfs_core.proofs.Went.{went_so}
-use Rattle.cfs_core.proofs.Serving.{running}
+use Rattle.cfs_core.proofs.Serving.{honest, running}
 use Rattle.cfs_core.specs.Claimed.{owners_of}
 use Rattle.cfs_core.proofs.Claimed.{claims_none, takes_alone}
 
@@ -55,7 +58,7 @@ module _ (seed : ℕ) (s : State) (who : ℕ) (t : Tuid) (commit : Bool) where
   close_goes x found = rw found refl
 
 -- the state without it, of which these are the objects
-pub closed_stepped : {D : Type 0} (g : Ghosts D) (k : Kernel D) (s : State) → CoreServes g k s → (who : ℕ) (t : Tuid) (commit : Bool) (d : D) (space : Kept) (h : Graph) → (closed s who t commit).graph ≡ h → h.root ≡ s.graph.root → kinds_of h ≡ kinds_of s.graph
+pub closed_stepped : {D : Type 0} {w : Option LeftCommit} (g : Ghosts D) (k : Kernel D) (s : State) → ServesWith g k s w → (who : ℕ) (t : Tuid) (commit : Bool) (d : D) (space : Kept) (h : Graph) → (closed s who t commit).graph ≡ h → h.root ≡ s.graph.root → kinds_of h ≡ kinds_of s.graph
     → IsStepped k (record k { disk = d; space = space; handles = handles_but (tables.is_session_grant who t) k.handles }) s (closed s who t commit) h
 closed_stepped g k s serves who t commit d space h graph rooted kinds = record {
   graph = graph;
@@ -69,8 +72,12 @@ closed_stepped g k s serves who t commit d space h graph rooted kinds = record {
   table = but_table (tables.is_session_grant who t) k.handles s.grants serves.front.grants;
 }
 
+and_false : (b : Bool) → (b && false) ≡ false
+and_false true = refl
+and_false false = refl
+
 -- where its handle has no draft
-module _ {D : Type 0} (g : Ghosts D) (k : Kernel D) (s : State) (serves : CoreServes g k s) (who : ℕ) (t : Tuid) (commit : Bool) (x : Grant) (found : grant_of s who t ≡ Some x) (bare : have_draft (is_at t.draw) k.handles ≡ false) where
+module _ {D : Type 0} (g : Ghosts D) (k : Kernel D) (s : State) (serves : ServesIs g k s) (who : ℕ) (t : Tuid) (commit : Bool) (x : Grant) (found : grant_of s who t ≡ Some x) (bare : have_draft (is_at t.draw) k.handles ≡ false) where
   abbrev left : List Handle
   left = handles_but (tables.is_session_grant who t) k.handles
 
@@ -97,21 +104,27 @@ module _ {D : Type 0} (g : Ghosts D) (k : Kernel D) (s : State) (serves : CoreSe
   stores_closed = stores_after g k left s (closed s who t commit) serves stepped (closed_keeps s who t commit serves.state) keeps
 
   pub answers_closed : ((d : D) (t : ℕ) (c : Image) → g.left_since d t c → length c ≡ g.blocks d) → ((d : D) → IsTrue (g.honest d) → length (g.content d) ≡ g.blocks d) → k.stop ≡ None
-      → Answers g k (record k { handles = left }) s who (asks.Close t commit) replies.Done
+      → Answers g k.space.left k (record k { handles = left }) s who (asks.Close t commit) replies.Done
   answers_closed left_sized sized none = record {
-    event = makes_after g k left s (closed s who t commit) serves stepped (closed_keeps s who t commit serves.state) keeps left_sized (sized k.disk serves.store.carries.tells.honest)
+    event = makes_after g k left s (closed s who t commit) serves stepped (closed_keeps s who t commit serves.state) keeps left_sized (sized k.disk (honest g k s serves))
         (events.Ask who (asks.Close t commit) replies.Done) (outcome_legal k.words.seed s who (asks.Close t commit) 0 (running g k s serves none) goes (λ made. let no : true ≡ false = sym made in cc));
     still = λ all. let no : false ≡ true = all in cc;
-    taken = λ done. takes_alone k.handles s who (asks.Close t commit) replies.Done (g.content k.disk) (g.content k.disk) refl (claims_none (owners_of s who (asks.Close t commit) replies.Done) (g.content k.disk) (g.content k.disk) refl);
-    owed = owes k.words.seed s who (asks.Close t commit) (g.content k.disk) (sum k.space.free) replies.Done tt
+    full = λ full. let no : false ≡ true = full in cc;
+    noted = λ done some. let no : true ≡ false = sym some ∙ undrafted_closes in cc;
+    taken = λ done. takes_alone k.handles s who (asks.Close t commit) replies.Done (end_in g k) (end_in g k) refl (claims_none (owners_of s who (asks.Close t commit) replies.Done) (end_in g k) (end_in g k) refl);
+    owed = owes k.words.seed s who (asks.Close t commit) (end_in g k) (free_to_come g k) replies.Done tt
         (ByOutcome goes (record { block = 0; least = λ made. let no : true ≡ false = sym made in cc; reply_is = refl; room = λ short. omega (arith, short.few, serves.four) }));
   }
     where
+      -- no draft is committed
+      undrafted_closes : commits s who (asks.Close t commit) ≡ false
+      undrafted_closes = rw (found, draft_none _ who t k.handles s.grants serves.front.grants serves.drafts none_of_it x found) (and_false commit)
+
       goes : refusal_of s who (asks.Close t commit) ≡ None
       goes = close_goes 0 s who t commit x found
 
 pub tries_closed : {D : Type 0} (g : Ghosts D) → ((d : D) (t : ℕ) (c : Image) → g.left_since d t c → length c ≡ g.blocks d) → ((d : D) → IsTrue (g.honest d) → length (g.content d) ≡ g.blocks d)
-    → (k : Kernel D) (who : ℕ) (t : Tuid) (commit : Bool) → have_draft (is_at t.draw) k.handles ≡ false → ((s : State) → CoreServes g k s → (x : Grant) × (grant_of s who t ≡ Some x))
+    → (k : Kernel D) (who : ℕ) (t : Tuid) (commit : Bool) → have_draft (is_at t.draw) k.handles ≡ false → ((s : State) → ServesIs g k s → (x : Grant) × (grant_of s who t ≡ Some x))
     → Tries g k (record k { handles = handles_but (tables.is_session_grant who t) k.handles }) who (asks.Close t commit) (Ok replies.Done)
 tries_closed g left_sized sized k who t commit bare the = record {
   ends = λ s serves none. let x = the s serves in answers_closed g k s serves who t commit x.0 x.1 bare left_sized sized none;

@@ -1,5 +1,5 @@
 -- A session's grants are dropped, one after the other, and then it has left.
-use Rattle.std.proofs.Common.{◌≡◌, inl, inr, ℕ, List, [], ◌∷◌, length, Bool, true, false, cond, not, Option, Some, None, IsTrue, refl, sym, ◌∙◌, ap, subst, arith, ◌==◌, find, map, option_map}
+use Rattle.std.proofs.Common.{◌≡◌, ◌⊎◌, ⊎_elim, inl, inr, ℕ, List, [], ◌∷◌, length, Bool, true, false, cond, not, Option, Some, None, IsTrue, refl, sym, ◌∙◌, ap, subst, arith, ◌==◌, find, map, option_map}
 use Rattle.cfs_core.proofs.Words.{after_leave, Ghosts, Grant, Holds, Image, Leaves, loose, State, stopped_at, then, without_session-none}
 use Rattle.open_table.specs.declared.grant.Grant as handles
 use Rattle.open_table.specs.Grants as tables
@@ -11,8 +11,9 @@ use Rattle.cfs_core.specs.Kernel.{Kernel, grants_in}
 use Rattle.cfs_base.proofs.Calls.{failed_since}
 use Rattle.cfs_core.specs.Leaving.{ServesFewer, Sheds, StopsSo, halt_of, of_others}
 use Rattle.cfs_core.proofs.Damages.{told_as}
-use Rattle.cfs_core.specs.StandsFor.{IsFront, CoreServes, Stands, StandsFor, bare, front_of}
-use Rattle.cfs_core.proofs.Serving.{fewer_lost, fits, none_more, pending, running, nothing_left}
+use Rattle.cfs_core.specs.StandsFor.{IsFront, ServesIs, Stands, StandsFor, bare, end_in, front_of}
+use Rattle.cfs_core.proofs.Serving.{fewer_lost, fits, honest, none_more, pending, running, nothing_left}
+use Rattle.cfs_core.proofs.Stored.{length_in}
 
 module _ {D : Type 0} (g : Ghosts D) (who : ℕ) where
   pub sheds_none : (k : Kernel D) → Sheds g who k k
@@ -27,9 +28,10 @@ module _ {D : Type 0} (g : Ghosts D) (who : ℕ) where
     idle = λ stop is. (is, refl, refl);
     leaves = λ s serves none. nothing_left g k.disk (λ c. Holds c s.graph);
     serves = λ s serves none runs. record { grants = s.grants; serves = serves; others = refl };
-    strays = λ s serves none runs. none_more (g.content k.disk) (g.content k.disk) s.graph refl;
+    strays = λ s serves none runs. none_more (end_in g k) (end_in g k) s.graph refl;
     halts = λ stop none is. let no : None ≡ Some stop = sym none ∙ is in cc;
     sound = λ s serves none stop is. let no : None ≡ Some stop = sym none ∙ is in cc;
+    left = λ runs. inl refl;
   }
 
   module _ (a b c : Kernel D) (one : Sheds g who a b) (two : Sheds g who b c) where
@@ -38,19 +40,19 @@ module _ {D : Type 0} (g : Ghosts D) (who : ℕ) where
     between None is none = is
     between (Some stop) is none = let no : None ≡ Some stop = sym none ∙ (two.idle stop is).0 in cc
 
-    leaves_both : (s : State) → CoreServes g a s → a.stop ≡ None → (o : Option Stop) → b.stop ≡ o → Leaves g a.disk c.disk (λ i. Holds i s.graph)
+    leaves_both : (s : State) → ServesIs g a s → a.stop ≡ None → (o : Option Stop) → b.stop ≡ o → Leaves g a.disk c.disk (λ i. Holds i s.graph)
     leaves_both s serves none None is =
         let mid = one.serves s serves none is in
         then g a.disk b.disk c.disk (λ i. Holds i s.graph) (λ i. Holds i s.graph) (one.leaves s serves none) (two.leaves (record s { grants = mid.grants }) mid.serves is) (λ i h. h)
     leaves_both s serves none (Some stop) is = subst (λ d. Leaves g a.disk d (λ i. Holds i s.graph)) (sym (two.idle stop is).1) (one.leaves s serves none)
 
-    serves_both : (s : State) → CoreServes g a s → a.stop ≡ None → c.stop ≡ None → ServesFewer g c s who
+    serves_both : (s : State) → ServesIs g a s → a.stop ≡ None → c.stop ≡ None → ServesFewer g c s who
     serves_both s serves none runs =
         let mid = one.serves s serves none (between b.stop refl runs) in
         let last = two.serves (record s { grants = mid.grants }) mid.serves (between b.stop refl runs) runs in
         record { grants = last.grants; serves = last.serves; others = last.others ∙ mid.others }
 
-    strays_both : (s : State) → CoreServes g a s → a.stop ≡ None → c.stop ≡ None → AddsNoStray (g.content a.disk) (g.content c.disk) s.graph s.graph
+    strays_both : (s : State) → ServesIs g a s → a.stop ≡ None → c.stop ≡ None → AddsNoStray (end_in g a) (end_in g c) s.graph s.graph
     strays_both s serves none runs n stray =
         let mid = one.serves s serves none (between b.stop refl runs) in
         let last = two.strays (record s { grants = mid.grants }) mid.serves (between b.stop refl runs) runs n stray in
@@ -71,11 +73,14 @@ module _ {D : Type 0} (g : Ghosts D) (who : ℕ) where
           damaged = λ damage met. (let m = so.damaged damage met in (record { mid = m.0.mid; later = m.0.later; told = told_as g m.0.mid b c None damage still.1 still.2 m.0.told }, m.1 ∙ ap g.moment (sym still.1)));
         }
 
-    sound_both : (s : State) → CoreServes g a s → a.stop ≡ None → (stop : Stop) → c.stop ≡ Some stop → (o : Option Stop) → b.stop ≡ o → stop.damage ≡ None
+    sound_both : (s : State) → ServesIs g a s → a.stop ≡ None → (stop : Stop) → c.stop ≡ Some stop → (o : Option Stop) → b.stop ≡ o → stop.damage ≡ None
     sound_both s serves none stop is None mid = let then_it = one.serves s serves none mid in two.sound (record s { grants = then_it.grants }) then_it.serves mid stop is
     sound_both s serves none stop is (Some was) mid =
         let same : was ≡ stop = (let both : Some was ≡ Some stop = sym (two.idle was mid).0 ∙ is in cc) in
         one.sound s serves none stop (mid ∙ ap (λ (x : Stop). Some x) same)
+
+    left_both : c.stop ≡ None → (c.space.left ≡ a.space.left) ⊎ (c.space.left ≡ None)
+    left_both runs = ⊎_elim (λ same. ⊎_elim (λ first. inl (same ∙ first)) (λ nothing. inr (same ∙ nothing)) (one.left (between b.stop refl runs))) (λ nothing. inr nothing) (two.left runs)
 
     pub sheds_then : Sheds g who a c
     sheds_then = record {
@@ -92,6 +97,7 @@ module _ {D : Type 0} (g : Ghosts D) (who : ℕ) where
       strays = strays_both;
       halts = λ stop none is. halts_both stop none is b.stop refl;
       sound = λ s serves none stop is. sound_both s serves none stop is b.stop refl;
+      left = left_both;
     }
 
   -- ---- none of its grants is left
@@ -149,11 +155,11 @@ module _ {D : Type 0} (g : Ghosts D) (who : ℕ) where
         record {
           after = after_leave s who;
           step = refl;
-          stands = subst (Stands g new (after_leave s who)) (sym is) (subst (λ (gs : List Grant). CoreServes g new (record s { grants = gs })) all fewer.serves);
-          survives = inl (loose g left_sized old.words.seed s old.disk new.disk (fits g old s serves (g.blocks new.disk) (sized old.disk serves.store.carries.tells.honest ∙ sym sheds.size)) (events.Leave who None) (after_leave s who) refl refl
+          stands = subst (Stands g new (after_leave s who)) (sym is) (subst (λ (gs : List Grant). ServesIs g new (record s { grants = gs })) all fewer.serves);
+          survives = inl (loose g left_sized old.words.seed s old.disk new.disk (fits g old s serves (g.blocks new.disk) (sized old.disk (honest g old s serves) ∙ sym sheds.size)) (events.Leave who None) (after_leave s who) refl refl
               (sheds.leaves s serves was) (pending g old s serves));
-          lost = λ runs. fewer_lost (g.content old.disk) (g.content new.disk) s.graph s.graph
-              (sized new.disk fewer.serves.store.carries.tells.honest ∙ sheds.size ∙ sym (sized old.disk serves.store.carries.tells.honest)) (sheds.strays s serves was is);
+          lost = λ runs. fewer_lost (end_in g old) (end_in g new) s.graph s.graph
+              (length_in (g.content new.disk) new.space.left ∙ sized new.disk (honest g new (record s { grants = fewer.grants }) fewer.serves) ∙ sheds.size ∙ sym (sized old.disk (honest g old s serves)) ∙ sym (length_in (g.content old.disk) old.space.left)) (sheds.strays s serves was is);
         }
     left_stands stands None was (Some stop) is =
         let serves = subst (Stands g old s) was stands in
@@ -163,7 +169,7 @@ module _ {D : Type 0} (g : Ghosts D) (who : ℕ) where
           step = rw (running g old s serves was) refl;
           stands = subst (Stands g new after) (sym is)
               (subst (λ (o : Option Stop). IsFront new (record (after_leave s who) { stopped = option_map (λ (x : Stop). x.moment) o })) is (front_left serves.front));
-          survives = inl (loose g left_sized old.words.seed s old.disk new.disk (fits g old s serves (g.blocks new.disk) (sized old.disk serves.store.carries.tells.honest ∙ sym sheds.size)) (events.Leave who (Some stop.moment)) after
+          survives = inl (loose g left_sized old.words.seed s old.disk new.disk (fits g old s serves (g.blocks new.disk) (sized old.disk (honest g old s serves) ∙ sym sheds.size)) (events.Leave who (Some stop.moment)) after
               (rw (running g old s serves was) refl) refl (sheds.leaves s serves was) (pending g old s serves));
           lost = λ runs. let no : None ≡ Some stop = sym runs ∙ is in cc;
         }

@@ -1,6 +1,7 @@
 mod Words
 mod Handled
 mod Readied
+mod Stored
 pub mod Serving
 mod Ways
 mod Refusing
@@ -8,6 +9,7 @@ mod Damages
 mod Went
 mod Claimed
 mod Answering
+mod Joined
 mod Calm
 mod Grown
 mod Committed
@@ -19,7 +21,6 @@ mod Putting
 mod Created
 mod Placed
 mod After
-mod Carried
 mod Filed
 mod Makings
 mod Regranted
@@ -33,6 +34,7 @@ mod GivenUp
 mod Leaving
 mod Dropping
 mod Openings
+mod Reached
 mod Altered
 mod Barred
 mod Rewritten
@@ -43,3 +45,5 @@ mod Tidied
 mod Swept
 mod Stepping
 mod Stepped
+mod Parted
+mod Waiting

@@ -1,8 +1,10 @@
 -- A core on a volume that was opened stands for what the volume reads as.
 use Rattle.std.proofs.Common.{◌≡◌, ℕ, [], Bool, true, false, None, refl, sym, ◌∙◌, ap, subst, arith, ◌==◌}
 use Rattle.cfs_core.proofs.Words.{AreBlocks, false_from_ne_true, Ghosts, Graph, has_root_in, Image, IsRecovered, IsSoundAs, Kept, keys_of-kinds_in, Label, list_any, Listing, no_strays, object_of_block, opening_state, Puid, reading_is_one, room, sum_is}
+use Rattle.ufs_model.specs.State.{opening}
 use Rattle.cfs_core.specs.Kernel.{Kernel}
 use Rattle.cfs_core.specs.Opened.{IsOpenedCore}
+use Rattle.cfs_core.proofs.Serving.{serves_is}
 use Rattle.cfs_core.proofs.SoundGraph.{sound_graph, root_some}
 
 module _ {D : Type 0} (g : Ghosts D) (before : Image) (d : D) (label : Label) (directory : Listing) (space : Kept) (is : IsRecovered g before d label directory space) where
@@ -21,7 +23,7 @@ module _ {D : Type 0} (g : Ghosts D) (before : Image) (d : D) (label : Label) (d
 
   pub opened : space.left ≡ None → (seed : ℕ) → AreBlocks before → (graph : Graph) → IsSoundAs before graph → IsOpenedCore g graph seed (core seed)
   opened left seed blocks graph sound = subst (λ (h : Graph). IsOpenedCore g h seed (core seed)) (reading_is_one before is.graph graph is.was sound) (record {
-    stands = record {
+    stands = serves_is {w = None} g (core seed) (opening is.graph) (record {
       front = record { drawn = refl; directory = is.named; grants = refl; stopped = refl };
       state = opening_state is.graph (sound_graph before is.graph blocks is.was);
       root = is.root;
@@ -31,6 +33,6 @@ module _ {D : Type 0} (g : Ghosts D) (before : Image) (d : D) (label : Label) (d
       swept = λ _. is.swept;
       four = omega (arith, room (g.content d) is.graph [] is.account is.ordered, no_strays (g.content d) is.graph is.swept, sum_is (g.content d) space is.counts, is.sound.room);
       collecting = refl;
-    };
+    });
     words = refl;
   })

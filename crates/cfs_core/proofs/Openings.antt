@@ -1,8 +1,8 @@
 -- How an opening ends.
 use Rattle.std.proofs.Common.{◌≡◌, inl, ℕ, ◌+◌, ◌<◌, ◌≤◌, List, [], ◌∷◌, ◌++◌, length, Bool, true, false, cond, get_or, Option, Some, None, Ok, Err, IsTrue, refl, sym, ◌∙◌, ap, subst, arith, IfSome, Result, is_some, map, nat_le, nat_lt, option_to_list, sum}
 use Rattle.cfs_core.proofs.Words.{AcquireFault, begun_at, begun_fresh, block_there, changes_begin, differs, draft_blocks, Drafting, drafts_of, Draws, fault_by, FileKind, first_draft, first_here, first_others, fresh_of, Ghosts, Grant, granted, granted_keeps, Graph, had_tried, has_all_grants, Holds, Image, has_met_damage, is_full_refusal, is_locked, is_normal, is_reading, is_there, is_unwanted_index, IsOpen}
-use Rattle.cfs_core.proofs.Words.{IsPlainReply, IsState, Kept, Kind, directory_kind, object_kind, Leaves, length-none, list_any, Mode, MOST_GRANTS, nat_tests, need_of, next, Object, object_at, of_draft, one_if, OnlyReads, Opened, opened_as, or_parts, outcome_legal, outcome_of, Puid, Reading, refusal_of, Refused, Reply, Request, same_puid, start_stays, State, sum_by-cons, takes_draft, Tuid}
-use Rattle.cfs_core.proofs.Words.{wanted, wider, word, Writing, MapEntry, stands_for, entry_in, the_draft}
+use Rattle.cfs_core.proofs.Words.{IsPlainReply, IsState, Kept, Kind, directory_kind, object_kind, Leaves, length-none, list_any, Mode, MOST_GRANTS, nat_tests, Need, need_of, next, Object, object_at, of_draft, one_if, OnlyReads, Opened, opened_as, or_parts, outcome_legal, outcome_of, Puid, Reading, refusal_of, Refused, Reply, Request, same_puid, start_stays, State, sum_by-cons, takes_draft, Tuid}
+use Rattle.cfs_core.proofs.Words.{wanted, wider, word, Writing, MapEntry, stands_for, entry_in, the_draft, ChangesOnly}
 use Rattle.cfs_base.specs.declared.kind.FileKind.TheVariants as file_kinds
 use Rattle.cfs_base.specs.declared.kind.Kind.TheVariants as kinds
 use Rattle.cfs_base.specs.declared.refusal.Refused.TheVariants as refusals
@@ -12,11 +12,13 @@ use Rattle.ufs_model.specs.declared.asked.Event.TheVariants as events
 use Rattle.ufs_model.specs.declared.asked.Reply.TheVariants as replies
 use Rattle.ufs_model.specs.declared.asked.Request.TheVariants as asks
 use Rattle.ufs_model.specs.declared.object.Object.TheVariants as objects
-use Rattle.cfs_core.specs.Calls.{Answers, ByOutcome, ByWant, EndsSo, IsCause, Owes, Tries, Undone}
+use Rattle.cfs_core.specs.Calls.{Answers, ByOutcome, ByWant, EndsSo, IsCause, Owes, Tries, TriesWith, Undone}
 use Rattle.cfs_core.specs.Kernel.{Kernel, Handle, grants_in, is_ready}
 use Rattle.cfs_core.specs.Opening.{Begins, BeginsSo, IsBegun, gets_draft, is_unfit, reply_to_fault}
-use Rattle.cfs_core.specs.StandsFor.{HasDraftOf, CoreServes, bare, drafts_at, drafts_of_handles, sweeps_now}
-use Rattle.cfs_core.proofs.Answering.{disk_failed, memory, owes}
+use Rattle.cyl_alloc.specs.Left.{LeftCommit}
+use Rattle.intentions.specs.Left.{StoreWith, coming, final_image}
+use Rattle.cfs_core.specs.StandsFor.{HasDraftOf, CoreServes, ServesIs, ServesWith, bare, drafts_at, drafts_of_handles, end_in, free_to_come, free_with, sweeps_now}
+use Rattle.cfs_core.proofs.Answering.{disk_failed, full_still, memory, owes}
 use Rattle.cfs_core.proofs.Drafted.{others_have}
 use Rattle.cfs_core.proofs.Ended.{of_its_draft}
 use Rattle.cfs_core.proofs.Readied.{for_ready}
@@ -27,14 +29,13 @@ use Rattle.special_files.specs.Refusal.{IsDraftRefusal}
 use Rattle.cfs_core.specs.Opening.{IsRefusalOrMemory}
 use Rattle.cfs_core.proofs.Damages.{told_still}
 use Rattle.cfs_core.proofs.Went.{went_so}
-use Rattle.cfs_core.proofs.Serving.{fits, kind_is, named_root, object_listed, running, stays, nothing_left}
+use Rattle.cfs_core.proofs.Serving.{account, fits, honest, kind_is, named_root, object_listed, running, stays, nothing_left}
 use Rattle.cfs_core.proofs.Ways.{adds_none}
 use Rattle.cfs_core.proofs.Moved.{HasStepped, IsStepped, four_left, makes_stepped}
-use Rattle.cfs_core.specs.Claimed.{ClaimsInOrder, claims_for}
+use Rattle.cfs_core.specs.Claimed.{ClaimsInOrder, TakesForRequest, claims_for}
 use Rattle.cfs_core.proofs.Claimed.{claims_none, claims_shadow, takes_alone}
 use Rattle.cyl_alloc.specs.Space.{intended}
 use Rattle.cfs_base.specs.declared.kind.Place.TheVariants as places
-use Rattle.cfs_base.specs.declared.refusal.Need.{Need}
 use Rattle.leaf_changes.specs.Tops.{Top, still_top}
 
 -- ---- by its kind
@@ -119,7 +120,7 @@ module _ (s : State) (who : ℕ) (id : Puid) where
 
 -- ---- as the core finds it
 
-module _ {D : Type 0} (g : Ghosts D) (k : Kernel D) (s : State) (serves : CoreServes g k s) (id : Puid) (kind : Kind) (listed : directory_kind k.directory.named id ≡ Some kind) where
+module _ {D : Type 0} {w : Option LeftCommit} (g : Ghosts D) (k : Kernel D) (s : State) (serves : ServesWith g k s w) (id : Puid) (kind : Kind) (listed : directory_kind k.directory.named id ≡ Some kind) where
   pub the_object : (o : Object) × (object_at s.graph id ≡ Some o)
   the_object = object_listed g k s serves id kind listed
 
@@ -193,9 +194,14 @@ begun_ready blocks kind grant (Some d) is less =
 
 -- ---- a grant more
 
-module _ {D : Type 0} (g : Ghosts D) (left_sized : (d : D) (t : ℕ) (c : Image) → g.left_since d t c → length c ≡ g.blocks d) (sized : (d : D) → IsTrue (g.honest d) → length (g.content d) ≡ g.blocks d)
+-- the Free blocks are the same, whoever opens an object
+free_opened : {D : Type 0} (g : Ghosts D) (k : Kernel D) (words : Draws) (handles : List Handle) (w : Option LeftCommit) → free_with g (record k { words = words; handles = handles }) w ≡ free_with g k w
+free_opened g k words handles None = refl
+free_opened g k words handles (Some l) = refl
+
+module _ {D : Type 0} {w : Option LeftCommit} (g : Ghosts D) (left_sized : (d : D) (t : ℕ) (c : Image) → g.left_since d t c → length c ≡ g.blocks d) (sized : (d : D) → IsTrue (g.honest d) → length (g.content d) ≡ g.blocks d)
     (k : Kernel D) (who : ℕ) (id : Puid) (mode : Mode) (wanted_draft : Bool) (tuid : Tuid) (tuid_is : tuid ≡ record { draw = k.words.drawn + 1; word = word k.words.seed (k.words.drawn + 1) })
-    (s : State) (serves : CoreServes g k s) (none : k.stop ≡ None) (o : Object) (there : object_at s.graph id ≡ Some o) (gets : takes_draft mode (Some o) ≡ wanted_draft) (goes : refusal_of s who (asks.OpenFor id mode) ≡ None) where
+    (s : State) (serves : ServesWith g k s w) (none : k.stop ≡ None) (o : Object) (there : object_at s.graph id ≡ Some o) (gets : takes_draft mode (Some o) ≡ wanted_draft) (goes : refusal_of s who (asks.OpenFor id mode) ≡ None) where
   abbrev request : Request
   request = asks.OpenFor id mode
 
@@ -269,60 +275,68 @@ module _ {D : Type 0} (g : Ghosts D) (left_sized : (d : D) (t : ℕ) (c : Image)
     state : IsState after
     state = granted_keeps k.words.seed s who id mode serves.state is_there_now
 
-    owed : need_of s who request + 4 ≤ sum k.space.free → Owes k.words.seed s who request (g.content k.disk) (sum k.space.free) (replies.Grant tuid)
-    owed free = owes k.words.seed s who request (g.content k.disk) (sum k.space.free) (replies.Grant tuid) tt
-        (ByOutcome goes (record { block = 0; least = λ made. let no : true ≡ false = sym made in cc; reply_is = told_is; room = λ short. omega (arith, short.few, free) }))
+  owed : (image : Image) (free : ℕ) → need_of s who request + 4 ≤ free → Owes k.words.seed s who request image free (replies.Grant tuid)
+  owed image free more = owes k.words.seed s who request image free (replies.Grant tuid) tt
+      (ByOutcome goes (record { block = 0; least = λ made. let no : true ≡ false = sym made in cc; reply_is = told_is; room = λ short. omega (arith, short.few, more) }))
 
   -- none is wanted
   pub opened_bare : wanted_draft ≡ false → (words : Draws) → words ≡ record { seed = k.words.seed; drawn = k.words.drawn + 1 }
-      → Answers g k (record k { words = words; handles = k.handles ++ record { grant = shown; drafting = None } ∷ [] }) s who request (replies.Grant tuid)
+      → Answers g w k (record k { words = words; handles = k.handles ++ record { grant = shown; drafting = None } ∷ [] }) s who request (replies.Grant tuid)
   opened_bare bare words words_are =
       let no_draft : first_draft mode (object_at s.graph id) ≡ None = draft_is ∙ ap (λ b. cond b (Some (record { object = o; fresh = [] })) None) bare in
       let free : need_of s who request ≡ 0 = need_is ∙ ap one_if bare in
       let after_it : Kernel D = record k { words = words; handles = k.handles ++ record { grant = shown; drafting = None } ∷ [] } in
-      let has : HasStepped g k after_it s s.graph (λ entry. false) ds = record {
-        store = serves.store;
-        only = changes_begin (λ entry. false) (g.content k.disk) s.graph serves.store.account.holds;
+      let end : Image = coming (g.content k.disk) w in
+      let same : end ≡ end_in g k = ap (coming (g.content k.disk)) (sym serves.left) in
+      let has : HasStepped g w k after_it s s.graph (λ entry. false) ds = record {
+        store = subst (StoreWith g s.graph ds k.disk k.space) (sym serves.left) serves.store;
+        only = subst (ChangesOnly (λ entry. false) end) same (changes_begin (λ entry. false) end s.graph (account g k s serves).holds);
         these = record { there = λ entry is made. let no : true ≡ false = sym is in cc; more = λ r had. had };
-        left = serves.left;
       } in
+      let four : 4 ≤ free_to_come g after_it = subst (λ (f : ℕ). 4 ≤ f) (sym (ap (free_with g after_it) serves.left ∙ free_opened g k words (k.handles ++ record { grant = shown; drafting = None } ∷ []) w)) serves.four in
       record {
         event = makes_stepped g k after_it s after s.graph serves (λ entry. false) ds has (stepped None k.disk k.space words words_are) (state None k.disk k.space words words_are)
             (drafts_are None k.disk k.space words words_are)
-            (push_have ds (record { grant = shown; drafting = None }) grant (subst (HasDraftOf ds (record { grant = shown; drafting = None }) None) (sym no_draft) tt) k.handles s.grants serves.drafts) (omega (arith, serves.four))
-            left_sized (sized k.disk serves.store.carries.tells.honest) (events.Ask who request (replies.Grant tuid)) legal refl (nothing_left g k.disk (λ c. Holds c s.graph));
+            (push_have ds (record { grant = shown; drafting = None }) grant (subst (HasDraftOf ds (record { grant = shown; drafting = None }) None) (sym no_draft) tt) k.handles s.grants serves.drafts) four
+            left_sized (sized k.disk (honest g k s serves)) (events.Ask who request (replies.Grant tuid)) legal refl (nothing_left g k.disk (λ c. Holds c s.graph));
         still = λ all. let no : true ≡ false = sym all in cc;
-        taken = λ done. takes_alone k.handles s who request (replies.Grant tuid) (g.content k.disk) (g.content k.disk) refl (subst (λ (cs : List MapEntry). ClaimsInOrder cs (id.block ∷ []) (g.content k.disk) (g.content k.disk)) (sym (claims_are ∙ ap (λ b. cond b (intended places.ShadowRoot id.block ∷ []) []) bare))
-            (claims_none (id.block ∷ []) (g.content k.disk) (g.content k.disk) refl));
-        owed = owed None k.disk k.space words words_are (omega (arith, free, serves.four));
+        full = λ full. let no : false ≡ true = full in cc;
+        taken = λ done. takes_alone k.handles s who request (replies.Grant tuid) end (end_in g k) refl (subst (λ (cs : List MapEntry). ClaimsInOrder cs (id.block ∷ []) end (end_in g k)) (sym (claims_are ∙ ap (λ b. cond b (intended places.ShadowRoot id.block ∷ []) []) bare))
+            (claims_none (id.block ∷ []) end (end_in g k) (sym same)));
+        noted = λ done some. let no : false ≡ true = some in cc;
+        owed = owed end (free_with g k w) (omega (arith, free, serves.four));
       }
 
-  -- one is, and was begun
-  pub opened_draft : wanted_draft ≡ true → (drafting : Drafting) (d : D) (space : Kept) (words : Draws) → words ≡ record { seed = k.words.seed; drawn = k.words.drawn + 1 } → drafts_of ds id ≡ [] → g.blocks d ≡ g.blocks k.disk → space.left ≡ k.space.left
+  -- one is, and was begun where nothing was left
+  pub opened_draft : CoreServes g k s → wanted_draft ≡ true → (drafting : Drafting) (d : D) (space : Kept) (words : Draws) → words ≡ record { seed = k.words.seed; drawn = k.words.drawn + 1 } → drafts_of ds id ≡ [] → g.blocks d ≡ g.blocks k.disk → space.left ≡ k.space.left
       → IsBegun g s.graph ds id o k.disk d k.space space drafting
-      → Answers g k (record k { disk = d; space = space; words = words; handles = k.handles ++ record { grant = shown; drafting = Some drafting } ∷ [] }) s who request (replies.Grant tuid)
-  opened_draft wants drafting d space words words_are shut size left begun =
+      → Answers g None k (record k { disk = d; space = space; words = words; handles = k.handles ++ record { grant = shown; drafting = Some drafting } ∷ [] }) s who request (replies.Grant tuid)
+  opened_draft now wants drafting d space words words_are shut size left begun =
       let it : Opened = opened_as id drafting (record { object = o; fresh = [] }) in
       let has_draft : first_draft mode (object_at s.graph id) ≡ Some (record { object = o; fresh = [] }) = draft_is ∙ ap (λ b. cond b (Some (record { object = o; fresh = [] })) None) wants in
       let need : need_of s who request ≡ 1 = need_is ∙ ap one_if wants in
       let after_it : Kernel D = record k { disk = d; space = space; words = words; handles = k.handles ++ record { grant = shown; drafting = Some drafting } ∷ [] } in
-      let has : HasStepped g k after_it s s.graph (λ entry. of_draft id.block entry) (it ∷ ds) = record {
-        store = begun.steps.store;
-        only = begun.steps.only;
+      -- nothing is left, so the content is what is to come
+      let nothing : space.left ≡ None = left ∙ now.left in
+      let end_is : final_image g d space ≡ g.content d = ap (coming (g.content d)) nothing in
+      let has : HasStepped g None k after_it s s.graph (λ entry. of_draft id.block entry) (it ∷ ds) = record {
+        store = subst (StoreWith g s.graph (it ∷ ds) d space) (sym nothing) begun.steps.store;
+        only = subst (ChangesOnly (λ entry. of_draft id.block entry) (g.content k.disk)) (sym end_is) begun.steps.only;
         these = of_its_draft s.graph id (block_there s.graph id o there);
-        left = left ∙ serves.left;
       } in
       let made : length (option_to_list drafting.created) ≡ 0 = ap (λ (c : Option ℕ). length (option_to_list c)) begun.bare in
-      let four = four_left g k after_it s after s.graph serves (λ entry. of_draft id.block entry) (it ∷ ds) has 1 (omega (arith, sum_by-cons draft_blocks it ds, made, one_at_most drafting.shadow)) (omega (arith, begun.free)) in
+      let four = four_left g k after_it s after s.graph now (λ entry. of_draft id.block entry) (it ∷ ds) has 1 (omega (arith, sum_by-cons draft_blocks it ds, made, one_at_most drafting.shadow)) (omega (arith, begun.free)) in
       record {
-        event = makes_stepped g k after_it s after s.graph serves (λ entry. of_draft id.block entry) (it ∷ ds) has (stepped (Some drafting) d space words words_are) (state (Some drafting) d space words words_are)
+        event = makes_stepped g k after_it s after s.graph now (λ entry. of_draft id.block entry) (it ∷ ds) has (stepped (Some drafting) d space words words_are) (state (Some drafting) d space words words_are)
             (drafts_are (Some drafting) d space words words_are ∙ ap (λ x. drafts_at (record { grant = shown; drafting = Some drafting }) (Some drafting) x ++ ds) has_draft)
             (push_have (it ∷ ds) (record { grant = shown; drafting = Some drafting }) grant (subst (HasDraftOf (it ∷ ds) (record { grant = shown; drafting = Some drafting }) (Some drafting)) (sym has_draft) (record { is_open = begun.opened; special = special_of mode o (gets ∙ wants); writes = written_of mode o (gets ∙ wants) })) k.handles s.grants (others_have id ds (it ∷ ds) (first_others it ds) k.handles s.grants shut serves.drafts)) four
-            left_sized (sized k.disk serves.store.carries.tells.honest ∙ sym size) (events.Ask who request (replies.Grant tuid)) legal refl begun.leaves;
+            left_sized (sized k.disk now.store.carries.tells.honest ∙ sym size) (events.Ask who request (replies.Grant tuid)) legal refl begun.leaves;
         still = λ all. let no : true ≡ false = sym all in cc;
-        taken = λ done. takes_alone k.handles s who request (replies.Grant tuid) (g.content k.disk) (g.content d) refl (subst (λ (cs : List MapEntry). ClaimsInOrder cs (id.block ∷ []) (g.content k.disk) (g.content d)) (sym (claims_are ∙ ap (λ b. cond b (intended places.ShadowRoot id.block ∷ []) []) wants))
-            (claims_shadow id.block begun.least.0 (g.content k.disk) (g.content d) begun.least.2 (the_shadow begun) begun.steps.only));
-        owed = owed (Some drafting) d space words words_are (omega (arith, need, begun.free));
+        full = λ full. let no : false ≡ true = full in cc;
+        noted = λ done some. let no : false ≡ true = some in cc;
+        taken = λ done. subst (TakesForRequest k.handles s who request (replies.Grant tuid) (g.content k.disk)) (sym end_is) (takes_alone k.handles s who request (replies.Grant tuid) (g.content k.disk) (g.content d) refl (subst (λ (cs : List MapEntry). ClaimsInOrder cs (id.block ∷ []) (g.content k.disk) (g.content d)) (sym (claims_are ∙ ap (λ b. cond b (intended places.ShadowRoot id.block ∷ []) []) wants))
+            (claims_shadow id.block begun.least.0 (g.content k.disk) (g.content d) begun.least.2 (the_shadow begun) begun.steps.only)));
+        owed = owed (g.content k.disk) (sum k.space.free) (omega (arith, need, begun.free));
       }
     where
       the_shadow : (begun : IsBegun g s.graph ds id o k.disk d k.space space drafting) → stands_for id.block (entry_in (g.content d) begun.least.0) ≡ true
@@ -333,36 +347,38 @@ module _ {D : Type 0} (g : Ghosts D) (left_sized : (d : D) (t : ℕ) (c : Image)
       one_at_most (Some n) = omega arith
 
   -- it couldn't be begun
-  module _ (d : D) (space : Kept) (size : g.blocks d ≡ g.blocks k.disk) where
+  module _ (now : CoreServes g k s) (d : D) (space : Kept) (size : g.blocks d ≡ g.blocks k.disk) where
     abbrev stays_as : Kernel D
     stays_as = record k { disk = d; space = space }
 
     as_it_was : space ≡ k.space → stays_as ≡ record k { disk = d }
     as_it_was same = ap (λ (x : Kept). record k { disk = d; space = x }) same
 
-    pub not_opened : (e : Refused) → BeginsSo g s.graph ds id o wanted_draft k.disk d k.space space (Err e) → EndsSo g k stays_as s who request (Err e)
+    pub not_opened : (e : Refused) → BeginsSo g s.graph ds id o wanted_draft k.disk d k.space space (Err e) → EndsSo g None k stays_as s who request (Err e)
     not_opened (refusals.Full need) is =
         let wants : need_of s who request ≡ 1 = need_is ∙ ap one_if is.0 in
-        subst (λ n. Answers g k stays_as s who request (replies.Full n)) (sym is.1) (record {
-          event = stays g 2 k stays_as is.3 (as_it_was is.4) s serves left_sized (sized k.disk serves.store.carries.tells.honest) (events.Ask who request (replies.Full (record { free = sum k.space.free; need = 1 })))
+        subst (λ n. Answers g None k stays_as s who request (replies.Full n)) (sym is.1) (record {
+          event = stays g 2 k stays_as is.3 (as_it_was is.4) s now left_sized (sized k.disk now.store.carries.tells.honest) (events.Ask who request (replies.Full (record { free = sum k.space.free; need = 1 })))
               (full_legal (sum k.space.free) wants is.2);
-          still = λ all. record { same = as_it_was is.4; most = 2; reads = is.3 };
+          still = λ all. let no : false ≡ true = all in cc;
+          full = λ _. full_still g left_sized sized 2 k stays_as is.3 (as_it_was is.4) s who now none refl;
+          noted = λ done. let no : false ≡ true = done in cc;
           taken = λ done. let no : false ≡ true = done in cc;
           owed = ByWant goes (record { delete = refl; few = omega (arith, is.2, wants) }) (ap (λ (n : ℕ). replies.Full (record { free = sum k.space.free; need = n })) (sym wants));
         })
       where
         full_legal : (free : ℕ) → need_of s who request ≡ 1 → free < 5 → next k.words.seed s (events.Ask who request (replies.Full (record { free = free; need = 1 }))) ≡ Some s
         full_legal free wants few = let less : nat_lt free 5 ≡ true = grind (arith, nat_tests) in rw (running g k s serves none, goes, wants, less) refl
-    not_opened (refusals.Disk false) is = disk_failed g left_sized sized 2 k stays_as is.0 (as_it_was is.1) s who serves none request
+    not_opened (refusals.Disk false) is = disk_failed g left_sized sized 2 k stays_as is.0 (as_it_was is.1) s who now none request
     not_opened (refusals.Disk true) is = record {
       allowed = goes;
       drawn = refl;
       named = refl;
       grants = refl;
-      leaves = wider g k.disk d _ _ is (λ c holds. record { graph = s.graph; may = Undone; fits = fits g k s serves (g.blocks d) (sized k.disk serves.store.carries.tells.honest ∙ sym size); holds = holds });
+      leaves = wider g k.disk d _ _ is (λ c holds. record { graph = s.graph; may = Undone; fits = fits g k s now (g.blocks d) (sized k.disk now.store.carries.tells.honest ∙ sym size); holds = holds });
     }
     not_opened (refusals.Damaged damage) is = absurd is
-    not_opened refusals.Memory is = memory g left_sized sized 2 k stays_as is.0 (as_it_was is.1) s who serves none request
+    not_opened refusals.Memory is = memory g left_sized sized 2 k stays_as is.0 (as_it_was is.1) s who now none request
 
 -- why it couldn't be, as the store says it
 pub or_memory : {D : Type 0} (g : Ghosts D) (at : Top) (floor : ℕ) (old new : D) (before after : Kept) (e : Refused) → IsDraftRefusal g at floor old new after e → (is_full_refusal e ≡ true → (e ≡ refusals.Full (record { free = sum before.free; need = 1 })) × (sum before.free < 1 + floor) × (new ≡ old)) → IsRefusalOrMemory g at floor old new before after e
@@ -372,10 +388,10 @@ or_memory g at floor old new before after (refusals.Damaged damage) is full = is
 or_memory g at floor old new before after refusals.Memory is full = tt
 
 begin_cause : {D : Type 0} (g : Ghosts D) (old now : Kernel D) (request : Request) (at : ℕ) → IsRootHere old (Some request) at → asks_delete request ≡ false → g.blocks now.disk ≡ g.blocks old.disk → (e : Refused) → IsRefusalOrMemory g (still_top at) 4 old.disk now.disk old.space now.space e → IsCause g old now (Some request) e
-begin_cause g old now request at here delete size (refusals.Full need) is = (delete, is.0, is.1)
-begin_cause g old now request at here delete size (refusals.Disk tried) is = is
-begin_cause g old now request at here delete size (refusals.Damaged damage) is = told_still g old now (Some request) at here damage size is
-begin_cause g old now request at here delete size refusals.Memory is = tt
+begin_cause g old now asked at here delete size (refusals.Full need) is = (delete, is.0, is.1)
+begin_cause g old now asked at here delete size (refusals.Disk tried) is = is
+begin_cause g old now asked at here delete size (refusals.Damaged damage) is = told_still g old now (Some asked) at here damage size is
+begin_cause g old now asked at here delete size refusals.Memory is = tt
 
 -- ---- the whole call
 
@@ -401,7 +417,7 @@ module _ {D : Type 0} (g : Ghosts D) (left_sized : (d : D) (t : ℕ) (c : Image)
     handle_with drafting = record { grant = record { tuid = tuid; session = who; id = id; mode = mode }; drafting = drafting }
 
     pub tries_open : (drafting : Option Drafting) → Begins g id.block (gets_draft kind mode) k.disk d k.space space (Ok drafting)
-        → Tries g k (record k { disk = d; space = space; words = words; handles = k.handles ++ handle_with drafting ∷ [] }) who (asks.OpenFor id mode) (Ok (replies.Grant tuid))
+        → TriesWith g None k (record k { disk = d; space = space; words = words; handles = k.handles ++ handle_with drafting ∷ [] }) who (asks.OpenFor id mode) (Ok (replies.Grant tuid))
     tries_open drafting begins = record {
       ends = λ s serves none. ends drafting s serves none (begins_so (Ok drafting) begins s serves);
       went = record {
@@ -419,21 +435,43 @@ module _ {D : Type 0} (g : Ghosts D) (left_sized : (d : D) (t : ℕ) (c : Image)
     }
       where
         ends : (o : Option Drafting) (s : State) (serves : CoreServes g k s) → k.stop ≡ None → BeginsSo g s.graph (drafts_of_handles k.handles s.grants) id (the_object g k s serves id kind listed).0 (gets_draft kind mode) k.disk d k.space space (Ok o)
-            → Answers g k (record k { disk = d; space = space; words = words; handles = k.handles ++ handle_with o ∷ [] }) s who (asks.OpenFor id mode) (replies.Grant tuid)
+            → Answers g None k (record k { disk = d; space = space; words = words; handles = k.handles ++ handle_with o ∷ [] }) s who (asks.OpenFor id mode) (replies.Grant tuid)
         ends None s serves none is =
             let o = the_object g k s serves id kind listed in
-            subst (λ (x : Kept). Answers g k (record k { disk = d; space = x; words = words; handles = k.handles ++ handle_with None ∷ [] }) s who (asks.OpenFor id mode) (replies.Grant tuid)) (sym is.2)
-            (subst (λ (y : D). Answers g k (record k { disk = y; words = words; handles = k.handles ++ handle_with None ∷ [] }) s who (asks.OpenFor id mode) (replies.Grant tuid)) (sym is.1)
+            subst (λ (x : Kept). Answers g None k (record k { disk = d; space = x; words = words; handles = k.handles ++ handle_with None ∷ [] }) s who (asks.OpenFor id mode) (replies.Grant tuid)) (sym is.2)
+            (subst (λ (y : D). Answers g None k (record k { disk = y; words = words; handles = k.handles ++ handle_with None ∷ [] }) s who (asks.OpenFor id mode) (replies.Grant tuid)) (sym is.1)
             (opened_bare g left_sized sized k who id mode (gets_draft kind mode) tuid tuid_is s serves none o.0 o.1 (gets_now g k s serves id kind listed mode) (goes s serves).0 is.0 words words_are))
         ends (Some drafting) s serves none is =
             let o = the_object g k s serves id kind listed in
-            opened_draft g left_sized sized k who id mode (gets_draft kind mode) tuid tuid_is s serves none o.0 o.1 (gets_now g k s serves id kind listed mode) (goes s serves).0 is.0 drafting d space words words_are
+            opened_draft g left_sized sized k who id mode (gets_draft kind mode) tuid tuid_is s serves none o.0 o.1 (gets_now g k s serves id kind listed mode) (goes s serves).0 serves is.0 drafting d space words words_are
             (shut s serves is.0) begins.calls.same.size begins.left is.1
 
-  pub tries_not : (e : Refused) → Begins g id.block (gets_draft kind mode) k.disk d k.space space (Err e) → Tries g k (record k { disk = d; space = space }) who (asks.OpenFor id mode) (Err e)
+  pub tries_not : (e : Refused) → Begins g id.block (gets_draft kind mode) k.disk d k.space space (Err e) → TriesWith g None k (record k { disk = d; space = space }) who (asks.OpenFor id mode) (Err e)
   tries_not e begins = record {
     ends = λ s serves none. let o = the_object g k s serves id kind listed in
-        not_opened g left_sized sized k who id mode (gets_draft kind mode) tuid tuid_is s serves none o.0 o.1 (gets_now g k s serves id kind listed mode) (goes s serves).0 d space begins.calls.same.size e (begins_so (Err e) begins s serves);
+        not_opened g left_sized sized k who id mode (gets_draft kind mode) tuid tuid_is s serves none o.0 o.1 (gets_now g k s serves id kind listed mode) (goes s serves).0 serves d space begins.calls.same.size e (begins_so (Err e) begins s serves);
     went = went_so g k d space k.handles begins.calls.same.size begins.calls.faults begins.calls.later (asks.OpenFor id mode) (Err e) tt
         (begin_cause g k (record k { disk = d; space = space }) (asks.OpenFor id mode) id.block (inl (named_root k.directory.named id kind listed)) refl begins.calls.same.size e begins.cause);
   }
+
+-- without a draft, whatever is left of a commit
+pub tries_bare : {D : Type 0} (g : Ghosts D) (left_sized : (d : D) (t : ℕ) (c : Image) → g.left_since d t c → length c ≡ g.blocks d) (sized : (d : D) → IsTrue (g.honest d) → length (g.content d) ≡ g.blocks d)
+    (k : Kernel D) (who : ℕ) (id : Puid) (mode : Mode) (kind : Kind) → directory_kind k.directory.named id ≡ Some kind → (tuid : Tuid) → tuid ≡ record { draw = k.words.drawn + 1; word = word k.words.seed (k.words.drawn + 1) }
+    → ((s : State) → ServesIs g k s → refusal_of s who (asks.OpenFor id mode) ≡ None) → gets_draft kind mode ≡ false → (words : Draws) → words ≡ record { seed = k.words.seed; drawn = k.words.drawn + 1 }
+    → Tries g k (record k { words = words; handles = k.handles ++ record { grant = record { tuid = tuid; session = who; id = id; mode = mode }; drafting = None } ∷ [] }) who (asks.OpenFor id mode) (Ok (replies.Grant tuid))
+tries_bare g left_sized sized k who id mode kind listed tuid tuid_is goes bare words words_are = record {
+  ends = λ s serves none. let o = the_object g k s serves id kind listed in
+      opened_bare g left_sized sized k who id mode (gets_draft kind mode) tuid tuid_is s serves none o.0 o.1 (gets_now g k s serves id kind listed mode) (goes s serves) bare words words_are;
+  went = record {
+    plain = tt;
+    cause = tt;
+    size = refl;
+    faults = omega arith;
+    later = omega arith;
+    stop = refl;
+    collections = refl;
+    seed = ap (λ (x : Draws). x.seed) words_are;
+    kept = omega (arith, ap (λ (x : Draws). x.drawn) words_are);
+    drawn = omega (arith, ap (λ (x : Draws). x.drawn) words_are);
+  };
+}

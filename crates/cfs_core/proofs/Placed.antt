@@ -1,14 +1,16 @@
 -- What the store says of an object that is made, as the core has it.
 use Rattle.std.proofs.Common.{Bool, ◌≡◌, ◌⊎◌, inl, inr, ⊎_elim, ℕ, ◌+◌, ◌<◌, ◌≤◌, List, [], ◌∷◌, length, true, false, None, Some, Result, Ok, Err, IsTrue, refl, sym, ◌∙◌, ap, subst, arith, ◌==◌, IfErr, sum, ◌/◌}
-use Rattle.cfs_core.proofs.Words.{blocks_of, created, Ghosts, Graph, has_block, has_root_in, HasSlot, HasStopped, Holds, Image, Index, insert_entry, has_met_damage, IsIndexRefusal, IsLeastFree, IsOpenMap, Kept, keys_of-kinds_in, Kind, object_kind, kinds_of, list_any, Need, Object, OnlyReads, Puid, puid_cmp, refusal_of, Refused, Reply, Request, State, StoreHas, sum_is, target, wider}
+use Rattle.cfs_core.proofs.Words.{blocks_of, created, Ghosts, Graph, has_block, has_root_in, HasSlot, HasStopped, Holds, Image, Index, insert_entry, has_met_damage, IsIndexRefusal, IsLeastFree, IsOpenMap, Kept, keys_of-kinds_in, Kind, object_kind, kinds_of, list_any, Need, Object, OnlyReads, Puid, puid_cmp, PutsObject, refusal_of, Refused, Reply, Request, State, sum_is, target, wider}
 use Rattle.cfs_core.proofs.Words.{with_made, word, block_named}
 use Rattle.cfs_base.specs.declared.refusal.Refused.TheVariants as refusals
 use Rattle.special_files.specs.Committing.{puid_at}
 use Rattle.ufs_model.specs.declared.asked.Reply.TheVariants as replies
 use Rattle.ufs_model.specs.declared.object.Object.TheVariants as objects
 use Rattle.ufs_model.specs.declared.asked.Event.TheVariants as events
-use Rattle.cfs_core.specs.Carried.{PlacesObject}
-use Rattle.cfs_core.specs.Calls.{Answers, ByWant, EndsSo, IsCause, IsInDoubt, IsShortOfBlocks, TriesOn}
+use Rattle.std.specs.Prelude.{◌≢◌, IfOk, IsSome, Option}
+use Rattle.cyl_alloc.specs.Left.{LeftCommit}
+use Rattle.intentions.specs.Left.{StoreIs, final_image}
+use Rattle.cfs_core.specs.Calls.{Answers, ByWant, EndsSo, IsCause, IsInDoubt, IsShortOfBlocks, TriesOnWith, leaves_all}
 use Rattle.cfs_core.specs.Kernel.{Kernel}
 use Rattle.cfs_core.specs.Damage.{NotOwned}
 use Rattle.cfs_core.specs.Makes.{IsAstray, IsMaking, NamesMade}
@@ -16,11 +18,11 @@ use Rattle.puid_space.specs.Directory.{Listing}
 use Rattle.ufs_model.specs.Outcome.{creates}
 use Rattle.cfs_core.specs.StandsFor.{CoreServes, drafts_of_handles}
 use Rattle.cfs_core.specs.Ways.{Reaches}
-use Rattle.cfs_core.proofs.Answering.{disk_failed, reads_none}
+use Rattle.cfs_core.proofs.Answering.{disk_failed, full_still, reads_none}
 use Rattle.cfs_core.proofs.Committed.{LeavesThese, did, in_doubt, uncut}
 use Rattle.cfs_core.proofs.Created.{filled_is, inside, least_one, least_there, need_is, no_root, not_zero, outcome, stepped, theirs}
 use Rattle.cfs_core.proofs.Damages.{told_of_making}
-use Rattle.cfs_core.proofs.Went.{cause_of, went_so}
+use Rattle.cfs_core.proofs.Went.{cause_of, causes_met, went_so}
 use Rattle.cfs_core.proofs.Serving.{running, shut, stays}
 use Rattle.cfs_core.specs.Claimed.{TakesForRequest}
 use Rattle.cfs_core.proofs.Claimed.{claims_then, takes_last}
@@ -52,12 +54,12 @@ never_wanted g at slot old new before after (inr map) = let no = map.is in cc
 
 module _ {D : Type 0} (g : Ghosts D) (left_sized : (d : D) (t : ℕ) (c : Image) → g.left_since d t c → length c ≡ g.blocks d) (sized : (d : D) → IsTrue (g.honest d) → length (g.content d) ≡ g.blocks d)
     (k : Kernel D) (d : D) (space : Kept) (room : k.directory.room ≡ g.blocks k.disk) (index : Puid) (slot : ℕ) (o : Object) (one : blocks_of o ≡ 1) (w : ℕ) (word_is : w ≡ word k.words.seed (k.words.drawn + 1))
-    (r : Result Puid Refused) (puts : PlacesObject g index.block slot o w k.disk d k.space space r) (enough : 8 ≤ sum k.space.free) where
+    (r : Result Puid Refused) (puts : PutsObject g index.block slot o w k.disk d k.space space r) (enough : 8 ≤ sum k.space.free) where
   abbrev mid : Kernel D
   mid = record k { disk = d; space = space }
 
   size : g.blocks d ≡ g.blocks k.disk
-  size = puts.calls.calls.same.size
+  size = puts.calls.same.size
 
   module _ (request : Request) (making : IsMaking request slot o) (s : State) (who : ℕ) (i : Index) (serves : CoreServes g k s) (none : k.stop ≡ None) (reach : Reaches s who request index (objects.Index i)) (within : slot < length i.slots) (goes : refusal_of s who request ≡ None) where
     has : HasSlot g s.graph (drafts_of_handles k.handles s.grants) k.disk k.space index.block index i slot
@@ -82,14 +84,15 @@ module _ {D : Type 0} (g : Ghosts D) (left_sized : (d : D) (t : ℕ) (c : Image)
     short : ¬ IsShortOfBlocks s who request (sum k.space.free)
     short is = omega (arith, is.few, enough, need_is s who index i slot o request making reach)
 
-    takes : (reply : Reply) (b : ℕ) → block_named reply ≡ b → ops.TakesEntries (intended places.Root b ∷ leaf_and_node (slot / 64) index.block) index.block (b ∷ []) (g.content k.disk) (g.content d) → TakesForRequest k.handles s who request reply (g.content k.disk) (g.content d)
+    takes : (reply : Reply) (b : ℕ) → block_named reply ≡ b → ops.TakesEntries (intended places.Root b ∷ leaf_and_node (slot / 64) index.block) index.block (b ∷ []) (g.content k.disk) (final_image g d space) → TakesForRequest k.handles s who request reply (g.content k.disk) (final_image g d space)
     takes reply b is taken =
-        takes_last k.handles s who request reply (g.content k.disk) (g.content d) (intended places.Root b ∷ leaf_and_node (slot / 64) index.block) (index.block ∷ b ∷ []) index.block (making.claims k.handles s who reply ∙ rw (is, reach.name) refl) (rw (making.makes, is, reach.name) refl) (rw reach.name refl)
-        (claims_then (intended places.Root b ∷ leaf_and_node (slot / 64) index.block) index.block (b ∷ []) (g.content k.disk) (g.content d) taken)
+        takes_last k.handles s who request reply (g.content k.disk) (final_image g d space) (intended places.Root b ∷ leaf_and_node (slot / 64) index.block) (index.block ∷ b ∷ []) index.block (making.claims k.handles s who reply ∙ rw (is, reach.name) refl) (rw (making.makes, is, reach.name) refl) (rw reach.name refl)
+        (claims_then (intended places.Root b ∷ leaf_and_node (slot / 64) index.block) index.block (b ∷ []) (g.content k.disk) (final_image g d space) taken)
 
-    made : (p : Puid) → r ≡ Ok p → (new : Kernel D) (result : Result Reply Refused) → NamesMade mid new p (object_kind o) result → EndsSo g k new s who request result
+    made : (p : Puid) → r ≡ Ok p → (new : Kernel D) (result : Result Reply Refused) → NamesMade mid new p (object_kind o) result → EndsSo g None k new s who request result
     made p is new result names =
         let two = rw is at (puts.done s.graph (drafts_of_handles k.handles s.grants) index i has) in
+        let left = rw is at puts.left in
         let least = two.1.least in
         let same : id_at p.block ≡ p = ap (λ n. puid_at p.block n) (sym word_drawn ∙ sym two.0) in
         let b = p.block in
@@ -100,15 +103,14 @@ module _ {D : Type 0} (g : Ghosts D) (left_sized : (d : D) (t : ℕ) (c : Image)
         (outcome g k s who serves index i slot o one request making reach goes enough b least) (leaves_at b least) (stepped g k s who serves index i slot o one request making reach goes enough b least d space) refl
         (ap (λ (t : State). t.grants) (filled_is g k s who serves index i slot o one request making reach goes enough b least)) (index.block ∷ b ∷ [])
         (record {
-          store = subst (λ (q : Puid). StoreHas g (with_made s.graph index i slot q o) (drafts_of_handles k.handles s.grants) d space) (sym same) two.1.stands.store;
-          only = two.1.stands.only;
+          store = subst (λ (q : Puid). StoreIs g (with_made s.graph index i slot q o) (drafts_of_handles k.handles s.grants) d space) (sym same) two.1.store;
+          only = two.1.only;
           these = theirs g k s who serves index i slot o one request making reach goes enough b least;
-          left = two.1.stands.left;
         })
-        tt refl short (λ _. least) (takes (replies.Id (id_at b)) b refl two.1.takes) in
-        subst (EndsSo g k new s who request) (sym named_so.0)
-        (subst (λ (x : Kernel D). Answers g k x s who request (replies.Id p)) (sym named_so.1)
-        (subst (λ (q : Puid). Answers g k (kernel_with q) s who request (replies.Id q)) same answers))
+        tt refl short (λ _. least) (takes (replies.Id (id_at b)) b refl two.1.takes) (λ _. subst (λ (w : Option LeftCommit). IsSome w) (sym left.1.is) refl) in
+        subst (EndsSo g None k new s who request) (sym named_so.0)
+        (subst (λ (x : Kernel D). Answers g None k x s who request (replies.Id p)) (sym named_so.1)
+        (subst (λ (q : Puid). Answers g None k (kernel_with q) s who request (replies.Id q)) same answers))
       where
         kernel_with : Puid → Kernel D
         kernel_with q = record k {
@@ -128,7 +130,7 @@ module _ {D : Type 0} (g : Ghosts D) (left_sized : (d : D) (t : ℕ) (c : Image)
     as_it_was two = ap (λ (x : Kept). record k { disk = d; space = x }) two.0
 
     failed : (e : Refused) → (e ≡ refusals.Disk false → (space ≡ k.space) × OnlyReads g 9 k.disk d)
-        → (IsIndexRefusal g index.block slot k.disk d space e ⊎ IsOpenMap g k.disk k.space e) → has_met_damage e ≡ false → EndsSo g k mid s who request (Err e)
+        → (IsIndexRefusal g index.block slot k.disk d space e ⊎ IsOpenMap g k.disk k.space e) → has_met_damage e ≡ false → EndsSo g None k mid s who request (Err e)
     failed (refusals.Full need) untried refused sound = absurd (never_full g index.block slot k.disk d k.space space need refused)
     failed (refusals.Disk false) untried refused sound = let two = untried refl in disk_failed g left_sized sized 9 k mid two.1 (as_it_was two) s who serves none request
     failed (refusals.Disk true) untried refused sound = doubtful
@@ -139,15 +141,15 @@ module _ {D : Type 0} (g : Ghosts D) (left_sized : (d : D) (t : ℕ) (c : Image)
     sound_at e is = subst (λ (x : Result Puid Refused). IfErr x (λ f. has_met_damage f ≡ false)) is (puts.sound s.graph (drafts_of_handles k.handles s.grants) index i has)
 
   module _ (request : Request) (making : IsMaking request slot o) where
-    pub tries_made : (p : Puid) → r ≡ Ok p → (new : Kernel D) (result : Result Reply Refused) → NamesMade mid new p (object_kind o) result → TriesOn g k new index slot request result
+    pub tries_made : (p : Puid) → r ≡ Ok p → (new : Kernel D) (result : Result Reply Refused) → NamesMade mid new p (object_kind o) result → TriesOnWith g None k new index slot request result
     tries_made p is new result names = record {
       ends = λ s who i serves none reach within goes. made request making s who i serves none reach within goes p is new result names;
       went = λ named. record {
         plain = names.plain;
-        cause = if_astray g k new request p k.directory result making.makes refl room names.astray;
+        cause = causes_met g k new request result (if_astray g k new request p k.directory result making.makes refl room names.astray);
         size = ap g.blocks names.disk ∙ size;
-        faults = omega (arith, ap g.faults names.disk, puts.calls.calls.faults);
-        later = omega (arith, ap g.moment names.disk, puts.calls.calls.later);
+        faults = omega (arith, ap g.faults names.disk, puts.calls.faults);
+        later = omega (arith, ap g.moment names.disk, puts.calls.later);
         stop = names.stop;
         collections = names.collections;
         seed = names.seed;
@@ -156,13 +158,13 @@ module _ {D : Type 0} (g : Ghosts D) (left_sized : (d : D) (t : ℕ) (c : Image)
       };
     }
 
-    pub tries_unmade : (e : Refused) → r ≡ Err e → TriesOn g k mid index slot request (Err e)
+    pub tries_unmade : (e : Refused) → r ≡ Err e → TriesOnWith g None k mid index slot request (Err e)
     tries_unmade e is = record {
       ends = λ s who i serves none reach within goes. failed request making s who i serves none reach within goes e
           (subst (λ (x : Result Puid Refused). IfErr x (λ f. f ≡ refusals.Disk false → (space ≡ k.space) × OnlyReads g 9 k.disk d)) is puts.untried)
           (subst (λ (x : Result Puid Refused). IfErr x (λ f. IsIndexRefusal g index.block slot k.disk d space f ⊎ IsOpenMap g k.disk k.space f)) is puts.refused)
           (sound_at request making s who i serves none reach within goes e is);
-      went = λ named. went_so g k d space k.handles size puts.calls.calls.faults puts.calls.calls.later request (Err e) tt (cause_of g k mid (Some request) e (stopped_so g index.block slot k.disk d k.space space e (rw is at puts.refused))
+      went = λ named. went_so g k d space k.handles size puts.calls.faults puts.calls.later request (Err e) tt (cause_of g k mid (Some request) e (stopped_so g index.block slot k.disk d k.space space e (rw is at puts.refused))
           (λ damage same. told_of_making g k mid (Some request) index.block (inl named) damage size slot making.wants (rw same at (rw is at puts.refused)))
           (λ need same. absurd (never_full g index.block slot k.disk d k.space space need (rw same at (rw is at puts.refused)))));
     }
@@ -174,15 +176,26 @@ module _ {D : Type 0} (g : Ghosts D) (left_sized : (d : D) (t : ℕ) (c : Image)
   reads : OnlyReads g 0 k.disk d
   reads = subst (λ x. OnlyReads g 0 k.disk x) (sym same_disk) (reads_none g 0 k.disk)
 
-  pub tries_short : (request : Request) → IsMaking request slot o → TriesOn g k (record k { disk = d; space = space }) index slot request (Err (refusals.Full (record { free = sum k.space.free; need = 4 })))
+  pub tries_short : (request : Request) → IsMaking request slot o → TriesOnWith g None k (record k { disk = d; space = space }) index slot request (Err (refusals.Full (record { free = sum k.space.free; need = 4 })))
   tries_short request making = record {
     ends = λ s who i serves none reach within goes.
         let need = need_is s who index i slot o request making reach in record {
           event = stays g 0 k (record k { disk = d; space = space }) reads (ap (λ (x : Kept). record k { disk = d; space = x }) same_space) s serves left_sized (sized k.disk serves.store.carries.tells.honest)
               (events.Ask who request (replies.Full (record { free = sum k.space.free; need = 4 }))) (making.full k.words.seed s who (sum k.space.free) (running g k s serves none) goes need few);
-          still = λ all. record { same = ap (λ (x : Kept). record k { disk = d; space = x }) same_space; most = 0; reads = reads };
+          still = λ all. let no : false ≡ true = all in cc;
+          full = λ full. full_still g left_sized sized 0 k (record k { disk = d; space = space }) reads (ap (λ (x : Kept). record k { disk = d; space = x }) same_space) s who serves none refl;
           taken = λ done. let no : false ≡ true = done in cc;
+          noted = λ done. let no : false ≡ true = done in cc;
           owed = ByWant goes (record { delete = making.delete; few = omega (arith, few, need) }) (ap (λ (n : ℕ). replies.Full (record { free = sum k.space.free; need = n })) (sym need));
         };
     went = λ named. went_so g k d space k.handles (ap g.blocks same_disk) reads.faults reads.images.later request (Err (refusals.Full (record { free = sum k.space.free; need = 4 }))) tt (making.delete, refl, omega (arith, few));
   }
+
+-- ---- what is told of one that is made
+
+pub named_decides : {D : Type 0} (old new : Kernel D) (id : Puid) (kind : Kind) (result : Result Reply Refused) → NamesMade old new id kind result → IfOk result (λ reply. leaves_all reply ≡ false) × (result ≢ Err refusals.Memory)
+named_decides old new id kind (Ok reply) names = (ap leaves_all names.told, λ is. cc)
+named_decides old new id kind (Err e) names = (tt, λ is. (let same : e ≡ refusals.Memory = cc in let no = sym same ∙ names.astray.is in cc))
+
+pub unmade_never : {D : Type 0} (g : Ghosts D) (at slot : ℕ) (old new : D) (before after : Kept) (e : Refused) → IsIndexRefusal g at slot old new after e ⊎ IsOpenMap g old before e → ◌≢◌ {A = Result Reply Refused} (Err e) (Err refusals.Memory)
+unmade_never g at slot old new before after e why = λ is. (let same : e ≡ refusals.Memory = cc in never_wanted g at slot old new before after (subst (λ (x : Refused). IsIndexRefusal g at slot old new after x ⊎ IsOpenMap g old before x) same why))

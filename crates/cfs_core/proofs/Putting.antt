@@ -1,18 +1,21 @@
 -- What the store says of a slot that is filled or emptied, as the core has it.
-use Rattle.std.proofs.Common.{◌≡◌, inl, ℕ, ◌+◌, ◌*◌, ◌<◌, ◌≤◌, length, true, false, Option, None, Some, Result, Ok, Err, IsTrue, refl, sym, ◌∙◌, ap, subst, arith, sum, ◌⊎◌, inr, [], ◌∷◌, is_none, ◌/◌, set}
-use Rattle.cfs_core.proofs.Words.{creates, Ghosts, HasSlot, Image, Index, index_with, IsSpeakable, Kept, Need, OnlyReads, outcome_of, Puid, Ref, refusal_of, Refused, Request, State, with_object, Object, Holds, StoreHas, slot_of, target, object_at-with_object, same_puid_itself}
+use Rattle.std.proofs.Common.{◌≡◌, inl, ℕ, ◌+◌, ◌*◌, ◌<◌, ◌≤◌, length, true, false, Option, None, Some, Result, Ok, Err, IsTrue, refl, sym, ◌∙◌, ap, subst, arith, sum, ◌⊎◌, inr, [], ◌∷◌, is_none, ◌/◌, set, IsSome}
+use Rattle.cfs_core.proofs.Words.{creates, Ghosts, HasSlot, Image, Index, index_with, IsSpeakable, Kept, Need, OnlyReads, outcome_of, Puid, PutsSlot, Ref, refusal_of, Refused, Request, State, with_object, Object, Holds, slot_of, target, object_at-with_object, same_puid_itself}
 use Rattle.cfs_base.specs.declared.refusal.Refused.TheVariants as refusals
 use Rattle.ufs_model.specs.declared.asked.Event.TheVariants as events
 use Rattle.ufs_model.specs.declared.asked.Reply.TheVariants as replies
 use Rattle.ufs_model.specs.declared.asked.Request.TheVariants as asks
 use Rattle.ufs_model.specs.declared.object.Object.TheVariants as objects
-use Rattle.cfs_core.specs.Carried.{FillsIndexSlot}
-use Rattle.cfs_core.specs.Calls.{ByWant, EndsSo, IsShortOfBlocks, TriesOn, done_or}
+use Rattle.cyl_alloc.specs.Left.{LeftCommit}
+use Rattle.intentions.specs.Left.{StoreIs, coming, final_image}
+use Rattle.index_ops.specs.Changes.{LeavesCommit}
+use Rattle.cfs_core.specs.Calls.{ByWant, EndsSo, IsShortOfBlocks, TriesOn, TriesOnWith, done_or}
+use Rattle.cfs_core.proofs.Stored.{account_in}
 use Rattle.cfs_core.specs.Damage.{bytes_wanted}
 use Rattle.cfs_core.specs.Kernel.{Kernel}
 use Rattle.cfs_core.specs.StandsFor.{CoreServes, drafts_of_handles}
 use Rattle.cfs_core.specs.Ways.{Reaches}
-use Rattle.cfs_core.proofs.Answering.{disk_failed, memory, reads_none}
+use Rattle.cfs_core.proofs.Answering.{disk_failed, full_still, memory, reads_none}
 use Rattle.cfs_core.proofs.Changed.{object_did, object_in_doubt}
 use Rattle.cfs_core.proofs.Committed.{LeavesThese, uncut}
 use Rattle.cfs_core.proofs.Grown.{added_by, filled_blocks}
@@ -24,14 +27,14 @@ use Rattle.std.proofs.lemmas.List.{get_or-set_same}
 use Rattle.std.proofs.lemmas.Option.{unwrap_or-slice_get}
 use Rattle.cfs_core.specs.Claimed.{TakesForRequest, claims_for, owners_of, root_reached}
 use Rattle.cfs_core.proofs.Claimed.{Commits, claims_then, takes_last}
-use Rattle.index_ops.specs.Changes.{leaf_and_node}
+use Rattle.index_ops.specs.Changes.{ChangesLeaf, leaf_and_node}
 use Rattle.vol_image.proofs.Unique.{held_object}
 use Rattle.ufs_model.specs.State.{the_index}
 use Rattle.index_ops.specs.Changes as ops
 
 module _ {D : Type 0} (g : Ghosts D) (left_sized : (d : D) (t : ℕ) (c : Image) → g.left_since d t c → length c ≡ g.blocks d) (sized : (d : D) → IsTrue (g.honest d) → length (g.content d) ≡ g.blocks d)
     (k : Kernel D) (d : D) (space : Kept) (index : Puid) (slot : ℕ) (what : Option Puid) (request : Request) (makes : creates request ≡ false) (bytes : bytes_wanted (Some request) ≡ 8 * slot + 8)
-    (speaks : IsSpeakable (events.Ask 0 request replies.Done)) (result : Result (Unit {0}) Refused) (puts : FillsIndexSlot g index.block slot what k.disk d k.space space result)
+    (speaks : IsSpeakable (events.Ask 0 request replies.Done)) (result : Result (Unit {0}) Refused) (puts : PutsSlot g index.block slot what k.disk d k.space space result)
     (out : (s : State) (who : ℕ) (i : Index) → CoreServes g k s → Reaches s who request index (objects.Index i)
     → (outcome_of k.words.seed s who request 0 ≡ (replies.Done, (outcome_of k.words.seed s who request 0).1)) × Puts s (outcome_of k.words.seed s who request 0).1 index (index_with i slot what))
     (room : (s : State) (who : ℕ) (i : Index) → CoreServes g k s → Reaches s who request index (objects.Index i) → (¬ IsShortOfBlocks s who request (sum k.space.free)) × (added_by what + 4 ≤ sum k.space.free))
@@ -51,7 +54,7 @@ module _ {D : Type 0} (g : Ghosts D) (left_sized : (d : D) (t : ℕ) (c : Image)
     }
 
     size : g.blocks d ≡ g.blocks k.disk
-    size = puts.calls.calls.same.size
+    size = puts.calls.same.size
 
     speak : (w : ℕ) → IsSpeakable (events.Ask w request replies.Done)
     speak w = speaks
@@ -60,28 +63,35 @@ module _ {D : Type 0} (g : Ghosts D) (left_sized : (d : D) (t : ℕ) (c : Image)
     left = uncut g k.disk d s who request replies.Done _ (puts.leaves s.graph (drafts_of_handles k.handles s.grants) index i has)
 
     -- one that was emptied held something, so the content isn't as it was
-    not_still : {A : Type 0} → StoreHas g (with_object s.graph index (index_with i slot what)) (drafts_of_handles k.handles s.grants) d space → (what ≡ None) × (g.content d ≡ g.content k.disk) → A
+    not_still : {A : Type 0} → StoreIs g (with_object s.graph index (index_with i slot what)) (drafts_of_handles k.handles s.grants) d space → (what ≡ None) × (final_image g d space ≡ g.content k.disk) → A
     not_still store two =
         let h = with_object s.graph index (index_with i slot what) in
-        let one = held_object (g.content k.disk) s.graph h index (objects.Index i) (index_with i slot what) serves.store.account.holds (subst (λ (c : Image). Holds c h) two.1 store.account.holds) reach.there
+        let one = held_object (g.content k.disk) s.graph h index (objects.Index i) (index_with i slot what) serves.store.account.holds (subst (λ (c : Image). Holds c h) two.1 (account_in g h (drafts_of_handles k.handles s.grants) d space space.left store).holds) reach.there
         (object_at-with_object s.graph index (index_with i slot what) index ∙ rw (same_puid_itself index) refl) in
         let none : slot_of i slot ≡ None = ap (λ (o : Object). slot_of (the_index o) slot) one ∙ unwrap_or-slice_get (set i.slots slot what) slot None ∙ get_or-set_same i.slots slot what None inside ∙ two.0 in
         let no : true ≡ false = sym (ap is_none none) ∙ holds s who i reach goes two.0 in cc
 
-    takes : StoreHas g (with_object s.graph index (index_with i slot what)) (drafts_of_handles k.handles s.grants) d space → ((what ≡ None) × (g.content d ≡ g.content k.disk)) ⊎ ops.TakesEntries (leaf_and_node (slot / 64) index.block) index.block [] (g.content k.disk) (g.content d) → TakesForRequest k.handles s who request replies.Done (g.content k.disk) (g.content d)
+    takes : StoreIs g (with_object s.graph index (index_with i slot what)) (drafts_of_handles k.handles s.grants) d space → ChangesLeaf g (slot / 64) index.block what k.disk d space → TakesForRequest k.handles s who request replies.Done (g.content k.disk) (final_image g d space)
     takes store leaf =
         let at : root_reached s who (target request) ≡ index.block = rw reach.name refl in
-        takes_last k.handles s who request replies.Done (g.content k.disk) (g.content d) (leaf_and_node (slot / 64) index.block) (index.block ∷ []) index.block ((claims s who).0 ∙ ap (leaf_and_node (slot / 64)) at) ((claims s who).1 ∙ ap (λ n. n ∷ []) at) at (by leaf)
+        takes_last k.handles s who request replies.Done (g.content k.disk) (final_image g d space) (leaf_and_node (slot / 64) index.block) (index.block ∷ []) index.block ((claims s who).0 ∙ ap (leaf_and_node (slot / 64)) at) ((claims s who).1 ∙ ap (λ n. n ∷ []) at) at (by leaf.takes)
       where
-        by : ((what ≡ None) × (g.content d ≡ g.content k.disk)) ⊎ ops.TakesEntries (leaf_and_node (slot / 64) index.block) index.block [] (g.content k.disk) (g.content d)
-            → Commits (leaf_and_node (slot / 64) index.block) (index.block ∷ []) index.block (g.content k.disk) (g.content d)
+        by : ((what ≡ None) × (final_image g d space ≡ g.content k.disk)) ⊎ ops.TakesEntries (leaf_and_node (slot / 64) index.block) index.block [] (g.content k.disk) (final_image g d space)
+            → Commits (leaf_and_node (slot / 64) index.block) (index.block ∷ []) index.block (g.content k.disk) (final_image g d space)
         by (inl still) = not_still store still
-        by (inr taken) = claims_then (leaf_and_node (slot / 64) index.block) index.block [] (g.content k.disk) (g.content d) taken
+        by (inr taken) = claims_then (leaf_and_node (slot / 64) index.block) index.block [] (g.content k.disk) (final_image g d space) taken
 
-    ends : (r : Result (Unit {0}) Refused) → r ≡ result → EndsSo g k new s who request (done_or r)
-    ends (Ok u) is = let changes = rw (← is) at (puts.done s.graph (drafts_of_handles k.handles s.grants) index i has) in
+    -- a commit is noted, since something changed
+    noted : StoreIs g (with_object s.graph index (index_with i slot what)) (drafts_of_handles k.handles s.grants) d space → LeavesCommit index.block what space.left → (space.left ≡ None → g.content d ≡ g.content k.disk) → IsSome space.left
+    noted store (inr two) still = subst (λ (w : Option LeftCommit). IsSome w) (sym two.1.is) refl
+    noted store (inl two) still = not_still store (two.0, ap (coming (g.content d)) two.1 ∙ still two.1)
+
+    ends : (r : Result (Unit {0}) Refused) → r ≡ result → EndsSo g None k new s who request (done_or r)
+    ends (Ok u) is =
+        let changes = rw (← is) at (puts.done s.graph (drafts_of_handles k.handles s.grants) index i has) in
+        let leaf = rw (← is) at (puts.leaf s.graph (drafts_of_handles k.handles s.grants) index i has) in
         object_did g left_sized sized k new size refl none s (outcome_of k.words.seed s who request 0).1 who request serves index (objects.Index i) (index_with i slot what) reach.there refl (added_by what) (filled_blocks i slot what) goes makes (speak who)
-        (out s who i serves reach).0 (out s who i serves reach).1 (room s who i serves reach).0 (room s who i serves reach).1 left changes.store changes.left changes.only (takes changes.store (rw (← is) at (puts.takes s.graph (drafts_of_handles k.handles s.grants) index i has)))
+        (out s who i serves reach).0 (out s who i serves reach).1 (room s who i serves reach).0 (room s who i serves reach).1 left changes.store changes.only (takes changes.store leaf) (λ _. noted changes.store (rw (← is) at puts.left) (λ nothing. rw (← is) at (puts.still nothing)))
     ends (Err (refusals.Full need)) is = absurd (rw (← is) at puts.refused)
     ends (Err (refusals.Disk false)) is = let two = (rw (← is) at puts.untried) refl in disk_failed g left_sized sized 9 k new two.1 (ap (λ (x : Kept). record k { disk = d; space = x }) two.0) s who serves none request
     ends (Err (refusals.Disk true)) is = object_in_doubt g left_sized sized k new size refl none s (outcome_of k.words.seed s who request 0).1 who request serves index (objects.Index i) (index_with i slot what) reach.there refl (added_by what) (filled_blocks i slot what) goes makes (speak who)
@@ -89,11 +99,11 @@ module _ {D : Type 0} (g : Ghosts D) (left_sized : (d : D) (t : ℕ) (c : Image)
     ends (Err (refusals.Damaged damage)) is = let no : true ≡ false = rw (← is) at (puts.sound s.graph (drafts_of_handles k.handles s.grants) index i has) in cc
     ends (Err refusals.Memory) is = absurd (rw (← is) at puts.refused)
 
-  pub tries_put : TriesOn g k new index slot request (done_or result)
+  pub tries_put : TriesOnWith g None k new index slot request (done_or result)
   tries_put = record {
     ends = λ s who i serves none reach inside goes. ends s who i serves none reach inside goes result refl;
-    went = λ named. went_done g k d space k.handles puts.calls.calls.same.size puts.calls.calls.faults puts.calls.calls.later request result (λ tried is. rw is at puts.refused)
-        (λ damage is. told_of_index g k new (Some request) index.block (inl named) damage puts.calls.calls.same.size slot bytes (rw is at puts.refused))
+    went = λ named. went_done g k d space k.handles puts.calls.same.size puts.calls.faults puts.calls.later request result (λ tried is. rw is at puts.refused)
+        (λ damage is. told_of_index g k new (Some request) index.block (inl named) damage puts.calls.same.size slot bytes (rw is at puts.refused))
         (λ need is. absurd (rw is at puts.refused));
   }
 
@@ -113,13 +123,15 @@ module _ {D : Type 0} (g : Ghosts D) (left_sized : (d : D) (t : ℕ) (c : Image)
   as_it_was : record k { disk = d; space = space } ≡ record k { disk = d }
   as_it_was = ap (λ (x : Kept). record k { disk = d; space = x }) same_space
 
-  pub tries_full : TriesOn g k (record k { disk = d; space = space }) index slot request (Err (refusals.Full need))
+  pub tries_full : TriesOnWith g None k (record k { disk = d; space = space }) index slot request (Err (refusals.Full need))
   tries_full = record {
     ends = λ s who i serves none reach inside goes. record {
       event = stays g 0 k (record k { disk = d; space = space }) reads as_it_was s serves left_sized (sized k.disk serves.store.carries.tells.honest) (events.Ask who request (replies.Full need))
           (retain_full k.words.seed s who to index i slot (sum k.space.free) id reach (running g k s serves none) goes few);
-      still = λ all. record { same = as_it_was; most = 0; reads = reads };
+      still = λ all. let no : false ≡ true = all in cc;
+      full = λ full. full_still g left_sized sized 0 k (record k { disk = d; space = space }) reads as_it_was s who serves none refl;
       taken = λ done. let no : false ≡ true = done in cc;
+      noted = λ done. let no : false ≡ true = done in cc;
       owed = ByWant goes (record { delete = refl; few = omega (arith, few, retain_need k.words.seed s who to index i slot id reach) })
           (ap (λ (n : ℕ). replies.Full (record { free = sum k.space.free; need = n })) (sym (retain_need k.words.seed s who to index i slot id reach)));
     };

@@ -1,14 +1,15 @@
 -- Calls that change the grants, and no draft.
-use Rattle.std.proofs.Common.{◌≡◌, ℕ, List, [], ◌∷◌, ◌++◌, length, Bool, true, false, cond, ◌&&◌, Option, Some, None, is_some, refl, sym, ◌∙◌, ap, subst, arith, ◌+◌, append-nil, append_assoc, filter, find, map, nat_le, not}
+use Rattle.std.proofs.Common.{◌≤◌, ◌≡◌, ℕ, List, [], ◌∷◌, ◌++◌, length, Bool, true, false, cond, ◌&&◌, Option, Some, None, is_some, refl, sym, ◌∙◌, ap, subst, arith, ◌+◌, append-nil, append_assoc, filter, find, map, nat_le, not}
 use Rattle.cfs_core.proofs.Words.{and_parts, changes_begin, Draft, Drafting, Event, Ghosts, Grant, Holds, Image, is_grant, IsState, list_all, nat_tests, next, Opened, or_parts, State, Tuid}
 use Rattle.open_table.specs.declared.grant.Grant as handles
 use Rattle.open_table.specs.Grants as tables
 use Rattle.cfs_core.specs.Calls.{MakesEvent}
 use Rattle.cfs_core.specs.Kernel.{Kernel, Handle, grants_in, is_drawn_by}
 use Rattle.cfs_core.specs.Handles.{have_draft, handles_but}
-use Rattle.cfs_core.specs.StandsFor.{AreDraftsOf, HasDraftOf, CoreServes, StoresState, bare, drafts_at, drafts_of_handles}
+use Rattle.cyl_alloc.specs.Left.{LeftCommit}
+use Rattle.cfs_core.specs.StandsFor.{AreDraftsOf, HasDraftOf, ServesIs, StoresState, bare, drafts_at, drafts_of_handles, end_in, free_to_come, free_with}
 use Rattle.cfs_core.proofs.Moved.{HasStepped, IsStepped, makes_stepped, stores_stepped}
-use Rattle.cfs_core.proofs.Serving.{nothing_left}
+use Rattle.cfs_core.proofs.Serving.{account, nothing_left}
 
 -- each is drawn where more are drawn
 pub drawn_more : (ss : List Handle) (n m : ℕ) → m ≡ n + 1 → list_all (is_drawn_by n) ss ≡ true → list_all (is_drawn_by m) ss ≡ true
@@ -124,23 +125,30 @@ module _ (test : handles.Grant → Bool) where
 
 -- ---- the state with these grants
 
-module _ {D : Type 0} (g : Ghosts D) (k : Kernel D) (left : List Handle) (s after : State) (serves : CoreServes g k s) (is : IsStepped k (record k { handles = left }) s after s.graph) (state : IsState after) (keeps : KeepsDrafts k.handles left s.grants after.grants) where
+-- the Free blocks are the same, whoever has a grant
+pub free_handled : {D : Type 0} (g : Ghosts D) (k : Kernel D) (handles : List Handle) (w : Option LeftCommit) → free_with g (record k { handles = handles }) w ≡ free_with g k w
+free_handled g k handles None = refl
+free_handled g k handles (Some l) = refl
+
+module _ {D : Type 0} (g : Ghosts D) (k : Kernel D) (left : List Handle) (s after : State) (serves : ServesIs g k s) (is : IsStepped k (record k { handles = left }) s after s.graph) (state : IsState after) (keeps : KeepsDrafts k.handles left s.grants after.grants) where
   abbrev new : Kernel D
   new = record k { handles = left }
 
   abbrev ds : List Opened
   ds = drafts_of_handles k.handles s.grants
 
-  has : HasStepped g k new s s.graph (λ entry. false) ds
+  has : HasStepped g k.space.left k new s s.graph (λ entry. false) ds
   has = record {
     store = serves.store;
-    only = changes_begin (λ entry. false) (g.content k.disk) s.graph serves.store.account.holds;
+    only = changes_begin (λ entry. false) (end_in g k) s.graph (account g k s serves).holds;
     these = record { there = λ entry is made. let no : true ≡ false = sym is in cc; more = λ r had. had };
-    left = serves.left;
   }
 
-  pub stores_after : StoresState g new after
-  stores_after = stores_stepped g k new s after s.graph serves (λ entry. false) ds has is state keeps.same (keeps.have ds serves.drafts) serves.four
+  four : 4 ≤ free_to_come g new
+  four = subst (λ (f : ℕ). 4 ≤ f) (sym (free_handled g k left k.space.left)) serves.four
 
-  pub makes_after : ((d : D) (t : ℕ) (c : Image) → g.left_since d t c → length c ≡ g.blocks d) → length (g.content k.disk) ≡ g.blocks k.disk → (e : Event) → next k.words.seed s e ≡ Some after → MakesEvent g k new s e
-  makes_after left_sized wide e step = makes_stepped g k new s after s.graph serves (λ entry. false) ds has is state keeps.same (keeps.have ds serves.drafts) serves.four left_sized wide e step refl (nothing_left g k.disk (λ c. Holds c s.graph))
+  pub stores_after : StoresState g new after
+  stores_after = stores_stepped g k new s after s.graph serves (λ entry. false) ds has is state keeps.same (keeps.have ds serves.drafts) four
+
+  pub makes_after : ((d : D) (t : ℕ) (c : Image) → g.left_since d t c → length c ≡ g.blocks d) → length (g.content k.disk) ≡ g.blocks k.disk → (e : Event) → next k.words.seed s e ≡ Some after → MakesEvent g k.space.left k new s e
+  makes_after left_sized wide e step = makes_stepped g k new s after s.graph serves (λ entry. false) ds has is state keeps.same (keeps.have ds serves.drafts) four left_sized wide e step refl (nothing_left g k.disk (λ c. Holds c s.graph))

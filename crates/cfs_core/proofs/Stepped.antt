@@ -15,13 +15,14 @@ use Rattle.cfs_core.proofs.Damages.{told_as}
 use Rattle.cfs_core.specs.Calls.{IsCause}
 use Rattle.cfs_core.specs.Collect.{CollectsStep, EndsUnmade, HappensOrRests, HasBegunCollection, IsFaultCause, IsMadeOrNot, IsNoDamage, IsCollectStep, IsTidyVolume, IsUnchanged, LeavesAll, MovesTo, StepsSo, TriesStep, event_of, fault_for, is_starved, phase_of, stop_by}
 use Rattle.cfs_core.specs.Kernel.{AreCollections, IsSizedKernel, Kernel, Handle, is_ready, marks_in, collection_runs, sweeps_in}
-use Rattle.cfs_core.specs.Room.{lost_blocks}
-use Rattle.cfs_core.specs.StandsFor.{AreDraftsOf, HasCollection, HasCollector, CoreServes, StandsFor, bare, drafts_of_handles}
+use Rattle.cfs_core.specs.Room.{MayLose, lost_blocks}
+use Rattle.cfs_core.specs.StandsFor.{AreDraftsOf, HasCollection, HasCollector, CoreServes, StandsFor, bare, drafts_of_handles, end_in}
 use Rattle.cfs_core.proofs.Answering.{reads_none}
 use Rattle.cfs_core.specs.Rescues.{AreRescued}
 use Rattle.cfs_core.proofs.Collected.{collection_ready}
 use Rattle.cfs_core.proofs.Lefts.{goes_begun, goes_ended}
-use Rattle.cfs_core.proofs.Serving.{stored, fits, pending, running, serves_from, stands_from, nothing_left}
+use Rattle.intentions.specs.Left.{coming}
+use Rattle.cfs_core.proofs.Serving.{stored_with, fits, pending, running, serves_from, serves_is, serves_now, stands_from, nothing_left}
 use Rattle.cfs_core.proofs.Stepping.{begins, ended, read_calls}
 use Rattle.cfs_core.proofs.Tidied.{tidy}
 
@@ -44,6 +45,7 @@ collects_stopped g k stop is = record {
   cause = tt;
   wants = λ no. cc;
   calls = read_calls g k.disk k.disk 0 (reads_none g 0 k.disk) (omega arith);
+  left = refl;
   root = refl;
   words = refl;
   handles = refl;
@@ -51,21 +53,29 @@ collects_stopped g k stop is = record {
 }
 
 module _ {D : Type 0} (g : Ghosts D) (left_sized : (d : D) (t : ℕ) (c : Image) → g.left_since d t c → length c ≡ g.blocks d) (sized : (d : D) → IsTrue (g.honest d) → length (g.content d) ≡ g.blocks d)
-    (old new : Kernel D) (size : g.blocks new.disk ≡ g.blocks old.disk) (none : old.stop ≡ None) where
+    (old new : Kernel D) (size : g.blocks new.disk ≡ g.blocks old.disk) (none : old.stop ≡ None) (nothing : old.space.left ≡ None) (left : new.space.left ≡ old.space.left) where
   fits_before : (s : State) → CoreServes g old s → FitsDisk (g.blocks new.disk) s.graph
   fits_before s serves = fits g old s serves (g.blocks new.disk) (sized old.disk serves.store.carries.tells.honest ∙ sym size)
 
+  -- the images that are to come are those that are there
+  before_is : end_in g old ≡ g.content old.disk
+  before_is = ap (coming (g.content old.disk)) nothing
+
+  after_is : end_in g new ≡ g.content new.disk
+  after_is = ap (coming (g.content new.disk)) (left ∙ nothing)
+
   happens : new.stop ≡ None → (s : State) (e : Option Event) → CoreServes g old s → MovesTo g old new s e → HappensOrRests g old new s e
   happens runs s None serves is = record {
-    stands = subst (StandsFor g new) is.comes (stands_from g new is.after runs is.serves);
+    stands = subst (StandsFor g new) is.comes (stands_from g new is.after runs (serves_is g new is.after is.serves));
     keeps = keeps g left_sized old.words.seed s old.disk new.disk (fits_before s serves) is.leaves;
-    lost = subst (λ (t : State). lost_blocks (g.content new.disk) t.graph ≤ lost_blocks (g.content old.disk) s.graph) is.comes is.lost;
+    lost = subst (λ (t : State). lost_blocks (end_in g new) t.graph ≤ lost_blocks (end_in g old) s.graph) is.comes (rw (after_is, before_is) is.lost);
   }
   happens runs s (Some e) serves is = record {
     after = is.after;
     step = is.comes old.words.seed;
-    stands = stands_from g new is.after runs is.serves;
-    lost = λ _. is.lost;
+    stands = stands_from g new is.after runs (serves_is g new is.after is.serves);
+    lost = λ _. subst (λ (i : Image). MayLose e s.graph is.after.graph (lost_blocks i s.graph) (lost_blocks (end_in g new) is.after.graph)) (sym before_is)
+        (subst (λ (i : Image). MayLose e s.graph is.after.graph (lost_blocks (g.content old.disk) s.graph) (lost_blocks i is.after.graph)) (sym after_is) is.lost);
     survives = inl (done g left_sized old.words.seed s old.disk new.disk (fits_before s serves) e is.after (is.comes old.words.seed)
         (fits g new is.after is.serves (g.blocks new.disk) (sized new.disk is.serves.store.carries.tells.honest))
         (wider g old.disk new.disk _ _ is.leaves (λ c holds. inl holds)) (pending g new is.after is.serves));
@@ -73,12 +83,12 @@ module _ {D : Type 0} (g : Ghosts D) (left_sized : (d : D) (t : ℕ) (c : Image)
 
   pub collects_ok : AreCollections (g.blocks old.disk) old.collections → (step : Step) → TriesStep g old new (Ok step) → CollectsStep g old new (Ok step)
   collects_ok kept step is = record {
-    event = λ s stands. let serves = serves_from g old s none stands in happens (ap (λ (k : Kernel D). k.stop) is.same ∙ none) s (event_of step) serves (is.ends.moves s serves none);
+    event = λ s stands. let serves = serves_now g old s nothing (serves_from g old s none stands) in happens (ap (λ (k : Kernel D). k.stop) is.same ∙ none) s (event_of step) serves (is.ends.moves s serves none);
     stopped = λ stop same. cc;
     due = is.ends.due;
     counted = is.ends.counted;
-    sweeps = λ s stands. is.ends.sweeps s (serves_from g old s none stands);
-    over = λ s stands. is.ends.over s (serves_from g old s none stands);
+    sweeps = λ s stands. is.ends.sweeps s (serves_now g old s nothing (serves_from g old s none stands));
+    over = λ s stands. is.ends.over s (serves_now g old s nothing (serves_from g old s none stands));
     still = tt;
     called = ap (λ (k : Kernel D). k.collections.called) is.same;
     sound = λ _ s stands. tt;
@@ -87,6 +97,7 @@ module _ {D : Type 0} (g : Ghosts D) (left_sized : (d : D) (t : ℕ) (c : Image)
     cause = tt;
     wants = λ no. cc;
     calls = is.calls;
+    left = is.left;
     root = ap (λ (k : Kernel D). k.root) is.same;
     words = ap (λ (k : Kernel D). k.words) is.same;
     handles = ap (λ (k : Kernel D). k.handles) is.same;
@@ -95,13 +106,13 @@ module _ {D : Type 0} (g : Ghosts D) (left_sized : (d : D) (t : ℕ) (c : Image)
 
 -- one that was refused from below
 module _ {D : Type 0} (g : Ghosts D) (left_sized : (d : D) (t : ℕ) (c : Image) → g.left_since d t c → length c ≡ g.blocks d) (sized : (d : D) → IsTrue (g.honest d) → length (g.content d) ≡ g.blocks d)
-    (old mid : Kernel D) (none : old.stop ≡ None) where
+    (old mid : Kernel D) (none : old.stop ≡ None) (nothing : old.space.left ≡ None) where
   abbrev stopped_as : Refused → Kernel D
   stopped_as refused = record mid { stop = stop_by (fault_for refused (g.moment mid.disk)) mid.stop }
 
   halted : (refused : Refused) (moment : ℕ) (s : State) → TriesStep g old mid (Err refused) → CoreServes g old s → EndsUnmade g old mid s refused → IsCollectStep g old (record mid { stop = stop_by (fault_for refused moment) mid.stop }) s (Err (fault_for refused moment))
   halted (refusals.Full need) moment s tries serves is = absurd is
-  halted (refusals.Disk false) moment s tries serves is = happens g left_sized sized old mid tries.calls.same.size none (ap (λ (k : Kernel D). k.stop) tries.same ∙ none) s None serves is
+  halted (refusals.Disk false) moment s tries serves is = happens g left_sized sized old mid tries.calls.same.size none nothing tries.left (ap (λ (k : Kernel D). k.stop) tries.same ∙ none) s None serves is
   halted (refusals.Disk true) moment s tries serves is =
       let stop : ℕ = moment - 1 in
       let step : next old.words.seed s (events.Halted stop) ≡ Some (stopped_at stop s) = rw (running g old s serves none) refl in
@@ -110,10 +121,10 @@ module _ {D : Type 0} (g : Ghosts D) (left_sized : (d : D) (t : ℕ) (c : Image)
         step = step;
         stands = record { drawn = is.1.drawn; directory = is.1.directory; grants = is.1.grants; stopped = refl };
         lost = λ none. cc;
-        survives = inl (loose g left_sized old.words.seed s old.disk mid.disk (fits_before g left_sized sized old mid tries.calls.same.size none s serves) (events.Halted stop) (stopped_at stop s) step refl is.0 (pending g old s serves));
+        survives = inl (loose g left_sized old.words.seed s old.disk mid.disk (fits_before g left_sized sized old mid tries.calls.same.size none nothing tries.left s serves) (events.Halted stop) (stopped_at stop s) step refl is.0 (pending g old s serves));
       }
   halted (refusals.Damaged damage) moment s tries serves is = absurd is
-  halted refusals.Memory moment s tries serves is = happens g left_sized sized old mid tries.calls.same.size none (ap (λ (k : Kernel D). k.stop) tries.same ∙ none) s None serves is
+  halted refusals.Memory moment s tries serves is = happens g left_sized sized old mid tries.calls.same.size none nothing tries.left (ap (λ (k : Kernel D). k.stop) tries.same ∙ none) s None serves is
 
   told_cause : (refused : Refused) → (stop : Option Stop) → IsCause g old mid None refused → IsFaultCause g old (record mid { stop = stop }) (fault_for refused (g.moment mid.disk))
   told_cause (refusals.Full need) stop is = tt
@@ -151,7 +162,7 @@ module _ {D : Type 0} (g : Ghosts D) (left_sized : (d : D) (t : ℕ) (c : Image)
 
   pub collects_err : (refused : Refused) (new : Kernel D) → new ≡ stopped_as refused → TriesStep g old mid (Err refused) → CollectsStep g old new (Err (fault_for refused (g.moment mid.disk)))
   collects_err refused new is tries = subst (λ (k : Kernel D). CollectsStep g old k (Err (fault_for refused (g.moment mid.disk)))) (sym is) (record {
-    event = λ s stands. let serves = serves_from g old s none stands in halted refused (g.moment mid.disk) s tries serves (tries.ends.ends s serves none);
+    event = λ s stands. let serves = serves_now g old s nothing (serves_from g old s none stands) in halted refused (g.moment mid.disk) s tries serves (tries.ends.ends s serves none);
     stopped = λ stop same. cc;
     due = tt;
     counted = tt;
@@ -159,12 +170,13 @@ module _ {D : Type 0} (g : Ghosts D) (left_sized : (d : D) (t : ℕ) (c : Image)
     over = tt;
     still = still_told refused (g.moment mid.disk) tries.ends.still;
     called = ap (λ (k : Kernel D). k.collections.called) tries.same;
-    sound = λ _ s stands. no_damage refused (g.moment mid.disk) s (tries.ends.ends s (serves_from g old s none stands) none);
+    sound = λ _ s stands. no_damage refused (g.moment mid.disk) s (tries.ends.ends s (serves_now g old s nothing (serves_from g old s none stands)) none);
     stops = ap (λ (o : Option Stop). stop_by (fault_for refused (g.moment mid.disk)) o) (ap (λ (k : Kernel D). k.stop) tries.same);
     goes_on = tt;
     cause = told_cause refused _ tries.ends.cause;
     wants = λ told. tries.ends.wants (want_told refused _ (same_err told));
     calls = tries.calls;
+    left = tries.left;
     root = ap (λ (k : Kernel D). k.root) tries.same;
     words = ap (λ (k : Kernel D). k.words) tries.same;
     handles = ap (λ (k : Kernel D). k.handles) tries.same;
@@ -183,6 +195,7 @@ module _ {D : Type 0} (g : Ghosts D) (k : Kernel D) where
   steps_here c result ends called = record {
     ends = ends;
     calls = read_calls g k.disk k.disk 0 (reads_none g 0 k.disk) (omega arith);
+    left = refl;
     same = ap (λ (n : ℕ). record k { collections = record c { called = n } }) called;
   }
 
@@ -193,7 +206,7 @@ module _ {D : Type 0} (g : Ghosts D) (k : Kernel D) where
     ends = λ s serves none. record {
       after = s;
       comes = refl;
-      serves = stored g k s serves c (collection_ready (g.content k.disk) s k.collections.collector c.collector same serves.collecting);
+      serves = stored_with g k s serves c (collection_ready (g.content k.disk) s k.collections.collector c.collector same serves.collecting);
       leaves = nothing_left g k.disk (λ i. Holds i s.graph);
       lost = omega arith;
     };

@@ -24,7 +24,7 @@ use Rattle.cfs_core.specs.StandsFor.{HasCollection, HasCollector, CoreServes, ba
 use Rattle.cfs_core.proofs.Answering.{reads_none}
 use Rattle.cfs_core.proofs.Collected.{as_before, collection_ready, none_is}
 use Rattle.cfs_core.proofs.Lefts.{events_swept, goes_within}
-use Rattle.cfs_core.proofs.Serving.{running, serves_on, stored, nothing_left}
+use Rattle.cfs_core.proofs.Serving.{running, serves_on, stored_with, nothing_left}
 use Rattle.cfs_core.proofs.Swept.{frees_strays}
 use Rattle.cfs_core.proofs.Went.{fewer_calls}
 
@@ -91,7 +91,7 @@ module _ {D : Type 0} (g : Ghosts D) (k : Kernel D) (old : D) (space : Kept) (di
   read_on n new reads phase collects = record {
     after = s;
     comes = refl;
-    serves = stored g (with_parts k new space directory col) s (serves_on g n core (with_parts k new space directory col) reads refl s serves) (record k.collections { collector = Some l })
+    serves = stored_with g (with_parts k new space directory col) s (serves_on g n core (with_parts k new space directory col) reads refl s serves) (record k.collections { collector = Some l })
         (record { marking = serves.collecting.marking ∙ ap marks_in (sym phase); sweeping = serves.collecting.sweeping ∙ ap sweeps_in (sym phase); collects = collects });
     leaves = wider g old new _ _ reads.images (λ c no. absurd no);
     lost = omega (arith, ap (λ (i : Image). lost_blocks i s.graph) reads.content);
@@ -317,14 +317,13 @@ module _ {D : Type 0} (g : Ghosts D) (old : D) (space : Kept) (directory : Listi
 
     read_step : l.phase ≡ k.phase → (result : Result Step Refused) → ((core : Kernel D) → IsMadeOrNot g (before core) (after_read core) result) → StepsSo g old new space space directory directory k l result
     read_step phase result ends = record {
-      tries = λ core. record { ends = ends core; calls = read_calls g old new n reads few; same = refl };
+      tries = λ core. record { ends = ends core; calls = read_calls g old new n reads few; left = refl; same = refl };
       size = reads.same.size;
       runs = runs_on k l marking phase;
       volume = volume;
       room = refl;
       some = λ h. h;
       cylinders = refl;
-      commit = refl;
     }
 
     pub steps_read : l.phase ≡ k.phase → ((s : State) (ds : List Opened) → IsServed g old directory.named s ds → Collects (g.content old) s k → Collects (g.content new) s l) → (step : Step)
@@ -374,6 +373,7 @@ module _ {D : Type 0} (g : Ghosts D) (old : D) (space : Kept) (directory : Listi
             (ap (λ p. marks_in p || sweeps_in p) due.0) (ap (λ p. marks_in p || sweeps_in p) phase) (refl, refl) less (omega (arith, ap events_left phase, ap events_left due.0));
       };
       calls = read_calls g old old 0 (reads_none g 0 old) (omega arith);
+      left = refl;
       same = refl;
     };
     size = refl;
@@ -382,7 +382,6 @@ module _ {D : Type 0} (g : Ghosts D) (old : D) (space : Kept) (directory : Listi
     room = room_is;
     some = λ none. ap (λ named. has_root_in named 0) kept ∙ no_root_left test directory.named none;
     cylinders = refl;
-    commit = refl;
   }
     where
       blocks_less : (h : Graph) (ds : List Opened) → graph_blocks h ≤ blocks_taken h ds
@@ -419,14 +418,13 @@ module _ {D : Type 0} (g : Ghosts D) (old : D) (space : Kept) (directory : Listi
 
       swept_step : (r : Result (Unit {0}) Trouble) → collection_runs (Some l) ≡ true → ((core : Kernel D) → IsMadeOrNot g (before core) (with_parts core new after directory l) (told_as r)) → StepsSo g old new space after directory directory k l (told_as r)
       swept_step r runs ends = record {
-        tries = λ core. record { ends = ends core; calls = fewer_calls g 2 1 4 1 old new (omega arith) (omega arith) is.sweep.calls; same = refl };
+        tries = λ core. record { ends = ends core; calls = fewer_calls g 2 1 4 1 old new (omega arith) (omega arith) is.sweep.calls; left = is.sweep.left; same = refl };
         size = is.sweep.calls.same.size;
         runs = runs;
         volume = volume;
         room = refl;
         some = λ h. h;
         cylinders = is.sweep.cylinders;
-        commit = is.sweep.left;
       }
 
       by : (r : Result (Unit {0}) Trouble) → result ≡ r → StepsSo g old new space after directory directory k l (told_as r)

@@ -1,11 +1,14 @@
 -- What a call did, however it ended: of one that draws no word, and of one after reads.
-use Rattle.std.proofs.Common.{◌≡◌, ℕ, ◌≤◌, Bool, Result, Ok, Err, Option, Some, refl, ◌∙◌, ap, arith, IfErr, IfOk, List, sum}
-use Rattle.cfs_core.proofs.Words.{Ghosts, HasStopped, IsPlainReply, Kept, MakesAtMost, OnlyReads, Refused, Reply, Request, stopped_after_reads}
+use Rattle.std.proofs.Common.{◌≡◌, ℕ, ◌≤◌, Bool, Result, Ok, Err, Option, Some, None, refl, sym, ◌∙◌, ap, subst, ◌+◌, arith, IfErr, IfOk, List, sum}
+use Rattle.cfs_core.proofs.Words.{Ghosts, HasStopped, IsPlainReply, Kept, MakesAtMost, nothing_made, OnlyReads, reads_make, Refused, Reply, Request, stopped_after_reads}
+use Rattle.cfs_base.proofs.Calls.{makes_then}
+use Rattle.cyl_alloc.specs.Left.{LeftCommit}
+use Rattle.finisher.specs.Going.{tries_left}
 use Rattle.cfs_base.specs.declared.refusal.Refused.TheVariants as refusals
 use Rattle.cfs_base.specs.declared.refusal.Damage.{Damage}
 use Rattle.cfs_base.specs.declared.refusal.Need.{Need}
-use Rattle.cfs_core.specs.Calls.{IsCause, IsWant, Went, done_or}
-use Rattle.cfs_core.specs.Damage.{IsDamageTold}
+use Rattle.cfs_core.specs.Calls.{IsCause, IsCauseOf, IsWant, Went, done_or}
+use Rattle.cfs_core.specs.Damage.{IsDamageTold, IsMet}
 use Rattle.cfs_core.specs.Kernel.{Kernel, Handle}
 use Rattle.cfs_core.proofs.Damages.{told_then}
 
@@ -20,6 +23,20 @@ fewer_calls g n t m u old new less fewer calls = record {
   tries = omega (arith, calls.tries, fewer);
   no_fewer = calls.no_fewer;
 }
+
+-- a call that carried out nothing first
+pub now_met : {D : Type 0} (g : Ghosts D) (old : Kernel D) (Is : Kernel D → Type 0) → Is old → IsMet g old Is
+now_met g old Is is = record { disk = old.disk; space = old.space; most = 0; calls = nothing_made g old.disk 0 _; none = λ nothing. (refl, refl); is = is }
+
+pub cause_met : {D : Type 0} (g : Ghosts D) (old new : Kernel D) (request : Request) (e : Refused) → IsCause g old new (Some request) e → IsCauseOf g old new request e
+cause_met g old new request (refusals.Full need) is = now_met g old (λ k. IsWant (Some request) (sum k.space.free) need) is
+cause_met g old new request (refusals.Disk tried) is = is
+cause_met g old new request (refusals.Damaged damage) is = now_met g old (λ k. IsDamageTold g k new (Some request) damage) is
+cause_met g old new request refusals.Memory is = tt
+
+pub causes_met : {D : Type 0} (g : Ghosts D) (old new : Kernel D) (request : Request) (result : Result Reply Refused) → IfErr result (IsCause g old new (Some request)) → IfErr result (IsCauseOf g old new request)
+causes_met g old new request (Ok reply) is = tt
+causes_met g old new request (Err e) is = cause_met g old new request e is
 
 -- all but want of memory has a cause
 pub cause_of : {D : Type 0} (g : Ghosts D) (old new : Kernel D) (request : Option Request) (e : Refused) → ((tried : Bool) → e ≡ refusals.Disk tried → HasStopped g tried old.disk new.disk) → ((damage : Damage) → e ≡ refusals.Damaged damage → IsDamageTold g old new request damage)
@@ -36,7 +53,7 @@ module _ {D : Type 0} (g : Ghosts D) (k : Kernel D) (d : D) (space : Kept) (hand
   pub went_so : (result : Result Reply Refused) → IfOk result IsPlainReply → IfErr result (IsCause g k after_it (Some request)) → Went g k (record k { disk = d; space = space; handles = handles }) request result
   went_so result plain cause = record {
     plain = plain;
-    cause = cause;
+    cause = causes_met g k after_it request result cause;
     size = size;
     faults = faults;
     later = later;
@@ -52,19 +69,62 @@ module _ {D : Type 0} (g : Ghosts D) (k : Kernel D) (d : D) (space : Kept) (hand
   went_done (Ok u) stopped met wants = went_so (done_or (Ok u)) tt tt
   went_done (Err e) stopped met wants = went_so (Err e) tt (cause_of g k after_it (Some request) e (λ tried is. stopped tried (ap (λ x. Err x) is)) (λ damage is. met damage (ap (λ x. Err x) is)) (λ need is. wants need (ap (λ x. Err x) is)))
 
+-- a call after others, from this disk on: whatever it tells now, with its cause
+pub went_as : {D : Type 0} (g : Ghosts D) (a b : D) (old new : Kernel D) (request : Request) {r : Result Reply Refused} (told : Result Reply Refused) → g.blocks b ≡ g.blocks a → g.faults a ≤ g.faults b → g.moment a ≤ g.moment b → IfOk told IsPlainReply → IfErr told (IsCauseOf g old new request)
+    → {space : Kept} → Went g (record old { disk = b; space = space }) new request r → a ≡ old.disk → Went g old new request told
+went_as g a b old new request told size faults later plain cause is from = record {
+  plain = plain;
+  cause = cause;
+  size = is.size ∙ size ∙ ap g.blocks from;
+  faults = omega (arith, faults, is.faults, ap g.faults from);
+  later = omega (arith, later, is.later, ap g.moment from);
+  stop = is.stop;
+  collections = is.collections;
+  seed = is.seed;
+  kept = is.kept;
+  drawn = is.drawn;
+}
+
 -- a call after reads
 module _ {D : Type 0} (g : Ghosts D) (n : ℕ) (old : Kernel D) (d : D) (new : Kernel D) (reads : OnlyReads g n old.disk d) where
-  cause_then : (request : Option Request) (r : Result Reply Refused) → IfErr r (IsCause g (record old { disk = d }) new request) → IfErr r (IsCause g old new request)
+  abbrev read : Kernel D
+  read = record old { disk = d }
+
+  pub cause_then : (request : Option Request) (r : Result Reply Refused) → IfErr r (IsCause g read new request) → IfErr r (IsCause g old new request)
   cause_then request (Ok reply) is = tt
   cause_then request (Err (refusals.Full need)) is = is
   cause_then request (Err (refusals.Disk tried)) is = stopped_after_reads g old.disk d new.disk n tried reads is
   cause_then request (Err (refusals.Damaged damage)) is = told_then g old new n d request damage reads is
   cause_then request (Err refusals.Memory) is = tt
 
-  pub went_then : (request : Request) (result : Result Reply Refused) → Went g (record old { disk = d }) new request result → Went g old new request result
+  -- what is met in the call is met in that one too
+  met_then : (Is : Kernel D → Type 0) → (Is read → Is old) → IsMet g read Is → IsMet g old Is
+  met_then Is before met = at old.space.left refl
+    where
+      at : (w : Option LeftCommit) → old.space.left ≡ w → IsMet g old Is
+      at None nothing =
+          let same = met.none nothing in
+          now_met g old Is (before (subst (λ (k : Kept). Is (record old { disk = d; space = k })) same.1 (subst (λ (x : D). Is (record old { disk = x; space = met.space })) same.0 met.is)))
+      at (Some l) left = record {
+        disk = met.disk;
+        space = met.space;
+        most = n + met.most;
+        calls = makes_then g old.disk d met.disk n met.most (n + met.most) 0 (tries_left old.space.left) (tries_left old.space.left) (reads_make g old.disk d n reads) met.calls (omega arith) (omega arith);
+        none = λ nothing. let no : None ≡ Some l = sym nothing ∙ left in cc;
+        is = met.is;
+      }
+
+  cause_of_then : (request : Request) (r : Result Reply Refused) → IfErr r (IsCauseOf g read new request) → IfErr r (IsCauseOf g old new request)
+  cause_of_then request (Ok reply) is = tt
+  cause_of_then request (Err (refusals.Full need)) is = met_then (λ k. IsWant (Some request) (sum k.space.free) need) (λ was. was) is
+  cause_of_then request (Err (refusals.Disk tried)) is = stopped_after_reads g old.disk d new.disk n tried reads is
+  cause_of_then request (Err (refusals.Damaged damage)) is = met_then (λ k. IsDamageTold g k new (Some request) damage) (told_then g old new n d (Some request) damage reads) is
+  cause_of_then request (Err refusals.Memory) is = tt
+
+  pub went_then : (request : Request) (result : Result Reply Refused) → Went g read new request result → Went g old new request result
   went_then request result is = record {
     plain = is.plain;
-    cause = cause_then (Some request) result is.cause;
+    cause = cause_of_then request result is.cause;
     size = is.size ∙ reads.same.size;
     faults = omega (arith, reads.faults, is.faults);
     later = omega (arith, reads.images.later, is.later);

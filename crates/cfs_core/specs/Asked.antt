@@ -1,5 +1,6 @@
 -- A request that was asked.
-use Rattle.std.specs.Prelude.{◌≡◌, ℕ, ◌+◌, ◌-◌, ◌≤◌, true, false, length, sum, Result, Ok, Err, Option, Some, None}
+use Rattle.std.specs.Prelude.{◌≡◌, ℕ, ◌+◌, ◌-◌, ◌≤◌, true, false, length, sum, IsSome, Result, Ok, Err, Option, Some}
+use Rattle.std.specs.Prelude.{None}
 use Rattle.cfs_base.specs.Calls.{HasStopped}
 use Rattle.cfs_base.specs.declared.disk.Disk.{Ghosts}
 use Rattle.cfs_base.specs.declared.refusal.Refused.{Refused}
@@ -17,14 +18,15 @@ use Rattle.ufs_model.specs.Outcome.{draws}
 use Rattle.ufs_model.specs.State.{State}
 use Rattle.cfs_core.specs.declared.kernel.Halt.{Halt}
 use Rattle.cfs_core.specs.declared.kernel.Stop.{Stop}
-use Rattle.cfs_core.specs.Calls.{IsAsItWas, IsWant, Owes, leaves_all}
+use Rattle.cfs_core.specs.Calls.{IsAsItWas, IsFinished, IsWant, Owes, is_full_reply, leaves_all}
 use Rattle.cfs_core.specs.Claimed.{TakesForRequest}
-use Rattle.cfs_core.specs.Damage.{IsDamageTold}
+use Rattle.cfs_core.specs.Commits.{commits}
+use Rattle.cfs_core.specs.Damage.{IsDamageMet, IsMet}
 use Rattle.cfs_core.specs.Kernel.{Kernel}
 use Rattle.cfs_core.specs.Left.{AddsOne}
 use Rattle.cfs_core.specs.Rescues.{AreRescued}
 use Rattle.cfs_core.specs.Room.{MayLose, lost_blocks}
-use Rattle.cfs_core.specs.StandsFor.{StandsFor}
+use Rattle.cfs_core.specs.StandsFor.{StandsFor, end_in, free_to_come}
 
 -- ---- what is told of a refusal from below, at this moment of the disk
 
@@ -59,35 +61,43 @@ pub record Happens {D : Type 0} (g : Ghosts D) (old new : Kernel D) (s : State) 
   pub step : next old.words.seed s e ≡ Some after
   pub stands : StandsFor g new after
   pub survives : Survived g old.words.seed s e old.disk new.disk
-  pub lost : new.stop ≡ None → MayLose e s.graph after.graph (lost_blocks (g.content old.disk) s.graph)
-      (lost_blocks (g.content new.disk) after.graph)
+  -- the images are those that are to come
+  pub lost : new.stop ≡ None → MayLose e s.graph after.graph (lost_blocks (end_in g old) s.graph)
+      (lost_blocks (end_in g new) after.graph)
 
 -- A device call failed in this call. With a doubt something had been tried, and the moment is the one before that
 -- which the disk has now. At a damage a block is outside its table, and the moment is the disk's now. A request that
--- finds too few blocks tells how many were counted Free. A core that runs tells no stop.
+-- finds too few blocks tells how many were counted Free. A core that runs tells no stop. What was left of a commit may
+-- have been carried out before.
 abbrev pub IsToldCause : {D : Type 0} → Ghosts D → Kernel D → Kernel D → Request → Reply → Type 0
 IsToldCause g old new request (replies.Disk None) = HasStopped g false old.disk new.disk
 IsToldCause g old new request (replies.Disk (Some moment)) =
     HasStopped g true old.disk new.disk × (moment ≡ g.moment new.disk - 1)
 IsToldCause g old new request (replies.Damaged damage moment) =
-    IsDamageTold g old new (Some request) damage × (moment ≡ g.moment new.disk)
+    IsDamageMet g old new request damage × (moment ≡ g.moment new.disk)
 IsToldCause g old new request (replies.Stopped moment) = ⊥
-IsToldCause g old new request (replies.Full need) = IsWant (Some request) (sum old.space.free) need
+IsToldCause g old new request (replies.Full need) = IsMet g old (λ k. IsWant (Some request) (sum k.space.free) need)
 IsToldCause g old new request reply = Unit {0}
 
 pub record Asks {D : Type 0} (g : Ghosts D) (old new : Kernel D) (who : ℕ) (request : Request)
     (reply : Reply) : Type 0 where
   -- one event, for each state that it stood for
   pub event : (s : State) → StandsFor g old s → Happens g old new s (events.Ask who request reply)
-  -- and the reply is exact
+  -- and the reply is exact; what is Free is so once nothing is unfinished
   pub owed : old.stop ≡ None → (s : State) → StandsFor g old s
-      → Owes old.words.seed s who request (g.content old.disk) (sum old.space.free) reply
-  -- a refusal, Full, Memory and Disk without a doubt leave all as it was, but the room for a rescue, and write nothing
+      → Owes old.words.seed s who request (end_in g old) (free_to_come g old) reply
+  -- a refusal, Memory and Disk without a doubt leave all as it was, but the room for a rescue, and write nothing
   pub still : old.stop ≡ None → (s : State) → StandsFor g old s → leaves_all reply ≡ true
       → IsAsItWas g (record old { collections = new.collections }) new
+  -- Full has carried out what was left, and leaves all else as it was
+  pub full : old.stop ≡ None → (s : State) → StandsFor g old s → is_full_reply reply ≡ true
+      → IsFinished g old.space.left (record old { collections = new.collections }) new
   -- of one that is done each block that it takes is the least-numbered Free one, in the stated order
   pub taken : old.stop ≡ None → (s : State) → StandsFor g old s → is_carried_out reply ≡ true
-      → TakesForRequest old.handles s who request reply (g.content old.disk) (g.content new.disk)
+      → TakesForRequest old.handles s who request reply (end_in g old) (end_in g new)
+  -- a commit is done at its bit, and what is left of it is unfinished then
+  pub noted : old.stop ≡ None → (s : State) → StandsFor g old s → is_carried_out reply ≡ true
+      → commits s who request ≡ true → IsSome new.space.left
   -- one that stopped makes no call of the disk
   pub stopped : (stop : Stop) → old.stop ≡ Some stop → (new ≡ old) × (reply ≡ replies.Stopped stop.moment)
   -- it stops after a doubt and at a damage alone

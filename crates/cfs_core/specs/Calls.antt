@@ -1,6 +1,6 @@
 -- What a call of a core is: one event, and how exact its reply is.
 use Rattle.std.specs.Prelude.{◌≡◌, ℕ, ◌+◌, ◌<◌, ◌≤◌, Bool, true, false, nat_le, if◌then◌else◌}
-use Rattle.std.specs.Prelude.{length, sum, Result, Ok, Err, IfErr, IfOk, Option, Some, None}
+use Rattle.std.specs.Prelude.{length, sum, Result, Ok, Err, IfErr, IfOk, IsSome, Option, Some, None}
 use Rattle.cfs_base.specs.Calls.{HasStopped, OnlyReads}
 use Rattle.cfs_base.specs.Disk.{Image}
 use Rattle.cfs_base.specs.Run.{Leaves}
@@ -9,8 +9,10 @@ use Rattle.cfs_base.specs.declared.identifier.Puid.{Puid}
 use Rattle.cfs_base.specs.declared.refusal.Need.{Need}
 use Rattle.cfs_base.specs.declared.refusal.Refused.{Refused}
 use Rattle.cfs_base.specs.declared.refusal.Refused.TheVariants as refusals
+use Rattle.cyl_alloc.specs.Left.{LeftCommit}
 use Rattle.cyl_alloc.specs.Space.{IsLeastFree}
 use Rattle.cyl_map.specs.Volume.{entry_in}
+use Rattle.intentions.specs.Left.{coming}
 use Rattle.marking.specs.Meanwhile.{is_carried_out}
 use Rattle.puid_space.specs.Directory.{has_root_in}
 use Rattle.survival.specs.Call.{CallSurvives}
@@ -35,9 +37,10 @@ use Rattle.ufs_model.specs.State.{State}
 use Rattle.vol_image.specs.Survives.{ChangesInPlace, IsBetween, MayName}
 use Rattle.vol_owners.specs.Owner.{is_stray}
 use Rattle.cfs_core.specs.Claimed.{TakesForRequest}
-use Rattle.cfs_core.specs.Damage.{IsDamageTold, asks_delete}
+use Rattle.cfs_core.specs.Commits.{commits}
+use Rattle.cfs_core.specs.Damage.{IsDamageMet, IsDamageTold, IsMet, asks_delete}
 use Rattle.cfs_core.specs.Kernel.{Kernel, grants_in}
-use Rattle.cfs_core.specs.StandsFor.{CoreServes, StoresState}
+use Rattle.cfs_core.specs.StandsFor.{ServesWith, StoresState, end_in, free_with}
 use Rattle.cfs_core.specs.Ways.{Reaches}
 
 -- ---- replies
@@ -81,19 +84,22 @@ AddsNoStray a b g h =
     (n : ℕ) → is_stray h (entry_in b n) ≡ true → (entry_in b n ≡ entry_in a n) × (is_stray g (entry_in a n) ≡ true)
 
 -- The event may come in the state, the store has the state after it, and what a crash leaves survives. The collector
--- isn't told of it yet.
-pub record MakesEvent {D : Type 0} (g : Ghosts D) (old new : Kernel D) (s : State) (e : Event) : Type 0 where
+-- isn't told of it yet. This was left of a commit before; what is said of blocks is said of the image that was to come
+-- and of the one that is.
+pub record MakesEvent {D : Type 0} (g : Ghosts D) (commit : Option LeftCommit) (old new : Kernel D) (s : State)
+    (e : Event) : Type 0 where
   pub after : State
   pub step : next old.words.seed s e ≡ Some after
   pub stores : StoresState g new after
-  pub strays : AddsNoStray (g.content old.disk) (g.content new.disk) s.graph after.graph
+  pub strays : AddsNoStray (coming (g.content old.disk) commit) (end_in g new) s.graph after.graph
   pub survives : CallSurvives g old.words.seed s e old.disk new.disk
 
--- all is as it was after such a reply
+-- nothing was written after such a reply
 abbrev pub leaves_all : Reply → Bool
 leaves_all replies.Done = false
 leaves_all (replies.Id id) = false
 leaves_all (replies.Grant t) = false
+leaves_all (replies.Full need) = false
 leaves_all (replies.Disk (Some moment)) = false
 leaves_all (replies.Damaged damage moment) = false
 leaves_all reply = true
@@ -104,14 +110,27 @@ pub record IsAsItWas {D : Type 0} (g : Ghosts D) (old new : Kernel D) : Type 0 w
   pub most : ℕ
   pub reads : OnlyReads g most old.disk new.disk
 
+-- What was left of a commit is carried out, and nothing else changed; where nothing was left nothing was written.
+pub record IsFinished {D : Type 0} (g : Ghosts D) (commit : Option LeftCommit) (old new : Kernel D) : Type 0 where
+  pub same : new ≡ record old { disk = new.disk; space = new.space }
+  pub none : new.space.left ≡ None
+  pub content : g.content new.disk ≡ coming (g.content old.disk) commit
+  pub still : commit ≡ None → IsAsItWas g old new
+
+abbrev pub is_full_reply : Reply → Bool
+is_full_reply (replies.Full need) = true
+is_full_reply reply = false
+
 -- The call answered so.
-pub record Answers {D : Type 0} (g : Ghosts D) (old new : Kernel D) (s : State) (who : ℕ) (request : Request)
-    (reply : Reply) : Type 0 where
-  pub event : MakesEvent g old new s (events.Ask who request reply)
+pub record Answers {D : Type 0} (g : Ghosts D) (commit : Option LeftCommit) (old new : Kernel D) (s : State) (who : ℕ)
+    (request : Request) (reply : Reply) : Type 0 where
+  pub event : MakesEvent g commit old new s (events.Ask who request reply)
   pub still : leaves_all reply ≡ true → IsAsItWas g old new
-  pub owed : Owes old.words.seed s who request (g.content old.disk) (sum old.space.free) reply
-  pub taken : is_carried_out reply ≡ true → TakesForRequest old.handles s who request reply (g.content old.disk)
-      (g.content new.disk)
+  pub full : is_full_reply reply ≡ true → IsFinished g commit old new
+  pub owed : Owes old.words.seed s who request (coming (g.content old.disk) commit) (free_with g old commit) reply
+  pub taken : is_carried_out reply ≡ true
+      → TakesForRequest old.handles s who request reply (coming (g.content old.disk) commit) (end_in g new)
+  pub noted : is_carried_out reply ≡ true → commits s who request ≡ true → IsSome new.space.left
 
 -- the objects that may be read of a request which isn't refused: those of before, those of after, or those with a
 -- normal file whose change was cut short
@@ -131,13 +150,16 @@ pub record IsInDoubt {D : Type 0} (g : Ghosts D) (old new : Kernel D) (s : State
   pub leaves : Leaves g old.disk new.disk (HoldsSome (g.blocks new.disk) (MayBeRead old.words.seed s who request))
 
 -- how a call ends that tries to answer
-abbrev pub EndsSo : {D : Type 0} → Ghosts D → Kernel D → Kernel D → State → ℕ → Request → Result Reply Refused → Type 0
-EndsSo g old new s who request (Ok reply) = Answers g old new s who request reply
-EndsSo g old new s who request (Err (refusals.Full need)) = Answers g old new s who request (replies.Full need)
-EndsSo g old new s who request (Err (refusals.Disk false)) = Answers g old new s who request (replies.Disk None)
-EndsSo g old new s who request (Err (refusals.Disk true)) = IsInDoubt g old new s who request
-EndsSo g old new s who request (Err (refusals.Damaged damage)) = ⊥
-EndsSo g old new s who request (Err refusals.Memory) = Answers g old new s who request replies.Memory
+abbrev pub EndsSo : {D : Type 0} → Ghosts D → Option LeftCommit → Kernel D → Kernel D → State → ℕ → Request
+    → Result Reply Refused → Type 0
+EndsSo g commit old new s who request (Ok reply) = Answers g commit old new s who request reply
+EndsSo g commit old new s who request (Err (refusals.Full need)) =
+    Answers g commit old new s who request (replies.Full need)
+EndsSo g commit old new s who request (Err (refusals.Disk false)) =
+    Answers g commit old new s who request (replies.Disk None)
+EndsSo g commit old new s who request (Err (refusals.Disk true)) = IsInDoubt g old new s who request
+EndsSo g commit old new s who request (Err (refusals.Damaged damage)) = ⊥
+EndsSo g commit old new s who request (Err refusals.Memory) = Answers g commit old new s who request replies.Memory
 
 -- a request that isn't a delete finds so many blocks counted Free as it tells, too few beside the last four
 abbrev pub IsWant : Option Request → (free : ℕ) → Need → Type 0
@@ -153,12 +175,19 @@ IsCause g old new request (refusals.Disk tried) = HasStopped g tried old.disk ne
 IsCause g old new request (refusals.Damaged damage) = IsDamageTold g old new request damage
 IsCause g old new request refusals.Memory = Unit {0}
 
+-- and of a request that may have carried out first what was left of a commit
+abbrev pub IsCauseOf : {D : Type 0} → Ghosts D → (old new : Kernel D) → Request → Refused → Type 0
+IsCauseOf g old new request (refusals.Full need) = IsMet g old (λ k. IsWant (Some request) (sum k.space.free) need)
+IsCauseOf g old new request (refusals.Disk tried) = HasStopped g tried old.disk new.disk
+IsCauseOf g old new request (refusals.Damaged damage) = IsDamageMet g old new request damage
+IsCauseOf g old new request refusals.Memory = Unit {0}
+
 -- What a call did, however it ended, on any disk: a refusal has its cause, and only so many words were drawn as the
 -- request draws.
 pub record Went {D : Type 0} (g : Ghosts D) (old new : Kernel D) (request : Request)
     (result : Result Reply Refused) : Type 0 where
   pub plain : IfOk result IsPlainReply
-  pub cause : IfErr result (IsCause g old new (Some request))
+  pub cause : IfErr result (IsCauseOf g old new request)
   pub size : g.blocks new.disk ≡ g.blocks old.disk
   pub faults : g.faults old.disk ≤ g.faults new.disk
   pub later : g.moment old.disk ≤ g.moment new.disk
@@ -168,19 +197,25 @@ pub record Went {D : Type 0} (g : Ghosts D) (old new : Kernel D) (request : Requ
   pub kept : old.words.drawn ≤ new.words.drawn
   pub drawn : new.words.drawn ≤ old.words.drawn + draws request
 
--- A call that tries to answer a session's request of a core that hasn't stopped.
-pub record Tries {D : Type 0} (g : Ghosts D) (old new : Kernel D) (who : ℕ) (request : Request)
-    (result : Result Reply Refused) : Type 0 where
-  pub ends : (s : State) → CoreServes g old s → old.stop ≡ None → EndsSo g old new s who request result
+-- A call that tries to answer a session's request of a core that hasn't stopped, and that had this left of a commit.
+pub record TriesWith {D : Type 0} (g : Ghosts D) (commit : Option LeftCommit) (old new : Kernel D) (who : ℕ)
+    (request : Request) (result : Result Reply Refused) : Type 0 where
+  pub ends : (s : State) → ServesWith g old s commit → old.stop ≡ None → EndsSo g commit old new s who request result
   pub went : Went g old new request result
 
+abbrev pub Tries : {D : Type 0} → Ghosts D → Kernel D → Kernel D → ℕ → Request → Result Reply Refused → Type 0
+Tries g old new who request result = TriesWith g old.space.left old new who request result
+
 -- The same of a request on a slot that an index has, which has a name.
-pub record TriesOn {D : Type 0} (g : Ghosts D) (old new : Kernel D) (index : Puid) (slot : ℕ) (request : Request)
-    (result : Result Reply Refused) : Type 0 where
-  pub ends : (s : State) (who : ℕ) (i : Index) → CoreServes g old s → old.stop ≡ None
+pub record TriesOnWith {D : Type 0} (g : Ghosts D) (commit : Option LeftCommit) (old new : Kernel D) (index : Puid)
+    (slot : ℕ) (request : Request) (result : Result Reply Refused) : Type 0 where
+  pub ends : (s : State) (who : ℕ) (i : Index) → ServesWith g old s commit → old.stop ≡ None
       → Reaches s who request index (objects.Index i)
-      → slot < length i.slots → refusal_of s who request ≡ None → EndsSo g old new s who request result
+      → slot < length i.slots → refusal_of s who request ≡ None → EndsSo g commit old new s who request result
   pub went : has_root_in old.directory.named index.block ≡ true → Went g old new request result
+
+abbrev pub TriesOn : {D : Type 0} → Ghosts D → Kernel D → Kernel D → Puid → ℕ → Request → Result Reply Refused → Type 0
+TriesOn g old new index slot request result = TriesOnWith g old.space.left old new index slot request result
 
 -- ---- what a slot holds, as a reply
 

@@ -47,7 +47,7 @@ use Rattle.cfs_core.specs.Kernel.{AreCollections, Kernel, collection_runs}
 use Rattle.cfs_core.specs.Left.{LeavesFewer}
 use Rattle.cfs_core.specs.Rescues.{AreRescued}
 use Rattle.cfs_core.specs.Room.{MayLoseBy, lost_blocks}
-use Rattle.cfs_core.specs.StandsFor.{IsFront, CoreServes, StandsFor}
+use Rattle.cfs_core.specs.StandsFor.{IsFront, CoreServes, StandsFor, end_in}
 use Rattle.cfs_core.specs.Sweeping.{FreesStrays}
 
 -- ---- which step is due: the first that fits
@@ -231,6 +231,7 @@ moved_to k disk space directory c =
 pub record TriesStep {D : Type 0} (g : Ghosts D) (old new : Kernel D) (result : Result Step Refused) : Type 0 where
   pub ends : IsMadeOrNot g old new result
   pub calls : MakesAtMost g 4 1 old.disk new.disk
+  pub left : new.space.left ≡ old.space.left
   pub same : new ≡ moved_to old new.disk new.space new.directory new.collections
 
 -- the core with these parts
@@ -255,7 +256,6 @@ pub record StepsSo {D : Type 0} (g : Ghosts D) (old new : D) (before after : Kep
   pub room : left.room ≡ directory.room
   pub some : has_root_in directory.named 0 ≡ false → has_root_in left.named 0 ≡ false
   pub cylinders : length after.free ≡ length before.free
-  pub commit : after.left ≡ before.left
 
 -- ---- what is told of it
 
@@ -274,11 +274,12 @@ stop_by (faults.Disk (Some moment)) before = Some (record { moment = moment; dam
 stop_by (faults.Damaged damage moment) before = Some (record { moment = moment; damage = Some damage })
 stop_by (faults.Stopped moment) before = before
 
--- No event: the core stands for the state on, and a crash leaves it. No more blocks are left behind than were.
+-- No event: the core stands for the state on, and a crash leaves it. In the image to come no more blocks are left
+-- behind than were.
 pub record Rests {D : Type 0} (g : Ghosts D) (old new : Kernel D) (s : State) : Type 0 where
   pub stands : StandsFor g new s
   pub keeps : CallKeeps g s old.disk new.disk
-  pub lost : lost_blocks (g.content new.disk) s.graph ≤ lost_blocks (g.content old.disk) s.graph
+  pub lost : lost_blocks (end_in g new) s.graph ≤ lost_blocks (end_in g old) s.graph
 
 abbrev pub HappensOrRests : {D : Type 0} → Ghosts D → Kernel D → Kernel D → State → Option Event → Type 0
 HappensOrRests g old new s None = Rests g old new s
@@ -320,7 +321,7 @@ IsNoDamage (faults.Disk doubt) = Unit {0}
 IsNoDamage (faults.Damaged damage moment) = ⊥
 IsNoDamage (faults.Stopped moment) = ⊥
 
--- A step that was asked for.
+-- A step that was asked for where nothing is unfinished.
 pub record CollectsStep {D : Type 0} (g : Ghosts D) (old new : Kernel D)
     (result : Result Step CollectFault) : Type 0 where
   pub event : (s : State) → StandsFor g old s → IsCollectStep g old new s result
@@ -343,6 +344,7 @@ pub record CollectsStep {D : Type 0} (g : Ghosts D) (old new : Kernel D)
   -- memory is wanted where a collection would begin, and nowhere else: one that began comes to its end
   pub wants : result ≡ Err faults.Memory → IsDueStep old.collections steps.Began
   pub calls : MakesAtMost g 4 1 old.disk new.disk
+  pub left : new.space.left ≡ old.space.left
   pub root : new.root ≡ old.root
   pub words : new.words ≡ old.words
   pub handles : new.handles ≡ old.handles

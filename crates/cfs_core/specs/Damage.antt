@@ -1,5 +1,6 @@
 -- What a damage tells: which block is outside its table, and how.
 use Rattle.std.specs.Prelude.{◌≡◌, ◌⊎◌, ℕ, ◌+◌, ◌*◌, ◌<◌, ◌≤◌, Bool, true, false, length, sum, Option, Some, None}
+use Rattle.cfs_base.specs.Calls.{MakesAtMost}
 use Rattle.cfs_base.specs.Codes.{no_entry, no_root, not_owned, other_count, past_disk, too_full}
 use Rattle.cfs_base.specs.Disk.{Image, block_at}
 use Rattle.cfs_base.specs.Run.{Tells}
@@ -10,8 +11,10 @@ use Rattle.block_tree.specs.Root.{IsRootBlock}
 use Rattle.block_tree.specs.declared.root.Root.{Root}
 use Rattle.collector_steps.specs.Collecting.{Collecting, colours_in}
 use Rattle.collector_steps.specs.Scan.{LeadsPast}
-use Rattle.cyl_alloc.specs.Space.{AreCounts, IsBadMap, IsMiscounted}
+use Rattle.cyl_alloc.specs.Left.{LeftCommit}
 use Rattle.cyl_map.specs.Volume.{is_free_in, map_of}
+use Rattle.finisher.specs.Going.{tries_left}
+use Rattle.cyl_alloc.specs.Space.{AreCounts, IsBadMap, IsMiscounted, Kept}
 use Rattle.leaf_changes.specs.Tops.{IsFarBlock}
 use Rattle.marking.specs.Colours.{first_grey}
 use Rattle.marking.specs.declared.memory.Grey.{Grey}
@@ -71,11 +74,15 @@ abbrev pub IsOfGrey : {D : Type 0} → Kernel D → ℕ → Type 0
 IsOfGrey k at = (c : Collecting) × (e : Grey) × (k.collections.collector ≡ Some c)
     × (first_grey (colours_in c) ≡ Some e) × (e.id.block ≡ at)
 
--- In a request it is the root of an object that has a name, or of one that has a draft; in a step of the collector that
--- of a grey index, and where a session leaves that of one that has a draft.
+-- it is the shadow root of the commit that is left
+abbrev pub IsOfCommit : {D : Type 0} → Kernel D → ℕ → Type 0
+IsOfCommit k at = (l : LeftCommit) × (k.space.left ≡ Some l) × (l.shadow ≡ at)
+
+-- In a request it is the root of an object that has a name, or of one that has a draft, or the shadow root that stands
+-- in for one; in a step of the collector that of a grey index, and where a session leaves that of one that has a draft.
 abbrev pub IsRootHere : {D : Type 0} → Kernel D → Option Request → ℕ → Type 0
 IsRootHere k None at = IsOfDraft k at ⊎ IsOfGrey k at
-IsRootHere k (Some request) at = (has_root_in k.directory.named at ≡ true) ⊎ IsOfDraft k at
+IsRootHere k (Some request) at = (has_root_in k.directory.named at ≡ true) ⊎ (IsOfDraft k at ⊎ IsOfCommit k at)
 
 abbrev pub asks_delete : Request → Bool
 asks_delete (asks.Delete index slot) = true
@@ -117,3 +124,16 @@ pub data IsDamageTold {D : Type 0} (g : Ghosts D) (old new : Kernel D) (request 
       → IsDamageTold g old new request damage
   FewLeft : damage.code ≡ too_full → damage.block ≡ 0 → FindsFew request (sum old.space.free) (sum new.space.free)
       → IsDamageTold g old new request damage
+
+-- It is so of the core as it was once what was left of a commit was carried out, with no more tries than that takes.
+pub record IsMet {D : Type 0} (g : Ghosts D) (old : Kernel D) (Is : Kernel D → Type 0) : Type 0 where
+  pub disk : D
+  pub space : Kept
+  pub most : ℕ
+  pub calls : MakesAtMost g most (tries_left old.space.left) old.disk disk
+  pub none : old.space.left ≡ None → (disk ≡ old.disk) × (space ≡ old.space)
+  pub is : Is (record old { disk = disk; space = space })
+
+-- a damage that is met in a request, which may have carried that out first
+abbrev pub IsDamageMet : {D : Type 0} → Ghosts D → (old new : Kernel D) → Request → Damage → Type 0
+IsDamageMet g old new request damage = IsMet g old (λ k. IsDamageTold g k new (Some request) damage)

@@ -1,6 +1,6 @@
 -- Requests on a file through a grant with a draft.
 use Rattle.std.specs.Prelude.{◌≡◌, ◌≢◌, ℕ, ◌+◌, ◌<◌, ◌≤◌, Bool, true, false, List}
-use Rattle.std.specs.Prelude.{length, sum, Result, Some, None, IfErr, OnOk, ◌∷◌, []}
+use Rattle.std.specs.Prelude.{length, sum, Result, Option, Some, None, IfErr, OnOk, ◌∷◌, []}
 use Rattle.cfs_base.specs.Calls.{MakesAtMost, OnlyReads}
 use Rattle.cfs_base.specs.Run.{Leaves}
 use Rattle.cfs_base.specs.declared.disk.Disk.{Ghosts}
@@ -10,12 +10,13 @@ use Rattle.cfs_base.specs.declared.refusal.Refused.{Refused}
 use Rattle.cfs_base.specs.declared.refusal.Refused.TheVariants as refusals
 use Rattle.cfs_base.specs.declared.refusal.Trouble.{Trouble}
 use Rattle.cfs_base.specs.declared.refusal.Trouble.TheVariants as troubles
+use Rattle.cyl_alloc.specs.Left.{LeftCommit}
 use Rattle.cyl_alloc.specs.Space.{Kept}
 use Rattle.intentions.specs.Store.{StoreHas}
 use Rattle.open_table.specs.declared.grant.Grant.{Grant}
 use Rattle.open_table.specs.Grants.{session_grant}
 use Rattle.special_files.specs.Becomes.{DraftBecomes}
-use Rattle.special_files.specs.Committing.{AbortEnds, CommitEnds, draft_top}
+use Rattle.special_files.specs.Committing.{AbortEnds, CommitEnds, IsNoted, draft_top}
 use Rattle.special_files.specs.Drafting.{Drafting, IsOpen, need_beside}
 use Rattle.special_files.specs.Refusal.{IsDraftRefusal, IsDraftTrouble, has_met_damage, is_full_refusal, top_of}
 use Rattle.ufs_model.specs.declared.change.Change.{Change}
@@ -28,7 +29,6 @@ use Rattle.ufs_model.specs.Limits.{reserve}
 use Rattle.ufs_model.specs.State.{changed_draft}
 use Rattle.vol_image.specs.Sound.{Holds}
 use Rattle.vol_owners.specs.Account.{Opened}
-use Rattle.cfs_core.specs.Carried.{CallsInAll}
 use Rattle.cfs_core.specs.Kernel.{Kernel, grants_in}
 use Rattle.cfs_core.specs.Handles.{drafting_at}
 use Rattle.cfs_core.specs.Claimed.{ClaimsInOrder, claims_in_draft}
@@ -89,6 +89,10 @@ abbrev pub DraftEnds : {D : Type 0} → Ghosts D → (commit : Bool) → Graph �
 DraftEnds g true graph ds id d was old new after result = CommitEnds g graph ds id d.object None old new after result
 DraftEnds g false graph ds id d was old new after result = AbortEnds g graph ds id was.created old new after result
 
+abbrev pub LeavesDraftCommit : (commit : Bool) → ℕ → Option LeftCommit → Type 0
+LeavesDraftCommit true at left = (l : LeftCommit) × IsNoted at left l
+LeavesDraftCommit false at left = left ≡ None
+
 pub record EndsDraft {D : Type 0} (g : Ghosts D) (commit : Bool) (was : Drafting) (old new : D) (before after : Kept)
     (result : Result (Unit {0}) Trouble) : Type 0 where
   pub ends : (graph : Graph) (ds : List Opened) (id : Puid) (o : Object) (d : Draft) → StoreHas g graph ds old before
@@ -97,5 +101,6 @@ pub record EndsDraft {D : Type 0} (g : Ghosts D) (commit : Bool) (was : Drafting
   pub tried : IfErr result (λ t. t ≢ troubles.Disk false)
   pub refused : IfErr result (IsDraftTrouble g (draft_top was) old new after)
   pub cylinders : length after.free ≡ length before.free
-  pub left : OnOk result (after.left ≡ None)
-  pub calls : CallsInAll g 31207 15485 old new
+  -- what is left of the commit is unfinished then; an abort leaves nothing
+  pub left : OnOk result (LeavesDraftCommit commit was.at after.left)
+  pub calls : MakesAtMost g 31207 15485 old new

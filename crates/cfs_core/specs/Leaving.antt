@@ -1,11 +1,16 @@
--- A session leaves: its grants are dropped one after the other, and their drafts are given up.
-use Rattle.std.specs.Prelude.{◌≡◌, ℕ, ◌-◌, ◌≤◌, not, ◌==◌, List, filter, Option, Some, None, Result, Ok, Err}
-use Rattle.cfs_base.specs.Calls.{HasFailed}
+-- A session leaves: its grants are dropped one after the other, and their drafts are given up, once what was left of a
+-- commit is carried out.
+use Rattle.std.specs.Prelude.{◌≡◌, ◌⊎◌, ℕ, ◌-◌, ◌≤◌, not, ◌==◌, List, filter, Option, Some, None, Result, Ok, Err}
+use Rattle.cfs_base.specs.Calls.{HasFailed, MakesAtMost}
 use Rattle.cfs_base.specs.Run.{Leaves}
 use Rattle.cfs_base.specs.declared.disk.Disk.{Ghosts}
 use Rattle.cfs_base.specs.declared.identifier.Puid.{Puid}
 use Rattle.cfs_base.specs.declared.refusal.Damage.{Damage}
+use Rattle.finisher.specs.Going.{calls_left, tries_left}
+use Rattle.intentions.specs.Left.{StoreIs}
 use Rattle.intentions.specs.Store.{StoreHas}
+use Rattle.cyl_alloc.specs.Space.{Kept}
+use Rattle.leaf_changes.specs.Tops.{Top}
 use Rattle.open_table.specs.Grants.{without_session}
 use Rattle.special_files.specs.Committing.{Dropped, draft_top}
 use Rattle.special_files.specs.Drafting.{Drafting, IsOpen}
@@ -22,7 +27,7 @@ use Rattle.cfs_core.specs.declared.kernel.Stop.{Stop}
 use Rattle.cfs_core.specs.Calls.{AddsNoStray}
 use Rattle.cfs_core.specs.Damage.{IsDamageTold}
 use Rattle.cfs_core.specs.Kernel.{Kernel, grants_in}
-use Rattle.cfs_core.specs.StandsFor.{CoreServes}
+use Rattle.cfs_core.specs.StandsFor.{ServesIs, end_in}
 
 -- the grants of all others
 abbrev pub of_others : ℕ → List Grant → List Grant
@@ -31,7 +36,7 @@ of_others who grants = filter (λ g. not (g.session == who)) grants
 -- it serves the state with fewer grants of the session
 pub record ServesFewer {D : Type 0} (g : Ghosts D) (k : Kernel D) (s : State) (who : ℕ) : Type 0 where
   pub grants : List Grant
-  pub serves : CoreServes g k (record s { grants = grants })
+  pub serves : ServesIs g k (record s { grants = grants })
   pub others : of_others who grants ≡ of_others who s.grants
 
 -- A block was damaged when a draft was given up, of the core as it was then.
@@ -61,41 +66,59 @@ pub record Sheds {D : Type 0} (g : Ghosts D) (who : ℕ) (old new : Kernel D) : 
   pub idle : (stop : Stop) → old.stop ≡ Some stop
       → (new.stop ≡ Some stop) × (new.disk ≡ old.disk) × (new.space ≡ old.space)
   -- one that ran gives up the drafts, and each image that a crash leaves has the objects
-  pub leaves : (s : State) → CoreServes g old s → old.stop ≡ None → Leaves g old.disk new.disk (λ c. Holds c s.graph)
-  pub serves : (s : State) → CoreServes g old s → old.stop ≡ None → new.stop ≡ None → ServesFewer g new s who
+  pub leaves : (s : State) → ServesIs g old s → old.stop ≡ None → Leaves g old.disk new.disk (λ c. Holds c s.graph)
+  pub serves : (s : State) → ServesIs g old s → old.stop ≡ None → new.stop ≡ None → ServesFewer g new s who
   -- no block is left behind
-  pub strays : (s : State) → CoreServes g old s → old.stop ≡ None → new.stop ≡ None
-      → AddsNoStray (g.content old.disk) (g.content new.disk) s.graph s.graph
+  pub strays : (s : State) → ServesIs g old s → old.stop ≡ None → new.stop ≡ None
+      → AddsNoStray (end_in g old) (end_in g new) s.graph s.graph
   -- it stops where a device call failed, or at a damage
   pub halts : (stop : Stop) → old.stop ≡ None → new.stop ≡ Some stop → StopsSo g old new stop
   -- and at no damage where it served a state
-  pub sound : (s : State) → CoreServes g old s → old.stop ≡ None → (stop : Stop) → new.stop ≡ Some stop
+  pub sound : (s : State) → ServesIs g old s → old.stop ≡ None → (stop : Stop) → new.stop ≡ Some stop
       → stop.damage ≡ None
+  -- a commit that was left is carried out before a draft is given up, and none is begun
+  pub left : new.stop ≡ None → (new.space.left ≡ old.space.left) ⊎ (new.space.left ≡ None)
 
 -- ---- one draft
 
--- what the store has of it then
+-- what the store has of it then; it is given up on the disk as it is once nothing is unfinished
+pub record IsGivenUp {D : Type 0} (g : Ghosts D) (graph : Graph) (ds : List Opened) (id : Puid) (created : Option ℕ)
+    (old new : Kernel D) : Type 0 where
+  pub mid : D
+  pub space : Kept
+  pub store : StoreHas g graph ds mid space
+  pub none : space.left ≡ None
+  pub content : g.content mid ≡ end_in g old
+  pub dropped : Dropped g graph ds id created mid new.disk new.space
+
 pub record GaveUp {D : Type 0} (g : Ghosts D) (graph : Graph) (ds : List Opened) (id : Puid) (created : Option ℕ)
     (old new : Kernel D) : Type 0 where
   pub leaves : Leaves g old.disk new.disk (λ c. Holds c graph)
-  pub dropped : new.stop ≡ None → Dropped g graph ds id created old.disk new.disk new.space
+  pub given : new.stop ≡ None → IsGivenUp g graph ds id created old new
   pub sound : (stop : Stop) → new.stop ≡ Some stop → stop.damage ≡ None
 
--- A draft is given up, unless the core had stopped. Where that fails the core stops.
+-- a block was damaged on the way
+pub record MeetsDamage {D : Type 0} (g : Ghosts D) (at : Top) (old new : Kernel D) (damage : Damage) : Type 0 where
+  pub mid : D
+  pub calls : MakesAtMost g (calls_left old.space.left) (tries_left old.space.left) old.disk mid
+  pub is : IsDraftDamage g at mid new.disk new.space damage
+
+-- A draft is given up, unless the core had stopped, and before it what is left of a commit is carried out. Where that
+-- fails the core stops, also if nothing was tried: the draft is gone.
 pub record GivesUp {D : Type 0} (g : Ghosts D) (was : Drafting) (old new : Kernel D) : Type 0 where
   pub same : new ≡ record old { disk = new.disk; space = new.space; stop = new.stop }
   pub size : g.blocks new.disk ≡ g.blocks old.disk
   pub faults : g.faults old.disk ≤ g.faults new.disk
   pub later : g.moment old.disk ≤ g.moment new.disk
   pub idle : (stop : Stop) → old.stop ≡ Some stop → new ≡ old
-  pub left : new.space.left ≡ old.space.left
+  pub left : old.stop ≡ None → new.stop ≡ None → new.space.left ≡ None
   pub ends : (graph : Graph) (ds : List Opened) (id : Puid) (o : Object) (d : Draft)
-      → StoreHas g graph ds old.disk old.space → object_at graph id ≡ Some o → IsOpen ds id was d
+      → StoreIs g graph ds old.disk old.space → object_at graph id ≡ Some o → IsOpen ds id was d
       → old.stop ≡ None → GaveUp g graph ds id was.created old new
   pub failed : (stop : Stop) → old.stop ≡ None → new.stop ≡ Some stop → stop.damage ≡ None
       → HasFailed g old.disk new.disk × (stop.moment ≡ g.moment new.disk - 1)
   pub damaged : (stop : Stop) (damage : Damage) → old.stop ≡ None → new.stop ≡ Some stop → stop.damage ≡ Some damage
-      → IsDraftDamage g (draft_top was) old.disk new.disk new.space damage × (stop.moment ≡ g.moment new.disk)
+      → MeetsDamage g (draft_top was) old new damage × (stop.moment ≡ g.moment new.disk)
 
 -- ---- what is told
 

@@ -6,9 +6,10 @@ pub mod Leaving
 pub mod Room
 pub mod Damage
 pub mod Claimed
+pub mod Commits
 pub mod Calls
 pub mod Drafts
-pub mod Carried
+pub mod Finished
 pub mod Opening
 pub mod Looks
 pub mod Ways
@@ -18,3 +19,4 @@ pub mod Opened
 pub mod Rescues
 pub mod Sweeping
 pub mod Collect
+pub mod Tidy

@@ -23,14 +23,14 @@ use Rattle.vol_owners.specs.Account.{Opened, drafts_of}
 use Rattle.cfs_base.specs.Run.{Tells}
 use Rattle.cfs_core.specs.Damage.{IsOutside}
 use Rattle.cfs_core.specs.Kernel.{Kernel}
-use Rattle.cfs_core.specs.StandsFor.{CoreServes, drafts_of_handles}
+use Rattle.cfs_core.specs.StandsFor.{ServesIs, drafts_of_handles}
 use Rattle.cfs_core.specs.Ways.{Reaches}
 
 -- ---- an object that is reached
 
 -- Whatever the core stands for, the request reaches such an object, of which there is no draft.
 abbrev pub ReachesIn : {D A : Type 0} → Ghosts D → (A → Object) → Kernel D → ℕ → Request → Puid → Type 0
-ReachesIn {A = A} g sort k who request id = (s : State) → CoreServes g k s → (a : A) × Reaches s who request id (sort a)
+ReachesIn {A = A} g sort k who request id = (s : State) → ServesIs g k s → (a : A) × Reaches s who request id (sort a)
     × (drafts_of (drafts_of_handles k.handles s.grants) id ≡ [])
 
 -- and it has a name, whatever disk it is

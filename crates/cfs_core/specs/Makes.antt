@@ -67,6 +67,7 @@ pub record NamesMade {D : Type 0} (old new : Kernel D) (id : Puid) (kind : Kind)
         words = record { seed = old.words.seed; drawn = old.words.drawn + 1 };
       })
   pub plain : IfOk result IsPlainReply
+  pub told : IfOk result (λ reply. reply ≡ replies.Id id)
   pub astray : IfErr result (IsAstray old.directory id)
   pub disk : new.disk ≡ old.disk
   pub stop : new.stop ≡ old.stop

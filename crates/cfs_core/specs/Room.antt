@@ -1,8 +1,9 @@
 -- The room of a state: what is Free on a disk of so many cylinders, while nothing sweeps.
-use Rattle.std.specs.Prelude.{◌≡◌, ℕ, ◌+◌, ◌*◌, ◌≤◌, length, Option, Some, None}
-use Rattle.std.specs.List.{sum_by}
+use Rattle.std.specs.Prelude.{◌≡◌, ℕ, ◌+◌, ◌*◌, ◌≤◌, ◌&&◌, not, count_by, length, Option, Some, None}
+use Rattle.std.specs.List.{range_with_len, sum_by}
 use Rattle.std.specs.Option.{option_map_or}
 use Rattle.cfs_base.specs.Disk.{Image}
+use Rattle.cyl_map.specs.Volume.{is_free_in}
 use Rattle.ufs_model.specs.declared.asked.Event.{Event}
 use Rattle.ufs_model.specs.declared.asked.Event.TheVariants as events
 use Rattle.ufs_model.specs.declared.object.Grant.{Grant}
@@ -38,3 +39,9 @@ MayLose e g h before after = after ≤ before
 abbrev pub MayLoseBy : Option Event → Graph → Graph → (before after : ℕ) → Type 0
 MayLoseBy None g h before after = after ≤ before
 MayLoseBy (Some e) g h before after = MayLose e g h before after
+
+-- ---- while a commit is unfinished
+
+-- the blocks that are Free in the image to come, and aren't yet
+abbrev pub to_be_freed : (image end : Image) → ℕ
+to_be_freed image end = count_by (λ n. is_free_in end n && not (is_free_in image n)) (range_with_len 0 (length image))

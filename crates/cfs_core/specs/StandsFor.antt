@@ -1,10 +1,12 @@
 -- When a core stands for a state: a relation, since no field of a core has all that a collection remembers.
-use Rattle.std.specs.Prelude.{◌≡◌, ◌≤◌, Bool, true, false, ◌||◌, List, [], ◌∷◌}
-use Rattle.std.specs.Prelude.{◌++◌, map, sum, Option, Some, None, option_map}
+use Rattle.std.specs.Prelude.{◌≡◌, ℕ, ◌≤◌, Bool, true, false, ◌||◌, List, [], ◌∷◌}
+use Rattle.std.specs.Prelude.{◌++◌, length, map, sum, Option, Some, None, option_map}
 use Rattle.cfs_base.specs.Disk.{Image}
 use Rattle.cfs_base.specs.declared.disk.Disk.{Ghosts}
 use Rattle.collector_steps.specs.Collecting.{Collecting, Collects}
-use Rattle.intentions.specs.Store.{StoreHas}
+use Rattle.cyl_alloc.specs.Left.{LeftCommit}
+use Rattle.cyl_map.specs.Volume.{free_from}
+use Rattle.intentions.specs.Left.{StoreWith, coming, final_image}
 use Rattle.open_table.specs.declared.grant.Grant as handles
 use Rattle.puid_space.specs.Kinds.{kinds_of}
 use Rattle.special_files.specs.Drafting.{Drafting, IsOpen, opened_as}
@@ -92,26 +94,51 @@ pub record IsFront {D : Type 0} (k : Kernel D) (s : State) : Type 0 where
   pub grants : grants_in k.handles ≡ map bare s.grants
   pub stopped : s.stopped ≡ option_map (λ stop. stop.moment) k.stop
 
--- The store has the graph and the drafts, whatever writes wait for a barrier, and no commit is left to be carried out;
--- the blocks of vanished objects are gone but in a sweep; four blocks are Free; and the collection is there.
-pub record CoreServes {D : Type 0} (g : Ghosts D) (k : Kernel D) (s : State) : Type 0 where
+-- how many blocks of an image are Free
+abbrev pub free_of : Image → ℕ
+free_of image = free_from image 0 (length image)
+
+-- And of the image that is to come. Where no commit is left they are those that the core counts.
+abbrev pub free_with : {D : Type 0} → Ghosts D → Kernel D → Option LeftCommit → ℕ
+free_with g k None = sum k.space.free
+free_with g k (Some l) = free_of (coming (g.content k.disk) (Some l))
+
+abbrev pub free_to_come : {D : Type 0} → Ghosts D → Kernel D → ℕ
+free_to_come g k = free_with g k k.space.left
+
+-- the image to which a core comes
+abbrev pub end_in : {D : Type 0} → Ghosts D → Kernel D → Image
+end_in g k = final_image g k.disk k.space
+
+-- The store has the graph and the drafts, whatever writes wait for a barrier, and this is left of one commit past its
+-- bit, or nothing. In the image that is to come the blocks of vanished objects are gone but in a sweep, four blocks are
+-- Free, and the collection is there.
+pub record ServesWith {D : Type 0} (g : Ghosts D) (k : Kernel D) (s : State) (commit : Option LeftCommit) : Type 0 where
   pub front : IsFront k s
   pub state : IsState s
   pub root : s.graph.root ≡ k.root
-  pub store : StoreHas g s.graph (drafts_of_handles k.handles s.grants) k.disk k.space
-  pub left : k.space.left ≡ None
+  pub store : StoreWith g s.graph (drafts_of_handles k.handles s.grants) k.disk k.space commit
+  pub left : k.space.left ≡ commit
   pub drafts : AreDraftsOf (drafts_of_handles k.handles s.grants) k.handles s.grants
-  pub swept : sweeps_now s.collection ≡ false → IsSwept (g.content k.disk) s.graph
-  pub four : reserve ≤ sum k.space.free
-  pub collecting : HasCollection (g.content k.disk) s k.collections.collector
+  pub swept : sweeps_now s.collection ≡ false → IsSwept (coming (g.content k.disk) commit) s.graph
+  pub four : reserve ≤ free_with g k commit
+  pub collecting : HasCollection (coming (g.content k.disk) commit) s k.collections.collector
+
+-- no commit is left to be carried out
+abbrev pub CoreServes : {D : Type 0} → Ghosts D → Kernel D → State → Type 0
+CoreServes g k s = ServesWith g k s None
+
+-- one is, or none
+abbrev pub ServesIs : {D : Type 0} → Ghosts D → Kernel D → State → Type 0
+ServesIs g k s = ServesWith g k s k.space.left
 
 -- it serves the state with each collector that keeps up with it
 abbrev pub StoresState : {D : Type 0} → Ghosts D → Kernel D → State → Type 0
 StoresState g k s =
-    (c : Collections) → HasCollection (g.content k.disk) s c.collector → CoreServes g (record k { collections = c }) s
+    (c : Collections) → HasCollection (end_in g k) s c.collector → ServesIs g (record k { collections = c }) s
 
 abbrev pub Stands : {D : Type 0} → Ghosts D → Kernel D → State → Option Stop → Type 0
-Stands g k s None = CoreServes g k s
+Stands g k s None = ServesIs g k s
 Stands g k s (Some stop) = IsFront k s
 
 abbrev pub StandsFor : {D : Type 0} → Ghosts D → Kernel D → State → Type 0

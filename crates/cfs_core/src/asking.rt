@@ -1,5 +1,5 @@
 //! A request, answered.
-ghost use Rattle.std.specs.Prelude.{◌≡◌, ◌<◌, None, option_to_list};
+ghost use Rattle.std.specs.Prelude.{◌≡◌, ◌<◌, option_to_list};
 ghost use Rattle.cfs_core.specs.Asked.{Asks, stopped_by, reply_to};
 ghost use Rattle.cfs_core.specs.Calls.{Tries};
 ghost use Rattle.cfs_core.specs.Rescues.{AreRescued, HasRoomFor, rescue_of};
@@ -10,9 +10,11 @@ use std::alloc::Global;
 use ufs_model::{Reply, Request};
 
 impl<D: Disk> Core<D> {
-    /// Answers a request of a session, as one event of the definitions. Memory is taken before anything is written.
-    /// After `Disk` without a doubt, `Full` and `Memory` all is as it was. After `Disk` with one, and after `Damaged`,
-    /// the core has stopped, and answers `Stopped` from then on, with no call of the disk.
+    /// Answers a request of a session, as one event of the definitions. Memory is taken before anything is written. One
+    /// that changes something first carries out what was left of a commit; a commit is done at its bit, and is carried
+    /// out later. After `Disk` without a doubt and `Memory` all is as it was, and after `Full` but for what was left.
+    /// After `Disk` with one, and after `Damaged`, the core has stopped, and answers `Stopped` from then on, with no
+    /// call of the disk.
     pub fn ask(&mut self, alloc: Global, who: Session, request: &Request) -> Reply
         requires words { self.old.words.drawn < 4294967295 }
         ensures { Asks D.Disk self.old self.new who request.now result }
@@ -21,10 +23,6 @@ impl<D: Disk> Core<D> {
             return Reply::Stopped {
                 moment: stop.moment,
             };
-        }
-        // A core that runs has carried out each of its commits, so this is never seen.
-        if self.space.unfinished() > 0 {
-            return Reply::Memory;
         }
         if let Err(_) = self.collections.make_room(request) {
             return Reply::Memory;
@@ -38,7 +36,6 @@ impl<D: Disk> Core<D> {
 
     /// Tries to answer a request.
     fn answer(&mut self, alloc: Global, who: Session, request: &Request) -> Result<Reply, Refused>
-        requires left { self.old.space.left ≡ None }
         requires words { self.old.words.drawn < 4294967295 }
         ensures { Tries D.Disk self.old self.new who request.now result }
     {

@@ -1,11 +1,11 @@
 //! Requests that change an index.
-ghost use Rattle.std.specs.Prelude.{◌≡◌, ◌≢◌, ◌<◌, None};
+ghost use Rattle.std.specs.Prelude.{◌≡◌, ◌≢◌, ◌<◌};
 ghost use Rattle.cfs_core.specs.Calls.{Tries, TriesOn, done_or};
 ghost use Rattle.ufs_model.specs.Plain.{is_id};
 ghost use Rattle.ufs_model.specs.declared.asked.Ref.{Ref};
 ghost use Rattle.ufs_model.specs.declared.asked.Request.TheVariants as asks;
 
-use crate::finishing::{carry_on, take_room};
+use crate::finishing::{finish, since, take_room};
 use crate::kernel::Core;
 use crate::looking::{has_slot, look};
 use crate::way::Way;
@@ -44,7 +44,6 @@ impl<D: Disk> Core<D> {
         slot: u64,
         id: Puid,
     ) -> Result<Reply, Refused>
-        requires left { self.old.space.left ≡ None }
         ensures { Tries D.Disk self.old self.new who (asks.Retain to slot id) result }
     {
         let way = Way {
@@ -56,7 +55,8 @@ impl<D: Disk> Core<D> {
             Ok(index) => index,
             Err(reply) => return Ok(reply),
         };
-        match has_slot(&mut self.disk, BlockNo(index.block), slot) {
+        let at = self.space.shown(BlockNo(index.block));
+        match has_slot(&mut self.disk, at, slot) {
             Ok(true) => self.put(alloc, index, slot, id),
             Ok(false) => Ok(Reply::Slot),
             Err(refused) => Err(refused),
@@ -71,7 +71,6 @@ impl<D: Disk> Core<D> {
         to: Ref,
         slot: u64,
     ) -> Result<Reply, Refused>
-        requires left { self.old.space.left ≡ None }
         ensures { Tries D.Disk self.old self.new who (asks.Delete to slot) result }
     {
         let way = Way {
@@ -83,7 +82,8 @@ impl<D: Disk> Core<D> {
             Ok(index) => index,
             Err(reply) => return Ok(reply),
         };
-        match look(&mut self.disk, BlockNo(index.block), slot) {
+        let at = self.space.shown(BlockNo(index.block));
+        match look(&mut self.disk, at, slot) {
             Ok(reply) => {
                 if holds_something(&reply) {
                     self.empty(alloc, index, slot)
@@ -97,7 +97,6 @@ impl<D: Disk> Core<D> {
 
     /// Puts an identifier into a slot that the index has.
     fn put(&mut self, alloc: Global, index: Puid, slot: u64, id: Puid) -> Result<Reply, Refused>
-        requires left { self.old.space.left ≡ None }
         requires on_disk { index.block < D.blocks self.old.disk }
         requires some { index.block ≢ 0 }
         requires few { slot < 983040 }
@@ -108,31 +107,38 @@ impl<D: Disk> Core<D> {
             Ok(room) => room,
             Err(refused) => return Err(refused),
         };
+        let tried = match finish(&mut self.disk, &mut self.space) {
+            Ok(tried) => tried,
+            Err(trouble) => return Err(Refused::from(trouble)),
+        };
         let at = BlockNo(index.block);
         let ended = retain(room, &mut self.disk, &mut self.space, at, slot, id);
-        done(carry_on(&mut self.disk, &mut self.space, ended))
+        since(tried, done(ended))
     }
 
     /// Empties a slot that holds something. On a disk that lies too few blocks may be Free for it.
     fn empty(&mut self, alloc: Global, index: Puid, slot: u64) -> Result<Reply, Refused>
-        requires left { self.old.space.left ≡ None }
         requires on_disk { index.block < D.blocks self.old.disk }
         requires some { index.block ≢ 0 }
         requires few { slot < 983040 }
         ensures { (to : Ref) → TriesOn D.Disk self.old self.new index slot (asks.Delete to slot) result }
     {
+        let room = match take_room(alloc) {
+            Ok(room) => room,
+            Err(refused) => return Err(refused),
+        };
+        let tried = match finish(&mut self.disk, &mut self.space) {
+            Ok(tried) => tried,
+            Err(trouble) => return Err(Refused::from(trouble)),
+        };
         if self.space.free() < 3 {
             return Err(Refused::Damaged(Damage {
                 block: 0,
                 code: code::TOO_FULL,
             }));
         }
-        let room = match take_room(alloc) {
-            Ok(room) => room,
-            Err(refused) => return Err(refused),
-        };
         let at = BlockNo(index.block);
         let ended = delete(room, &mut self.disk, &mut self.space, at, slot);
-        done(carry_on(&mut self.disk, &mut self.space, ended))
+        since(tried, done(ended))
     }
 }

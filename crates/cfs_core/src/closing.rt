@@ -1,20 +1,22 @@
 //! The ends of grants: a request that closes one, and a session that leaves.
-ghost use Rattle.std.specs.Prelude.{◌≡◌, ◌≤◌, ◌*◌, List, length, false, true, IfErr, OnOk, IsSome, None, Some, Ok};
+ghost use Rattle.std.specs.Prelude.{◌≡◌, ◌≢◌, ◌≤◌, ◌*◌, List, length, false, true, IfErr, IfOk, OnOk, IsSome, None};
+ghost use Rattle.std.specs.Prelude.{Some, Ok};
+ghost use Rattle.cfs_base.specs.declared.refusal.Refused.TheVariants as refusals;
 ghost use Rattle.cfs_core.specs.Asked.{Happens, halted};
-ghost use Rattle.cfs_core.specs.Calls.{Tries};
+ghost use Rattle.cfs_core.specs.Calls.{Tries, TriesWith, leaves_all};
 ghost use Rattle.cfs_core.specs.Drafts.{EndsDraft};
 ghost use Rattle.cfs_core.specs.Kernel.{Handle, grants_in, is_ready_for};
 ghost use Rattle.cfs_core.specs.Leaving as spec;
 ghost use Rattle.cfs_core.specs.Leaving.{GivesUp, Sheds, StopsSo};
 ghost use Rattle.cfs_core.specs.Handles.{drafting_at, have_draft, is_at, with_drafting};
-ghost use Rattle.cfs_core.specs.StandsFor.{CoreServes, StandsFor};
+ghost use Rattle.cfs_core.specs.StandsFor.{ServesIs, StandsFor};
 ghost use Rattle.cfs_core.specs.declared.kernel.Stop.{Stop};
 ghost use Rattle.open_table.specs.Grants.{session_grant, without_grant};
 ghost use Rattle.ufs_model.specs.State.{State};
 ghost use Rattle.ufs_model.specs.declared.asked.Event.TheVariants as events;
 ghost use Rattle.ufs_model.specs.declared.asked.Request.TheVariants as asks;
 
-use crate::finishing::finish;
+use crate::finishing::{finish, since};
 use crate::kernel::{Core, Halt, Stop};
 use cfs_base::{Disk, Refused, Session, Trouble, Tuid};
 use cyl_alloc::Space;
@@ -22,7 +24,7 @@ use open_table::table_follows_the_model;
 use special_files::Draft;
 use ufs_model::Reply;
 
-/// Ends a draft, which becomes its object or is given up.
+/// Ends a draft, which becomes its object or is given up. What is left of a commit then is unfinished.
 fn end_draft<D: Disk>(
     draft: Draft,
     disk: &mut D,
@@ -37,30 +39,36 @@ fn end_draft<D: Disk>(
     if !commit {
         return draft.abort(disk, space);
     }
-    match draft.commit(disk, space) {
-        Ok(()) => finish(disk, space),
-        Err(trouble) => Err(trouble),
-    }
+    draft.commit(disk, space)
 }
 
 impl<D: Disk> Core<D> {
-    /// Ends a grant. Its draft, if it has one, becomes the object or is given up.
+    /// Ends a grant. Its draft, if it has one, becomes the object or is given up, once what was left of an earlier
+    /// commit is carried out.
     pub(crate) fn close(
         &mut self,
         who: Session,
         grant: Tuid,
         commit: bool,
     ) -> Result<Reply, Refused>
-        requires left { self.old.space.left ≡ None }
         ensures { Tries D.Disk self.old self.new who (asks.Close grant commit) result }
     {
         table_follows_the_model();
         if self.handles.find(who, grant).is_none() {
             return Ok(Reply::NoGrant);
         }
+        if self.handles.draft(grant.draw).is_none() {
+            // There is none to take out, so no grant with this draw has one.
+            let _ = self.handles.take(grant.draw);
+            return Ok(self.close_bare(who, grant, commit));
+        }
+        let tried = match finish(&mut self.disk, &mut self.space) {
+            Ok(tried) => tried,
+            Err(trouble) => return Err(Refused::from(trouble)),
+        };
         match self.handles.take(grant.draw) {
-            Some(draft) => self.end(who, grant, draft, commit),
-            None => Ok(self.close_bare(who, grant, commit)),
+            Some(draft) => since(tried, self.end(who, grant, draft, commit)),
+            None => unreachable!(),
         }
     }
 
@@ -89,9 +97,12 @@ impl<D: Disk> Core<D> {
         requires ready { is_ready_for (D.blocks self.old.disk) draft ≡ true }
         requires taken { have_draft (is_at grant.draw) self.old.handles ≡ false }
         requires found { IsSome (session_grant (grants_in self.old.handles) who grant) }
-        ensures { (handles : List Handle) → self.old.handles ≡ with_drafting grant.draw None handles
+        ensures tries { (handles : List Handle) → self.old.handles ≡ with_drafting grant.draw None handles
             → drafting_at handles grant.draw ≡ Some draft
-            → Tries D.Disk (record self.old { handles = handles }) self.new who (asks.Close grant commit) result }
+            → TriesWith D.Disk None (record self.old { handles = handles }) self.new who (asks.Close grant commit)
+            result }
+        ensures told { IfOk result (λ reply. leaves_all reply ≡ false) }
+        ensures never { IfErr result (λ e. e ≢ refusals.Memory) }
     {
         table_follows_the_model();
         match end_draft(draft, &mut self.disk, &mut self.space, commit) {
@@ -103,8 +114,8 @@ impl<D: Disk> Core<D> {
         }
     }
 
-    /// A session leaves: its grants are dropped, and their drafts are given up. A core that stopped is left as well,
-    /// with no call of the disk. `Halt` where the core stops in it.
+    /// A session leaves: its grants are dropped, and their drafts are given up, once what was left of a commit is
+    /// carried out. A core that stopped is left as well, with no call of the disk. `Halt` where the core stops in it.
     pub fn leave(&mut self, who: Session) -> Result<(), Halt>
         ensures event { (s : State) → StandsFor D.Disk self.old s
             → Happens D.Disk self.old self.new s (events.Leave who (halted result)) }
@@ -119,7 +130,7 @@ impl<D: Disk> Core<D> {
         ensures halts { IfErr result (λ halt. (stop : Stop) × (self.old.stop ≡ None) × (self.new.stop ≡ Some stop)
             × (stop.moment ≡ halt.moment) × StopsSo D.Disk self.old self.new stop) }
         // One that served a state stops at no damage.
-        ensures sound { (s : State) → CoreServes D.Disk self.old s → self.old.stop ≡ None
+        ensures sound { (s : State) → ServesIs D.Disk self.old s → self.old.stop ≡ None
             → (stop : Stop) → self.new.stop ≡ Some stop → stop.damage ≡ None }
         // One that had stopped makes no call of the disk.
         ensures idle { IsSome self.old.stop → self.new.disk ≡ self.old.disk }
@@ -147,7 +158,8 @@ impl<D: Disk> Core<D> {
         }
     }
 
-    /// Gives up a draft, unless the core has stopped; where that fails, the core stops.
+    /// Carries out what was left of a commit and gives up a draft, unless the core has stopped; where that fails, the
+    /// core stops.
     fn give_up(&mut self, draft: Draft)
         requires ready { is_ready_for (D.blocks self.old.disk) draft ≡ true }
         ensures { GivesUp D.Disk draft self.old self.new }
@@ -155,6 +167,14 @@ impl<D: Disk> Core<D> {
         if self.stop.is_some() {
             return;
         }
+        let _tried = match finish(&mut self.disk, &mut self.space) {
+            Ok(tried) => tried,
+            Err(trouble) => {
+                // The draft is gone, so the core stops where nothing was tried as well.
+                self.refuse(Refused::from(trouble.after_try()));
+                return;
+            }
+        };
         if let Err(trouble) = draft.abort(&mut self.disk, &mut self.space) {
             self.refuse(Refused::from(trouble));
         }

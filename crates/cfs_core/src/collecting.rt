@@ -205,8 +205,9 @@ impl<D: Disk> Core<D> {
     }
 
     /// Makes one step of the collector, the first that is due. At most 4 device calls, at most one of them a write.
-    /// Memory is taken where a collection begins, before anything changes, and nowhere else.
+    /// Memory is taken where a collection begins, before anything changes, and nowhere else. No commit is unfinished.
     pub fn collect(&mut self, alloc: Global) -> Result<Step, CollectFault>
+        requires left { self.old.space.left ≡ None }
         ensures { CollectsStep D.Disk self.old self.new result }
     {
         if let Some(stop) = self.stop {

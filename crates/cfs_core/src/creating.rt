@@ -1,5 +1,5 @@
 //! Requests that make an object.
-ghost use Rattle.std.specs.Prelude.{◌≡◌, ◌≢◌, ◌+◌, ◌*◌, ◌<◌, ◌≤◌, ℕ, length, sum, Err, None};
+ghost use Rattle.std.specs.Prelude.{◌≡◌, ◌≢◌, ◌+◌, ◌*◌, ◌<◌, ◌≤◌, ℕ, length, sum, Err};
 ghost use Rattle.cfs_base.specs.declared.refusal.Refused.TheVariants as refusals;
 ghost use Rattle.cfs_core.specs.Calls.{Tries, TriesOn};
 ghost use Rattle.cfs_core.specs.Makes.{IsMaking, NamesMade, made_kind};
@@ -7,7 +7,7 @@ ghost use Rattle.index_ops.specs.Creates.{MayBeMade, PutsObject, made_of};
 ghost use Rattle.ufs_model.specs.declared.asked.Request.TheVariants as asks;
 ghost use Rattle.ufs_model.specs.declared.asked.Request.{Request};
 
-use crate::finishing::{finish, take_room};
+use crate::finishing::{finish, refused_since, since, take_room};
 use crate::kernel::Core;
 use crate::looking::has_slot;
 use crate::way::Way;
@@ -37,7 +37,6 @@ impl<D: Disk> Core<D> {
         to: Ref,
         slot: u64,
     ) -> Result<Reply, Refused>
-        requires left { self.old.space.left ≡ None }
         requires words { self.old.words.drawn < 4294967295 }
         ensures { Tries D.Disk self.old self.new who (asks.CreateFile kind fill to slot) result }
     {
@@ -50,7 +49,8 @@ impl<D: Disk> Core<D> {
             Ok(index) => index,
             Err(reply) => return Ok(reply),
         };
-        match has_slot(&mut self.disk, BlockNo(index.block), slot) {
+        let at = self.space.shown(BlockNo(index.block));
+        match has_slot(&mut self.disk, at, slot) {
             Ok(true) => self.make(alloc, index, slot, kind_of(kind), fill, 0),
             Ok(false) => Ok(Reply::Slot),
             Err(unread) => Err(unread),
@@ -66,7 +66,6 @@ impl<D: Disk> Core<D> {
         to: Ref,
         slot: u64,
     ) -> Result<Reply, Refused>
-        requires left { self.old.space.left ≡ None }
         requires words { self.old.words.drawn < 4294967295 }
         ensures { Tries D.Disk self.old self.new who (asks.CreateIndex slots to slot) result }
     {
@@ -79,7 +78,8 @@ impl<D: Disk> Core<D> {
             Ok(index) => index,
             Err(reply) => return Ok(reply),
         };
-        match has_slot(&mut self.disk, BlockNo(index.block), slot) {
+        let at = self.space.shown(BlockNo(index.block));
+        match has_slot(&mut self.disk, at, slot) {
             Ok(true) => {
                 if slots == 0 || slots > MOST_SLOTS {
                     return Ok(Reply::Range);
@@ -101,7 +101,6 @@ impl<D: Disk> Core<D> {
         fill: u8,
         size: u64,
     ) -> Result<Reply, Refused>
-        requires left { self.old.space.left ≡ None }
         requires on_disk { index.block < D.blocks self.old.disk }
         requires some { index.block ≢ 0 }
         requires few { slot < 983040 }
@@ -115,6 +114,10 @@ impl<D: Disk> Core<D> {
             Ok(room) => room,
             Err(refused) => return Err(refused),
         };
+        let tried = match finish(&mut self.disk, &mut self.space) {
+            Ok(tried) => tried,
+            Err(trouble) => return Err(Refused::from(trouble)),
+        };
         match create(
             room,
             &mut self.disk,
@@ -126,11 +129,8 @@ impl<D: Disk> Core<D> {
             size,
             word,
         ) {
-            Ok(id) => match finish(&mut self.disk, &mut self.space) {
-                Ok(()) => self.name(id, kind),
-                Err(trouble) => Err(Refused::from(trouble)),
-            },
-            Err(refused) => Err(refused),
+            Ok(id) => since(tried, self.name(id, kind)),
+            Err(refused) => Err(refused_since(tried, refused)),
         }
     }
 

@@ -7,7 +7,7 @@ ghost use Rattle.cfs_core.specs.Calls.{Tries};
 ghost use Rattle.cfs_core.specs.Drafts.{ChangesDraft, IsDrafted};
 ghost use Rattle.cfs_core.specs.Looks.{IsDraftCause, content_reply};
 ghost use Rattle.cfs_core.specs.Handles.{drafting_at};
-ghost use Rattle.cfs_core.specs.StandsFor.{CoreServes};
+ghost use Rattle.cfs_core.specs.StandsFor.{ServesIs};
 ghost use Rattle.cyl_alloc.specs.Space.{Kept};
 ghost use Rattle.intentions.specs.Left.{StoreIs};
 ghost use Rattle.intentions.specs.Store.{StoreHas};
@@ -26,6 +26,7 @@ ghost use Rattle.ufs_model.specs.declared.object.Object.{Object};
 ghost use Rattle.vol_owners.specs.Account.{Opened};
 
 use crate::changing::done;
+use crate::finishing::{finish, since};
 use crate::kernel::Core;
 use crate::reading::is_range;
 use cfs_base::{Bytes, Disk, NoMemory, Refused, Session, Tuid};
@@ -115,7 +116,7 @@ impl<D: Disk> Core<D> {
     pub(crate) fn drafted(&self, who: Session, to: Ref) -> Option<Tuid>
         ensures through { IfSome result (λ grant. to ≡ refs.Through grant) }
         ensures has { IfSome result (λ grant. IsDrafted self.now who grant) }
-        ensures bare { IfNone result ((s : State) → CoreServes D.Disk self.now s → draft_of s who to ≡ None) }
+        ensures bare { IfNone result ((s : State) → ServesIs D.Disk self.now s → draft_of s who to ≡ None) }
     {
         table_follows_the_model();
         let grant = match to {
@@ -180,10 +181,14 @@ impl<D: Disk> Core<D> {
         if !is_range(held, offset, bytes.len() as u64) {
             return Ok(Reply::Range);
         }
-        done(
-            self.handles
-                .write(grant.draw, &mut self.disk, &mut self.space, offset, bytes),
-        )
+        let tried = match finish(&mut self.disk, &mut self.space) {
+            Ok(tried) => tried,
+            Err(trouble) => return Err(Refused::from(trouble)),
+        };
+        let ended = self
+            .handles
+            .write(grant.draw, &mut self.disk, &mut self.space, offset, bytes);
+        since(tried, done(ended))
     }
 
     /// Sets the size of a draft in bytes.
@@ -200,9 +205,13 @@ impl<D: Disk> Core<D> {
         if size > MOST_BYTES {
             return Ok(Reply::Range);
         }
-        done(
-            self.handles
-                .resize(grant.draw, &mut self.disk, &mut self.space, size),
-        )
+        let tried = match finish(&mut self.disk, &mut self.space) {
+            Ok(tried) => tried,
+            Err(trouble) => return Err(Refused::from(trouble)),
+        };
+        let ended = self
+            .handles
+            .resize(grant.draw, &mut self.disk, &mut self.space, size);
+        since(tried, done(ended))
     }
 }

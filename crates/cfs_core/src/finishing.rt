@@ -1,8 +1,8 @@
-//! A change of the store, carried out within its call.
+//! What was left of a commit, carried out before a change.
 ghost use Rattle.std.specs.Prelude.{◌≡◌, ◌*◌, true, is_some, IfErr, IfOk, length};
 ghost use Rattle.cfs_base.specs.declared.kind.FileKind.TheVariants as kinds;
 ghost use Rattle.cfs_base.specs.declared.refusal.Refused.TheVariants as refusals;
-ghost use Rattle.cfs_core.specs.Carried as spec;
+ghost use Rattle.cfs_core.specs.Finished as spec;
 
 use cfs_base::{Disk, FileKind, Refused, Trouble};
 use cyl_alloc::Space;
@@ -10,7 +10,7 @@ use finisher::finish_all;
 use special_files::Room;
 use std::alloc::Global;
 
-/// All memory that a change takes, which is taken before it begins.
+/// All memory that a change takes, which is taken before anything is carried out.
 pub(crate) fn take_room(alloc: Global) -> Result<Room, Refused>
     ensures { IfErr result (λ e. e ≡ refusals.Memory) }
 {
@@ -34,35 +34,32 @@ pub(crate) fn room_for(alloc: Global, kind: FileKind) -> Result<Option<Room>, Re
     }
 }
 
-/// Carries out what a change left unfinished. A call of the disk that fails is told as one after a try, since the
-/// change made one.
-pub(crate) fn finish<D: Disk>(disk: &mut D, space: &mut Space) -> Result<(), Trouble>
+/// Carries out what was left of a commit, and tells whether something was: a change that comes after it comes after its
+/// tries.
+pub(crate) fn finish<D: Disk>(disk: &mut D, space: &mut Space) -> Result<bool, Trouble>
     requires { D.blocks disk.old ≡ 64 * length space.old.free }
-    ensures { spec.CarriesOut D.Disk disk.old disk.new space.old space.new result }
+    ensures { spec.FinishesLeft D.Disk disk.old disk.new space.old space.new result }
 {
-    if space.unfinished() == 0 {
-        return Ok(());
-    }
+    let tried = space.unfinished() > 0;
     match finish_all(disk, space) {
-        Ok(()) => Ok(()),
-        Err(trouble) => Err(trouble.after_try()),
+        Ok(()) => Ok(tried),
+        Err(trouble) => Err(trouble),
     }
 }
 
-/// Carries out what a change left that ended so.
-pub(crate) fn carry_on<D: Disk>(
-    disk: &mut D,
-    space: &mut Space,
-    ended: Result<(), Refused>,
-) -> Result<(), Refused>
-    requires { D.blocks disk.old ≡ 64 * length space.old.free }
-    ensures { spec.CarriedOn D.Disk disk.old disk.new space.old space.new ended result }
+/// The refusal of a change that came after tries, or after none.
+pub(crate) fn refused_since(tried: bool, refused: Refused) -> Refused
+    ensures { result ≡ spec.refused_since tried refused }
+{
+    if tried { refused.after_try() } else { refused }
+}
+
+/// The end of a change that came after tries, or after none.
+pub(crate) fn since<T>(tried: bool, ended: Result<T, Refused>) -> Result<T, Refused>
+    ensures { result ≡ spec.since tried ended }
 {
     match ended {
-        Ok(()) => match finish(disk, space) {
-            Ok(()) => Ok(()),
-            Err(trouble) => Err(Refused::from(trouble)),
-        },
-        Err(refused) => Err(refused),
+        Ok(value) => Ok(value),
+        Err(refused) => Err(refused_since(tried, refused)),
     }
 }

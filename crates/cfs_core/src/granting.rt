@@ -1,15 +1,17 @@
 //! Requests that open an object.
-ghost use Rattle.std.specs.Prelude.{◌≡◌, ◌≢◌, ◌<◌, ◌*◌, length};
+ghost use Rattle.std.specs.Prelude.{◌≡◌, ◌≢◌, ◌<◌, ◌*◌, length, false, true, is_some, IfErr, IfOk, None, Ok};
+ghost use Rattle.cfs_base.specs.declared.refusal.Refused.TheVariants as refusals;
 ghost use Rattle.cfs_core.specs.Calls.{Tries};
+ghost use Rattle.cfs_core.specs.Finished.{FinishesLeft};
 ghost use Rattle.cfs_core.specs.Opening as spec;
 ghost use Rattle.ufs_model.specs.declared.asked.Request.TheVariants as asks;
 
-use crate::finishing::take_room;
+use crate::finishing::{finish, refused_since, take_room};
 use crate::kernel::Core;
-use cfs_base::{BlockNo, Disk, Kind, Mode, Puid, Refused, Session, Tuid};
+use cfs_base::{BlockNo, Disk, Kind, Mode, Puid, Refused, Session, Trouble, Tuid};
 use cyl_alloc::Space;
 use open_table::{AcquireFault, Grant, table_follows_the_model};
-use special_files::Draft;
+use special_files::{Draft, Room};
 use std::alloc::Global;
 use ufs_model::{RESERVE, Reply};
 
@@ -34,7 +36,7 @@ fn gets_draft(kind: Kind, mode: Mode) -> bool
 }
 
 /// What an opening is told that a grant stands against.
-fn told_of(fault: AcquireFault) -> Reply
+fn reply_to_fault(fault: AcquireFault) -> Reply
     ensures { result ≡ spec.reply_to_fault fault }
 {
     match fault {
@@ -43,26 +45,53 @@ fn told_of(fault: AcquireFault) -> Reply
     }
 }
 
-/// The draft of the object at a block, if it is to have one.
-fn first_draft<D: Disk>(
-    alloc: Global,
-    disk: &mut D,
-    space: &mut Space,
-    at: BlockNo,
-    wanted: bool,
-) -> Result<Option<Draft>, Refused>
-    requires some { at.0 ≢ 0 }
-    requires on_disk { at.0 < D.blocks disk.old }
-    requires size { D.blocks disk.old ≡ 64 * length space.old.free }
-    ensures begins { spec.Begins D.Disk at.0 wanted disk.old disk.new space.old space.new result }
-    ensures cylinders { length space.new.free ≡ length space.old.free }
+/// All memory that a draft takes, if one is to be begun.
+fn room_if(alloc: Global, wanted: bool) -> Result<Option<Room>, Refused>
+    ensures room { IfOk result (λ room. is_some room ≡ wanted) }
+    ensures wants { IfErr result (λ e. e ≡ refusals.Memory) }
 {
     if !wanted {
         return Ok(None);
     }
-    let room = match take_room(alloc) {
-        Ok(room) => room,
-        Err(refused) => return Err(refused),
+    match take_room(alloc) {
+        Ok(room) => Ok(Some(room)),
+        Err(refused) => Err(refused),
+    }
+}
+
+/// Carries out what was left of a commit, if a draft is to be begun.
+fn finish_if<D: Disk>(disk: &mut D, space: &mut Space, wanted: bool) -> Result<bool, Trouble>
+    requires { D.blocks disk.old ≡ 64 * length space.old.free }
+    ensures finished { wanted ≡ true → FinishesLeft D.Disk disk.old disk.new space.old space.new result }
+    ensures idle { wanted ≡ false → (result ≡ Ok false) × (disk.new ≡ disk.old) × (space.new ≡ space.old) }
+    ensures size { D.blocks disk.new ≡ D.blocks disk.old }
+    ensures cylinders { length space.new.free ≡ length space.old.free }
+{
+    if wanted {
+        finish(disk, space)
+    } else {
+        Ok(false)
+    }
+}
+
+/// The draft of the object at a block, if it is to have one.
+fn first_draft<D: Disk>(
+    room: Option<Room>,
+    disk: &mut D,
+    space: &mut Space,
+    at: BlockNo,
+) -> Result<Option<Draft>, Refused>
+    requires some { at.0 ≢ 0 }
+    requires on_disk { at.0 < D.blocks disk.old }
+    requires size { D.blocks disk.old ≡ 64 * length space.old.free }
+    ensures begins { spec.Begins D.Disk at.0 (is_some room) disk.old disk.new space.old space.new result }
+    ensures bare { is_some room ≡ false → (result ≡ Ok None) × (disk.new ≡ disk.old) × (space.new ≡ space.old) }
+    ensures never { IfErr result (λ e. e ≢ refusals.Memory) }
+    ensures cylinders { length space.new.free ≡ length space.old.free }
+{
+    let room = match room {
+        Some(room) => room,
+        None => return Ok(None),
     };
     match Draft::begin(room, disk, space, at, RESERVE) {
         Ok(draft) => Ok(Some(draft)),
@@ -71,8 +100,8 @@ fn first_draft<D: Disk>(
 }
 
 impl<D: Disk> Core<D> {
-    /// Opens an object: a special file for writing with a draft, of which all memory is taken before its shadow root
-    /// is.
+    /// Opens an object: a special file for writing with a draft, of which all memory is taken before what was left of a
+    /// commit is carried out, and its shadow root is taken.
     pub(crate) fn open_for(
         &mut self,
         alloc: Global,
@@ -105,17 +134,21 @@ impl<D: Disk> Core<D> {
             mode,
         };
         if let Some(fault) = self.handles.fault(grant) {
-            return Ok(told_of(fault));
+            return Ok(reply_to_fault(fault));
         }
-        let draft = match first_draft(
-            alloc,
-            &mut self.disk,
-            &mut self.space,
-            BlockNo(id.block),
-            gets_draft(kind, mode),
-        ) {
-            Ok(draft) => draft,
+        let wanted = gets_draft(kind, mode);
+        let room = match room_if(alloc, wanted) {
+            Ok(room) => room,
             Err(refused) => return Err(refused),
+        };
+        let tried = match finish_if(&mut self.disk, &mut self.space, wanted) {
+            Ok(tried) => tried,
+            Err(trouble) => return Err(Refused::from(trouble)),
+        };
+        let at = BlockNo(id.block);
+        let draft = match first_draft(room, &mut self.disk, &mut self.space, at) {
+            Ok(draft) => draft,
+            Err(refused) => return Err(refused_since(tried, refused)),
         };
         self.handles.open(grant, draft);
         self.words.next();

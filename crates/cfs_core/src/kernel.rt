@@ -1,11 +1,12 @@
 //! A core, and what it tells of itself.
 ghost use Rattle.std.specs.Prelude.{◌≡◌, ◌≢◌, ◌+◌, ◌*◌, ◌<◌, ◌≤◌, length, false};
-ghost use Rattle.std.specs.Prelude.{IsSome, option_map, option_and_then, sum};
-ghost use Rattle.cfs_core.specs.Room.{IsRoom, lost_blocks};
+ghost use Rattle.std.specs.Prelude.{IsSome, if◌then◌else◌, is_some, option_map, option_and_then, sum};
+ghost use Rattle.cfs_core.specs.Room.{IsRoom, lost_blocks, to_be_freed};
 ghost use Rattle.cfs_core.specs.Kernel.{collection_runs};
-ghost use Rattle.cfs_core.specs.StandsFor.{CoreServes, StandsFor, drafts_of_handles, is_collecting, sweeps_now};
-ghost use Rattle.cyl_map.specs.Volume.{free_from};
+ghost use Rattle.cfs_core.specs.StandsFor.{ServesIs, StandsFor, drafts_of_handles, end_in, free_of, free_to_come};
+ghost use Rattle.cfs_core.specs.StandsFor.{is_collecting, sweeps_now};
 ghost use Rattle.puid_space.specs.Directory.{directory_kind};
+ghost use Rattle.ufs_model.specs.Limits.{reserve};
 ghost use Rattle.ufs_model.specs.State.{State};
 ghost use Rattle.vol_owners.specs.Room.{blocks_taken};
 
@@ -33,7 +34,8 @@ pub struct Halt {
 }
 
 /// What a core tells of itself: how many objects, grants and Free blocks there are; whether a collection runs, how many
-/// were called for and how many are finished; and the moment at which it stopped, with the damage if one was the cause.
+/// were called for and how many are finished; the moment at which it stopped, with the damage if one was the cause; and
+/// how many commits are unfinished, 1 or 0.
 #[derive(Clone, Copy, Debug, PartialEq, Eq)]
 pub struct Status {
     pub objects: u32,
@@ -44,6 +46,7 @@ pub struct Status {
     pub finished: u32,
     pub stopped: Option<u64>,
     pub damage: Option<Damage>,
+    pub unfinished: u32,
 }
 
 /// The file server on one disk.
@@ -83,18 +86,24 @@ impl<D: Disk> Core<D> {
     /// What it tells of itself. `free` is the number of Free blocks of the maps.
     pub fn status(&self) -> Status
         ensures objects { result.objects ≡ length self.now.directory.named }
-        ensures counted { (s : State) → CoreServes D.Disk self.now s
-            → result.free ≡ free_from (D.content self.now.disk) 0 (length (D.content self.now.disk)) }
+        ensures counted { (s : State) → ServesIs D.Disk self.now s
+            → result.free ≡ free_of (D.content self.now.disk) }
         ensures free { result.free ≡ sum self.now.space.free }
-        // No block is lost.
-        ensures room { (s : State) → CoreServes D.Disk self.now s → sweeps_now s.collection ≡ false
-            → result.free + blocks_taken s.graph (drafts_of_handles self.now.handles s.grants) + 1
+        // No block is lost: of the image that is to come.
+        ensures room { (s : State) → ServesIs D.Disk self.now s → sweeps_now s.collection ≡ false
+            → free_to_come D.Disk self.now + blocks_taken s.graph (drafts_of_handles self.now.handles s.grants) + 1
             ≡ 63 * length self.now.space.free }
+        // At least four are Free together with those that are still to be freed.
+        ensures together { (s : State) → ServesIs D.Disk self.now s
+            → result.free + to_be_freed (D.content self.now.disk) (end_in D.Disk self.now)
+            ≡ free_to_come D.Disk self.now }
+        ensures four { (s : State) → ServesIs D.Disk self.now s → reserve ≤ free_to_come D.Disk self.now }
+        ensures unfinished { result.unfinished ≡ if is_some self.now.space.left then 1 else 0 }
         ensures stopped { result.stopped ≡ option_map (λ stop. stop.moment) self.now.stop }
         ensures damage { result.damage ≡ option_and_then (λ stop. stop.damage) self.now.stop }
         ensures grants { result.grants ≡ length self.now.handles }
         ensures running { result.running ≡ collection_runs self.now.collections.collector }
-        ensures collects { (s : State) → CoreServes D.Disk self.now s → result.running ≡ is_collecting s.collection }
+        ensures collects { (s : State) → ServesIs D.Disk self.now s → result.running ≡ is_collecting s.collection }
         ensures called { result.called ≡ self.now.collections.called }
         ensures finished { result.finished ≡ self.now.collections.finished }
         // Never more are finished than were called for.
@@ -109,18 +118,19 @@ impl<D: Disk> Core<D> {
             finished: self.collections.finished,
             stopped: self.stop.map(|stop| stop.moment),
             damage: self.stop.and_then(|stop| stop.damage),
+            unfinished: self.space.unfinished(),
         }
     }
 
-    /// The Free blocks that the core counts are the room, as long as nothing sweeps, and else the room less the blocks
-    /// of objects that are gone. This does nothing: it is a law.
+    /// The Free blocks of the image that is to come are the room, as long as nothing sweeps, and else the room less the
+    /// blocks of objects that are gone. This does nothing: it is a law.
     pub fn has_room(&self)
         ensures size { D.blocks self.now.disk ≡ 64 * length self.now.space.free }
-        ensures room { (s : State) → CoreServes D.Disk self.now s → sweeps_now s.collection ≡ false
-            → IsRoom (length self.now.space.free) s (sum self.now.space.free) }
-        ensures lost { (s : State) → CoreServes D.Disk self.now s
+        ensures room { (s : State) → ServesIs D.Disk self.now s → sweeps_now s.collection ≡ false
+            → IsRoom (length self.now.space.free) s (free_to_come D.Disk self.now) }
+        ensures lost { (s : State) → ServesIs D.Disk self.now s
             → IsRoom (length self.now.space.free) s
-            (sum self.now.space.free + lost_blocks (D.content self.now.disk) s.graph) }
+            (free_to_come D.Disk self.now + lost_blocks (end_in D.Disk self.now) s.graph) }
     {
         let _disk = &self.disk;
     }

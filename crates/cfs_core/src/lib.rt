@@ -16,9 +16,11 @@ mod looking;
 mod opening;
 mod reading;
 mod rescuing;
+mod tidying;
 mod way;
 mod writing;
 
 pub use collecting::{CollectFault, Step};
 pub use kernel::{Core, Halt, Status, Stop};
 pub use opening::OpenFault;
+pub use tidying::{Tidy, TidyFault};

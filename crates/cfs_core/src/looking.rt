@@ -79,7 +79,8 @@ impl<D: Disk> Core<D> {
             Ok(index) => index,
             Err(reply) => return Ok(reply),
         };
-        look(&mut self.disk, BlockNo(index.block), slot)
+        let at = self.space.shown(BlockNo(index.block));
+        look(&mut self.disk, at, slot)
     }
 
     /// The number of slots.
@@ -95,6 +96,7 @@ impl<D: Disk> Core<D> {
             Ok(index) => index,
             Err(reply) => return Ok(reply),
         };
-        count(&mut self.disk, BlockNo(index.block))
+        let at = self.space.shown(BlockNo(index.block));
+        count(&mut self.disk, at)
     }
 }

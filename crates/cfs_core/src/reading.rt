@@ -1,9 +1,10 @@
 //! Requests that read a file.
-ghost use Rattle.std.specs.Prelude.{◌≡◌, ◌+◌, ◌<◌, ◌≤◌, IfOk, None, length};
+ghost use Rattle.std.specs.Prelude.{◌≡◌, ◌≢◌, ◌+◌, ◌<◌, ◌≤◌, IfErr, IfOk, None, length};
 ghost use Rattle.cfs_base.specs.Run.{Tells};
+ghost use Rattle.cfs_base.specs.declared.refusal.Refused.TheVariants as refusals;
 ghost use Rattle.cfs_core.specs.Calls.{Tries};
 ghost use Rattle.cfs_core.specs.Looks.{IsCalm, KnowsObject, content_reply, measured};
-ghost use Rattle.cfs_core.specs.StandsFor.{CoreServes};
+ghost use Rattle.cfs_core.specs.StandsFor.{ServesIs};
 ghost use Rattle.normal_files.specs.Standing.{IsRootAt};
 ghost use Rattle.normal_files.specs.Touched.{leaves_touched, nodes_touched};
 ghost use Rattle.ufs_model.specs.Plain.{IsPlainReply};
@@ -35,6 +36,7 @@ pub(crate) fn root_in<D: Disk>(disk: &mut D, file: BlockNo) -> Result<Root, Refu
         → IfOk result (λ root. root.size ≡ length f.bytes) }
     ensures limit { IfOk result (λ root. root.size ≤ 7864320) }
     ensures calm { IsCalm D.Disk objects.File 1 file.0 disk.old disk.new result }
+    ensures never { IfErr result (λ e. e ≢ refusals.Memory) }
 {
     match file_ops::read_root(disk, file) {
         Ok(root) => Ok(root),
@@ -112,7 +114,7 @@ impl<D: Disk> Core<D> {
         offset: u64,
         count: u64,
     ) -> Result<Reply, Refused>
-        requires bare { (s : State) → CoreServes D.Disk self.old s → draft_of s who to ≡ None }
+        requires bare { (s : State) → ServesIs D.Disk self.old s → draft_of s who to ≡ None }
         ensures { Tries D.Disk self.old self.new who (asks.Read to offset count) result }
     {
         let way = Way {
@@ -124,7 +126,8 @@ impl<D: Disk> Core<D> {
             Ok((file, _)) => file,
             Err(reply) => return Ok(reply),
         };
-        content(alloc, &mut self.disk, BlockNo(file.block), offset, count)
+        let at = self.space.shown(BlockNo(file.block));
+        content(alloc, &mut self.disk, at, offset, count)
     }
 
     /// The size of a file in bytes.
@@ -139,7 +142,7 @@ impl<D: Disk> Core<D> {
 
     /// The same where the reference has no draft.
     fn size_of_object(&mut self, who: Session, to: Ref) -> Result<Reply, Refused>
-        requires bare { (s : State) → CoreServes D.Disk self.old s → draft_of s who to ≡ None }
+        requires bare { (s : State) → ServesIs D.Disk self.old s → draft_of s who to ≡ None }
         ensures { Tries D.Disk self.old self.new who (asks.Size to) result }
     {
         let way = Way {
@@ -151,6 +154,7 @@ impl<D: Disk> Core<D> {
             Ok((file, _)) => file,
             Err(reply) => return Ok(reply),
         };
-        measure(&mut self.disk, BlockNo(file.block))
+        let at = self.space.shown(BlockNo(file.block));
+        measure(&mut self.disk, at)
     }
 }

@@ -3,7 +3,7 @@ ghost use Rattle.std.specs.Prelude.{◌≡◌, [], OnOk, option_to_list};
 ghost use Rattle.cfs_core.specs.Kernel.{marks_in};
 ghost use Rattle.cfs_core.specs.Rescues as spec;
 ghost use Rattle.cfs_core.specs.Rescues.{AreRescued, HasRoomFor};
-ghost use Rattle.cfs_core.specs.StandsFor.{CoreServes};
+ghost use Rattle.cfs_core.specs.StandsFor.{ServesIs};
 ghost use Rattle.marking.specs.Meanwhile as meanwhile;
 ghost use Rattle.ufs_model.specs.State.{State};
 ghost use Rattle.ufs_model.specs.declared.asked.Reply as asked;
@@ -120,7 +120,7 @@ impl Collections {
 impl<D: Disk> Core<D> {
     /// The index that a request of a session would put an object into, if it goes to any.
     pub(crate) fn aim(&self, who: Session, request: &Request) -> Option<Puid>
-        ensures { (s : State) → CoreServes D.Disk self.now s → (reply : asked.Reply)
+        ensures { (s : State) → ServesIs D.Disk self.now s → (reply : asked.Reply)
             → option_to_list (spec.rescue_of result request.now reply) ≡ meanwhile.rescues_of s who request.now reply }
     {
         match request {

@@ -3,7 +3,7 @@ ghost use Rattle.std.specs.Prelude.{◌≡◌, ◌≢◌, ◌<◌, ◌&&◌, ℕ
 ghost use Rattle.cfs_base.specs.declared.identifier.Puid.{Puid};
 ghost use Rattle.cfs_core.specs.Calls.{Tries};
 ghost use Rattle.cfs_core.specs.Looks.{ReachesAll};
-ghost use Rattle.cfs_core.specs.StandsFor.{CoreServes, drafts_of_handles};
+ghost use Rattle.cfs_core.specs.StandsFor.{ServesIs, drafts_of_handles};
 ghost use Rattle.cfs_core.specs.Ways.{Arrives, GoesBy, is_gone, reads_by, unfit_of};
 ghost use Rattle.open_table.specs.Model.{is_writing};
 ghost use Rattle.puid_space.specs.Directory.{directory_kind};
@@ -51,12 +51,12 @@ impl<D: Disk> Core<D> {
     /// The file that a request of a session goes to, and its kind, or its refusal on the way there. It has no draft.
     /// Its root block is one of the disk's, and not block 0.
     pub(crate) fn file_at(&self, who: Session, way: Way) -> Result<(Puid, FileKind), Reply>
-        requires bare { (s : State) → CoreServes D.Disk self.now s → draft_of s who way.to ≡ None }
+        requires bare { (s : State) → ServesIs D.Disk self.now s → draft_of s who way.to ≡ None }
         ensures refused { IfErr result (λ reply. (request : Request) → GoesBy request AFile way
             → Tries D.Disk self.now self.now who request (Ok reply)) }
         ensures reached { IfOk result (λ two. (request : Request) → GoesBy request AFile way
             → ReachesAll D.Disk objects.File self.now who request two.0) }
-        ensures kind { IfOk result (λ two. (s : State) (f : File) → CoreServes D.Disk self.now s
+        ensures kind { IfOk result (λ two. (s : State) (f : File) → ServesIs D.Disk self.now s
             → object_at s.graph two.0 ≡ Some (objects.File f) → f.kind ≡ two.1) }
         ensures on_disk { IfOk result (λ two. two.0.block < D.blocks self.now.disk) }
         ensures some { IfOk result (λ two. two.0.block ≢ 0) }
@@ -73,7 +73,7 @@ impl<D: Disk> Core<D> {
     /// Of what a reference goes to that has no draft, and meets no grant, no grant has a draft. This does nothing: it
     /// is a law.
     fn shuts(&self, who: Session, way: Way)
-        ensures { (s : State) (id : Puid) → CoreServes D.Disk self.now s → named s who way.to ≡ Some id
+        ensures { (s : State) (id : Puid) → ServesIs D.Disk self.now s → named s who way.to ≡ Some id
             → draft_of s who way.to ≡ None → meets_a_grant s way.changes way.to ≡ false
             → drafts_of (drafts_of_handles self.now.handles s.grants) id ≡ [] }
     {
@@ -86,8 +86,8 @@ impl<D: Disk> Core<D> {
         ensures refused { IfErr result (λ reply. (request : Request) → GoesBy request wants way
             → Tries D.Disk self.now self.now who request (Ok reply)) }
         ensures arrived { IfOk result (λ two. (request : Request) → GoesBy request wants way
-            → (s : State) → CoreServes D.Disk self.now s → (o : Object) × Arrives s who request two.0 o) }
-        ensures free { IfOk result (λ two. (s : State) → CoreServes D.Disk self.now s
+            → (s : State) → ServesIs D.Disk self.now s → (o : Object) × Arrives s who request two.0 o) }
+        ensures free { IfOk result (λ two. (s : State) → ServesIs D.Disk self.now s
             → meets_a_grant s way.changes way.to ≡ false) }
         ensures kind { IfOk result (λ two. directory_kind self.now.directory.named two.0 ≡ Some two.1) }
         ensures wanted { IfOk result (λ two. unfit_of wants (Some two.1) ≡ None) }
@@ -117,7 +117,7 @@ impl<D: Disk> Core<D> {
 
     /// What a reference of a session goes to, if it goes anywhere.
     pub(crate) fn goes_to(&self, who: Session, to: Ref) -> Option<Puid>
-        ensures { (s : State) → CoreServes D.Disk self.now s → result ≡ named s who to }
+        ensures { (s : State) → ServesIs D.Disk self.now s → result ≡ named s who to }
     {
         table_follows_the_model();
         match to {
@@ -131,7 +131,7 @@ impl<D: Disk> Core<D> {
 
     /// Whether an object that is named besides isn't there.
     fn lacks(&self, also: Option<Puid>) -> bool
-        ensures gone { (s : State) → CoreServes D.Disk self.now s → result ≡ is_gone s also }
+        ensures gone { (s : State) → ServesIs D.Disk self.now s → result ≡ is_gone s also }
         ensures some { result ≡ false → (id : Puid) → also ≡ Some id → id.block ≢ 0 }
     {
         match also {
@@ -142,7 +142,7 @@ impl<D: Disk> Core<D> {
 
     /// Whether a change is asked through a grant for reading.
     fn may_only_read(&self, who: Session, way: Way) -> bool
-        ensures { (s : State) → CoreServes D.Disk self.now s
+        ensures { (s : State) → ServesIs D.Disk self.now s
             → result ≡ (way.changes && goes_through_reading s who way.to) }
     {
         if !way.changes {
@@ -153,7 +153,7 @@ impl<D: Disk> Core<D> {
 
     /// Whether a reference of a session is a grant for reading.
     fn is_for_reading(&self, who: Session, to: Ref) -> bool
-        ensures { (s : State) → CoreServes D.Disk self.now s → result ≡ goes_through_reading s who to }
+        ensures { (s : State) → ServesIs D.Disk self.now s → result ≡ goes_through_reading s who to }
     {
         table_follows_the_model();
         match to {
@@ -165,7 +165,7 @@ impl<D: Disk> Core<D> {
     /// Whether one that goes straight to an object meets a grant: any grant where it wants the object alone, else one
     /// for writing.
     fn is_met(&self, alone: bool, to: Ref) -> bool
-        ensures { (s : State) → CoreServes D.Disk self.now s → result ≡ meets_a_grant s alone to }
+        ensures { (s : State) → ServesIs D.Disk self.now s → result ≡ meets_a_grant s alone to }
     {
         table_follows_the_model();
         self.handles.len();

@@ -1,19 +1,42 @@
 //! Requests that change a file.
-ghost use Rattle.std.specs.Prelude.{◌≡◌, None};
+ghost use Rattle.std.specs.Prelude.{◌≡◌, ◌≢◌, ◌<◌, false, true, IfErr, IfOk, None, Ok};
+ghost use Rattle.cfs_base.specs.Run.{Tells};
+ghost use Rattle.cfs_base.specs.declared.refusal.Refused.TheVariants as refusals;
 ghost use Rattle.cfs_core.specs.Calls.{Tries};
-ghost use Rattle.cfs_core.specs.StandsFor.{CoreServes};
+ghost use Rattle.cfs_core.specs.Looks.{IsCalm};
+ghost use Rattle.cfs_core.specs.StandsFor.{ServesIs};
+ghost use Rattle.normal_files.specs.Standing.{IsRootAt};
 ghost use Rattle.ufs_model.specs.State.{State, draft_of};
 ghost use Rattle.ufs_model.specs.declared.asked.Request.TheVariants as asks;
+ghost use Rattle.ufs_model.specs.declared.object.Object.TheVariants as objects;
 
 use crate::changing::done;
-use crate::finishing::{carry_on, room_for};
+use crate::finishing::{finish, refused_since, room_for, since};
 use crate::kernel::Core;
 use crate::reading::{is_range, root_in};
 use crate::way::Way;
+use block_tree::Root;
 use cfs_base::{BlockNo, Disk, Refused, Session};
 use std::alloc::Global;
 use ufs_model::laws::are_bytes;
 use ufs_model::{MOST_BYTES, RESERVE, Ref, Reply};
+
+/// The root of the file at a block: that which was read, or, where parts of a commit were made since, that which is
+/// there now.
+fn root_since<D: Disk>(
+    disk: &mut D,
+    file: BlockNo,
+    tried: bool,
+    read: Root,
+) -> Result<Root, Refused>
+    requires { file.0 < D.blocks disk.old }
+    ensures anew { tried ≡ true → Tells D.Disk disk.old → IfOk result (IsRootAt (D.content disk.old) file.0) }
+    ensures same { tried ≡ false → (result ≡ Ok read) × (disk.new ≡ disk.old) }
+    ensures calm { IsCalm D.Disk objects.File 1 file.0 disk.old disk.new result }
+    ensures never { IfErr result (λ e. e ≢ refusals.Memory) }
+{
+    if tried { root_in(disk, file) } else { Ok(read) }
+}
 
 impl<D: Disk> Core<D> {
     /// Writes bytes into a file, from an offset on. Of a normal file each leaf may be changed without the others where
@@ -26,7 +49,6 @@ impl<D: Disk> Core<D> {
         offset: u64,
         bytes: &[u8],
     ) -> Result<Reply, Refused>
-        requires left { self.old.space.left ≡ None }
         ensures { Tries D.Disk self.old self.new who (asks.Write to offset bytes.now) result }
     {
         match self.drafted(who, to) {
@@ -44,8 +66,7 @@ impl<D: Disk> Core<D> {
         offset: u64,
         bytes: &[u8],
     ) -> Result<Reply, Refused>
-        requires left { self.old.space.left ≡ None }
-        requires bare { (s : State) → CoreServes D.Disk self.old s → draft_of s who to ≡ None }
+        requires bare { (s : State) → ServesIs D.Disk self.old s → draft_of s who to ≡ None }
         ensures { Tries D.Disk self.old self.new who (asks.Write to offset bytes.now) result }
     {
         are_bytes(bytes);
@@ -58,7 +79,8 @@ impl<D: Disk> Core<D> {
             Ok(there) => there,
             Err(reply) => return Ok(reply),
         };
-        let root = match root_in(&mut self.disk, BlockNo(file.block)) {
+        let seen = self.space.shown(BlockNo(file.block));
+        let root = match root_in(&mut self.disk, seen) {
             Ok(root) => root,
             Err(refused) => return Err(refused),
         };
@@ -69,10 +91,18 @@ impl<D: Disk> Core<D> {
             Ok(room) => room,
             Err(refused) => return Err(refused),
         };
+        let tried = match finish(&mut self.disk, &mut self.space) {
+            Ok(tried) => tried,
+            Err(trouble) => return Err(Refused::from(trouble)),
+        };
         let at = BlockNo(file.block);
+        let root = match root_since(&mut self.disk, at, tried, root) {
+            Ok(root) => root,
+            Err(refused) => return Err(refused_since(tried, refused)),
+        };
         let (disk, space) = (&mut self.disk, &mut self.space);
         let ended = file_ops::write(room, disk, space, at, kind, &root, offset, bytes, RESERVE);
-        done(carry_on(&mut self.disk, &mut self.space, ended))
+        since(tried, done(ended))
     }
 
     /// Sets the size of a file in bytes.
@@ -83,7 +113,6 @@ impl<D: Disk> Core<D> {
         to: Ref,
         size: u64,
     ) -> Result<Reply, Refused>
-        requires left { self.old.space.left ≡ None }
         ensures { Tries D.Disk self.old self.new who (asks.Resize to size) result }
     {
         match self.drafted(who, to) {
@@ -100,8 +129,7 @@ impl<D: Disk> Core<D> {
         to: Ref,
         size: u64,
     ) -> Result<Reply, Refused>
-        requires left { self.old.space.left ≡ None }
-        requires bare { (s : State) → CoreServes D.Disk self.old s → draft_of s who to ≡ None }
+        requires bare { (s : State) → ServesIs D.Disk self.old s → draft_of s who to ≡ None }
         ensures { Tries D.Disk self.old self.new who (asks.Resize to size) result }
     {
         let changes = true;
@@ -121,9 +149,13 @@ impl<D: Disk> Core<D> {
             Ok(room) => room,
             Err(refused) => return Err(refused),
         };
+        let tried = match finish(&mut self.disk, &mut self.space) {
+            Ok(tried) => tried,
+            Err(trouble) => return Err(Refused::from(trouble)),
+        };
         let at = BlockNo(file.block);
         let (disk, space) = (&mut self.disk, &mut self.space);
         let ended = file_ops::resize(room, disk, space, at, kind, size, RESERVE);
-        done(carry_on(&mut self.disk, &mut self.space, ended))
+        since(tried, done(ended))
     }
 }

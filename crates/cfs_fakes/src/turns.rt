@@ -1,5 +1,5 @@
 //! The turns that two workers have left.
-ghost use Rattle.std.specs.Prelude.{◌≡◌, ◌≢◌, ◌<◌, ℕ, true, false};
+ghost use Rattle.std.specs.Prelude.{◌≡◌, ◌<◌, ℕ, true, false};
 ghost use Rattle.cfs_fakes.specs.Turns.{left_of};
 
 /// How many turns workers 0 and 1 have left. There are no others.
@@ -26,7 +26,7 @@ impl Turns {
         ensures taken { result ≡ true → left_of self.new worker < left_of self.old worker }
         ensures none { result ≡ false → left_of self.old worker ≡ 0 }
         ensures stays { result ≡ false → self.new ≡ self.old }
-        ensures others { (w : ℕ) → w ≢ worker → left_of self.new w ≡ left_of self.old w }
+        ensures others { (w : ℕ) → w < worker → left_of self.new w ≡ left_of self.old w }
     {
         match worker {
             0 if self.first > 0 => {

@@ -96,6 +96,23 @@ fn many(probe: &mut Probe, alloc: Global, line: &str) -> Result<String, Fault> {
     owned(alloc, "same")
 }
 
+/// What is left of a commit is carried out. Answers `Idle`, or why that was refused.
+fn settle(probe: &mut Probe, alloc: Global) -> Result<String, Fault> {
+    for _ in 0..u64::MAX {
+        let told = probe.does(alloc, Event::Tidy)?;
+        if told.as_str() != "Step" {
+            return Ok(told);
+        }
+    }
+    Err(Fault::Spent)
+}
+
+/// The Free blocks, once what is left of a commit is carried out.
+fn free(probe: &mut Probe, alloc: Global) -> Result<String, Fault> {
+    settle(probe, alloc)?;
+    Ok(format!(in alloc; "{}", probe.status()?.free)?)
+}
+
 /// So many steps of the collector.
 fn collect(probe: &mut Probe, alloc: Global, line: &str) -> Result<String, Fault> {
     let mut out = String::new(alloc);
@@ -172,10 +189,12 @@ pub fn answer(probe: &mut Probe, alloc: Global, line: &str) -> Result<String, Fa
         "many" => many(probe, alloc, rest),
         "leave" => probe.does(alloc, Event::Leave { who: small(rest)? }),
         "call" => probe.does(alloc, Event::Call { more: small(rest)? }),
+        "tidy" => probe.does(alloc, Event::Tidy),
+        "settle" => settle(probe, alloc),
         "collect" => collect(probe, alloc, rest),
         "step" => step(probe, alloc),
         "status" => status_text(alloc, &probe.status()?),
-        "free" => Ok(format!(in alloc; "{}", probe.status()?.free)?),
+        "free" => free(probe, alloc),
         "moment" => Ok(format!(in alloc; "{}", probe.moment()?)?),
         "reading" => probe.reading(alloc),
         "compare" => compare(probe, alloc),

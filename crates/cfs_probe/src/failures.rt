@@ -60,7 +60,7 @@ fn redo(service: &mut Service, alloc: Global, past: &[Past], call: u64) -> Resul
             said = happens(service, alloc, &happened.event)?;
         }
         if service.server.status().stopped.is_some() {
-            let is_right = is_same && refused == 0 && is_still(&mut service.server, alloc, call);
+            let is_right = is_same && refused == 0 && is_still(&mut service.server, call);
             return Ok(Redone { events, is_right });
         }
         is_same = is_same && said.text == happened.text;
@@ -73,9 +73,9 @@ fn redo(service: &mut Service, alloc: Global, past: &[Past], call: u64) -> Resul
 }
 
 /// Whether a core stopped at this call, and makes no further one.
-fn is_still(core: &mut Core<MemoryDisk>, alloc: Global, call: u64) -> bool {
+fn is_still(core: &mut Core<MemoryDisk>, call: u64) -> bool {
     let now = core.moment();
-    let is_refused = core.collect(alloc).is_err();
+    let is_refused = core.tidy().is_err();
     let is_left = core.leave(0).is_ok();
     is_refused && is_left && core.moment() == now && core.status().stopped == Some(call)
 }

@@ -13,9 +13,11 @@
 //! - `many FROM TO S LINE`: the same for each number in place of a word `#`: `same`, or the first answer that is not.
 //! - `leave S`: the session leaves.
 //! - `call N`: calls for so many collections more.
-//! - `collect N`: so many steps of the collector, and the Free blocks after each.
+//! - `tidy`, `settle`: one part of what is left of a commit, as `Step`, or `Idle` where nothing is; all of it.
+//! - `collect N`: so many steps of the collector, and the Free blocks after each. Before each all is settled.
 //! - `step`: one step, of which only a refusal is told.
-//! - `status`, `free`, `moment`: what the core tells of itself; its Free blocks; the clock of the disk.
+//! - `status`, `free`, `moment`: what the core tells of itself; its Free blocks once all is settled; the clock of the
+//!   disk.
 //! - `reading`, `compare`: what is reached from the root, by requests alone; whether the slow server has the same.
 //! - `unmount`: the core gives its disk up, for the commands on a disk.
 //! - `block N`, `poke N AT HEX`: the bytes of a block of the disk; puts bytes into it.

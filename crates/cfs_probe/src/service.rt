@@ -1,9 +1,11 @@
 //! A core on a disk in memory, and what happens to it.
+ghost use Rattle.std.specs.Prelude.{◌≡◌, None};
+
 use crate::desk::Desk;
 use crate::fault::Fault;
 use crate::printed::{Said, owned};
 use cfs_base::Session;
-use cfs_core::{CollectFault, Core, Status, Step};
+use cfs_core::{CollectFault, Core, Status, Step, Tidy, TidyFault};
 use cfs_fakes::MemoryDisk;
 use std::alloc::Global;
 
@@ -22,7 +24,9 @@ pub enum Event {
     Leave { who: Session },
     /// So many collections more are called for.
     Call { more: u32 },
-    /// The collector makes a step.
+    /// One part is made of what is left of a commit.
+    Tidy,
+    /// The collector makes a step, once nothing is left of a commit.
     Step,
 }
 
@@ -33,6 +37,7 @@ impl Event {
             Event::Ask { line, .. } => out.push_str(line.as_str())?,
             Event::Leave { who } => write!(out, "leave {who}")?,
             Event::Call { more } => write!(out, "call {more}")?,
+            Event::Tidy => out.push_str("tidy")?,
             Event::Step => out.push_str("step")?,
         }
         Ok(())
@@ -45,6 +50,7 @@ pub fn happens(service: &mut Service, alloc: Global, event: &Event) -> Result<Sa
         Event::Ask { who, line } => service.say(alloc, *who, line.as_str()),
         Event::Leave { who } => leaves(&mut service.server, alloc, *who),
         Event::Call { more } => is_called(&mut service.server, alloc, *more),
+        Event::Tidy => tidies(&mut service.server, alloc),
         Event::Step => steps(&mut service.server, alloc),
     }
 }
@@ -64,13 +70,44 @@ fn is_called(core: &mut Core<MemoryDisk>, alloc: Global, more: u32) -> Result<Sa
     Ok(Said::of(owned(alloc, "called")?))
 }
 
+fn tidies(core: &mut Core<MemoryDisk>, alloc: Global) -> Result<Said, Fault> {
+    Ok(Said::of(match core.tidy() {
+        Ok(Tidy::Idle) => owned(alloc, "Idle")?,
+        Ok(Tidy::Step) => owned(alloc, "Step")?,
+        Err(fault) => fault_text(alloc, fault_of(fault))?,
+    }))
+}
+
+/// What is left of a commit is carried out, and then the collector makes a step.
 fn steps(core: &mut Core<MemoryDisk>, alloc: Global) -> Result<Said, Fault> {
+    for _ in 0..u64::MAX {
+        match core.tidy() {
+            Ok(Tidy::Step) => {}
+            Ok(Tidy::Idle) => return collects(core, alloc),
+            Err(fault) => return Ok(Said::of(fault_text(alloc, fault_of(fault))?)),
+        }
+    }
+    Err(Fault::Spent)
+}
+
+fn collects(core: &mut Core<MemoryDisk>, alloc: Global) -> Result<Said, Fault>
+    requires left { core.old.space.left ≡ None }
+{
     let made = core.collect(alloc);
     let free = core.status().free;
     Ok(Said::of(match made {
         Ok(step) => step_text(alloc, &step, free)?,
         Err(fault) => fault_text(alloc, fault)?,
     }))
+}
+
+/// The fault of a step that is told in the same words.
+fn fault_of(fault: TidyFault) -> CollectFault {
+    match fault {
+        TidyFault::Disk { doubt } => CollectFault::Disk { doubt },
+        TidyFault::Damaged { damage, moment } => CollectFault::Damaged { damage, moment },
+        TidyFault::Stopped { moment } => CollectFault::Stopped { moment },
+    }
 }
 
 fn step_name(step: &Step) -> &'static str {
@@ -115,6 +152,9 @@ pub fn status_text(alloc: Global, status: &Status) -> Result<String, Fault> {
         "objects {} grants {} free {} called {} finished {}",
         status.objects, status.grants, status.free, status.called, status.finished
     )?;
+    if status.unfinished > 0 {
+        write!(text, " unfinished {}", status.unfinished)?;
+    }
     if status.running {
         text.push_str(" running")?;
     }

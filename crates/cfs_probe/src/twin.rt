@@ -53,7 +53,7 @@ impl Twin {
         match event {
             Event::Ask { who, line } => return Ok(Some(self.desk.say(alloc, *who, line.as_str())?)),
             Event::Leave { who } => self.desk.server.leave(*who),
-            Event::Call { .. } | Event::Step => {}
+            Event::Call { .. } | Event::Tidy | Event::Step => {}
         }
         Ok(None)
     }

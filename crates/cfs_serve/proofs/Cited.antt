@@ -10,7 +10,7 @@ pub use Rattle.cfs_base.specs.declared.identifier.Tuid.{Tuid}
 pub use Rattle.cfs_base.specs.declared.refusal.Damage.{Damage}
 pub use Rattle.cfs_base.specs.declared.refusal.Failed.{Failed}
 pub use Rattle.cfs_base.specs.declared.refusal.Need.{Need}
-pub use Rattle.cfs_core.proofs.Serving.{fits, pending}
+pub use Rattle.cfs_core.proofs.Serving.{fits, honest, pending, serves_now, stored}
 pub use Rattle.cfs_core.specs.Asked.{Happens, IsShortContent, stopped_by}
 pub use Rattle.cfs_core.specs.Calls.{ByOutcome, ByRefusal, ByWant, IsOwed, Owes}
 pub use Rattle.cfs_core.specs.Collect.{CollectsStep, HappensOrRests, IsNextOf, IsCollectStep, IsUnchanged, event_of}
@@ -19,7 +19,7 @@ pub use Rattle.cfs_core.specs.Kernel.{Kernel, marks_in, collection_runs, sweeps_
 pub use Rattle.cfs_core.specs.Opened.{IsOpenedCore}
 pub use Rattle.cfs_core.specs.Rescues.{AreRescued}
 pub use Rattle.cfs_core.specs.Room.{IsRoom, MayLose, blocks_of_grant, lost_blocks}
-pub use Rattle.cfs_core.specs.StandsFor.{HasCollection, IsFront, CoreServes, Stands, StandsFor, front_of, is_collecting, sweeps_now}
+pub use Rattle.cfs_core.specs.StandsFor.{HasCollection, IsFront, CoreServes, ServesIs, Stands, StandsFor, end_in, free_to_come, free_with, front_of, is_collecting, sweeps_now}
 pub use Rattle.cfs_core.specs.declared.collecting.CollectFault.{CollectFault}
 pub use Rattle.cfs_core.specs.declared.collecting.Collections.{Collections}
 pub use Rattle.cfs_core.specs.declared.collecting.Step.{Step}
@@ -40,13 +40,13 @@ pub use Rattle.cfs_serve.specs.Calls.{AreExact, AsBefore, EndsCollecting, FitsRo
 pub use Rattle.cfs_serve.specs.Charter.{Client, Terms}
 pub use Rattle.cfs_serve.specs.Disks.{IsLater, LeavesSinceTry, MakesVolume, OnDisk, ServesVolume}
 pub use Rattle.cfs_serve.specs.Ending.{EndsService, IsWanting, StopsAmong, TellsStop, cause_of, damage_in, has_failed, has_fallen, is_failure, is_fault, is_short, is_want_of_memory, moment_in, not_begun, spoiled_by, stops_in, told_stop}
-pub use Rattle.cfs_serve.specs.Events.{BreaksOff, begins_in, events_of_session, finishes_in, is_begin, is_calm, is_finish, is_of_session, is_reply, is_sessions, tells_damage, tells_disk, tells_fault, tells_stop, wants_memory}
+pub use Rattle.cfs_serve.specs.Events.{BreaksOff, begins_in, events_of_session, finishes_in, is_begin, is_calm, is_finish, is_of_session, is_reply, is_no_step, tells_damage, tells_disk, tells_fault, tells_stop, wants_memory}
 pub use Rattle.cfs_serve.specs.Ground.{Ground, ground_of, ground_on, new_ground, opened}
 pub use Rattle.cfs_serve.specs.Hall.{AllLeft, AreFresh, AreHeard, AreNew, AreOver, Departs, HasNoCollector, HasTurns, Hearing, IsFresh, IsLeave, IsSessionOver, IsSession, IsSessionTurn, IsTurn, Turned, charter_of, has_left_at, is_done_in, turns_left_in, client_of, turns_left, turns_left_at, turns_now}
 pub use Rattle.cfs_serve.specs.Journal.{CountsFaults, IsJournalKept, IsRun, IsRunOn, IsTold, Journaled, Lasts, Raises, MomentsRise, JournalSteps, Told, faults_after, first_fault, is_progress_made, is_quiet_fault, is_recorded, recorded, stamps}
 pub use Rattle.cfs_serve.specs.Limits.{most_lines, most_script, most_trail}
 pub use Rattle.cfs_serve.specs.Opening.{IsOpeningRefusal, opening_cause}
-pub use Rattle.cfs_serve.specs.Played.{AreClients, HasNone, IsUnservedCause, TellsLast, IsPlayed, IsRunFrom, IsRunOf, IsStopTold, counts_of, free_of, has_broken}
+pub use Rattle.cfs_serve.specs.Played.{AreClients, HasNone, IsUnservedCause, TellsLast, IsPlayed, IsRunFrom, IsRunOf, IsStopTold, counts_of, free_once_tidy, has_broken}
 pub use Rattle.cfs_serve.specs.Report.{cause_text, counts_text, ending_text, numbered, report_text, served_text, status_of}
 pub use Rattle.cfs_serve.specs.Says.{Says, SpinSaid, within_spin}
 pub use Rattle.cfs_serve.specs.Scripts.{AreShort, AreWithinLimits, Had, HasScript, HaveFirst, HaveScripts, IsFirstRead, IsOneCause, IsSourceCause, faults_of_sources, lines_in}

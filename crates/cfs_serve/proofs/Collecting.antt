@@ -1,6 +1,6 @@
 -- A step of the collector of a core, as the hall sees it.
 use Rattle.std.proofs.Common.{◌≡◌, ◌⊎◌, inl, inr, ℕ, ◌+◌, ◌-◌, ◌<◌, ◌≤◌, Bool, true, false, List, [], ◌∷◌, ◌++◌, Option, Some, None, Result, Ok, Err, is_some, length, option_to_list, refl, sym, ap, ◌∙◌, subst, arith, ◌||◌}
-use Rattle.cfs_serve.proofs.Cited.{AsBefore, CallKeeps, CollectFault, Collecting, Collection, Collections, CollectsStep, EndsCollecting, Event, Ghosts, Graph, Happens, HappensOrRests, HasCollection, IsNextOf, IsCollectStep, IsUnchanged, Kernel, MayCount, MayGoOn, MayLose, MayMake, MayTally, PassesStep, Puid, ServerRests, Rose, RunSurvives, CoreServes, SpendsStep, Stands, StandsFor, State, Step, Stop, StopsAmong, Survived, Tallies, TellsStep, TellsStop, append-nil, damage_in, event_by, event_of, fails, is_calm_step, is_collecting, is_marking, sweeps_now, option_to_list, lost_blocks, marks_in, next, option_and_then, recorded, refusal_by, replay, collection_runs, stops_in, sweeps_in, tally_of, tells_stop_at}
+use Rattle.cfs_serve.proofs.Cited.{AsBefore, CallKeeps, CollectFault, Collecting, Collection, Collections, CollectsStep, EndsCollecting, Event, Ghosts, Graph, Happens, HappensOrRests, HasCollection, IsNextOf, IsCollectStep, IsUnchanged, Kernel, MayCount, MayGoOn, MayLose, MayMake, MayTally, PassesStep, Puid, ServerRests, Rose, RunSurvives, ServesIs, SpendsStep, Stands, StandsFor, State, Step, Stop, StopsAmong, Survived, Tallies, TellsStep, TellsStop, append-nil, damage_in, end_in, event_by, event_of, fails, is_calm_step, is_collecting, is_marking, sweeps_now, lost_blocks, marks_in, next, option_and_then, option_to_list, recorded, refusal_by, replay, collection_runs, stops_in, sweeps_in, tally_of, tells_stop_at}
 use Rattle.cfs_core.specs.Left.{steps_ahead}
 use Rattle.cfs_core.specs.declared.collecting.CollectFault.TheVariants as faults
 use Rattle.cfs_core.specs.declared.collecting.Step.TheVariants as steps
@@ -18,10 +18,10 @@ gone_less after t before s all none = omega (arith, all, none)
 running_as : (a b : Bool) (c : Collection) → is_marking c ≡ a → sweeps_now c ≡ b → is_collecting c ≡ (a || b)
 running_as a b c marking sweeping = ap (λ x. x || sweeps_now c) marking ∙ ap (λ y. a || y) sweeping
 
-pub runs_so : {D : Type 0} (g : Ghosts D) (k : Kernel D) (s : State) → CoreServes g k s → collection_runs k.collections.collector ≡ is_collecting s.collection
+pub runs_so : {D : Type 0} (g : Ghosts D) (k : Kernel D) (s : State) → ServesIs g k s → collection_runs k.collections.collector ≡ is_collecting s.collection
 runs_so g k s serves = at k.collections.collector serves.collecting
   where
-    at : (o : Option Collecting) → HasCollection (g.content k.disk) s o → collection_runs o ≡ is_collecting s.collection
+    at : (o : Option Collecting) → HasCollection (end_in g k) s o → collection_runs o ≡ is_collecting s.collection
     at None is = sym (ap is_collecting is)
     at (Some collector) is = sym (running_as (marks_in collector.phase) (sweeps_in collector.phase) s.collection is.marking is.sweeping)
 
@@ -227,10 +227,10 @@ module _ {D : Type 0} (g : Ghosts D) (old new : Kernel D) (result : Result Step 
   goes : (step : Step) → result ≡ Ok step → new.stop ≡ None
   goes step same = (rw same at did.goes_on) ∙ ran step same
 
-  serves_old : (step : Step) → result ≡ Ok step → (s : State) → StandsFor g old s → CoreServes g old s
+  serves_old : (step : Step) → result ≡ Ok step → (s : State) → StandsFor g old s → ServesIs g old s
   serves_old step same s stands = subst (Stands g old s) (ran step same) stands
 
-  serves_new : (step : Step) → result ≡ Ok step → (t : State) → StandsFor g new t → CoreServes g new t
+  serves_new : (step : Step) → result ≡ Ok step → (t : State) → StandsFor g new t → ServesIs g new t
   serves_new step same t stands = subst (Stands g new t) (goes step same) stands
 
   -- it made no event
@@ -241,9 +241,9 @@ module _ {D : Type 0} (g : Ghosts D) (old new : Kernel D) (result : Result Step 
 
   -- the blocks of what is gone, by an event
   lost_so : (s t : State) (e : Event) → Happens g old new s e → is_some new.stop ≡ false → next old.words.seed s e ≡ Some t
-      → MayLose e s.graph t.graph (lost_blocks (g.content old.disk) s.graph) (lost_blocks (g.content new.disk) t.graph)
+      → MayLose e s.graph t.graph (lost_blocks (end_in g old) s.graph) (lost_blocks (end_in g new) t.graph)
   lost_so s t e here runs step =
-      subst (λ (u : State). MayLose e s.graph u.graph (lost_blocks (g.content old.disk) s.graph) (lost_blocks (g.content new.disk) u.graph)) (some_same here.after t (sym here.step ∙ step)) (here.lost (no_some new.stop runs))
+      subst (λ (u : State). MayLose e s.graph u.graph (lost_blocks (end_in g old) s.graph) (lost_blocks (end_in g new) u.graph)) (some_same here.after t (sym here.step ∙ step)) (here.lost (no_some new.stop runs))
 
   halted : (s : State) (moment : ℕ) (stop : Stop) → new.stop ≡ Some stop → Tallies stopped (tally_of g) old.words.seed old new s (events.Halted moment)
   halted s moment stop is = record {
@@ -251,11 +251,11 @@ module _ {D : Type 0} (g : Ghosts D) (old new : Kernel D) (result : Result Step 
   }
 
   -- objects vanish as a collection marks
-  marks_due : (s : State) (ids : List Puid) (o : Option Collecting) → HasCollection (g.content old.disk) s o → IsNextOf o (steps.Condemned ids) → sweeps_now s.collection ≡ false
+  marks_due : (s : State) (ids : List Puid) (o : Option Collecting) → HasCollection (end_in g old) s o → IsNextOf o (steps.Condemned ids) → sweeps_now s.collection ≡ false
   marks_due s ids None has due = absurd due
   marks_due s ids (Some k) has due = has.sweeping ∙ ap sweeps_in due.0
 
-  pub tallies : ((s : State) → CoreServes g old s → sweeps_now s.collection ≡ false → lost_blocks (g.content old.disk) s.graph ≡ 0) → (s : State) → StandsFor g old s → TalliesBy s (event_by result)
+  pub tallies : ((s : State) → ServesIs g old s → sweeps_now s.collection ≡ false → lost_blocks (end_in g old) s.graph ≡ 0) → (s : State) → StandsFor g old s → TalliesBy s (event_by result)
   tallies swept s stands = by result refl
     where
       event : (r : Result Step CollectFault) → result ≡ r → IsCollectStep g old new s r
@@ -286,7 +286,6 @@ module _ {D : Type 0} (g : Ghosts D) (old new : Kernel D) (result : Result Step 
     counts = counts result refl;
     stops = λ tells. stops_at result refl tells;
     begins = λ is. begins_at result refl is;
-    spends = spends result refl;
   }
     where
       as_before : (step : Step) → result ≡ Ok step → new.collections.finished ≡ old.collections.finished → (collection_runs old.collections.collector ≡ true) × (collection_runs new.collections.collector ≡ true) → AsBefore (tally_of g old) (tally_of g new)
@@ -337,6 +336,10 @@ module _ {D : Type 0} (g : Ghosts D) (old new : Kernel D) (result : Result Step 
       begins_at (Err (faults.Damaged damage moment)) same is = absurd (cc is)
       begins_at (Err (faults.Stopped moment)) same is = absurd (cc is)
 
+  -- a step leaves fewer
+  pub spends : SpendsStep (tally_of g old) (tally_of g new) result
+  spends = by result refl
+    where
       spent : (step : Step) → result ≡ Ok step → ¬ (step ≡ steps.Idle) → ((tally_of g new).steps < (tally_of g old).steps) × ((tally_of g new).events + length (option_to_list (event_of step)) ≤ (tally_of g old).events)
       spent step same other =
           let left = rw same at did.goes in (
@@ -344,15 +347,15 @@ module _ {D : Type 0} (g : Ghosts D) (old new : Kernel D) (result : Result Step 
             omega (arith, left.events),
           )
 
-      spends : (r : Result Step CollectFault) → result ≡ r → SpendsStep (tally_of g old) (tally_of g new) r
-      spends (Ok steps.Idle) same = tt
-      spends (Ok steps.Took) same = spent steps.Took same (λ e. cc)
-      spends (Ok steps.Scanned) same = spent steps.Scanned same (λ e. cc)
-      spends (Ok steps.Swept) same = spent steps.Swept same (λ e. cc)
-      spends (Ok (steps.Condemned ids)) same = spent (steps.Condemned ids) same (λ e. cc)
-      spends (Ok steps.Began) same = spent steps.Began same (λ e. cc)
-      spends (Ok steps.Finished) same = spent steps.Finished same (λ e. cc)
-      spends (Err fault) same = tt
+      by : (r : Result Step CollectFault) → result ≡ r → SpendsStep (tally_of g old) (tally_of g new) r
+      by (Ok steps.Idle) same = tt
+      by (Ok steps.Took) same = spent steps.Took same (λ e. cc)
+      by (Ok steps.Scanned) same = spent steps.Scanned same (λ e. cc)
+      by (Ok steps.Swept) same = spent steps.Swept same (λ e. cc)
+      by (Ok (steps.Condemned ids)) same = spent (steps.Condemned ids) same (λ e. cc)
+      by (Ok steps.Began) same = spent steps.Began same (λ e. cc)
+      by (Ok steps.Finished) same = spent steps.Finished same (λ e. cc)
+      by (Err fault) same = tt
 
   -- nothing is left to do once all that were called for are finished
   idle : result ≡ Ok steps.Idle → (is_some new.stop ≡ false) × (new.collections.finished ≡ new.collections.called)

@@ -125,7 +125,7 @@ module _ (n m : ℕ) (trail : List Event) where
 -- How a service ended, by what is known of its server.
 pub ends : {A : Type 0} (count : A → ℕ) (has_stopped is_damaged : A → Bool) (stop : A → Option Stop) (begun server : A) (ending : Ending) (collections : ℕ) (trail : List Event)
     → has_stopped server ≡ is_some (stop server) → is_damaged server ≡ is_some (damage_in (stop server)) → ending.stop ≡ stop server
-    → StopsAmong None (stop server) trail → TellsStop ending.refused (stop server) → (collections ≡ 0 → ending.refused ≡ None)
+    → StopsAmong None (stop server) trail → TellsStop ending.refused (stop server) → (collections ≡ 0 → ending.refused ≡ Some faults.Memory → ⊥)
     → Told count has_stopped is_damaged begun server trail → faults_after tells_disk trail (first_fault ending.refused (count begun)) ≤ count server
     → EndsService (Rose (count begun) (count server)) collections ending trail
 ends count has_stopped is_damaged stop begun server ending collections trail stopped damaged is stops tells quiet told counted = record {

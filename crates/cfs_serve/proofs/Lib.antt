@@ -20,6 +20,8 @@ mod Saying
 mod Spinning
 mod Owed
 mod Collecting
+mod Tidying
+mod Turning
 mod Wording
 pub mod Fitting
 mod Lists

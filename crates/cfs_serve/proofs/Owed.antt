@@ -1,6 +1,6 @@
 -- A reply that is owed is exact.
 use Rattle.std.proofs.Common.{◌≡◌, ◌⊎◌, inl, inr, ℕ, ◌+◌, ◌<◌, ◌≤◌, Bool, true, false, ◌&&◌, Option, List, [], ◌∷◌, Some, None, refl, sym, ap, ◌∙◌, subst, arith, length, ◌||◌, is_some}
-use Rattle.cfs_serve.proofs.Cited.{AreRescued, ByOutcome, ByRefusal, ByWant, Collecting, Collections, FitsRoom, FitsLine, Ghosts, Happens, Image, IsAsked, IsExact, IsOwed, IsPlainReply, IsRoom, IsShortContent, Kernel, Need, Owes, Reply, Request, Rescue, Rose, CoreServes, Stands, StandsFor, State, Stop, StopsAmong, Tallies, TellsEvent, allowed_if, answered, append-nil, by_outcome, cases_lt, goes_through, is_calm, asks_delete, is_full, is_none, is_outcome, is_running, sweeps_now, option_to_list, lost_blocks, marks_in, need_of, SessionPasses, option_and_then, outcome_of, outcome_plain, refusal_of, reserve, collection_runs, stopped_by, sum, sweeps_in, tally_of, tells_disk, tells_outcome}
+use Rattle.cfs_serve.proofs.Cited.{AreRescued, ByOutcome, ByRefusal, ByWant, Collecting, Collections, FitsRoom, FitsLine, Ghosts, Happens, Image, IsAsked, IsExact, IsOwed, IsPlainReply, IsRoom, IsShortContent, Kernel, Need, Owes, SessionPasses, Reply, Request, Rescue, Rose, ServesIs, Stands, StandsFor, State, Stop, StopsAmong, Tallies, TellsEvent, allowed_if, answered, append-nil, by_outcome, cases_lt, end_in, free_to_come, goes_through, is_calm, asks_delete, is_full, is_none, is_outcome, is_running, sweeps_now, lost_blocks, marks_in, need_of, option_and_then, option_to_list, outcome_of, outcome_plain, refusal_of, reserve, collection_runs, stopped_by, sweeps_in, tally_of, tells_disk, tells_outcome}
 use Rattle.cfs_core.specs.Asked.{Asks}
 use Rattle.cfs_core.specs.Left.{events_ahead, steps_ahead}
 use Rattle.ufs_model.specs.declared.asked.Event.TheVariants as events
@@ -120,15 +120,15 @@ module _ {D : Type 0} (g : Ghosts D) (old new : Kernel D) (who : ℕ) (request :
       let e = asks.event s stands in
       record { after = e.after; step = e.step; standing = e.stands }
 
-  pub exact_of : (s : State) (lost : ℕ) → (CoreServes g old s → IsRoom (length old.space.free) s (sum old.space.free + lost_blocks (g.content old.disk) s.graph))
-      → (CoreServes g old s → sweeps_now s.collection ≡ false → IsRoom (length old.space.free) s (sum old.space.free))
-      → (is_some old.stop ≡ false → lost_blocks (g.content old.disk) s.graph ≤ lost) → StandsFor g old s → IsExact (length old.space.free) lost s who request reply
+  pub exact_of : (s : State) (lost : ℕ) → (ServesIs g old s → IsRoom (length old.space.free) s (free_to_come g old + lost_blocks (end_in g old) s.graph))
+      → (ServesIs g old s → sweeps_now s.collection ≡ false → IsRoom (length old.space.free) s (free_to_come g old))
+      → (is_some old.stop ≡ false → lost_blocks (end_in g old) s.graph ≤ lost) → StandsFor g old s → IsExact (length old.space.free) lost s who request reply
   exact_of s lost room calm least stands = by_stop old.stop refl
     where
       by_stop : (o : Option Stop) → old.stop ≡ o → IsExact (length old.space.free) lost s who request reply
       by_stop None is =
           let serves = subst (Stands g old s) is stands in
-          exact old.words.seed s who request (g.content old.disk) (length old.space.free) (sum old.space.free) (lost_blocks (g.content old.disk) s.graph) lost (room serves) (least (rw is refl)) (calm serves)
+          exact old.words.seed s who request (end_in g old) (length old.space.free) (free_to_come g old) (lost_blocks (end_in g old) s.graph) lost (room serves) (least (rw is refl)) (calm serves)
           (λ none b. outcome_plain old.words.seed s who request b serves.state none) reply (asks.event s stands).after (asks.event s stands).step (asks.owed is s stands)
       by_stop (Some stop) is = rw (asks.stopped stop is).1 (record { full = λ n same. absurd (cc same); done = λ told. absurd (cc told) })
 
@@ -198,7 +198,7 @@ module _ {D : Type 0} (g : Ghosts D) (old new : Kernel D) (who : ℕ) (request :
   tallied s stands = record {
     lost = λ runs t step.
         let here = asks.event s stands in
-        subst (λ (u : State). lost_blocks (g.content new.disk) u.graph ≤ lost_blocks (g.content old.disk) s.graph) (some_same here.after t (sym here.step ∙ step)) (here.lost (no_some new.stop runs));
+        subst (λ (u : State). lost_blocks (end_in g new) u.graph ≤ lost_blocks (end_in g old) s.graph) (some_same here.after t (sym here.step ∙ step)) (here.lost (no_some new.stop runs));
   }
 
   -- and of the clock
@@ -234,7 +234,7 @@ pub left_tallies : {D : Type 0} (g : Ghosts D) (old new : Kernel D) (who : ℕ) 
     → Tallies (λ (k : Kernel D). is_some k.stop) (tally_of g) old.words.seed old new s (events.Leave who stopped)
 left_tallies g old new who stopped s here = record {
   lost = λ runs t step.
-      subst (λ (u : State). lost_blocks (g.content new.disk) u.graph ≤ lost_blocks (g.content old.disk) s.graph) (some_same here.after t (sym here.step ∙ step)) (here.lost (no_some new.stop runs));
+      subst (λ (u : State). lost_blocks (end_in g new) u.graph ≤ lost_blocks (end_in g old) s.graph) (some_same here.after t (sym here.step ∙ step)) (here.lost (no_some new.stop runs));
 }
 
 pub left_passes : {D : Type 0} (g : Ghosts D) (old new : Kernel D) → new.collections ≡ old.collections → g.blocks new.disk ≡ g.blocks old.disk → g.moment old.disk ≤ g.moment new.disk

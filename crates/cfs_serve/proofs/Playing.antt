@@ -1,6 +1,6 @@
 -- A service on a core.
 use Rattle.std.proofs.Common.{◌≡◌, ℕ, ◌/◌, ◌≤◌, Bool, true, false, cond, List, [], ◌∷◌, length, map, filter, Some, None, IsTrue, is_some, refl, sym, ap, ◌∙◌, subst, arith, ◌+◌}
-use Rattle.cfs_serve.proofs.Cited.{AreOver, Cause, Collection, Counts, Ending, EndsService, Event, Ghosts, Graph, Holds, Image, IsFront, TellsLast, IsRoom, IsRunFrom, IsRunOn, IsSoundAs, IsStopTold, IsTallied, IsWanting, Kernel, Object, Puid, PortReading, Report, MomentsRise, Rose, RunSurvives, CoreServes, ServesSessions, Stands, StandsFor, State, Status, begins_in, blocks_of, cause_of, counts_of, damage_in, faults_after, finishes_in, first_fault, fits, free_of, front_of, graph_blocks, has_broken, is_among, is_calm, is_collecting, is_reply, sweeps_now, left_now, length-map, list_all, moment_in, opening, pending, rooted, rooted_part, rooted_reads, collection_runs, client_of, sum, sum_by, sum_by-cons, tally_of, tells_disk, tells_fault}
+use Rattle.cfs_serve.proofs.Cited.{AreOver, Cause, Collection, Counts, Ending, EndsService, Event, Ghosts, Graph, Holds, Image, IsFront, IsRoom, IsRunFrom, IsRunOn, IsSoundAs, IsStopTold, IsTallied, IsWanting, Kernel, Object, Puid, PortReading, Report, MomentsRise, Rose, RunSurvives, ServesIs, ServesSessions, Stands, StandsFor, State, Status, TellsLast, begins_in, blocks_of, cause_of, client_of, counts_of, damage_in, faults_after, finishes_in, first_fault, fits, free_once_tidy, free_to_come, free_with, front_of, graph_blocks, has_broken, honest, is_among, is_calm, is_collecting, is_reply, sweeps_now, left_now, length-map, list_all, moment_in, opening, pending, rooted, rooted_part, rooted_reads, collection_runs, serves_now, stored, sum, sum_by, sum_by-cons, tally_of, tells_disk, tells_fault}
 use Rattle.cfs_core.specs.declared.collecting.CollectFault.TheVariants as faulted
 use Rattle.survival.specs.Held.{FitsDisk}
 use Rattle.ufs_model.specs.declared.collection.Collection.TheVariants as collections
@@ -28,12 +28,13 @@ held_reads size c graph holds fits is =
 
 -- the disk of a core that runs is sound as it is, and so is what a crash leaves of it now
 module _ {D : Type 0} (g : Ghosts D) (sized : (d : D) → IsTrue (g.honest d) → length (g.content d) ≡ g.blocks d) (left_sized : (d : D) (t : ℕ) (c : Image) → g.left_since d t c → length c ≡ g.blocks d)
-    (k : Kernel D) (s : State) (serves : CoreServes g k s) where
+    (k : Kernel D) (s : State) (serves : ServesIs g k s) where
   wide : length (g.content k.disk) ≡ g.blocks k.disk
-  wide = sized k.disk serves.store.carries.tells.honest
+  wide = sized k.disk (honest g k s serves)
 
-  pub sound_now : IsSoundAs (g.content k.disk) (rooted_part s.graph)
-  sound_now = held_reads (g.blocks k.disk) (g.content k.disk) s.graph serves.store.carries.holds (fits g k s serves (g.blocks k.disk) wide) wide
+  -- where no commit is unfinished
+  pub sound_now : k.space.left ≡ None → IsSoundAs (g.content k.disk) (rooted_part s.graph)
+  sound_now none = held_reads (g.blocks k.disk) (g.content k.disk) s.graph (serves_now g k s none serves).store.carries.holds (fits g k s serves (g.blocks k.disk) wide) wide
 
   pub sound_left : (c : Image) → left_now g k.disk c → IsSoundAs c (rooted_part s.graph)
   sound_left c left = held_reads (g.blocks k.disk) c s.graph (pending g k s serves c left) (fits g k s serves (g.blocks k.disk) wide) (left_sized k.disk (g.moment k.disk) c left)
@@ -56,18 +57,12 @@ pub none_lost : (cylinders free lost : ℕ) (s : State) → IsRoom cylinders s f
 none_lost cylinders free lost s room more = omega (arith, room, more)
 
 -- it stands for what it stood for
-pub called_serves : {D : Type 0} (g : Ghosts D) (core : Kernel D) (n : ℕ) (s : State) → CoreServes g core s → CoreServes g (called core n) s
-called_serves g core n s serves = record {
-  front = record { drawn = serves.front.drawn; directory = serves.front.directory; grants = serves.front.grants; stopped = serves.front.stopped };
-  state = serves.state;
-  root = serves.root;
-  store = serves.store;
-  left = serves.left;
-  drafts = serves.drafts;
-  swept = serves.swept;
-  four = serves.four;
-  collecting = serves.collecting;
-}
+pub called_serves : {D : Type 0} (g : Ghosts D) (core : Kernel D) (n : ℕ) (s : State) → ServesIs g core s → ServesIs g (called core n) s
+called_serves g core n s serves = stored g core s serves (record core.collections { called = core.collections.called + n }) serves.collecting
+
+-- where nothing is unfinished the Free blocks are those of the image to come
+free_now : {D : Type 0} (g : Ghosts D) (k : Kernel D) → k.space.left ≡ None → free_to_come g k ≡ sum k.space.free
+free_now g k none = ap (free_with g k) none
 
 not_sweeping : (c : Collection) → is_collecting c ≡ false → sweeps_now c ≡ false
 not_sweeping collections.None none = refl
@@ -75,7 +70,7 @@ not_sweeping (collections.Marking pairs starts) none = refl
 not_sweeping collections.Sweeping none = absurd (cc none)
 
 -- once as many collections are finished as were called for, nothing sweeps
-rests_at : {D : Type 0} (g : Ghosts D) (k : Kernel D) (s : State) (n : ℕ) (trail : List Event) → CoreServes g k s → begins_in trail ≤ n → IsTallied (tally_of g k) trail → finishes_in trail ≡ n
+rests_at : {D : Type 0} (g : Ghosts D) (k : Kernel D) (s : State) (n : ℕ) (trail : List Event) → ServesIs g k s → begins_in trail ≤ n → IsTallied (tally_of g k) trail → finishes_in trail ≡ n
     → sweeps_now s.collection ≡ false
 rests_at g k s n trail serves few tallied all = at (collection_runs k.collections.collector) refl
   where
@@ -107,6 +102,7 @@ pub record IsServed {D : Type 0} (g : Ghosts D) (n : ℕ) (ending : Ending) (ser
   pub stop : ending.stop ≡ server.stop
   pub few : begins_in trail ≤ n
   pub collected : ending.refused ≡ None → finishes_in trail ≡ n
+  pub settled : ending.refused ≡ None → server.space.left ≡ None
   pub wanting : ending.refused ≡ Some faulted.Memory → IsWanting n trail
   pub tallied : is_some server.stop ≡ false → IsTallied (tally_of g server) trail
   pub rise : MomentsRise (g.moment k.disk) moments (g.moment server.disk)
@@ -139,12 +135,12 @@ module _ {D : Type 0} (g : Ghosts D) (sized : (d : D) → IsTrue (g.honest d) �
 
   module _ (n : ℕ) (runs : core.stop ≡ None) (is : IsServed g n ending server trail moments (called core n))
       (over : AreOver core.root n (map client_of before) trail ports) (count : sessions ≡ length ports)
-      (report_is : report ≡ record { counts = Some counts; cause = cause }) (free_is : (s : State) → CoreServes g server s → sweeps_now s.collection ≡ false → s.grants ≡ [] → sum server.space.free ≡ free_of (length server.space.free) s.graph) where
+      (report_is : report ≡ record { counts = Some counts; cause = cause }) (free_is : (s : State) → ServesIs g server s → sweeps_now s.collection ≡ false → s.grants ≡ [] → free_to_come g server ≡ free_once_tidy (length server.space.free) s.graph) where
     undamaged : damaged (called core n) ≡ false
     undamaged = rw runs refl
 
     module _ (graph : Graph) (stands : StandsFor g core (opening graph)) where
-      begun : CoreServes g core (opening graph)
+      begun : ServesIs g core (opening graph)
       begun = subst (Stands g core (opening graph)) runs stands
 
       stands_on : StandsFor g (called core n) (opening graph)
@@ -162,10 +158,10 @@ module _ {D : Type 0} (g : Ghosts D) (sized : (d : D) → IsTrue (g.honest d) �
       calm : ¬ rose → list_all is_calm trail ≡ true
       calm never = calm_by ending trail whole (λ some. never (is.ends.failed some)) is.ends.calm
 
-      serving : server.stop ≡ None → CoreServes g server on.last
+      serving : server.stop ≡ None → ServesIs g server on.last
       serving none = subst (Stands g server on.last) none on.standing
 
-      is_run : IsRunFrom (length core.space.free) core.words.seed n graph rose (length (map client_of before)) counts cause trail
+      is_run : IsRunFrom (length core.space.free) core.words.seed n graph rose (length (map client_of before)) counts cause (record ending { last = Some status }) trail
       is_run = record {
         last = on.last;
         legal = on.legal;
@@ -173,8 +169,8 @@ module _ {D : Type 0} (g : Ghosts D) (sized : (d : D) → IsTrue (g.honest d) �
         calm = calm;
         stop = subst (IsStopTold cause) (ap moment_in is.stop ∙ sym front.stopped) (stop_told ending trail (has_broken ports) whole);
         counted = counts_same sessions (length (map client_of before)) trail status.free status.objects on.last.graph (count ∙ over.count) (tells.objects ∙ ap length front.directory ∙ length-map on.last.graph.objects _);
-        free = λ none swept. tells.free ∙ free_is on.last (serving (stop_none server.stop (sym front.stopped ∙ none))) swept
-            (none_stands core.root n (map client_of before) trail ports core.words.seed graph on.last over on.legal) ∙ ap (λ m. free_of m on.last.graph) is.size;
+        free = λ well none swept. tells.free ∙ sym (free_now g server (is.settled well)) ∙ free_is on.last (serving (stop_none server.stop (sym front.stopped ∙ none))) swept
+            (none_stands core.root n (map client_of before) trail ports core.words.seed graph on.last over on.legal) ∙ ap (λ m. free_once_tidy m on.last.graph) is.size;
         rests = λ none all.
             let here = stop_none server.stop (sym front.stopped ∙ none) in
             rests_at g server on.last n trail (serving here) is.few (is.tallied (ap is_some here)) all;
@@ -219,5 +215,6 @@ module _ {D : Type 0} (g : Ghosts D) (sized : (d : D) → IsTrue (g.honest d) �
       crashes = λ graph stands. is.lasts graph (stands_on graph stands) (begins graph (sound_left g sized left_sized core (opening graph) (begun graph stands)));
       sound = λ well graph stands last legal.
           let here : (on graph stands).last ≡ last = some_same _ _ (sym (on graph stands).legal ∙ legal) in
-          rw (← here) (sound_now g sized left_sized server (on graph stands).last (serving graph stands (sym is.stop ∙ (went_well ending trail (has_broken ports) is.ends.refusal well).runs)));
+          let all = went_well ending trail (has_broken ports) is.ends.refusal well in
+          rw (← here) (sound_now g sized left_sized server (on graph stands).last (serving graph stands (sym is.stop ∙ all.runs)) (is.settled all.refused));
     }

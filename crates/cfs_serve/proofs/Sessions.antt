@@ -1,6 +1,6 @@
 -- An event keeps what the hall keeps of its sessions.
 use Rattle.std.proofs.Common.{◌≡◌, ◌≢◌, ◌⊎◌, inl, inr, ℕ, ◌+◌, ◌<◌, ◌≤◌, ◌==◌, Bool, true, false, not, cond, List, [], ◌∷◌, ◌++◌, length, filter, set, get_or, Option, Some, None, slice_get, refl, sym, ap, ◌∙◌, subst, arith, append_assoc, length-append, length-set}
-use Rattle.cfs_serve.proofs.Cited.{AreHeard, Departs, Event, Hearing, Hears, IsLeave, IsSession, IsSessionTurn, IsWanting, Names, Puid, Replied, Request, Client, TakesLine, Terms, Turned, Unread, Wrote, all_forms, append-nil, finishes_in, get_or_from_slice_get, has_left_at, is_begin, is_finish, is_of_session, is_sessions, is_turn_of, name_spoken, names_after, names_after_reply, names_of, nat_tests, no_names, printed, printed_replies, reading_of, slice_get-get_or, slice_get_within, sum_by, sum_by-set, then, then_some, turn_of, turns_from, turns_in, turns_left, turns_left_at, words_of}
+use Rattle.cfs_serve.proofs.Cited.{AreHeard, Departs, Event, Hearing, Hears, IsLeave, IsSession, IsSessionTurn, IsWanting, Names, Puid, Replied, Request, Client, TakesLine, Terms, Turned, Unread, Wrote, all_forms, append-nil, finishes_in, get_or_from_slice_get, has_left_at, is_begin, is_finish, is_of_session, is_no_step, is_turn_of, name_spoken, names_after, names_after_reply, names_of, nat_tests, no_names, printed, printed_replies, reading_of, slice_get-get_or, slice_get_within, sum_by, sum_by-set, then, then_some, turn_of, turns_from, turns_in, turns_left, turns_left_at, words_of}
 use Rattle.ufs_model.specs.declared.asked.Event.TheVariants as events
 use Rattle.ufs_model.specs.declared.asked.Reply.TheVariants as replies
 use Rattle.ufs_model.specs.declared.asked.Unread.TheVariants as unread
@@ -158,7 +158,7 @@ module _ (root : Puid) (i : ℕ) (client : Client) (p : ports.PortReading) (trai
 
 -- ---- all of them
 
-of_session : (i : ℕ) (e : Event) → is_of_session i e ≡ true → is_sessions e ≡ true
+of_session : (i : ℕ) (e : Event) → is_of_session i e ≡ true → is_no_step e ≡ true
 of_session i (events.Unread who why) is = refl
 of_session i (events.Ask who request reply) is = refl
 of_session i (events.Leave who stopped) is = refl
@@ -176,7 +176,7 @@ module _ {A : Type 0} (t : Terms A) (trail : List Event) (ps : List ports.PortRe
         let long = length-set ps i q in
         let apart : k ≢ i = (λ same. absurd (omega (arith, past, within, long, same))) in
         filter_out (is_of_session k) trail e (others k (test_apart i k apart)) ∙ was.none k (omega (arith, past, long));
-    sessions = λ none. all-push is_sessions trail e (was.sessions none) (elim kind [
+    sessions = λ none. all-push is_no_step trail e (was.sessions none) (elim kind [
       | inl turn ↦ of_session i e turn.whole
       | inr leave ↦ rw leave.is refl
     ]);
@@ -198,13 +198,13 @@ module _ {A : Type 0} (t : Terms A) (trail : List Event) (ps : List ports.PortRe
           let apart : k ≢ i = grind (arith, nat_tests) in
           session_other t.root k client x trail (was.each k client x client_is (sym (get-set_other ps i k q apart) ∙ here)) e (others k (test_apart i k apart))
 
-  -- after an event of no session, where collections are called for
-  pub heard_beside : (e : Event) → ((k : ℕ) → is_of_session k e ≡ false) → (t.collections ≡ 0 → ⊥) → AreHeard t (trail ++ e ∷ []) ps
-  heard_beside e nobody some = record {
+  -- after an event of no session: no step of a collection where none is called for
+  pub heard_beside : (e : Event) → ((k : ℕ) → is_of_session k e ≡ false) → (t.collections ≡ 0 → is_no_step e ≡ true) → AreHeard t (trail ++ e ∷ []) ps
+  heard_beside e nobody other = record {
     count = was.count;
     each = λ k client x client_is here. session_other t.root k client x trail (was.each k client x client_is here) e (nobody k);
     none = λ k past. filter_out (is_of_session k) trail e (nobody k) ∙ was.none k past;
-    sessions = λ none. absurd (some none);
+    sessions = λ none. all-push is_no_step trail e (was.sessions none) (other none);
   }
 
 -- ---- what a port did is such a turn

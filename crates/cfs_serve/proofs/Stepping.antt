@@ -2,6 +2,11 @@
 use Rattle.std.proofs.Common.{◌≡◌, ℕ, ◌==◌, Bool, true, false, List, [], ◌++◌, Option, Some, None, Result, Ok, Err, refl, sym, ap, ◌∙◌, subst, ◌||◌}
 use Rattle.cfs_serve.proofs.Cited.{CollectFault, Event, Graph, IsExactEvent, IsRun, Lasts, MayGoOn, MayMake, MayTally, State, Step, Tally, Terms, append-nil, event_by, is_of_session, is_quiet_fault, list_any, recorded, refusal_by, stamps, tells_disk, wants_memory}
 use Rattle.cfs_core.specs.declared.collecting.CollectFault.TheVariants as faults
+use Rattle.cfs_serve.specs.Calls.{SpendsStep, SpendsTurn, as_step}
+use Rattle.cfs_serve.specs.Events.{is_no_step}
+use Rattle.cfs_serve.specs.Journal.{is_progress_made, is_step}
+use Rattle.cfs_serve.specs.declared.journal.Progress.{Progress}
+use Rattle.cfs_serve.specs.declared.journal.Progress.TheVariants as progresses
 use Rattle.cfs_core.specs.declared.collecting.Step.TheVariants as steps
 use Rattle.ufs_model.specs.declared.asked.Event.TheVariants as events
 use Rattle.cfs_serve.proofs.Journals.{any-push, lasts_on, lasts_rests, run_on, run_rests}
@@ -86,3 +91,31 @@ module _ (trail : List Event) where
             subst (λ es. Lasts stands clock lasts t new es (moments ++ [])) (sym (append-nil trail))
             (subst (λ ms. Lasts stands clock lasts t new trail ms) (sym (append-nil moments)) (lasts_rests stands has_stopped is_damaged tally clock lasts t trail moments old new was before goes))
         by (Some e) goes = lasts_on stands has_stopped is_damaged tally clock lasts t trail moments old new e was before goes
+
+-- a part that was made is no step
+pub tidied_only : {A : Type 0} (progress : Progress) → is_progress_made progress ≡ true → progress ≡ progresses.Tidied → A
+tidied_only progress made is = let no : false ≡ true = rw is at made in absurd (cc no)
+
+-- a step leaves fewer, or none was made
+pub spends_as : {A : Type 0} (unfinished : A → ℕ) (tally : A → Tally) (old new : A) (result : Result (Option Step) CollectFault) → (result ≡ Ok None → SpendsStep (tally old) (tally new) (as_step result)) → SpendsTurn unfinished tally old new result
+    → SpendsStep (tally old) (tally new) (as_step result)
+spends_as unfinished tally old new (Ok None) none spends = none refl
+spends_as unfinished tally old new (Ok (Some step)) none spends = spends.0
+spends_as unfinished tally old new (Err fault) none spends = tt
+
+-- a refusal is recorded as a stop, if it is
+halts_alone : (fault : CollectFault) (e : Event) → event_by (Err fault) ≡ Some e → is_no_step e ≡ true
+halts_alone (faults.Disk (Some moment)) e is = subst (λ x. is_no_step x ≡ true) (some_event (events.Halted moment) e is) refl
+halts_alone (faults.Damaged damage moment) e is = subst (λ x. is_no_step x ≡ true) (some_event (events.Halted moment) e is) refl
+halts_alone faults.Memory e is = absurd (cc is)
+halts_alone (faults.Disk None) e is = absurd (cc is)
+halts_alone (faults.Stopped moment) e is = absurd (cc is)
+
+pub stop_only : (progress : Progress) (made : Result (Option Step) CollectFault) → (progress ≡ progresses.Tidied → made ≡ Ok None) → ((fault : CollectFault) → progress ≡ progresses.Refused fault → made ≡ Err fault)
+    → is_step progress ≡ false → (e : Event) → event_by (as_step made) ≡ Some e → is_no_step e ≡ true
+stop_only progresses.Tidied made part refused is e there = absurd (cc (subst (λ x. event_by (as_step x) ≡ Some e) (part refl) there))
+stop_only (progresses.Refused fault) made part refused is e there = halts_alone fault e (subst (λ x. event_by (as_step x) ≡ Some e) (refused fault refl) there)
+stop_only progresses.Idle made part refused is e there = absurd (cc is)
+stop_only progresses.Quiet made part refused is e there = absurd (cc is)
+stop_only progresses.Recorded made part refused is e there = absurd (cc is)
+stop_only progresses.Finished made part refused is e there = absurd (cc is)

@@ -42,9 +42,9 @@ ends_on rose wide collections ending trail to is = record {
 }
 
 module _ (a b : Ground) (seed collections : ℕ) (rose wide : Type 0) (cylinders : a.cylinders ≡ b.cylinders) (reads : (graph : Graph) → b.reads graph → a.reads graph) (to : rose → wide) where
-  run_on : (graph : Graph) (sessions : ℕ) (counts : Counts) (cause : Cause) (trail : List Event) → IsRunFrom a.cylinders seed collections graph rose sessions counts cause trail
-      → IsRunFrom b.cylinders seed collections graph wide sessions counts cause trail
-  run_on graph sessions counts cause trail run = subst (λ n. IsRunFrom n seed collections graph wide sessions counts cause trail) cylinders (record {
+  run_on : (graph : Graph) (sessions : ℕ) (counts : Counts) (cause : Cause) (ending : Ending) (trail : List Event) → IsRunFrom a.cylinders seed collections graph rose sessions counts cause ending trail
+      → IsRunFrom b.cylinders seed collections graph wide sessions counts cause ending trail
+  run_on graph sessions counts cause ending trail run = subst (λ n. IsRunFrom n seed collections graph wide sessions counts cause ending trail) cylinders (record {
     last = run.last;
     legal = run.legal;
     exact = run.exact;
@@ -60,7 +60,7 @@ module _ (a b : Ground) (seed collections : ℕ) (rose wide : Type 0) (cylinders
   played_on clients ports counts cause ending trail played = record {
     root = played.root;
     rooted = λ graph is. played.rooted graph (reads graph is);
-    run = λ graph is. run_on graph (length clients) counts cause trail (played.run graph (reads graph is));
+    run = λ graph is. run_on graph (length clients) counts cause ending trail (played.run graph (reads graph is));
     over = played.over;
     counted = played.counted;
     last = played.last;

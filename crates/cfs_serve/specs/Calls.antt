@@ -10,7 +10,7 @@ use Rattle.cfs_core.specs.Collect.{event_of}
 use Rattle.cfs_core.specs.Kernel.{Kernel, collection_runs}
 use Rattle.cfs_core.specs.Left.{events_ahead, steps_ahead}
 use Rattle.cfs_core.specs.Room.{IsRoom, lost_blocks}
-use Rattle.cfs_core.specs.StandsFor.{sweeps_now}
+use Rattle.cfs_core.specs.StandsFor.{end_in, sweeps_now}
 use Rattle.cfs_core.specs.declared.collecting.CollectFault.{CollectFault}
 use Rattle.cfs_core.specs.declared.collecting.CollectFault.TheVariants as faults
 use Rattle.cfs_core.specs.declared.collecting.Step.{Step}
@@ -131,6 +131,13 @@ fails (Err (faults.Disk doubt)) = true
 fails (Err (faults.Damaged damage moment)) = false
 fails (Err (faults.Stopped moment)) = false
 
+-- A turn of the collector's worker: a part of a commit that is unfinished, or a step. A part is no event, as a step is
+-- none that takes a rescue.
+abbrev pub as_step : Result (Option Step) CollectFault → Result Step CollectFault
+as_step (Ok None) = Ok steps.Took
+as_step (Ok (Some step)) = Ok step
+as_step (Err fault) = Err fault
+
 abbrev pub is_calm_step : Option Event → Bool
 is_calm_step None = true
 is_calm_step (Some e) = is_calm e
@@ -183,7 +190,7 @@ EndsCollecting has_stopped tally old new (Err faults.Memory) =
     (has_stopped old ≡ false) × ((tally old).running ≡ false) × ((tally old).finished < (tally old).called)
 EndsCollecting has_stopped tally old new result = Unit {0}
 
--- those of a core
+-- those of a core; its blocks are those of the image to come
 abbrev pub tally_of : {D : Type 0} → Ghosts D → Kernel D → Tally
 tally_of g k = record {
   called = k.collections.called;
@@ -191,7 +198,7 @@ tally_of g k = record {
   running = collection_runs k.collections.collector;
   steps = steps_ahead (g.blocks k.disk) k.collections;
   events = events_ahead k.collections;
-  lost = λ graph. lost_blocks (g.content k.disk) graph;
+  lost = λ graph. lost_blocks (end_in g k) graph;
 }
 
 -- how many began
@@ -231,6 +238,16 @@ SpendsStep c d (Err fault) = Unit {0}
 abbrev pub SpendsOne : Tally → Tally → (told : Bool) → Type 0
 SpendsOne c d told = (d.steps < c.steps) × (d.events + (if told then 1 else 0) ≤ c.events)
 
+-- A part of a commit leaves fewer parts, and the collections as they are; a step is made where none is left, and
+-- leaves none.
+abbrev pub SpendsTurn : {A : Type 0} → (unfinished : A → ℕ) → (tally : A → Tally) → A → A
+    → Result (Option Step) CollectFault → Type 0
+SpendsTurn unfinished tally old new (Ok None) = (unfinished new < unfinished old)
+    × ((tally new).steps ≡ (tally old).steps) × ((tally new).events ≡ (tally old).events)
+SpendsTurn unfinished tally old new (Ok (Some step)) =
+    SpendsStep (tally old) (tally new) (Ok step) × (unfinished old ≡ 0) × (unfinished new ≡ 0)
+SpendsTurn unfinished tally old new (Err fault) = Unit {0}
+
 -- And what a step of the collector does.
 pub record PassesStep {A : Type 0} (clock : A → ℕ) (has_stopped : A → Bool) (tally : A → Tally) (old new : A)
     (result : Result Step CollectFault) : Type 0 where
@@ -238,7 +255,6 @@ pub record PassesStep {A : Type 0} (clock : A → ℕ) (has_stopped : A → Bool
   pub counts : MayCount (event_by result) (tally old) (tally new)
   pub stops : tells_stop_at (event_by result) ≡ true → has_stopped new ≡ true
   pub begins : event_by result ≡ Some events.Began → has_stopped new ≡ false
-  pub spends : SpendsStep (tally old) (tally new) result
 
 -- what an event does to the blocks of what is gone
 pub record Tallies {A : Type 0} (has_stopped : A → Bool) (tally : A → Tally) (seed : ℕ) (old new : A) (s : State)

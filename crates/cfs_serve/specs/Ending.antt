@@ -110,8 +110,8 @@ pub record EndsService (rose : Type 0) (collections : ℕ) (ending : Ending) (tr
   -- the trail tells this stop once, and no other; and none where the core runs
   pub stops : StopsAmong None ending.stop trail
   pub refusal : TellsStop ending.refused ending.stop
-  -- where no collection is called for the collector makes no step
-  pub quiet : collections ≡ 0 → ending.refused ≡ None
+  -- where no collection is called for the collector wants no memory
+  pub quiet : collections ≡ 0 → ending.refused ≡ Some faults.Memory → ⊥
   pub failed : has_failed ending trail ≡ true → rose
   -- of a core that runs no event tells other trouble than a failed call
   pub calm : ending.stop ≡ None → list_any tells_disk trail ≡ false → list_all is_calm trail ≡ true

@@ -71,15 +71,15 @@ is_of_session session (events.Vanish ids) = false
 is_of_session session events.Finished = false
 is_of_session session (events.Halted moment) = false
 
--- of some session
-abbrev pub is_sessions : Event → Bool
-is_sessions (events.Unread who why) = true
-is_sessions (events.Ask who request reply) = true
-is_sessions (events.Leave who stopped) = true
-is_sessions events.Began = false
-is_sessions (events.Vanish ids) = false
-is_sessions events.Finished = false
-is_sessions (events.Halted moment) = false
+-- of some session, or a stop while a commit was carried out: no step of a collection
+abbrev pub is_no_step : Event → Bool
+is_no_step (events.Unread who why) = true
+is_no_step (events.Ask who request reply) = true
+is_no_step (events.Leave who stopped) = true
+is_no_step events.Began = false
+is_no_step (events.Vanish ids) = false
+is_no_step events.Finished = false
+is_no_step (events.Halted moment) = true
 
 abbrev pub is_reply : Event → Bool
 is_reply (events.Unread who why) = true

@@ -18,7 +18,7 @@ use Rattle.cfs_script.specs.NameTable.{names_of}
 use Rattle.cfs_ports.specs.Port.{PortReading, IsNewPort, Replied}
 use Rattle.cfs_serve.specs.Calls.{Tally}
 use Rattle.cfs_serve.specs.Charter.{Client, Terms}
-use Rattle.cfs_serve.specs.Events.{BreaksOff, events_of_session, is_of_session, is_sessions}
+use Rattle.cfs_serve.specs.Events.{BreaksOff, events_of_session, is_of_session, is_no_step}
 use Rattle.cfs_core.specs.declared.collecting.CollectFault.{CollectFault}
 use Rattle.cfs_serve.specs.Journal.{IsStamped, Journaled, JournalSteps, recorded}
 use Rattle.cfs_serve.specs.declared.journal.Progress.{Progress}
@@ -26,7 +26,7 @@ use Rattle.cfs_serve.specs.declared.journal.Progress.{Progress}
 pub record Hearing (A : Type 0) : Type 0 where
   pub journal : Journaled A
   pub ports : List PortReading
-  -- the turns that the collector may make now, none where it rests; all that it has left, and how many events of it
+  -- the turns that the collector may make now, no step where it rests; all that it has left, and how many events of it
   -- there is room for
   pub turns : ℕ
   pub left : ℕ
@@ -34,10 +34,15 @@ pub record Hearing (A : Type 0) : Type 0 where
   -- the refusal at which it was done
   pub refused : Option CollectFault
 
--- the turns that it may make now
-abbrev pub turns_now : (resting : Bool) → (left : ℕ) → ℕ
-turns_now true left = 0
-turns_now false left = left
+-- the parts of a commit that it has to make: none once it was refused
+abbrev pub parts_now : Option CollectFault → (parts : ℕ) → ℕ
+parts_now None parts = parts
+parts_now (Some fault) parts = 0
+
+-- the turns that it may make now, of so many steps and parts
+abbrev pub turns_now : (resting : Bool) → (steps parts : ℕ) → ℕ
+turns_now true steps parts = parts
+turns_now false steps parts = steps + parts
 
 -- ---- what is kept of a session
 
@@ -60,19 +65,19 @@ pub record IsSession (root : Puid) (i : ℕ) (client : Client) (p : PortReading)
   pub replied : Replied client.sink p.sink (printed_replies i trail) (not p.failed)
   pub broken : p.failed ≡ true → BreaksOff i client.sink p.sink (turns_in i trail)
 
--- So it is with each session, and no event is of a session without a script; where no collection is called for, each is
--- of one.
+-- So it is with each session, and no event is of a session without a script; where no collection is called for, none is
+-- a step of one.
 pub record AreHeard {A : Type 0} (t : Terms A) (trail : List Event) (ports : List PortReading) : Type 0 where
   pub count : length ports ≡ length t.clients
   pub each : (k : ℕ) (client : Client) (p : PortReading) → slice_get t.clients k ≡ Some client
       → slice_get ports k ≡ Some p
       → IsSession t.root k client p trail
   pub none : (k : ℕ) → length ports ≤ k → events_of_session k trail ≡ []
-  pub sessions : t.collections ≡ 0 → list_all is_sessions trail ≡ true
+  pub sessions : t.collections ≡ 0 → list_all is_no_step trail ≡ true
 
--- where no collection is called for, the collector has no turn and was refused none
-abbrev pub HasNoCollector : {A : Type 0} → Terms A → (turns : ℕ) → Option CollectFault → Type 0
-HasNoCollector t turns refused = t.collections ≡ 0 → (turns ≡ 0) × (refused ≡ None)
+-- where no collection is called for, the collector has no step to make
+abbrev pub HasNoCollector : {A : Type 0} → Terms A → (turns : ℕ) → Type 0
+HasNoCollector t turns = t.collections ≡ 0 → turns ≡ 0
 
 -- A collector that isn't done has a turn more than it makes steps, though each line still to come should add one; and
 -- room for an event more than they are.
@@ -127,7 +132,7 @@ pub record Moves {A : Type 0} (i : ℕ) (old new : Journaled A) (p q : PortReadi
   pub kind : Turned i p q event ⊎ Departs i p q event
 
 -- A turn of session i, which stayed: its port made one event, recorded with the disk's moment as the turn returned, and
--- the other ports are as they were.
+-- the other ports are as they were. It may have left a commit unfinished.
 pub record IsSessionTurn {A : Type 0} (clock : A → ℕ) (i : ℕ) (old new : Hearing A) : Type 0 where
   pub before : PortReading
   pub after : PortReading
@@ -135,9 +140,9 @@ pub record IsSessionTurn {A : Type 0} (clock : A → ℕ) (i : ℕ) (old new : H
   pub ports : new.ports ≡ set old.ports i after
   pub moves : Moves i old.journal new.journal before after
   pub stamped : IsStamped clock old.journal new.journal
-  pub collector : (new.turns ≡ old.turns) × (new.events ≡ old.events) × (new.refused ≡ old.refused)
+  pub collector : (new.events ≡ old.events) × (new.refused ≡ old.refused)
 
--- A turn of the collector, which wasn't done: a step, and one turn less at least; the ports are as they were.
+-- A turn of the collector, which wasn't done: a step or a part, and one turn less at least; the ports are as they were.
 pub record IsCollectorTurn {A : Type 0} (clock : A → ℕ) (old new : Hearing A) : Type 0 where
   pub progress : Progress
   pub steps : JournalSteps clock old.journal new.journal progress
@@ -229,7 +234,8 @@ pub record IsSessionOver (root : Puid) (trail : List Event) (i : ℕ) (client : 
   pub replied : Replied client.sink after (printed_replies i trail) (not failed)
   pub broken : failed ≡ true → BreaksOff i client.sink after (turns_in i trail)
 
--- So it is with each of them, and no event is of another session; where no collection is called for, of nobody else.
+-- So it is with each of them, and no event is of another session; where no collection is called for, none is a step of
+-- one.
 pub record AreOver (root : Puid) (collections : ℕ) (clients : List Client) (trail : List Event)
     (ports : List PortReading) : Type 0 where
   pub count : length ports ≡ length clients
@@ -237,4 +243,4 @@ pub record AreOver (root : Puid) (collections : ℕ) (clients : List Client) (tr
       → slice_get ports k ≡ Some p
       → IsSessionOver root trail k client p.sink p.failed
   pub none : (k : ℕ) → length clients ≤ k → events_of_session k trail ≡ []
-  pub sessions : collections ≡ 0 → list_all is_sessions trail ≡ true
+  pub sessions : collections ≡ 0 → list_all is_no_step trail ≡ true

@@ -15,7 +15,7 @@ use Rattle.cfs_serve.specs.Calls.{AreExact, IsTallied, Tally, lost_in}
 use Rattle.cfs_serve.specs.Charter.{Terms}
 use Rattle.cfs_serve.specs.Ending.{EndsService}
 use Rattle.cfs_serve.specs.declared.ending.Ending.{Ending}
-use Rattle.cfs_serve.specs.Events.{begins_in, is_calm, is_of_session, tells_disk, tells_fault, tells_stop}
+use Rattle.cfs_serve.specs.Events.{begins_in, is_calm, is_no_step, is_of_session, tells_disk, tells_fault, tells_stop}
 use Rattle.cfs_core.specs.declared.collecting.CollectFault.{CollectFault}
 use Rattle.cfs_core.specs.declared.collecting.CollectFault.TheVariants as faults
 use Rattle.cfs_core.specs.declared.kernel.Stop.{Stop}
@@ -159,6 +159,7 @@ stamps None moment = []
 stamps (Some e) moment = moment ∷ []
 
 abbrev pub is_recorded : Progress → Bool
+is_recorded progresses.Tidied = false
 is_recorded progresses.Idle = false
 is_recorded progresses.Quiet = false
 is_recorded progresses.Recorded = true
@@ -167,11 +168,18 @@ is_recorded (progresses.Refused fault) = true
 
 -- a step was made, an event or not
 abbrev pub is_progress_made : Progress → Bool
+is_progress_made progresses.Tidied = false
 is_progress_made progresses.Idle = false
 is_progress_made progresses.Quiet = true
 is_progress_made progresses.Recorded = true
 is_progress_made progresses.Finished = true
 is_progress_made (progresses.Refused fault) = false
+
+-- a step was made or found idle, so that no commit was unfinished
+abbrev pub is_step : Progress → Bool
+is_step progresses.Tidied = false
+is_step (progresses.Refused fault) = false
+is_step progress = true
 
 -- the refusal of the step, if it is one
 abbrev pub refusal_in : Progress → Option CollectFault
@@ -187,3 +195,5 @@ pub record JournalSteps {A : Type 0} (clock : A → ℕ) (old new : Journaled A)
   pub stamped : new.moments ≡ old.moments ++ stamps event (clock new.server)
   pub room : new.room + length (recorded event) ≡ old.room
   pub none : is_recorded progress ≡ false → event ≡ None
+  -- where no step was made it is a stop
+  pub stop : is_step progress ≡ false → (e : Event) → event ≡ Some e → is_no_step e ≡ true

@@ -17,6 +17,7 @@ pub mod Played
 pub mod Opening
 pub mod Audit
 pub mod Spun
+pub mod Turns
 pub mod Volume
 pub mod Whole
 pub mod Disks

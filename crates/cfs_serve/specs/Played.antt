@@ -58,8 +58,8 @@ pub record TellsLast (collections : ℕ) (ending : Ending) (trail : List Event) 
   pub running : ending.stop ≡ None → begins_in trail ≡ finishes_in trail + (if status.running then 1 else 0)
 
 -- what is Free is all but the map of each cylinder, the label, and the blocks of the objects
-abbrev pub free_of : (cylinders : ℕ) → Graph → ℕ
-free_of cylinders graph = 63 * cylinders - 1 - graph_blocks graph
+abbrev pub free_once_tidy : (cylinders : ℕ) → Graph → ℕ
+free_once_tidy cylinders graph = 63 * cylinders - 1 - graph_blocks graph
 
 -- Of a sound volume: the server stopped at the moment that is told of the disk, and else not, and no block is damaged.
 abbrev pub IsStopTold : Cause → (stopped : Option ℕ) → Type 0
@@ -72,14 +72,16 @@ IsStopTold cause stopped = stopped ≡ None
 -- From this graph the trail is a legal run, and each reply exact; where no call of the disk failed, none is behind an
 -- event.
 pub record IsRunFrom (cylinders seed collections : ℕ) (graph : Graph) (rose : Type 0) (sessions : ℕ) (counts : Counts)
-    (cause : Cause) (trail : List Event) : Type 0 where
+    (cause : Cause) (ending : Ending) (trail : List Event) : Type 0 where
   pub last : State
   pub legal : replay seed graph trail ≡ Some last
   pub exact : 0 < cylinders → AreExact cylinders seed 0 (opening graph) trail
   pub calm : ¬ rose → list_all is_calm trail ≡ true
   pub stop : IsStopTold cause last.stopped
   pub counted : counts ≡ counts_of sessions trail last.graph counts.free
-  pub free : last.stopped ≡ None → sweeps_now last.collection ≡ false → counts.free ≡ free_of cylinders last.graph
+  -- where the collector was done at no refusal, nothing is unfinished
+  pub free : ending.refused ≡ None → last.stopped ≡ None → sweeps_now last.collection ≡ false
+      → counts.free ≡ free_once_tidy cylinders last.graph
   -- once as many collections are finished as were called for, nothing sweeps
   pub rests : last.stopped ≡ None → finishes_in trail ≡ collections → sweeps_now last.collection ≡ false
 
@@ -88,13 +90,14 @@ abbrev pub has_broken : List PortReading → Bool
 has_broken ports = list_any (λ p. p.failed) ports
 
 -- The sessions of these clients were served, and left their ports so.
-pub record IsPlayed (ground : Ground) (seed collections : ℕ) (rose : Type 0) (clients : List Client) (ports : List PortReading)
+pub record IsPlayed (ground : Ground) (seed collections : ℕ) (rose : Type 0) (clients : List Client)
+    (ports : List PortReading)
     (counts : Counts) (cause : Cause) (ending : Ending) (trail : List Event) : Type 0 where
   -- the root index is that of each graph that the volume may read as
   pub root : Puid
   pub rooted : (graph : Graph) → ground.reads graph → graph.root ≡ root
   pub run : (graph : Graph) → ground.reads graph → IsRunFrom ground.cylinders seed collections graph rose
-      (length clients) counts cause trail
+      (length clients) counts cause ending trail
   -- all events of sessions are theirs
   pub over : AreOver root collections clients trail ports
   pub counted : CountsSessions (length clients) trail counts

@@ -32,10 +32,10 @@ use Rattle.cfs_audit.specs.Verdict.{IsLegal}
 use Rattle.cfs_serve.specs.Audit.{Finds, Judges}
 use Rattle.cfs_serve.specs.Calls.{AreExact}
 use Rattle.cfs_serve.specs.Ending.{EndsService, IsWanting, cause_of, damage_in, not_begun}
-use Rattle.cfs_serve.specs.Events.{BreaksOff, begins_in, events_of_session, finishes_in, is_calm, is_sessions, tells_damage}
+use Rattle.cfs_serve.specs.Events.{BreaksOff, begins_in, events_of_session, finishes_in, is_calm, is_no_step, tells_damage}
 use Rattle.cfs_serve.specs.Events.{wants_memory}
 use Rattle.cfs_serve.specs.Ground.{Ground}
-use Rattle.cfs_serve.specs.Played.{CountsSessions, HasNone, TellsLast, IsStopTold, counts_of, free_of}
+use Rattle.cfs_serve.specs.Played.{CountsSessions, HasNone, TellsLast, IsStopTold, counts_of, free_once_tidy}
 use Rattle.cfs_serve.specs.Text.{IsText, last_cause, text_of}
 use Rattle.cfs_serve.specs.Scripts.{AreShort, AreWithinLimits, Had, IsFirstRead, faults_of_sources, lines_in}
 use Rattle.cfs_serve.specs.Whole.{HasPlaces, RoseIn, TellsMade}
@@ -181,7 +181,8 @@ pub record EndedWell (asked : Asked) (ground : Ground) (told : Report) (trail : 
   pub answered : EachSource (λ session source _. (left : List ℕ) → source.left ≡ Some left
       → length (turns_in session trail) ≡ length (request_lines left)) old new
   -- each sink holds all replies of its session, and none of them tells want of memory
-  pub replied : EachSink (λ session sink outside_after. Wrote sink outside_after (printed_replies session trail)) old new
+  pub replied : EachSink (λ session sink outside_after. Wrote sink outside_after (printed_replies session trail))
+      old new
   pub memory : list_any wants_memory trail ≡ false
   -- no failed call of the disk, no damage and no stop is behind an event
   pub calm : list_all is_calm trail ≡ true
@@ -277,10 +278,11 @@ pub record DidOn (service : Service) (ground : Ground) (graph : Graph) (old new 
   pub undamaged : (list_any tells_damage trail ≡ false) × (damage_in ending.stop ≡ None)
   -- the moment that is told of a disk is that of the stop; with another cause there was none, and no block was damaged
   pub stop : WasServed told → IsStopTold told.cause last.stopped
-  -- the counts are those of the trail and of the last graph; of what is Free, where there was no stop and nothing
-  -- sweeps
+  -- the counts are those of the trail and of the last graph; of what is Free, where there was no stop, no refusal of
+  -- the collector, and nothing sweeps
   pub counted : IfSome told.counts (λ counts. (counts ≡ counts_of (length old.sources) trail last.graph counts.free)
-      × (last.stopped ≡ None → sweeps_now last.collection ≡ false → counts.free ≡ free_of ground.cylinders last.graph))
+      × (ending.refused ≡ None → last.stopped ≡ None → sweeps_now last.collection ≡ false
+      → counts.free ≡ free_once_tidy ground.cylinders last.graph))
   -- once as many collections are finished as were called for, nothing sweeps
   pub rests : last.stopped ≡ None → finishes_in trail ≡ service.collections → sweeps_now last.collection ≡ false
 
@@ -296,7 +298,8 @@ pub record Did (asked : Asked) (ground : Ground) (old new : Outside) (told : Rep
   pub unasked : is_service asked ≡ false → IsNone told.counts
   pub leaves : WasServed told → EachSource (λ session _ _. (stopped : Option ℕ)
       × (events_of_session session trail ≡ turns_in session trail ++ events.Leave session stopped ∷ [])) old new
-  pub sessions : collections_of asked ≡ 0 → list_all is_sessions trail ≡ true
+  -- where no collection is called for none of the events is a step of one
+  pub sessions : collections_of asked ≡ 0 → list_all is_no_step trail ≡ true
   pub others : (k : ℕ) → length old.sources ≤ k → events_of_session k trail ≡ []
   -- from each graph that the volume may read as, the events are a legal run
   pub on : IfServes asked (λ service. (graph : Graph) → ground.reads graph
@@ -325,7 +328,8 @@ pub record Did (asked : Asked) (ground : Ground) (old new : Outside) (told : Rep
   pub cause : IsNone told.counts → is_format asked ≡ false → ¬ (told.cause ≡ causes.Nothing)
   pub made : is_format asked ≡ true → TellsMade told.cause old.disk new.disk
   -- of an audit it is told what was found of its source, and a verdict of nothing else
-  pub audited : is_audit asked ≡ true → EachSource (λ _ source outside_after. Finds told.cause source outside_after) old new
+  pub audited : is_audit asked ≡ true → EachSource (λ _ source outside_after. Finds told.cause source outside_after)
+      old new
   pub verdict : is_verdict told.cause ≡ true → is_audit asked ≡ true
   -- after serving the first is told that has come: a failed call, a damage, a sink that broke, want of memory
   pub ends : WasServed told → EndsService (RoseIn old.disk new.disk) (collections_of asked) ending trail

@@ -8,7 +8,8 @@ ghost use Rattle.cfs_serve.specs.Ending.{IsWanting};
 ghost use Rattle.cfs_serve.specs.Journal.{CountsFaults, HasEnded, IsJournalKept, IsRun, IsStamped, IsTold, Lasts};
 ghost use Rattle.cfs_serve.specs.Journal.{Raises, StaysStopped, first_fault};
 ghost use Rattle.cfs_serve.specs.Hall.{AreFresh, AreHeard, IsSessionTurn, IsCollectorTurn, IsTurn};
-ghost use Rattle.cfs_serve.specs.Hall.{Moves, has_left_at, is_done_in, turns_left_in, turns_left, turns_left_at};
+ghost use Rattle.cfs_serve.specs.Hall.{Moves, has_left_at, is_done_in, parts_now, turns_left_in, turns_left};
+ghost use Rattle.cfs_serve.specs.Hall.{turns_left_at};
 
 use crate::ending::Ending;
 use crate::journal::{Charter, Journal, Progress};
@@ -27,7 +28,7 @@ pub struct Hall<A: Server, J: Charter<A>, K: Sink> {
     journal: Journal<A, J>,
     ports: Vec<Port<K>>,
     rest: Rest,
-    /// The collector rests once a collection is finished, until the sessions have left.
+    /// The collector makes no step once a collection is finished, until the sessions have left.
     rests: bool,
     resting: bool,
     /// Where the answers' memory comes from.
@@ -39,7 +40,7 @@ impl<A: Server, J: Charter<A>, K: Sink> Model for Hall<A, J, K> {
     ghost use Rattle.cfs_core.specs.declared.collecting.CollectFault.TheVariants as faults;
     ghost use Rattle.std.specs.List.{sum_by};
     ghost use Rattle.cfs_serve.specs.Events.{finishes_in};
-    ghost use Rattle.cfs_serve.specs.Hall.{Hearing, AreHeard, HasNoCollector, HasTurns, turns_left, turns_now};
+    ghost use Rattle.cfs_serve.specs.Hall.{Hearing, AreHeard, HasNoCollector, HasTurns, parts_now, turns_left, turns_now};
     ghost use Rattle.cfs_serve.specs.Ending.{IsWanting, TellsStop};
     ghost use Rattle.cfs_serve.specs.Journal.{CountsFaults, first_fault};
 
@@ -48,8 +49,8 @@ impl<A: Server, J: Charter<A>, K: Sink> Model for Hall<A, J, K> {
     ghost view = { λ h. record {
       journal = h.journal;
       ports = h.ports.items;
-      turns = turns_now h.resting h.rest.turns;
-      left = h.rest.turns;
+      turns = turns_now h.resting h.rest.turns (parts_now h.rest.refused (A.unfinished h.journal.server));
+      left = h.rest.turns + parts_now h.rest.refused (A.unfinished h.journal.server);
       events = h.rest.events;
       refused = h.rest.refused;
     } };
@@ -59,12 +60,14 @@ impl<A: Server, J: Charter<A>, K: Sink> Model for Hall<A, J, K> {
         × (length h.journal.events + sum_by turns_left h.ports.items + h.rest.events < 4294967295)
         × (length h.ports.items ≤ 64)
         × HasTurns h.rest.turns h.rest.events (sum_by turns_left h.ports.items) (A.tally h.journal.server)
-        × HasNoCollector J.charter h.rest.turns h.rest.refused
+        × HasNoCollector J.charter h.rest.turns
         × (h.rest.turns ≡ 0 → h.rest.refused ≡ None → finishes_in h.journal.events ≡ J.charter.collections)
         × (0 < h.rest.turns → h.rest.refused ≡ None)
         × CountsFaults A.faults A.stands J.charter (first_fault h.rest.refused) h.journal.server h.journal.events
         × TellsStop h.rest.refused (A.stop h.journal.server)
-        × (h.rest.refused ≡ Some faults.Memory → IsWanting J.charter.collections h.journal.events) };
+        × (h.rest.refused ≡ Some faults.Memory → IsWanting J.charter.collections h.journal.events)
+        × (h.rest.refused ≡ None → 0 < h.rest.events)
+        × (h.rest.turns < 4611686018427387904) };
 }
 
 /// One turn of a session: its next line or, at the script's end and once its sink failed, its leave.
@@ -102,15 +105,19 @@ fn port_turn<A: Server, J: Charter<A>, K: Sink>(
     }
 }
 
-/// Whether a collector that rests does so after this step.
-fn rests_after(rests: bool, progress: Progress) -> bool
-    ensures { result ≡ true → progress ≡ Progress.Finished }
+/// Whether the collector rests after this turn: a part of a commit changes nothing in that.
+fn rests_after(rests: bool, resting: bool, progress: Progress) -> bool
+    ensures { progress ≡ Progress.Tidied → result ≡ resting }
 {
-    rests && matches!(progress, Progress::Finished)
+    match progress {
+        Progress::Tidied => resting,
+        Progress::Finished => rests,
+        _ => false,
+    }
 }
 
 impl<A: Server, J: Charter<A>, K: Sink> Hall<A, J, K> {
-    /// A hall in which nothing happened, and whose collector makes so many turns at most. Where it rests, it does so
+    /// A hall in which nothing happened, and whose collector makes so many steps at most. Where it rests, it does so
     /// once it has finished a collection.
     pub fn new(
         alloc: Global,
@@ -127,6 +134,7 @@ impl<A: Server, J: Charter<A>, K: Sink> Hall<A, J, K> {
         requires told { IsTold A.faults A.has_stopped A.is_damaged J.charter server [] }
         requires kept { IsJournalKept A.clock A.has_stopped A.tally J.charter server [] [] }
         requires turns { (A.tally server).steps + sum_by turns_left ports.items < turns }
+        requires small { turns < 4611686018427387904 }
         requires events { (A.tally server).events ≤ 3 * collections }
         requires runs { A.has_stopped server ≡ false }
         requires seed { A.seed server ≡ J.charter.seed }
@@ -163,30 +171,55 @@ impl<A: Server, J: Charter<A>, K: Sink> Hall<A, J, K> {
         port_turn(self.alloc, &mut self.journal, session, port);
     }
 
-    /// One turn of the collector that isn't done: a step.
+    /// One turn of the collector that isn't done: a part of a commit, or a step. At a refusal it is done for good.
     fn collector_turn(&mut self)
         requires { 0 < self.old.turns }
         ensures turn { IsCollectorTurn A.clock self.old self.new }
         ensures raised { Raises A.faults A.stands J.charter self.old.journal self.new.journal }
     {
-        let progress = self.journal.collect(self.alloc);
+        let progress = self.journal.turn(self.alloc);
         self.rest = self.rest.after(progress);
-        self.resting = rests_after(self.rests, progress);
+        self.resting = rests_after(self.rests, self.resting, progress);
+    }
+
+    /// The parts of a commit that the collector has to make.
+    fn parts_now(&self) -> u64
+        ensures is { result ≡ parts_now self.now.refused (A.unfinished self.now.journal.server) }
+        ensures small { result < 4611686018427387904 }
+    {
+        match self.rest.refused {
+            None => self.journal.parts_left(),
+            Some(_) => 0,
+        }
     }
 
     /// The turns that the collector may make now.
     fn turns_now(&self) -> u64
         ensures { result ≡ self.now.turns }
     {
-        if self.resting { 0 } else { self.rest.turns }
+        let parts = self.parts_now();
+        if self.resting {
+            parts
+        } else {
+            self.rest.turns + parts
+        }
     }
 
-    /// Makes the collector's steps that are left once the sessions have.
+    /// All that it has left.
+    fn all_left(&self) -> u64
+        ensures { result ≡ self.now.left }
+    {
+        let parts = self.parts_now();
+        self.rest.turns + parts
+    }
+
+    /// Makes the collector's turns that are left once the sessions have. Then no commit is unfinished, unless it was
+    /// refused.
     pub fn collect_rest(&mut self)
         ensures left { self.new.left ≡ 0 }
         ensures ports { self.new.ports ≡ self.old.ports }
     {
-        'steps: while self.rest.turns > 0 {
+        'steps: while self.all_left() > 0 {
             self.resting = false;
             self.collector_turn();
         }
@@ -268,6 +301,7 @@ impl<A: Server, J: Charter<A>, K: Sink> Hall<A, J, K> {
             result.trail.moments }
         ensures collected { self.left ≡ 0 → result.ending.refused ≡ None
             → finishes_in result.trail.events ≡ J.charter.collections }
+        ensures settled { self.left ≡ 0 → result.ending.refused ≡ None → A.unfinished result.server ≡ 0 }
         ensures wanting { result.ending.refused ≡ Some faults.Memory
             → IsWanting J.charter.collections result.trail.events }
         ensures counted { CountsFaults A.faults A.stands J.charter (first_fault result.ending.refused) result.server
@@ -317,7 +351,7 @@ impl<A: Server, J: Charter<A>, K: Sink> Hall<A, J, K> {
     }
 }
 
-/// The workers are the sessions, and past them the collector. A turn is one line, or the leave; or one step.
+/// The workers are the sessions, and past them the collector. A turn is one line, or the leave; or one part or step.
 #[tactic(auto, using(crate::proofs::Workers::as_many))]
 impl<A: Server, J: Charter<A>, K: Sink> Machine for Hall<A, J, K> {
     ghost use Rattle.std.specs.Prelude.{suc, length};

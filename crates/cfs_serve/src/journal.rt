@@ -1,6 +1,8 @@
 //! A server and its trail.
 ghost use Rattle.std.specs.Prelude.{◌≡◌, ◌+◌, ◌<◌, [], ◌∷◌, ◌++◌, ◌||◌, Err, Ok, None, Some, false, true, length};
 ghost use Rattle.std.specs.Prelude.{Option, ℕ};
+ghost use Rattle.cfs_core.specs.declared.collecting.CollectFault as faulted;
+ghost use Rattle.cfs_core.specs.declared.collecting.Step as stepping;
 ghost use Rattle.std.specs.List.{list_any};
 ghost use Rattle.ufs_model.specs.declared.asked.Event.TheVariants as events;
 ghost use Rattle.ufs_model.specs.declared.asked.Request as requests;
@@ -8,13 +10,14 @@ ghost use Rattle.cfs_ports.specs.Heard.{HasRoomForName};
 ghost use Rattle.cfs_base.specs.Outside.{Rose};
 ghost use Rattle.cfs_serve.specs.Charter.{Terms};
 ghost use Rattle.cfs_serve.specs.Events.{tells_disk, wants_memory};
-ghost use Rattle.cfs_serve.specs.Calls.{SessionPasses, SpendsStep, SpendsOne, Tally, event_by, refusal_by};
+ghost use Rattle.cfs_serve.specs.Calls.{SessionPasses, SpendsStep, SpendsOne, Tally, as_step, event_by, refusal_by};
 ghost use Rattle.cfs_serve.specs.Ending.{IsWanting, StopsAmong, TellsStop};
 ghost use Rattle.cfs_serve.specs.Events.{finishes_in};
 ghost use Rattle.cfs_serve.specs.Journal.{IsJournalKept, IsRun, IsStamped, IsTold, Lasts, Raises, Answered};
 ghost use Rattle.cfs_serve.specs.Journal.{is_progress_made};
 ghost use Rattle.cfs_serve.specs.Journal.{StaysStopped};
-ghost use Rattle.cfs_serve.specs.Journal.{JournalSteps, is_quiet_fault, is_recorded, recorded, refusal_in, stamps};
+ghost use Rattle.cfs_serve.specs.Journal.{JournalSteps, is_quiet_fault, is_recorded, is_step, recorded, refusal_in};
+ghost use Rattle.cfs_serve.specs.Journal.{stamps};
 
 use crate::server::Server;
 use cfs_base::{Session, Sink};
@@ -53,12 +56,14 @@ pub struct Journal<A: Server, J: Charter<A>> {
     of: PhantomData<J>,
 }
 
-/// How far a step of the collector came.
+/// How far a turn of the collector came.
 #[derive(Clone, Copy, Debug, PartialEq, Eq)]
 pub enum Progress {
     /// Nothing is left to do.
     Idle,
-    /// It made no event.
+    /// A part was made of a commit that was unfinished.
+    Tidied,
+    /// A step was made that is no event.
     Quiet,
     /// It was recorded.
     Recorded,
@@ -195,8 +200,16 @@ impl<A: Server, J: Charter<A>> Journal<A, J> {
         self.trail.push(Event::Leave { session, stopped }, moment);
     }
 
-    /// A step of the collector, recorded where it is an event.
-    pub fn collect(&mut self, alloc: Global) -> Progress
+    /// How many parts are left of a commit.
+    pub fn parts_left(&self) -> u64
+        ensures is { result ≡ A.unfinished self.now.server }
+        ensures small { result < 4611686018427387904 }
+    {
+        self.server.parts_left()
+    }
+
+    /// A turn of the collector, recorded where it is an event.
+    pub fn turn(&mut self, alloc: Global) -> Progress
         requires { 0 < self.old.room }
         ensures steps { JournalSteps A.clock self.old self.new result }
         ensures raised { Raises A.faults A.stands J.charter self.old self.new }
@@ -210,8 +223,14 @@ impl<A: Server, J: Charter<A>> Journal<A, J> {
         // One that was made leaves fewer steps, and one event less where it is one.
         ensures spends { is_progress_made result ≡ true
             → SpendsOne (A.tally self.old.server) (A.tally self.new.server) (is_recorded result) }
+        // A part that was made leaves fewer parts, and the collections as they are; a step is made where none is left.
+        ensures tidied { result ≡ Progress.Tidied → (A.unfinished self.new.server < A.unfinished self.old.server)
+            × ((A.tally self.new.server).steps ≡ (A.tally self.old.server).steps)
+            × ((A.tally self.new.server).events ≡ (A.tally self.old.server).events) }
+        ensures settled { is_step result ≡ true
+            → (A.unfinished self.old.server ≡ 0) × (A.unfinished self.new.server ≡ 0) }
     {
-        let made = self.server.collect(alloc);
+        let made = self.server.turn(alloc);
         let moment = self.server.moment();
         let (event, progress) = progress_of(made);
         push_some(&mut self.trail, event, moment);
@@ -275,21 +294,26 @@ fn starved_at(why: Unread, before: bool) -> bool
     }
 }
 
-/// The event of a step of the collector, if it is one, and how far it came.
-fn progress_of(made: Result<Step, CollectFault>) -> (Option<Event>, Progress)
-    ensures event { result.0 ≡ event_by made }
-    ensures none { is_recorded result.1 ≡ false → event_by made ≡ None }
-    ensures idle { result.1 ≡ Progress.Idle → made ≡ Ok Step.Idle }
-    ensures spends { is_progress_made result.1 ≡ true → (c : Tally) (d : Tally) → SpendsStep c d made
+/// The event of a turn of the collector, if it is one, and how far it came.
+fn progress_of(made: Result<Option<Step>, CollectFault>) -> (Option<Event>, Progress)
+    ensures event { result.0 ≡ event_by (as_step made) }
+    ensures none { is_recorded result.1 ≡ false → event_by (as_step made) ≡ None }
+    ensures idle { result.1 ≡ Progress.Idle → made ≡ Ok (Some Step.Idle) }
+    ensures tidied { result.1 ≡ Progress.Tidied → made ≡ Ok None }
+    ensures made_of { made ≡ Ok None → result.1 ≡ Progress.Tidied }
+    ensures step { is_step result.1 ≡ true → (step : stepping.Step) × (made ≡ Ok (Some step)) }
+    ensures spends { is_progress_made result.1 ≡ true → (c : Tally) (d : Tally) → SpendsStep c d (as_step made)
         → SpendsOne c d (is_recorded result.1) }
-    ensures refusal { refusal_in result.1 ≡ refusal_by made }
+    ensures refusal { refusal_in result.1 ≡ refusal_by (as_step made) }
+    ensures refused { (fault : faulted.CollectFault) → result.1 ≡ Progress.Refused fault → made ≡ Err fault }
 {
     match made {
-        Ok(Step::Idle) => (None, Progress::Idle),
-        Ok(Step::Took | Step::Scanned | Step::Swept) => (None, Progress::Quiet),
-        Ok(Step::Began) => (Some(Event::Began), Progress::Recorded),
-        Ok(Step::Condemned { ids }) => (Some(Event::Vanish { ids }), Progress::Recorded),
-        Ok(Step::Finished) => (Some(Event::Finished), Progress::Finished),
+        Ok(None) => (None, Progress::Tidied),
+        Ok(Some(Step::Idle)) => (None, Progress::Idle),
+        Ok(Some(Step::Took | Step::Scanned | Step::Swept)) => (None, Progress::Quiet),
+        Ok(Some(Step::Began)) => (Some(Event::Began), Progress::Recorded),
+        Ok(Some(Step::Condemned { ids })) => (Some(Event::Vanish { ids }), Progress::Recorded),
+        Ok(Some(Step::Finished)) => (Some(Event::Finished), Progress::Finished),
         Err(fault) => (halt_of(fault), Progress::Refused(fault)),
     }
 }

@@ -133,13 +133,14 @@ fn report_on(
     }
 }
 
-/// The turns that the collector may make: so many steps for each collection, one for each turn of a session, which may
+/// The steps that the collector may make: so many for each collection, one for each turn of a session, which may
 /// add one, and one in which nothing is left to do.
 fn count_steps(collections: u32, each: u64, turns: u64) -> u64
     requires most { collections ≤ 1000 }
     requires small { each < 70368744177664 }
     requires few { turns < 4294967295 }
-    ensures { result ≡ collections * each + turns + 1 }
+    ensures is { result ≡ collections * each + turns + 1 }
+    ensures small { result < 4611686018427387904 }
 {
     u64::from(collections) * each + turns + 1
 }

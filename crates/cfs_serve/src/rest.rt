@@ -1,11 +1,12 @@
 //! What is left to the collector.
-ghost use Rattle.std.specs.Prelude.{◌≡◌, ◌<◌, ◌≤◌, ◌+◌, ◌*◌, if◌then◌else◌, true, None};
-ghost use Rattle.cfs_serve.specs.Journal.{is_progress_made, is_recorded, refusal_in};
+ghost use Rattle.std.specs.Prelude.{◌≡◌, ◌<◌, ◌≤◌, ◌+◌, ◌*◌, if◌then◌else◌, true, None, Some};
+ghost use Rattle.cfs_core.specs.declared.collecting.CollectFault as faulted;
+ghost use Rattle.cfs_serve.specs.Journal.{is_progress_made, is_recorded, is_step, refusal_in};
 
 use crate::journal::Progress;
 use cfs_core::CollectFault;
 
-/// The turns that the collector has left, and what ended it.
+/// The steps that the collector has left, and what ended it.
 #[derive(Clone, Copy, Debug, PartialEq, Eq)]
 pub struct Rest {
     pub turns: u64,
@@ -17,15 +18,15 @@ pub struct Rest {
 
 impl Rest {
     /// As so many collections are called for: three events for each, and one at which the server stops. Where none is,
-    /// there is no turn.
+    /// there is no step, and that one event.
     pub(crate) fn new(collections: u32, turns: u64) -> Rest
         requires most { collections ≤ 1000 }
-        ensures none { collections ≡ 0 → result ≡ record { turns = 0; events = 0; refused = None } }
+        ensures none { collections ≡ 0 → result ≡ record { turns = 0; events = 1; refused = None } }
         ensures some { 0 < collections
             → result ≡ record { turns = turns; events = 3 * collections + 1; refused = None } }
     {
         if collections == 0 {
-            return Rest::done(None);
+            return Rest::over();
         }
         Rest::on(turns, 3 * u64::from(collections) + 1)
     }
@@ -41,38 +42,55 @@ impl Rest {
         }
     }
 
-    /// It is done.
-    fn done(refused: Option<CollectFault>) -> Rest
-        ensures { result ≡ record { turns = 0; events = 0; refused = refused } }
+    /// No step is left to make. The server may stop still, as a commit is carried out.
+    fn over() -> Rest
+        ensures { result ≡ record { turns = 0; events = 1; refused = None } }
+    {
+        Rest {
+            turns: 0,
+            events: 1,
+            refused: None,
+        }
+    }
+
+    /// It was refused, and is done.
+    fn refused_by(fault: CollectFault) -> Rest
+        ensures { result ≡ record { turns = 0; events = 0; refused = Some fault } }
     {
         Rest {
             turns: 0,
             events: 0,
-            refused,
+            refused: Some(fault),
         }
     }
 
-    /// What is left after a step. The collector is done once nothing is left to do, and at a refusal.
+    /// What is left after a turn. No step is left once nothing is left to do, and at a refusal all is over.
     pub(crate) fn after(self, progress: Progress) -> Rest
-        requires some { 0 < self.turns }
+        requires runs { self.refused ≡ None }
+        requires some { is_step progress ≡ true → 0 < self.turns }
         requires more { is_progress_made progress ≡ true → 1 < self.turns }
         requires room { is_progress_made progress ≡ true → (if is_recorded progress then 1 else 0) < self.events }
         requires paired { 0 < self.events }
-        ensures fewer { result.turns < self.turns }
+        ensures tidied { progress ≡ Progress.Tidied → result ≡ self }
+        ensures fewer { is_step progress ≡ true → result.turns < self.turns }
+        ensures over { (fault : faulted.CollectFault) → progress ≡ Progress.Refused fault → result.turns ≡ 0 }
         ensures room { result.events + (if is_recorded progress then 1 else 0) ≤ self.events }
-        ensures idle { result.turns ≡ 0 → result.refused ≡ None → progress ≡ Progress.Idle }
+        ensures idle { is_step progress ≡ true → result.turns ≡ 0 → progress ≡ Progress.Idle }
         ensures on { 0 < result.turns → result.refused ≡ None }
         ensures refused { result.refused ≡ refusal_in progress }
+        ensures paired { result.refused ≡ None → 0 < result.events }
+        ensures less { result.turns ≤ self.turns }
         // A step that was made costs one turn, and one that is an event the room for it.
         ensures made { is_progress_made progress ≡ true → (result.turns + 1 ≡ self.turns)
             × (result.events + (if is_recorded progress then 1 else 0) ≡ self.events) }
-        ensures stays { 0 < result.turns → is_progress_made progress ≡ true }
+        ensures stays { is_step progress ≡ true → 0 < result.turns → is_progress_made progress ≡ true }
     {
         match progress {
+            Progress::Tidied => self,
             Progress::Quiet => Rest::on(self.turns - 1, self.events),
             Progress::Recorded | Progress::Finished => Rest::on(self.turns - 1, self.events - 1),
-            Progress::Refused(fault) => Rest::done(Some(fault)),
-            Progress::Idle => Rest::done(None),
+            Progress::Refused(fault) => Rest::refused_by(fault),
+            Progress::Idle => Rest::over(),
         }
     }
 }

@@ -9,8 +9,9 @@ ghost use Rattle.ufs_model.specs.Asks.{IsAsked};
 ghost use Rattle.ufs_model.specs.State.{State};
 ghost use Rattle.cfs_serve.specs.Calls.{CrashesGoOn, IsExact, MakesServed, MayGoOn, MayMake, MayTally, Tallies, Tally};
 ghost use Rattle.cfs_serve.specs.Calls.{TellsEvent};
-ghost use Rattle.cfs_serve.specs.Calls.{EndsCollecting, SessionPasses, PassesStep, TellsStep, event_by, refusal_by};
-ghost use Rattle.cfs_serve.specs.Calls.{tells_stop_at};
+ghost use Rattle.cfs_serve.specs.Calls.{EndsCollecting, SessionPasses, PassesStep, SpendsTurn, TellsStep, as_step};
+ghost use Rattle.cfs_serve.specs.Calls.{event_by, refusal_by, tells_stop_at};
+ghost use Rattle.cfs_serve.specs.Turns.{TakesTurn, fault_as};
 ghost use Rattle.cfs_serve.specs.Ending.{StopsAmong, TellsStop, damage_in};
 ghost use Rattle.cfs_serve.specs.Journal.{recorded};
 ghost use Rattle.cfs_core.specs.declared.kernel.Stop.{Stop};
@@ -19,17 +20,17 @@ ghost use Rattle.ufs_model.specs.declared.asked.Event.{Event};
 ghost use Rattle.ufs_model.specs.declared.asked.Unread.{Unread};
 
 use cfs_base::{Disk, Session};
-use cfs_core::{CollectFault, Core, Step, Stop};
+use cfs_core::{CollectFault, Core, Step, Stop, TidyFault};
 use std::alloc::Global;
 use survival::runs_survive;
-use ufs_model::{Asker, Plain, Reply, Request};
+use ufs_model::{Asker, Reply, Request};
 
 /// An asker that sessions leave and that collects, and that tells of its disk how often a call failed.
 pub trait Server: Asker {
     /// How many calls of its disk failed.
     ghost faults: { Self → ℕ };
 
-    /// The cylinders of its disk; 0 where it has none.
+    /// The cylinders of its disk.
     ghost cylinders: { Self → ℕ };
 
     /// Why it stopped, if it did.
@@ -44,11 +45,14 @@ pub trait Server: Asker {
 
     ghost damaged_so: { (a : Self) → is_damaged a ≡ is_some (damage_in (stop a)) };
 
-    /// The clock of its disk; 0 where it has none.
+    /// The clock of its disk.
     ghost clock: { Self → ℕ };
 
     /// Its collections, and the blocks that objects have still which are gone.
     ghost tally: { Self → Tally };
+
+    /// How many parts are left of a commit.
+    ghost unfinished: { Self → ℕ };
 
     /// What is known, for a seed and a graph, of the crashes of a run with these events and the moments of its marks.
     ghost lasts: { Self → ℕ → Graph → List Event → List ℕ → Type 0 };
@@ -96,26 +100,34 @@ pub trait Server: Asker {
         ensures seed { Self.seed self.new ≡ Self.seed self.old }
         ensures drawn { Self.words self.new ≤ Self.words self.old };
 
-    /// One step of the collector, the first that is due: an event or none.
-    fn collect(&mut self, alloc: Global) -> Result<Step, CollectFault>
+    /// A turn of the collector: one part of a commit, where one is unfinished, and else one step, the first that is
+    /// due. It is an event or none.
+    fn turn(&mut self, alloc: Global) -> Result<Option<Step>, CollectFault>
         ensures event { (s : State) → Self.stands self.old s
-            → MayMake (Self.stands self.new) (Self.seed self.old) s (event_by result) }
-        ensures lasts { MayGoOn Self.stands clock lasts (Self.seed self.old) self.old self.new (event_by result) }
-        ensures tells { TellsStep faults has_stopped is_damaged self.old self.new result }
-        ensures stops { StopsAmong (stop self.old) (stop self.new) (recorded (event_by result))
-            × TellsStop (refusal_by result) (stop self.new) }
+            → MayMake (Self.stands self.new) (Self.seed self.old) s (event_by (as_step result)) }
+        ensures lasts { MayGoOn Self.stands clock lasts (Self.seed self.old) self.old self.new
+            (event_by (as_step result)) }
+        ensures tells { TellsStep faults has_stopped is_damaged self.old self.new (as_step result) }
+        ensures stops { StopsAmong (stop self.old) (stop self.new) (recorded (event_by (as_step result)))
+            × TellsStop (refusal_by (as_step result)) (stop self.new) }
         ensures undamaged { (s : State) → Self.stands self.old s → is_damaged self.old ≡ false
             → is_damaged self.new ≡ false }
         ensures tallies { (s : State) → Self.stands self.old s
-            → MayTally has_stopped tally (Self.seed self.old) self.old self.new s (event_by result) }
-        ensures halts { (s : State) → Self.stands self.old s → tells_stop_at (event_by result) ≡ true
+            → MayTally has_stopped tally (Self.seed self.old) self.old self.new s (event_by (as_step result)) }
+        ensures halts { (s : State) → Self.stands self.old s → tells_stop_at (event_by (as_step result)) ≡ true
             → Rose (faults self.old) (faults self.new) }
         ensures called { (tally self.new).called ≡ (tally self.old).called }
-        ensures passes { PassesStep clock has_stopped tally self.old self.new result }
-        ensures ends { EndsCollecting has_stopped tally self.old self.new result }
+        ensures passes { PassesStep clock has_stopped tally self.old self.new (as_step result) }
+        ensures spends { SpendsTurn unfinished tally self.old self.new result }
+        ensures ends { EndsCollecting has_stopped tally self.old self.new (as_step result) }
         ensures size { cylinders self.new ≡ cylinders self.old }
         ensures seed { Self.seed self.new ≡ Self.seed self.old }
         ensures drawn { Self.words self.new ≤ Self.words self.old };
+
+    /// How many parts are left of a commit.
+    fn parts_left(&self) -> u64
+        ensures is { result ≡ unfinished self.now }
+        ensures small { result < 4611686018427387904 };
 
     /// Why it stopped, if it did.
     fn stopped(&self) -> Option<Stop>
@@ -129,59 +141,6 @@ pub trait Server: Asker {
             (events.Unread who why) };
 }
 
-/// The slow server has no disk, and no collection is called for.
-impl Server for Plain {
-    ghost use Rattle.std.specs.Prelude.{None, false, refl};
-
-    ghost faults = { λ p. 0 };
-
-    ghost cylinders = { λ p. 0 };
-
-    ghost stop = { λ p. None };
-
-    ghost has_stopped = { λ p. false };
-
-    ghost is_damaged = { λ p. false };
-
-    ghost stopped_so = { λ p. refl };
-
-    ghost damaged_so = { λ p. refl };
-
-    ghost clock = { λ p. 0 };
-
-    ghost tally = { λ p. record {
-      called = 0;
-      finished = 0;
-      running = false;
-      steps = 0;
-      events = 0;
-      lost = λ graph. 0;
-    } };
-
-    ghost lasts = { λ p seed graph trail marks. Unit {0} };
-
-    fn answer(&mut self, alloc: Global, who: Session, request: &Request) -> Reply {
-        Plain::ask(self, alloc, who, request)
-    }
-
-    fn leave(&mut self, who: Session) -> Option<u64> {
-        Plain::leave(self, who);
-        None
-    }
-
-    fn collect(&mut self, _alloc: Global) -> Result<Step, CollectFault> {
-        Ok(Step::Idle)
-    }
-
-    fn stopped(&self) -> Option<Stop> {
-        None
-    }
-
-    fn moment(&self) -> u64 {
-        0
-    }
-}
-
 /// The content of an honest disk, and each image that a crash may leave, has as many blocks as the disk. This does
 /// nothing: it is a law.
 pub(crate) fn images_are_whole<D: Disk>()
@@ -189,8 +148,36 @@ pub(crate) fn images_are_whole<D: Disk>()
     ensures left_sized { (d : D) (t : ℕ) (c : Image) → D.left_since d t c → length c ≡ D.blocks d }
 {}
 
+/// The fault of a step that is told in the same words.
+fn fault_of(fault: TidyFault) -> CollectFault
+    ensures { result ≡ fault_as fault }
+{
+    match fault {
+        TidyFault::Disk { doubt } => CollectFault::Disk { doubt },
+        TidyFault::Damaged { damage, moment } => CollectFault::Damaged { damage, moment },
+        TidyFault::Stopped { moment } => CollectFault::Stopped { moment },
+    }
+}
+
+/// A part of the commit that is unfinished, and else a step of the collector.
+fn turn_of<D: Disk>(core: &mut Core<D>, alloc: Global) -> Result<Option<Step>, CollectFault>
+    ensures { TakesTurn D.Disk core.old core.new result }
+{
+    if core.parts_left() > 0 {
+        return match core.tidy() {
+            Ok(_) => Ok(None),
+            Err(fault) => Err(fault_of(fault)),
+        };
+    }
+    match core.collect(alloc) {
+        Ok(step) => Ok(Some(step)),
+        Err(fault) => Err(fault),
+    }
+}
+
 impl<D: Disk> Server for Core<D> {
     ghost use Rattle.std.specs.Prelude.{is_some, length, refl};
+    ghost use Rattle.cyl_alloc.specs.Left.{parts_left};
     ghost use Rattle.cfs_serve.specs.Ending.{damage_in};
     ghost use Rattle.cfs_serve.specs.Calls.{tally_of};
     ghost use Rattle.survival.specs.Trail.{RunSurvives};
@@ -213,6 +200,8 @@ impl<D: Disk> Server for Core<D> {
 
     ghost tally = { λ k. tally_of D.Disk k };
 
+    ghost unfinished = { λ k. parts_left k.space.left };
+
     ghost lasts = { λ k seed graph trail marks. RunSurvives D.Disk seed graph trail marks k.disk };
 
     fn answer(&mut self, alloc: Global, who: Session, request: &Request) -> Reply {
@@ -234,12 +223,16 @@ impl<D: Disk> Server for Core<D> {
         }
     }
 
-    fn collect(&mut self, alloc: Global) -> Result<Step, CollectFault> {
+    fn turn(&mut self, alloc: Global) -> Result<Option<Step>, CollectFault> {
         self.has_room();
         runs_survive::<D>();
-        let step = Core::collect(self, alloc);
+        let made = turn_of(self, alloc);
         self.has_room();
-        step
+        made
+    }
+
+    fn parts_left(&self) -> u64 {
+        Core::parts_left(self)
     }
 
     fn stopped(&self) -> Option<Stop> {

@@ -50,6 +50,7 @@ fn serve_so<
     requires told { IsTold A.faults A.has_stopped A.is_damaged J.charter server [] }
     requires kept { IsJournalKept A.clock A.has_stopped A.tally J.charter server [] [] }
     requires turns { (A.tally server).steps + sum_by turns_left ports.items < turns }
+    requires small { turns < 4611686018427387904 }
     requires events { (A.tally server).events ≤ 3 * collections }
     requires runs { A.has_stopped server ≡ false }
     requires seed { A.seed server ≡ J.charter.seed }
@@ -79,6 +80,7 @@ fn serve_so<
     ensures collected { IfOk result (λ p.
         (p.ending.refused ≡ None → finishes_in p.trail.events ≡ J.charter.collections)
         × (p.ending.refused ≡ Some faults.Memory → IsWanting J.charter.collections p.trail.events)) }
+    ensures settled { IfOk result (λ p. p.ending.refused ≡ None → A.unfinished p.server ≡ 0) }
     ensures counted { IfOk result (λ p. CountsFaults A.faults A.stands J.charter (first_fault p.ending.refused) p.server
         p.trail.events) }
     ensures unserved { IfErr result (λ u. (u.server ≡ server) × (u.ports.items ≡ ports.items)) }
@@ -94,12 +96,12 @@ fn serve_so<
 }
 
 /// Serves the sessions of these ports, each in a thread, until each has left: at its script's end, or once its sink
-/// failed. Beside them, in a thread of its own, the collector makes its steps, of which there are fewer than the turns
-/// that it is given, until as many collections are finished as were called for or a step is refused. Where it rests, it
-/// does so once it has finished a collection, and makes the others when the sessions have left. Before each of its
-/// turns a session or the collector passes the gate, and is told how many events the trail has. Turns are made by
-/// tickets. Takes no memory but for the front, the threads, the answers and the collector. Where memory is wanting for
-/// the front nothing is served.
+/// failed. Beside them, in a thread of its own, the collector carries out what a commit has left, and makes its steps,
+/// of which there are fewer than it is given, until as many collections are finished as were called for or it is
+/// refused. Where it rests, it makes no step once it has finished a collection, and makes the others when the sessions
+/// have left. Before each of its turns a session or the collector passes the gate, and is told how many events the
+/// trail has. Turns are made by tickets. Takes no memory but for the front, the threads, the answers and the collector.
+/// Where memory is wanting for the front nothing is served.
 pub fn serve<A: Server + Send, K: Sink + Send, G: Gate + Sync, R: Threads + Wait + Sync>(
     rt: &R,
     alloc: Global,
@@ -118,6 +120,7 @@ pub fn serve<A: Server + Send, K: Sink + Send, G: Gate + Sync, R: Threads + Wait
     requires new { AreNew root ports.items }
     requires called { (A.tally server).called ≡ collections }
     requires turns { (A.tally server).steps + sum_by turns_left ports.items < turns }
+    requires small { turns < 4611686018427387904 }
     requires events { (A.tally server).events ≤ 3 * collections }
     requires idle { ((A.tally server).finished ≡ 0) × ((A.tally server).running ≡ false) }
     requires swept { (graph : Graph) → A.stands server (opening graph) → (A.tally server).lost graph ≡ 0 }
@@ -148,6 +151,8 @@ pub fn serve<A: Server + Send, K: Sink + Send, G: Gate + Sync, R: Threads + Wait
     ensures few { IfOk result (λ p. begins_in p.trail.events ≤ collections) }
     ensures collected { IfOk result (λ p. (p.ending.refused ≡ None → finishes_in p.trail.events ≡ collections)
         × (p.ending.refused ≡ Some faults.Memory → IsWanting collections p.trail.events)) }
+    // and no commit is unfinished
+    ensures settled { IfOk result (λ p. p.ending.refused ≡ None → A.unfinished p.server ≡ 0) }
     // A server that runs counts the collections of the trail.
     ensures tallied { IfOk result (λ p. A.has_stopped p.server ≡ false → IsTallied (A.tally p.server) p.trail.events) }
     // No moment is below the one before it.

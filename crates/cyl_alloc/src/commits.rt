@@ -37,6 +37,18 @@ impl Space {
         self.unfinished.is_some() as u32
     }
 
+    /// How many parts of it are left.
+    pub fn parts_left(&self) -> u64
+        ensures is { result ≡ left.parts_left self.now.left }
+        // A list in memory has fewer than 2 ^ 62 numbers.
+        ensures small { result < 4611686018427387904 }
+    {
+        match &self.unfinished {
+            Some(commit) => commit.parts_left(),
+            None => 0,
+        }
+    }
+
     /// The block by which an object is read: the shadow root where its commit is kept and its root isn't copied, else
     /// the root.
     pub fn shown(&self, root: BlockNo) -> BlockNo

@@ -1,5 +1,5 @@
 //! A commit past its bit, and how far it is carried out.
-ghost use Rattle.std.specs.Prelude.{◌≡◌, ◌≤◌, true, false, drop, length, None, Some};
+ghost use Rattle.std.specs.Prelude.{◌≡◌, ◌<◌, ◌≤◌, true, false, drop, length, None, Some};
 ghost use Rattle.cyl_alloc.specs.Left as spec;
 
 use crate::part::Part;
@@ -101,6 +101,18 @@ impl Unfinished {
                 block: BlockNo(*block),
             },
             None => Part::Clear { root: self.root },
+        }
+    }
+
+    /// How many parts are left.
+    pub fn parts_left(&self) -> u64
+        ensures is { result ≡ spec.parts_left (Some self.now) }
+        ensures small { result < 4611686018427387904 }
+    {
+        let copy = if self.copied { 0 } else { 1 };
+        match self.rest.items.get(self.done..) {
+            Some(blocks) => 1 + blocks.len() as u64 + copy,
+            None => 1 + copy,
         }
     }
 

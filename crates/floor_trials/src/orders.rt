@@ -25,7 +25,7 @@ fn expect_two(rt: &impl Abort, came: &Came, first: &str, second: &str) {
 
 #[test]
 fn sessions_and_the_collector_run_beside_each_other(rt: HostRuntime) -> Result<(), Fail> {
-    // the second session retains between the lines of the first, while the collection runs
+    // the second session retains between the lines of the first, beside the collector
     let holds = [
         hold(0, 2, 1, 0),
         hold(1, 0, 0, 1),
@@ -55,9 +55,10 @@ fn expect_run(rt: &impl Abort, came: &Came, events: &str, replies: &str, report:
 
 #[test]
 fn what_is_cut_off_vanishes_while_its_session_goes_on(rt: HostRuntime) -> Result<(), Fail> {
-    // the collector begins once the index is cut off. It begins, scans the root index, condemns the other, sweeps in
-    // two steps and is finished, and then the session goes on
-    let gate = gate_of(rt.alloc(), &[hold(1, 0, 0, 1), hold(0, 2, 1, 5)])?;
+    // the collector's turns come once the index is cut off. It carries out the delete in seven parts: the root is
+    // copied, a leaf and a node come, a leaf, a node and the shadow root go, the bit is cleared. Then it begins, scans
+    // the root index, condemns the other, sweeps in two steps and is finished, and then the session goes on
+    let gate = gate_of(rt.alloc(), &[hold(1, 0, 0, 1), hold(0, 2, 1, 12)])?;
     let seats = [session("create-index a 4 root 0\ndelete root 0\nretain root 5 a\nslots root\n")];
     let asked = ask_for(&["play", "1", "0", "1"], &seats);
     let came = serve(&rt, rt.alloc(), &gate, &mut None::<MemoryDisk>, &asked)?;

@@ -204,6 +204,7 @@ module _ {D : Type 0} (g : Ghosts D) (at slot : ℕ) (what : Option Puid) (d0 : 
     untried = λ same. (kept, reads_within g d0 d1 n 9 few reads);
     cylinders = ap (λ (k : Kept). length k.free) kept;
     left = tt;
+    still = λ none. tt;
     bit = tt;
     calls = makes_more g d0 d1 n 0 20 11 (omega (arith, few)) (omega arith) (reads_make g d0 d1 n reads);
   }
@@ -233,6 +234,7 @@ module _ {D : Type 0} (g : Ghosts D) (at slot : ℕ) (what : Option Puid) (d0 : 
       untried = λ same. let two = ends.untried same in (two.0, reads_then g d0 d1 d2 1 8 9 reads two.1 (omega arith));
       cylinders = ends.cylinders;
       left = tt;
+      still = λ none. tt;
       bit = tt;
       calls = makes_then g d0 d1 d2 1 8 20 0 4 11 (reads_make g d0 d1 1 reads) ends.calls (omega arith) (omega arith);
     }
@@ -273,6 +275,7 @@ module _ {D : Type 0} (g : Ghosts D) (at slot : ℕ) (what : Option Puid) (d0 : 
         untried = tt;
         cylinders = cylinders ∙ ends.cylinders;
         left = inr left;
+        still = λ none. let no : Some left.0 ≡ None = sym left.1.is ∙ none in cc;
         bit = record {
           tried = λ some. tried_then g d0 d2 d3 11 7 (then_tried g d0 d1 d2 1 0 (reads_make g d0 d1 1 reads) tried) commit;
           settled = λ some tells. settled (still_tells g (tells_on g d0 d1 d1 1 reads tells) ends.told ends.calls.same);
@@ -292,6 +295,7 @@ module _ {D : Type 0} (g : Ghosts D) (at slot : ℕ) (what : Option Puid) (d0 : 
         untried = λ same. absurd (tried_disk t same);
         cylinders = cylinders ∙ ends.cylinders;
         left = tt;
+        still = λ none. tt;
         bit = tt;
         calls = all;
       }
@@ -331,6 +335,7 @@ module _ {D : Type 0} (g : Ghosts D) (at slot : ℕ) (what : Option Puid) (d0 : 
           untried = tt;
           cylinders = ap (λ (k : Kept). length k.free) kept;
           left = inl (none, ap (λ (k : Kept). k.left) kept ∙ finished);
+          still = λ nothing. is.content ∙ both.content;
           bit = none_unfinished g d0 d3 k2.left (ap (λ (k : Kept). k.left) kept ∙ finished);
           calls = calls is.calls;
         }
@@ -343,6 +348,7 @@ module _ {D : Type 0} (g : Ghosts D) (at slot : ℕ) (what : Option Puid) (d0 : 
           untried = λ same. (let no : refused.Disk true ≡ refused.Disk false = sym is.refused ∙ same in cc);
           cylinders = ap (λ (k : Kept). length k.free) kept;
           left = tt;
+          still = λ none. tt;
           bit = tt;
           calls = calls is.calls;
         }

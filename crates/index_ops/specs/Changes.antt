@@ -130,6 +130,8 @@ pub record PutsSlot {D : Type 0} (g : Ghosts D) (at slot : ℕ) (what : Option P
   pub untried : IfErr result (λ e. e ≡ refusals.Disk false → (after ≡ before) × OnlyReads g 9 old new)
   pub cylinders : length after.free ≡ length before.free
   pub left : OnOk result (LeavesCommit at what after.left)
+  -- where none is, nothing changed
+  pub still : after.left ≡ None → OnOk result (g.content new ≡ g.content old)
   -- where it is unfinished, its bit was tried
   pub bit : OnOk result (IsAtBit g old new after.left)
   pub calls : MakesAtMost g 20 11 old new

@@ -1,7 +1,7 @@
 use Rattle.std.proofs.Common.{Err, subst, sym}
 use Rattle.ufs_model.specs.declared.object.Object.TheVariants as objects
 use Rattle.cfs_core.specs.Looks.{IsCalm}
-use Rattle.cfs_core.proofs.Calm.{calm_trouble}
+use Rattle.cfs_core.proofs.Calm.{calm_trouble, told_never}
 use Rattle.cfs_core.proofs.reading.root_in.Goals as goal
 
 pub returns-in-Ok-clause-exact : goal.returns-in-Ok-clause-exact
@@ -12,3 +12,6 @@ returns-in-Err-clause-calm g c = subst (λ e. IsCalm g.D.Disk objects.File 1 c.a
     (calm_trouble g.D.Disk objects.File 1 c.args.file.0 c.args.disk.now c.read_root.new.disk c.in-Err.trouble c.read_root.ensures.reads
     (λ f knows. c.in-Err.ensures.sound knows.graph knows.drafts knows.space knows.id f knows.seen)
     c.in-Err.ensures.untried c.in-Err.ensures.refused)
+
+pub returns-in-Err-clause-never : goal.returns-in-Err-clause-never
+returns-in-Err-clause-never g c = told_never c.in-Err.trouble c.from.result c.from.ensures

@@ -19,3 +19,9 @@ overflow_add-result-2 c =
     let few : c.from.result ≤ 1000 = omega (arith, c.requires.most) in
     let most : c.from.result * c.args.each ≤ 1000 * 70368744177664 = mul-le-mul few (le_of_lt c.requires.small) in
     omega (arith, most, c.requires.few)
+
+pub returns-clause-small : goal.returns-clause-small
+returns-clause-small c =
+    let few : c.from.result ≤ 1000 = omega (arith, c.requires.most) in
+    let most : c.from.result * c.args.each ≤ 1000 * 70368744177664 = mul-le-mul few (le_of_lt c.requires.small) in
+    omega (arith, most, c.requires.few)

@@ -1,5 +1,6 @@
-use Rattle.std.proofs.Common.{◌≡◌, ◌∙◌, ℕ, ◌+◌, ◌-◌, ◌*◌, inl, inr, map, ap, refl, subst, arith, add-zero, zero-add, None}
+use Rattle.std.proofs.Common.{◌≡◌, ◌∙◌, ℕ, ◌+◌, ◌-◌, ◌*◌, inl, inr, map, ap, refl, subst, arith, add-zero, zero-add, None, Some, Option}
 use Rattle.collector_steps.specs.Left.{most_steps}
+use Rattle.cyl_alloc.specs.Left.{LeftCommit, parts_left}
 use Rattle.cfs_core.specs.Left.{events_ahead, steps_ahead}
 use Rattle.cfs_core.specs.declared.collecting.Collections.{Collections}
 use Rattle.cfs_serve.proofs.Cited.{AreOver, Stands, blocks_of_grant, opening, client_of, sum_by}
@@ -20,13 +21,20 @@ called_steps blocks n c is =
 called_for : (c : Collections) (n : ℕ) → c ≡ record { collector = None; called = 0; finished = 0 } → record c { called = c.called + n } ≡ record { collector = None; called = n; finished = 0 }
 called_for c n is = ap (λ (x : Collections). record x { called = x.called + n }) is ∙ ap (λ (m : ℕ). record { collector = None; called = m; finished = 0 }) (zero-add n)
 
+none_left : (o : Option LeftCommit) → parts_left o ≡ 0 → o ≡ None
+none_left None is = refl
+none_left (Some l) is = absurd (omega (arith, is))
+
+pub serve-requires-clause-small : goal.serve-requires-clause-small
+serve-requires-clause-small g c = λ lifetimes outlives. c.count_steps-steps.ensures.small
+
 pub serve-requires-clause-turns : goal.serve-requires-clause-turns
 serve-requires-clause-turns g c = λ lifetimes outlives.
     let core = c.call_for.new.self in
     let is = ap (λ k. k.collections) c.call_for.ensures ∙ called_for c.args.core.collections c.args.collections c.requires.idle in
     let called = called_steps (g.D.Disk.blocks core.disk) c.args.collections core.collections is in
     let each : c.args.collections * c.most_steps.result ≡ c.args.collections * most_steps (g.D.Disk.blocks core.disk) = ap (λ n. c.args.collections * n) c.most_steps.ensures.steps in
-    omega (arith, called.0, each, c.requires.turns, c.count_steps-steps.ensures)
+    omega (arith, called.0, each, c.requires.turns, c.count_steps-steps.ensures.is)
 
 pub serve-requires-clause-events : goal.serve-requires-clause-events
 serve-requires-clause-events g c = λ lifetimes outlives.
@@ -64,6 +72,7 @@ returns g c =
       stop = facts.stop;
       few = facts.few;
       collected = facts.collected.0;
+      settled = λ whole. none_left parts.server.space.left (facts.settled whole);
       wanting = facts.collected.1;
       tallied = facts.tallied;
       rise = facts.rise;

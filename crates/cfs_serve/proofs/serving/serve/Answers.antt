@@ -52,3 +52,6 @@ returns-in-Ok-clause-counted g c = c.in-Ok.ensures.counted.told c.args.server re
 
 pub returns-in-Ok-clause-stops : goal.returns-in-Ok-clause-stops
 returns-in-Ok-clause-stops g c = λ graph standing. c.in-Ok.ensures.counted.stops c.args.server graph refl standing
+
+pub returns-in-Ok-clause-settled : goal.returns-in-Ok-clause-settled
+returns-in-Ok-clause-settled g c = c.in-Ok.ensures.settled

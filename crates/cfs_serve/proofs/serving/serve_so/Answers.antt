@@ -11,3 +11,6 @@ returns-in-Ok-clause-collected g c = (
   λ whole. c.into_parts.ensures.collected c.collect_rest.ensures.left whole,
   c.into_parts.ensures.wanting,
 )
+
+pub returns-in-Ok-clause-settled : goal.returns-in-Ok-clause-settled
+returns-in-Ok-clause-settled g c = λ whole. c.into_parts.ensures.settled c.collect_rest.ensures.left whole

@@ -39,7 +39,7 @@ returns-else-slots-gt-MOST_SLOTS g c =
     (tries_then g.D.Disk 1 k c.has_slot.new.disk c.make.new.self c.has_slot.ensures.calm.reads request c.in-Ok.index c.args.slot c.args.who c.make.result reach
     (c.make.ensures request (index_makes c.args.slots c.args.to c.args.slot))
     (λ s i serves r.
-    let inside = inside_of c.args.slot (length i.slots) (sym (c.in-Ok-true.ensures.exact i (known g.D.Disk k s serves c.in-Ok.index i r.there)) ∙ c.in-Ok-true.field-0-test) in
+    let inside = inside_of c.args.slot (length i.slots) (sym (c.in-Ok-true.ensures.exact i (known g.D.Disk k s serves c.in-Ok.index i c.shown-at.result.0 c.shown-at.ensures.shown r.there)) ∙ c.in-Ok-true.field-0-test) in
     (inside, index_goes s c.args.who c.args.to c.in-Ok.index i c.args.slot c.args.slots r inside (some_of c.args.slots c.if-slots-eq0.false) (few_of c.args.slots c.if-slots-gt-MOST_SLOTS.false))))
 
 pub returns-then-slots-eq0 : goal.returns-then-slots-eq0
@@ -48,7 +48,7 @@ returns-then-slots-eq0 g c =
     let request = asks.CreateIndex c.args.slots c.args.to c.args.slot in
     let reach = subst (λ x. ReachesAll g.D.Disk objects.Index x c.args.who request c.in-Ok.index) (sym c.self.view_is) (c.in-Ok.ensures.reached request (record { to = refl; each = λ s who. refl })) in
     subst (λ x. Tries g.D.Disk x (record k { disk = c.has_slot.new.disk }) c.args.who request (Ok replies.Range)) c.self.view_is
-    (tries_refused g.D.Disk g.met.D.Disk.left_sized g.met.D.Disk.sized objects.Index k c.in-Ok.index c.args.who request reach 1 c.has_slot.new.disk replies.Range tt c.has_slot.ensures.calm.reads
+    (tries_refused g.D.Disk g.met.D.Disk.left_sized g.met.D.Disk.sized objects.Index k c.in-Ok.index c.shown-at.result.0 c.shown-at.ensures.shown c.args.who request reach 1 c.has_slot.new.disk replies.Range tt c.has_slot.ensures.calm.reads
     (λ s i serves r knows.
     let inside = inside_of c.args.slot (length i.slots) (sym (c.in-Ok-true.ensures.exact i knows) ∙ c.in-Ok-true.field-0-test) in
     index_range s c.args.who c.args.to c.in-Ok.index i c.args.slot c.args.slots r inside (out_of c.args.slots c.then-slots-eq0.either)))
@@ -59,7 +59,7 @@ returns-in-Ok-false g c =
     let request = asks.CreateIndex c.args.slots c.args.to c.args.slot in
     let reach = subst (λ x. ReachesAll g.D.Disk objects.Index x c.args.who request c.in-Ok.index) (sym c.self.view_is) (c.in-Ok.ensures.reached request (record { to = refl; each = λ s who. refl })) in
     subst (λ x. Tries g.D.Disk x (record k { disk = c.has_slot.new.disk }) c.args.who request (Ok replies.Slot)) c.self.view_is
-    (tries_refused g.D.Disk g.met.D.Disk.left_sized g.met.D.Disk.sized objects.Index k c.in-Ok.index c.args.who request reach 1 c.has_slot.new.disk replies.Slot tt c.has_slot.ensures.calm.reads
+    (tries_refused g.D.Disk g.met.D.Disk.left_sized g.met.D.Disk.sized objects.Index k c.in-Ok.index c.shown-at.result.0 c.shown-at.ensures.shown c.args.who request reach 1 c.has_slot.new.disk replies.Slot tt c.has_slot.ensures.calm.reads
     (λ s i serves r knows. beyond 0 s c.args.who c.args.to c.in-Ok.index i request c.args.slot r refl (sym (c.in-Ok-false.ensures.exact i knows) ∙ c.in-Ok-false.field-0-test)))
 
 pub returns-in-Err-has_slot : goal.returns-in-Err-has_slot
@@ -68,4 +68,4 @@ returns-in-Err-has_slot g c =
     let request = asks.CreateIndex c.args.slots c.args.to c.args.slot in
     let reach = subst (λ x. ReachesAll g.D.Disk objects.Index x c.args.who request c.in-Ok.index) (sym c.self.view_is) (c.in-Ok.ensures.reached request (record { to = refl; each = λ s who. refl })) in
     subst (λ x. Tries g.D.Disk x (record k { disk = c.has_slot.new.disk }) c.args.who request (Err c.in-Err-has_slot.unread)) c.self.view_is
-    (tries_failed g.D.Disk g.met.D.Disk.left_sized g.met.D.Disk.sized objects.Index k c.in-Ok.index c.args.who request reach 1 c.has_slot.new.disk c.in-Err-has_slot.unread c.has_slot.ensures.calm.reads c.in-Err-has_slot.ensures.calm.sound c.in-Err-has_slot.ensures.calm.cause)
+    (tries_failed g.D.Disk g.met.D.Disk.left_sized g.met.D.Disk.sized objects.Index k c.in-Ok.index c.shown-at.result.0 c.shown-at.ensures.shown c.args.who request reach 1 c.has_slot.new.disk c.in-Err-has_slot.unread c.has_slot.ensures.calm.reads c.in-Err-has_slot.ensures.calm.sound c.in-Err-has_slot.ensures.calm.cause)

@@ -2,7 +2,7 @@ use Rattle.std.proofs.Common.{◌≡◌, Option, Some, None, true, false, is_som
 use Rattle.cfs_core.proofs.Words.{draft_of, Grant, session_grant, grant_of}
 use Rattle.cfs_core.specs.Kernel.{grants_in}
 use Rattle.cfs_core.specs.Handles.{drafting_at}
-use Rattle.cfs_core.proofs.Altered.{undrafted}
+use Rattle.cfs_core.proofs.Reached.{undrafted}
 use Rattle.cfs_core.proofs.Ending.{none_there}
 use Rattle.cfs_core.proofs.kernel.Core.drafted.Goals.{else-is_some-via-then-is_some+else-is_some-2, else-is_some-via-else-is_some}
 use Rattle.cfs_core.proofs.kernel.Core.drafted.Goals as goal

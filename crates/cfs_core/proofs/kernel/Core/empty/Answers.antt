@@ -1,8 +1,13 @@
-use Rattle.std.proofs.Common.{◌*◌, ℕ, None, refl, sym, ◌∙◌, ap, subst}
+use Rattle.std.proofs.Common.{◌<◌, inl, None, Err, refl, sym, ◌∙◌, ap, subst, arith, sum}
+use Rattle.cfs_base.specs.declared.refusal.Damage.{Damage}
+use Rattle.cfs_core.specs.Damage.{FewLeft}
+use Rattle.cfs_core.proofs.Went.{went_so}
+use Rattle.cfs_base.specs.declared.refusal.Refused.TheVariants as refusals
 use Rattle.ufs_model.specs.declared.asked.Request.TheVariants as asks
-use Rattle.cfs_core.specs.Calls.{TriesOn}
+use Rattle.cfs_core.specs.Calls.{TriesOn, TriesOnWith, done_or}
+use Rattle.cfs_core.specs.Finished.{since}
 use Rattle.cfs_core.specs.Kernel.{Kernel}
-use Rattle.cfs_core.proofs.Carried.{fills}
+use Rattle.cfs_core.proofs.Joined.{damaged_since, done_decides, done_never, tries_on_since, tries_on_unfinished}
 use Rattle.cfs_core.proofs.Putting.{tries_put, tries_want_on}
 use Rattle.cfs_core.proofs.Refusing.{delete_holds, delete_out}
 use Rattle.cfs_core.proofs.kernel.Core.empty.Goals as goal
@@ -10,18 +15,48 @@ use Rattle.cfs_core.proofs.kernel.Core.empty.Goals as goal
 pub returns-in-Err : goal.returns-in-Err
 returns-in-Err g c = λ to. tries_want_on g.D.Disk g.met.D.Disk.left_sized g.met.D.Disk.sized c.args.self.now c.args.index c.args.slot (asks.Delete to c.args.slot) c.in-Err.refused c.in-Err.ensures
 
-pub carry_on-requires : goal.carry_on-requires
-carry_on-requires g c = c.delete-ended.ensures.calls.same.size ∙ c.self.invariant.size ∙ ap (λ (n : ℕ). 64 * n) (sym c.delete-ended.ensures.cylinders)
+pub returns-in-Err-finish : goal.returns-in-Err-finish
+returns-in-Err-finish g c = λ to.
+    let k : Kernel _ = record { disk = c.self.inside.disk; root = c.self.inside.root; directory = c.self.inside.directory; space = c.self.inside.space; words = c.self.inside.words; handles = c.self.inside.handles.handles; collections = c.self.inside.collections; stop = c.self.inside.stop } in
+    let request = asks.Delete to c.args.slot in
+    subst (λ x. TriesOn g.D.Disk x (record k { disk = c.finish.new.disk; space = c.finish.new.space }) c.args.index c.args.slot request (Err c.from.result)) c.self.view_is
+    (tries_on_unfinished g.D.Disk g.met.D.Disk.left_sized g.met.D.Disk.sized k c.finish.new.disk c.finish.new.space c.in-Err-finish.trouble c.in-Err-finish.ensures request c.args.index c.args.slot c.from.result c.from.ensures)
+
+-- fewer are Free than four: such a core serves no state
+pub returns-then-free-lt3 : goal.returns-then-free-lt3
+returns-then-free-lt3 g c = λ to.
+    let G = g.D.Disk in
+    let k : Kernel _ = record { disk = c.self.inside.disk; root = c.self.inside.root; directory = c.self.inside.directory; space = c.self.inside.space; words = c.self.inside.words; handles = c.self.inside.handles.handles; collections = c.self.inside.collections; stop = c.self.inside.stop } in
+    let d1 = c.finish.new.disk in
+    let k1 = c.finish.new.space in
+    let mid : Kernel _ = record k { disk = d1; space = k1 } in
+    let request = asks.Delete to c.args.slot in
+    let damage : Damage = record { block = 0; code = 11 } in
+    let few : sum k1.free < 3 = omega (arith, c.if-free-lt3.true, c.free.ensures.sum) in
+    let now : TriesOnWith G None mid mid c.args.index c.args.slot request (Err (refusals.Damaged damage)) = record {
+      ends = λ s who i serves none reach within goes. absurd (omega (arith, serves.four, few));
+      went = λ named. went_so G mid d1 k1 k.handles refl (omega arith) (omega arith) request (Err (refusals.Damaged damage)) tt (FewLeft refl refl (inl (refl, few)));
+    } in
+    let joined = tries_on_since G k d1 k1 c.in-Ok-finish.tried c.in-Ok-finish.ensures g.met.D.Disk.left_sized g.met.D.Disk.sized mid refl request (Err (refusals.Damaged damage)) tt (λ is. cc) c.args.index c.args.slot now in
+    subst (λ x. TriesOn G x mid c.args.index c.args.slot request (Err (refusals.Damaged damage))) c.self.view_is
+    (subst (λ e. TriesOn G k mid c.args.index c.args.slot request (Err e)) (damaged_since c.in-Ok-finish.tried damage) joined)
 
 pub returns : goal.returns
 returns g c = λ to.
     let k : Kernel _ = record { disk = c.self.inside.disk; root = c.self.inside.root; directory = c.self.inside.directory; space = c.self.inside.space; words = c.self.inside.words; handles = c.self.inside.handles.handles; collections = c.self.inside.collections; stop = c.self.inside.stop } in
-    let d2 = c.carry_on.new.disk in
-    let k2 = c.carry_on.new.space in
+    let d1 = c.finish.new.disk in
+    let k1 = c.finish.new.space in
+    let mid : Kernel _ = record k { disk = d1; space = k1 } in
+    let d2 = c.delete-ended.new.disk in
+    let k2 = c.delete-ended.new.space in
     let new : Kernel _ = record k { disk = d2; space = k2 } in
     let request = asks.Delete to c.args.slot in
-    let done = tries_put g.D.Disk g.met.D.Disk.left_sized g.met.D.Disk.sized k d2 k2 c.args.index c.args.slot None request refl refl refl c.carry_on.result
-    (fills g.D.Disk k.disk c.delete-ended.new.disk d2 k.space c.delete-ended.new.space k2 c.args.index.block c.args.slot None c.delete-ended.result c.carry_on.result c.delete-ended.ensures c.carry_on.ensures)
+    let ended = c.delete-ended.result in
+    let puts = c.delete-ended.ensures in
+    let now : TriesOnWith g.D.Disk None mid new c.args.index c.args.slot request (done_or ended) =
+    tries_put g.D.Disk g.met.D.Disk.left_sized g.met.D.Disk.sized mid d2 k2 c.args.index c.args.slot None request refl refl refl ended puts
     (λ s who i serves r. (refl, delete_out k.words.seed s who to c.args.index i c.args.slot r))
     (λ s who i serves r. ((λ short. let no = short.delete in cc), serves.four)) (λ s who. (refl, refl)) (λ s who i r goes none. delete_holds k.words.seed s who to c.args.index i c.args.slot r goes) in
-    subst (λ x. TriesOn g.D.Disk x new c.args.index c.args.slot request c.done.result) c.self.view_is (subst (λ r. TriesOn g.D.Disk k new c.args.index c.args.slot request r) (sym c.done.ensures) done)
+    let joined = tries_on_since g.D.Disk k d1 k1 c.in-Ok-finish.tried c.in-Ok-finish.ensures g.met.D.Disk.left_sized g.met.D.Disk.sized new puts.calls.same.size request (done_or ended) (done_decides ended) (done_never ended (λ is. rw is at puts.refused)) c.args.index c.args.slot now in
+    subst (λ x. TriesOn g.D.Disk x new c.args.index c.args.slot request c.since.result) c.self.view_is
+    (subst (λ r. TriesOn g.D.Disk k new c.args.index c.args.slot request r) (sym (c.since.ensures ∙ ap (since c.in-Ok-finish.tried) c.done.ensures)) joined)

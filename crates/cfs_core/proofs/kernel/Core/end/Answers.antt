@@ -1,9 +1,11 @@
-use Rattle.std.proofs.Common.{◌≡◌, true, None, Ok, Err, sym, ◌∙◌, ap, subst, IsSome}
-use Rattle.cfs_core.proofs.Words.{session_grant, refused_by}
+use Rattle.std.proofs.Common.{◌≡◌, ◌≢◌, true, None, Ok, Err, sym, ◌∙◌, ap, subst, IsSome}
+use Rattle.cfs_base.specs.declared.refusal.Refused.TheVariants as refusals
+use Rattle.cfs_base.specs.declared.refusal.Trouble.TheVariants as troubles
+use Rattle.cfs_core.proofs.Words.{session_grant, refused_by, Refused, Trouble}
 use Rattle.open_table.specs.Grants.{is_session_grant}
 use Rattle.ufs_model.specs.declared.asked.Reply.TheVariants as replies
 use Rattle.ufs_model.specs.declared.asked.Request.TheVariants as asks
-use Rattle.cfs_core.specs.Calls.{Tries}
+use Rattle.cfs_core.specs.Calls.{TriesWith}
 use Rattle.cfs_core.specs.Kernel.{Kernel, grants_in, is_ready_for}
 use Rattle.cfs_core.specs.Handles.{have_draft, is_at, handles_but}
 use Rattle.cfs_core.proofs.Ending.{closed_handles, held_in, tries_ended, tries_unended}
@@ -21,30 +23,37 @@ pub invariant_of-self : goal.invariant_of-self
 invariant_of-self g c =
     let left = closed_handles c.args.who c.args.grant c.close.result c.self.inside.handles.handles c.close.new.self.handles (subst (λ x. IsSome (session_grant (grants_in x.handles) c.args.who c.args.grant)) (sym c.self.view_is) c.requires.found) c.close.ensures.handles c.close.ensures.none in
     let fewer = sized_but c.self.invariant (is_session_grant c.args.who c.args.grant) c.close.new.self.handles left in
-    sized_with fewer c.end_draft.new.disk c.end_draft.new.space _ _ c.end_draft.ensures.calls.calls.same.size c.end_draft.ensures.cylinders fewer.drawn_all fewer.ready
+    sized_with fewer c.end_draft.new.disk c.end_draft.new.space _ _ c.end_draft.ensures.calls.same.size c.end_draft.ensures.cylinders fewer.drawn_all fewer.ready
 
-pub returns-in-Ok : goal.returns-in-Ok
-returns-in-Ok g c = λ handles was drafting.
+pub returns-in-Ok-clause-tries : goal.returns-in-Ok-clause-tries
+returns-in-Ok-clause-tries g c = λ handles was drafting.
     let k : Kernel _ = record { disk = c.self.inside.disk; root = c.self.inside.root; directory = c.self.inside.directory; space = c.self.inside.space; words = c.self.inside.words; handles = c.self.inside.handles.handles; collections = c.self.inside.collections; stop = c.self.inside.stop } in
     let had = subst (λ gs. IsSome (session_grant gs c.args.who c.args.grant)) (ap grants_in was ∙ grants_with c.args.grant.draw None handles) c.requires.found in
     let left = closed_handles c.args.who c.args.grant c.close.result c.self.inside.handles.handles c.close.new.self.handles (subst (λ x. IsSome (session_grant (grants_in x.handles) c.args.who c.args.grant)) (sym c.self.view_is) c.requires.found) c.close.ensures.handles c.close.ensures.none
     ∙ ap (handles_but (is_session_grant c.args.who c.args.grant)) (ap (λ x. x.handles) c.self.view_is ∙ was) in
-    subst (λ x. Tries g.D.Disk (record x { handles = handles }) (record k { disk = c.end_draft.new.disk; space = c.end_draft.new.space; handles = c.close.new.self.handles }) c.args.who (asks.Close c.args.grant c.args.commit) (Ok replies.Done)) c.self.view_is
-    (subst (λ ss. Tries g.D.Disk (record k { handles = handles }) (record k { disk = c.end_draft.new.disk; space = c.end_draft.new.space; handles = ss }) c.args.who (asks.Close c.args.grant c.args.commit) (Ok replies.Done)) (sym left)
+    subst (λ x. TriesWith g.D.Disk None (record x { handles = handles }) (record k { disk = c.end_draft.new.disk; space = c.end_draft.new.space; handles = c.close.new.self.handles }) c.args.who (asks.Close c.args.grant c.args.commit) (Ok replies.Done)) c.self.view_is
+    (subst (λ ss. TriesWith g.D.Disk None (record k { handles = handles }) (record k { disk = c.end_draft.new.disk; space = c.end_draft.new.space; handles = ss }) c.args.who (asks.Close c.args.grant c.args.commit) (Ok replies.Done)) (sym left)
     (tries_ended g.D.Disk g.met.D.Disk.left_sized g.met.D.Disk.sized (record k { handles = handles }) c.args.who c.args.grant c.args.draft drafting (ready_for _ c.args.draft c.requires.ready).bare
     (held_in g.D.Disk (record k { handles = handles }) c.args.who c.args.grant c.args.draft drafting had (λ s. c.table_follows_the_model.ensures.found s c.args.who c.args.grant))
     c.end_draft.new.disk c.end_draft.new.space c.args.commit c.in-Ok.ensures))
 
 pub invariant_of-self-in-Err : goal.invariant_of-self-in-Err
-invariant_of-self-in-Err g c = sized_with c.self.invariant c.end_draft.new.disk c.end_draft.new.space _ _ c.end_draft.ensures.calls.calls.same.size c.end_draft.ensures.cylinders c.self.invariant.drawn_all c.self.invariant.ready
+invariant_of-self-in-Err g c = sized_with c.self.invariant c.end_draft.new.disk c.end_draft.new.space _ _ c.end_draft.ensures.calls.same.size c.end_draft.ensures.cylinders c.self.invariant.drawn_all c.self.invariant.ready
 
-pub returns-in-Err : goal.returns-in-Err
-returns-in-Err g c = λ handles was drafting.
+pub returns-in-Err-clause-tries : goal.returns-in-Err-clause-tries
+returns-in-Err-clause-tries g c = λ handles was drafting.
     let k : Kernel _ = record { disk = c.self.inside.disk; root = c.self.inside.root; directory = c.self.inside.directory; space = c.self.inside.space; words = c.self.inside.words; handles = c.self.inside.handles.handles; collections = c.self.inside.collections; stop = c.self.inside.stop } in
     let had = subst (λ gs. IsSome (session_grant gs c.args.who c.args.grant)) (ap grants_in was ∙ grants_with c.args.grant.draw None handles) c.requires.found in
-    subst (λ e. Tries g.D.Disk (record c.args.self.now { handles = handles }) (record k { disk = c.end_draft.new.disk; space = c.end_draft.new.space }) c.args.who (asks.Close c.args.grant c.args.commit) (Err e)) (sym c.from.ensures)
-    (subst (λ x. Tries g.D.Disk (record x { handles = handles }) (record k { disk = c.end_draft.new.disk; space = c.end_draft.new.space }) c.args.who (asks.Close c.args.grant c.args.commit) (Err (refused_by c.in-Err.trouble))) c.self.view_is
-    (subst (λ ss. Tries g.D.Disk (record k { handles = handles }) (record k { disk = c.end_draft.new.disk; space = c.end_draft.new.space; handles = ss }) c.args.who (asks.Close c.args.grant c.args.commit) (Err (refused_by c.in-Err.trouble))) (sym (ap (λ x. x.handles) c.self.view_is ∙ was))
+    subst (λ e. TriesWith g.D.Disk None (record c.args.self.now { handles = handles }) (record k { disk = c.end_draft.new.disk; space = c.end_draft.new.space }) c.args.who (asks.Close c.args.grant c.args.commit) (Err e)) (sym c.from.ensures)
+    (subst (λ x. TriesWith g.D.Disk None (record x { handles = handles }) (record k { disk = c.end_draft.new.disk; space = c.end_draft.new.space }) c.args.who (asks.Close c.args.grant c.args.commit) (Err (refused_by c.in-Err.trouble))) c.self.view_is
+    (subst (λ ss. TriesWith g.D.Disk None (record k { handles = handles }) (record k { disk = c.end_draft.new.disk; space = c.end_draft.new.space; handles = ss }) c.args.who (asks.Close c.args.grant c.args.commit) (Err (refused_by c.in-Err.trouble))) (sym (ap (λ x. x.handles) c.self.view_is ∙ was))
     (tries_unended g.D.Disk g.met.D.Disk.left_sized g.met.D.Disk.sized (record k { handles = handles }) c.args.who c.args.grant c.args.draft drafting (ready_for _ c.args.draft c.requires.ready).bare
     (held_in g.D.Disk (record k { handles = handles }) c.args.who c.args.grant c.args.draft drafting had (λ s. c.table_follows_the_model.ensures.found s c.args.who c.args.grant))
     c.end_draft.new.disk c.end_draft.new.space c.args.commit c.in-Err.trouble c.in-Err.ensures)))
+
+never_memory : (t : Trouble) (e : Refused) → e ≡ refused_by t → e ≢ refusals.Memory
+never_memory (troubles.Disk tried) e is = λ no. let apart = sym is ∙ no in cc
+never_memory (troubles.Damaged damage) e is = λ no. let apart = sym is ∙ no in cc
+
+pub returns-in-Err-clause-never : goal.returns-in-Err-clause-never
+returns-in-Err-clause-never g c = never_memory c.in-Err.trouble c.from.result c.from.ensures

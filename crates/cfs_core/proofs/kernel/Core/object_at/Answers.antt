@@ -2,7 +2,7 @@ use Rattle.std.proofs.Common.{◌≡◌, Option, Some, None, sym, ◌∙◌, ap}
 use Rattle.cfs_core.proofs.Words.{Ghosts, Kind, directory_kind, object_kind, Object, object_at, Puid, State, Wanted}
 use Rattle.ufs_model.specs.declared.asked.Reply.TheVariants as replies
 use Rattle.cfs_core.specs.Kernel.{Kernel}
-use Rattle.cfs_core.specs.StandsFor.{CoreServes}
+use Rattle.cfs_core.specs.StandsFor.{ServesIs}
 use Rattle.cfs_core.specs.Ways.{unfit_of}
 use Rattle.cfs_core.proofs.Answering.{tries_refusal, unfit_plain}
 use Rattle.cfs_core.proofs.Serving.{kind_is, kind_there, object_listed}
@@ -10,7 +10,7 @@ use Rattle.cfs_core.proofs.Ways.{arrives, lacking, locked, no_name, read_only, r
 use Rattle.cfs_core.proofs.kernel.Core.object_at.Goals as goal
 
 -- an object that is wanted is there, where its kind is listed
-wanted_there : {D : Type 0} (g : Ghosts D) (k : Kernel D) (s : State) → CoreServes g k s → (id : Puid) (wants : Wanted) (found : Option Kind) (kind : Kind) → found ≡ directory_kind k.directory.named id → (found ≡ Some kind) × (unfit_of wants found ≡ None)
+wanted_there : {D : Type 0} (g : Ghosts D) (k : Kernel D) (s : State) → ServesIs g k s → (id : Puid) (wants : Wanted) (found : Option Kind) (kind : Kind) → found ≡ directory_kind k.directory.named id → (found ≡ Some kind) × (unfit_of wants found ≡ None)
     → (o : Object) × (object_at s.graph id ≡ Some o) × (unfit_of wants (Some (object_kind o)) ≡ None)
 wanted_there g k s serves id wants found kind is fit =
     let o = object_listed g k s serves id kind (sym is ∙ fit.0) in

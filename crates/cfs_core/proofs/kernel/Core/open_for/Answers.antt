@@ -1,19 +1,34 @@
-use Rattle.std.proofs.Common.{◌≡◌, ◌+◌, ◌++◌, [], ◌∷◌, length, is_some, false, None, Some, Ok, Err, refl, sym, ◌∙◌, ap, subst, ◌<◌, ◌*◌, IsSome, nat_le}
-use Rattle.cfs_core.proofs.Words.{Draws, fault_of, grants_of, is_locked, directory_kind, list_all, mode_against, MOST_GRANTS, refusal_of, State, Tuid, word}
+use Rattle.std.proofs.Common.{◌≡◌, ◌≢◌, inl, inr, Bool, true, Option, Result, ◌+◌, ◌++◌, [], ◌∷◌, length, is_some, false, None, Some, Ok, Err, refl, sym, ◌∙◌, ap, subst, ◌<◌, ◌*◌, IsSome, nat_le}
+use Rattle.cfs_core.proofs.Words.{Drafting, Draws, fault_of, grants_of, is_locked, directory_kind, list_all, mode_against, MOST_GRANTS, refusal_of, Refused, Reply, State, Trouble, Tuid, word}
 use Rattle.cfs_base.specs.declared.refusal.Refused.TheVariants as refusals
 use Rattle.open_table.specs.declared.grant.Grant.{Grant}
 use Rattle.ufs_model.specs.declared.asked.Reply.TheVariants as replies
 use Rattle.ufs_model.specs.declared.asked.Request.TheVariants as asks
 use Rattle.cfs_core.specs.Calls.{Tries}
 use Rattle.cfs_core.specs.Kernel.{Kernel, grants_in, is_drawn_by, is_ready}
-use Rattle.cfs_core.specs.StandsFor.{CoreServes}
-use Rattle.cfs_core.specs.Opening.{Begins, gets_draft, reply_to_fault}
+use Rattle.cfs_core.specs.Finished.{FinishesLeft}
+use Rattle.cfs_core.specs.StandsFor.{CoreServes, ServesIs}
+use Rattle.std.proofs.lemmas.Bool.{cases_Bool}
+use Rattle.cfs_core.specs.Opening.{Begins, reply_to_fault}
 use Rattle.cfs_core.proofs.Answering.{memory, reads_none, tries_refusal, tries_so}
 use Rattle.cfs_core.proofs.Granted.{drawn_push, not_drawn}
-use Rattle.cfs_core.proofs.Openings.{begun_ready, fault_told, fit_is, none_locked, none_told, open_gone, open_index, there_now, told_plain, tries_not, tries_open}
+use Rattle.cfs_core.proofs.Openings.{begun_ready, fault_told, fit_is, none_locked, none_told, open_gone, open_index, there_now, told_plain, tries_bare, tries_not, tries_open}
+use Rattle.cfs_core.proofs.Joined.{ok_is, tries_since, tries_unfinished}
 use Rattle.cfs_core.proofs.Readied.{all_push}
 use Rattle.cfs_core.proofs.Serving.{there_is}
 use Rattle.cfs_core.proofs.kernel.Core.open_for.Goals as goal
+
+-- only where a draft is wanted can it be refused
+wanted_by : (wanted : Bool) (r : Result Bool Trouble) (why : Trouble) → r ≡ Err why → (wanted ≡ false → r ≡ Ok false) → wanted ≡ true
+wanted_by true r why is idle = refl
+wanted_by false r why is idle = let no = sym is ∙ idle refl in cc
+
+drafted_by : (wanted : Bool) (r : Result (Option Drafting) Refused) (e : Refused) → r ≡ Err e → (wanted ≡ false → r ≡ Ok None) → wanted ≡ true
+drafted_by true r e is bare = refl
+drafted_by false r e is bare = let no = sym is ∙ bare refl in cc
+
+err_never : (e : Refused) → e ≢ refusals.Memory → ◌≢◌ {A = Result Reply Refused} (Err e) (Err refusals.Memory)
+err_never e never = λ is. never (let same : e ≡ refusals.Memory = cc in same)
 
 pub returns-in-None : goal.returns-in-None
 returns-in-None g c =
@@ -44,7 +59,7 @@ returns-in-Some-fault g c =
     let listed = ap (λ x. directory_kind x.directory.named c.args.id) c.self.view_is ∙ sym c.kind.ensures.kind ∙ c.in-Some.is in
     let gs = grants_in c.reserve.new.self.handles in
     let grant : Grant = (record { tuid = record { draw = c.drawn.result + 1; word = c.ahead.result }; session = c.args.who; id = c.args.id; mode = c.args.mode }) in
-    subst (λ r. Tries g.D.Disk c.args.self.now (record k { handles = c.reserve.new.self.handles }) c.args.who request (Ok r)) (sym c.told_of.ensures)
+    subst (λ r. Tries g.D.Disk c.args.self.now (record k { handles = c.reserve.new.self.handles }) c.args.who request (Ok r)) (sym c.reply_to_fault.ensures)
     (subst (λ x. Tries g.D.Disk x (record k { handles = c.reserve.new.self.handles }) c.args.who request (Ok (reply_to_fault c.in-Some-fault.fault))) c.self.view_is
     (subst (λ ss. Tries g.D.Disk k (record k { handles = ss }) c.args.who request (Ok (reply_to_fault c.in-Some-fault.fault))) (sym c.reserve.ensures.handles)
     (tries_refusal g.D.Disk g.met.D.Disk.left_sized g.met.D.Disk.sized k c.args.who request (reply_to_fault c.in-Some-fault.fault) (told_plain c.in-Some-fault.fault)
@@ -60,8 +75,21 @@ pub open-requires-clause-new : goal.open-requires-clause-new
 open-requires-clause-new g c = not_drawn c.reserve.new.self.handles c.self.inside.words.drawn (c.drawn.result + 1) (ap (λ n. n + 1) c.drawn.ensures)
     (ap (list_all (is_drawn_by c.self.inside.words.drawn)) c.reserve.ensures.handles ∙ c.self.invariant.drawn_all)
 
-pub returns-in-Err-first_draft : goal.returns-in-Err-first_draft
-returns-in-Err-first_draft g c =
+-- memory for a draft is wanted
+pub returns-in-Err-room_if : goal.returns-in-Err-room_if
+returns-in-Err-room_if g c =
+    let k : Kernel _ = record { disk = c.self.inside.disk; root = c.self.inside.root; directory = c.self.inside.directory; space = c.self.inside.space; words = c.self.inside.words; handles = c.self.inside.handles.handles; collections = c.self.inside.collections; stop = c.self.inside.stop } in
+    let request = asks.OpenFor c.args.id c.args.mode in
+    subst (λ x. Tries g.D.Disk x (record k { handles = c.reserve.new.self.handles }) c.args.who request (Err c.in-Err-room_if.refused)) c.self.view_is
+    (subst (λ e. Tries g.D.Disk k (record k { handles = c.reserve.new.self.handles }) c.args.who request (Err e)) (sym c.in-Err-room_if.ensures.wants)
+    (subst (λ ss. Tries g.D.Disk k (record k { handles = ss }) c.args.who request (Err refusals.Memory)) (sym c.reserve.ensures.handles)
+    (tries_so g.D.Disk g.met.D.Disk.left_sized g.met.D.Disk.sized 0 k k (reads_none g.D.Disk 0 k.disk) refl c.args.who request (Err refusals.Memory)
+    (λ s serves none. memory g.D.Disk g.met.D.Disk.left_sized g.met.D.Disk.sized 0 k k (reads_none g.D.Disk 0 k.disk) refl s c.args.who serves none request) tt tt)))
+
+-- what was left couldn't be carried out
+pub returns-in-Err-finish_if : goal.returns-in-Err-finish_if
+returns-in-Err-finish_if g c =
+    let G = g.D.Disk in
     let k : Kernel _ = record { disk = c.self.inside.disk; root = c.self.inside.root; directory = c.self.inside.directory; space = c.self.inside.space; words = c.self.inside.words; handles = c.self.inside.handles.handles; collections = c.self.inside.collections; stop = c.self.inside.stop } in
     let request = asks.OpenFor c.args.id c.args.mode in
     let listed : directory_kind k.directory.named c.args.id ≡ Some c.in-Some.kind = ap (λ x. directory_kind x.directory.named c.args.id) c.self.view_is ∙ sym c.kind.ensures.kind ∙ c.in-Some.is in
@@ -71,7 +99,7 @@ returns-in-Err-first_draft g c =
     let tuid_is : tuid ≡ record { draw = k.words.drawn + 1; word = word k.words.seed (k.words.drawn + 1) } =
     ap (λ n. record { draw = n + 1; word = c.ahead.result }) c.drawn.ensures ∙ ap (λ w. record { draw = c.self.inside.words.drawn + 1; word = w }) c.ahead.ensures in
     let none : fault_of gs grant ≡ None = sym c.fault.ensures ∙ c.in_default-fault.is in
-    let goes : (s : State) → CoreServes g.D.Disk k s → (refusal_of s c.args.who request ≡ None) × (is_locked s c.args.who request ≡ false) =
+    let goes : (s : State) → ServesIs g.D.Disk k s → (refusal_of s c.args.who request ≡ None) × (is_locked s c.args.who request ≡ false) =
     λ s serves.
     let table = ap grants_in c.reserve.ensures.handles ∙ serves.front.grants in
     let there = there_now g.D.Disk k s serves c.args.id c.in-Some.kind listed in
@@ -79,34 +107,76 @@ returns-in-Err-first_draft g c =
     let lock = ap (λ xs. is_some (mode_against xs grant)) table ∙ c.table_follows_the_model.ensures.locked s c.args.who grant in
     let many = ap (λ xs. nat_le MOST_GRANTS (length (grants_of xs c.args.who))) table ∙ c.table_follows_the_model.ensures.full s c.args.who c.args.id c.args.mode in
     (none_told s c.args.who c.args.id c.args.mode there fit (mode_against gs grant) (length (grants_of gs c.args.who)) lock many none, none_locked s c.args.who c.args.id c.args.mode there fit (mode_against gs grant) (length (grants_of gs c.args.who)) lock many none) in
-    let begins = subst (λ r. Begins g.D.Disk c.args.id.block (gets_draft c.in-Some.kind c.args.mode) c.self.inside.disk c.first_draft.new.disk c.self.inside.space c.first_draft.new.space r) c.in-Err-first_draft.is
-    (subst (λ w. Begins g.D.Disk c.args.id.block w c.self.inside.disk c.first_draft.new.disk c.self.inside.space c.first_draft.new.space c.first_draft.result) c.gets_draft.ensures c.first_draft.ensures.begins) in
-    subst (λ x. Tries g.D.Disk x (record k { disk = c.first_draft.new.disk; space = c.first_draft.new.space; handles = c.reserve.new.self.handles }) c.args.who request (Err c.in-Err-first_draft.refused)) c.self.view_is
-    (subst (λ ss. Tries g.D.Disk k (record k { disk = c.first_draft.new.disk; space = c.first_draft.new.space; handles = ss }) c.args.who request (Err c.in-Err-first_draft.refused)) (sym c.reserve.ensures.handles)
-    (tries_not g.D.Disk g.met.D.Disk.left_sized g.met.D.Disk.sized k c.args.who c.args.id c.args.mode c.in-Some.kind listed tuid tuid_is goes c.first_draft.new.disk c.first_draft.new.space c.in-Err-first_draft.refused begins))
+    let wants : c.gets_draft-wanted.result ≡ true = wanted_by c.gets_draft-wanted.result c.finish_if.result c.in-Err-finish_if.trouble c.in-Err-finish_if.is (λ no. (c.finish_if.ensures.idle no).0) in
+    let new : Kernel _ = record k { disk = c.finish_if.new.disk; space = c.finish_if.new.space } in
+    subst (λ x. Tries G x (record new { handles = c.reserve.new.self.handles }) c.args.who request (Err c.from-in-Err-finish_if.result)) c.self.view_is
+    (subst (λ ss. Tries G k (record new { handles = ss }) c.args.who request (Err c.from-in-Err-finish_if.result)) (sym c.reserve.ensures.handles)
+    (tries_unfinished G g.met.D.Disk.left_sized g.met.D.Disk.sized k c.finish_if.new.disk c.finish_if.new.space c.in-Err-finish_if.trouble (subst (λ r. FinishesLeft G k.disk c.finish_if.new.disk k.space c.finish_if.new.space r) c.in-Err-finish_if.is (c.finish_if.ensures.finished wants)) request c.args.who c.from-in-Err-finish_if.result c.from-in-Err-finish_if.ensures
+    (λ s serves. (goes s serves).0)))
+
+-- it couldn't be begun
+pub returns-in-Err-first_draft : goal.returns-in-Err-first_draft
+returns-in-Err-first_draft g c =
+    let G = g.D.Disk in
+    let k : Kernel _ = record { disk = c.self.inside.disk; root = c.self.inside.root; directory = c.self.inside.directory; space = c.self.inside.space; words = c.self.inside.words; handles = c.self.inside.handles.handles; collections = c.self.inside.collections; stop = c.self.inside.stop } in
+    let request = asks.OpenFor c.args.id c.args.mode in
+    let listed : directory_kind k.directory.named c.args.id ≡ Some c.in-Some.kind = ap (λ x. directory_kind x.directory.named c.args.id) c.self.view_is ∙ sym c.kind.ensures.kind ∙ c.in-Some.is in
+    let gs = grants_in c.reserve.new.self.handles in
+    let tuid : Tuid = record { draw = c.drawn.result + 1; word = c.ahead.result } in
+    let grant : Grant = (record { tuid = tuid; session = c.args.who; id = c.args.id; mode = c.args.mode }) in
+    let tuid_is : tuid ≡ record { draw = k.words.drawn + 1; word = word k.words.seed (k.words.drawn + 1) } =
+    ap (λ n. record { draw = n + 1; word = c.ahead.result }) c.drawn.ensures ∙ ap (λ w. record { draw = c.self.inside.words.drawn + 1; word = w }) c.ahead.ensures in
+    let none : fault_of gs grant ≡ None = sym c.fault.ensures ∙ c.in_default-fault.is in
+    let mid : Kernel _ = record k { disk = c.finish_if.new.disk; space = c.finish_if.new.space } in
+    let new : Kernel _ = record k { disk = c.first_draft.new.disk; space = c.first_draft.new.space } in
+    let goes_on : (s : State) → ServesIs g.D.Disk k s → (refusal_of s c.args.who request ≡ None) × (is_locked s c.args.who request ≡ false) =
+    λ s serves.
+    let table = ap grants_in c.reserve.ensures.handles ∙ serves.front.grants in
+    let there = there_now g.D.Disk k s serves c.args.id c.in-Some.kind listed in
+    let fit = fit_is g.D.Disk k s serves c.args.id c.in-Some.kind listed c.args.mode ∙ sym c.is_unfit.ensures ∙ c.if-is_unfit.false in
+    let lock = ap (λ xs. is_some (mode_against xs grant)) table ∙ c.table_follows_the_model.ensures.locked s c.args.who grant in
+    let many = ap (λ xs. nat_le MOST_GRANTS (length (grants_of xs c.args.who))) table ∙ c.table_follows_the_model.ensures.full s c.args.who c.args.id c.args.mode in
+    (none_told s c.args.who c.args.id c.args.mode there fit (mode_against gs grant) (length (grants_of gs c.args.who)) lock many none, none_locked s c.args.who c.args.id c.args.mode there fit (mode_against gs grant) (length (grants_of gs c.args.who)) lock many none) in
+    let goes : (s : State) → CoreServes g.D.Disk mid s → (refusal_of s c.args.who request ≡ None) × (is_locked s c.args.who request ≡ false) =
+    λ s serves.
+    let table = ap grants_in c.reserve.ensures.handles ∙ serves.front.grants in
+    let there = there_now g.D.Disk mid s serves c.args.id c.in-Some.kind listed in
+    let fit = fit_is g.D.Disk mid s serves c.args.id c.in-Some.kind listed c.args.mode ∙ sym c.is_unfit.ensures ∙ c.if-is_unfit.false in
+    let lock = ap (λ xs. is_some (mode_against xs grant)) table ∙ c.table_follows_the_model.ensures.locked s c.args.who grant in
+    let many = ap (λ xs. nat_le MOST_GRANTS (length (grants_of xs c.args.who))) table ∙ c.table_follows_the_model.ensures.full s c.args.who c.args.id c.args.mode in
+    (none_told s c.args.who c.args.id c.args.mode there fit (mode_against gs grant) (length (grants_of gs c.args.who)) lock many none, none_locked s c.args.who c.args.id c.args.mode there fit (mode_against gs grant) (length (grants_of gs c.args.who)) lock many none) in
+    let begins = subst (λ w. Begins G c.args.id.block w c.finish_if.new.disk c.first_draft.new.disk c.finish_if.new.space c.first_draft.new.space (Err c.in-Err-first_draft.refused)) (c.in-Ok.ensures.room ∙ c.gets_draft-wanted.ensures) (subst (λ r. Begins G c.args.id.block (is_some c.in-Ok.room) c.finish_if.new.disk c.first_draft.new.disk c.finish_if.new.space c.first_draft.new.space r) c.in-Err-first_draft.is c.first_draft.ensures.begins) in
+    let wants : c.gets_draft-wanted.result ≡ true = drafted_by c.gets_draft-wanted.result c.first_draft.result c.in-Err-first_draft.refused c.in-Err-first_draft.is (λ no. (c.first_draft.ensures.bare (c.in-Ok.ensures.room ∙ no)).0) in
+    let fin = subst (λ r. FinishesLeft G k.disk c.finish_if.new.disk k.space c.finish_if.new.space r) c.in-Ok-finish_if.is (c.finish_if.ensures.finished wants) in
+    let now = tries_not G g.met.D.Disk.left_sized g.met.D.Disk.sized mid c.args.who c.args.id c.args.mode c.in-Some.kind listed tuid tuid_is goes c.first_draft.new.disk c.first_draft.new.space c.in-Err-first_draft.refused begins in
+    let joined = tries_since G k c.finish_if.new.disk c.finish_if.new.space c.in-Ok-finish_if.tried fin g.met.D.Disk.left_sized g.met.D.Disk.sized new begins.calls.same.size request (Err c.in-Err-first_draft.refused) tt (err_never c.in-Err-first_draft.refused c.in-Err-first_draft.ensures.never) c.args.who (λ s serves. (goes_on s serves).0) now in
+    subst (λ x. Tries G x (record new { handles = c.reserve.new.self.handles }) c.args.who request (Err c.refused_since.result)) c.self.view_is
+    (subst (λ ss. Tries G k (record new { handles = ss }) c.args.who request (Err c.refused_since.result)) (sym c.reserve.ensures.handles)
+    (subst (λ e. Tries G k new c.args.who request (Err e)) (sym c.refused_since.ensures) joined))
 
 pub invariant_of-self-2 : goal.invariant_of-self-2
 invariant_of-self-2 g c =
+    let G = g.D.Disk in
     let tuid : Tuid = record { draw = c.drawn.result + 1; word = c.ahead.result } in
     let grant : Grant = (record { tuid = tuid; session = c.args.who; id = c.args.id; mode = c.args.mode }) in
-    let begins = subst (λ r. Begins g.D.Disk c.args.id.block (gets_draft c.in-Some.kind c.args.mode) c.self.inside.disk c.first_draft.new.disk c.self.inside.space c.first_draft.new.space r) c.in-Ok.is
-    (subst (λ w. Begins g.D.Disk c.args.id.block w c.self.inside.disk c.first_draft.new.disk c.self.inside.space c.first_draft.new.space c.first_draft.result) c.gets_draft.ensures c.first_draft.ensures.begins) in
+    let begins = subst (λ w. Begins G c.args.id.block w c.finish_if.new.disk c.first_draft.new.disk c.finish_if.new.space c.first_draft.new.space (Ok c.in-Ok-first_draft.draft)) (c.in-Ok.ensures.room ∙ c.gets_draft-wanted.ensures) (subst (λ r. Begins G c.args.id.block (is_some c.in-Ok.room) c.finish_if.new.disk c.first_draft.new.disk c.finish_if.new.space c.first_draft.new.space r) c.in-Ok-first_draft.is c.first_draft.ensures.begins) in
     let next = ap (λ (w : Draws). w.drawn) c.next.ensures.drawn in
-    let below = subst (λ n. c.args.id.block < n) (sym c.self.invariant.room) (subst (λ x. c.args.id.block < g.D.Disk.blocks x.disk) (sym c.self.view_is) (c.kind.ensures.on_disk (subst (λ o. IsSome o) (sym c.in-Some.is) refl))) in
+    let below = subst (λ n. c.args.id.block < n) (sym c.self.invariant.room) (subst (λ x. c.args.id.block < G.blocks x.disk) (sym c.self.view_is) (c.kind.ensures.on_disk (subst (λ o. IsSome o) (sym c.in-Some.is) refl))) in
     record {
-      size = begins.calls.same.size ∙ c.self.invariant.size ∙ ap (λ n. 64 * n) (sym c.first_draft.ensures.cylinders);
-      room = c.self.invariant.room ∙ sym begins.calls.same.size;
+      size = begins.calls.same.size ∙ c.finish_if.ensures.size ∙ c.self.invariant.size ∙ ap (λ n. 64 * n) (sym (c.first_draft.ensures.cylinders ∙ c.finish_if.ensures.cylinders));
+      room = c.self.invariant.room ∙ sym (begins.calls.same.size ∙ c.finish_if.ensures.size);
       some = c.self.invariant.some;
       kept = c.self.invariant.kept;
       drawn_all = ap (list_all (is_drawn_by c.next.new.self.drawn)) c.open.ensures
           ∙ drawn_push c.reserve.new.self.handles _ c.self.inside.words.drawn c.next.new.self.drawn next (ap (λ n. n + 1) c.drawn.ensures ∙ sym next) (ap (list_all (is_drawn_by c.self.inside.words.drawn)) c.reserve.ensures.handles ∙ c.self.invariant.drawn_all);
       ready = ap (list_all (is_ready c.self.inside.directory.room)) c.open.ensures
           ∙ all_push (is_ready c.self.inside.directory.room) c.reserve.new.self.handles _ (ap (list_all (is_ready c.self.inside.directory.room)) c.reserve.ensures.handles ∙ c.self.invariant.ready)
-          (begun_ready c.self.inside.directory.room c.in-Some.kind grant c.in-Ok.draft begins.ready below);
+          (begun_ready c.self.inside.directory.room c.in-Some.kind grant c.in-Ok-first_draft.draft begins.ready below);
     }
 
 pub returns : goal.returns
 returns g c =
+    let G = g.D.Disk in
     let k : Kernel _ = record { disk = c.self.inside.disk; root = c.self.inside.root; directory = c.self.inside.directory; space = c.self.inside.space; words = c.self.inside.words; handles = c.self.inside.handles.handles; collections = c.self.inside.collections; stop = c.self.inside.stop } in
     let request = asks.OpenFor c.args.id c.args.mode in
     let listed : directory_kind k.directory.named c.args.id ≡ Some c.in-Some.kind = ap (λ x. directory_kind x.directory.named c.args.id) c.self.view_is ∙ sym c.kind.ensures.kind ∙ c.in-Some.is in
@@ -116,7 +186,8 @@ returns g c =
     let tuid_is : tuid ≡ record { draw = k.words.drawn + 1; word = word k.words.seed (k.words.drawn + 1) } =
     ap (λ n. record { draw = n + 1; word = c.ahead.result }) c.drawn.ensures ∙ ap (λ w. record { draw = c.self.inside.words.drawn + 1; word = w }) c.ahead.ensures in
     let none : fault_of gs grant ≡ None = sym c.fault.ensures ∙ c.in_default-fault.is in
-    let goes : (s : State) → CoreServes g.D.Disk k s → (refusal_of s c.args.who request ≡ None) × (is_locked s c.args.who request ≡ false) =
+    let mid : Kernel _ = record k { disk = c.finish_if.new.disk; space = c.finish_if.new.space } in
+    let goes_on : (s : State) → ServesIs g.D.Disk k s → (refusal_of s c.args.who request ≡ None) × (is_locked s c.args.who request ≡ false) =
     λ s serves.
     let table = ap grants_in c.reserve.ensures.handles ∙ serves.front.grants in
     let there = there_now g.D.Disk k s serves c.args.id c.in-Some.kind listed in
@@ -124,9 +195,30 @@ returns g c =
     let lock = ap (λ xs. is_some (mode_against xs grant)) table ∙ c.table_follows_the_model.ensures.locked s c.args.who grant in
     let many = ap (λ xs. nat_le MOST_GRANTS (length (grants_of xs c.args.who))) table ∙ c.table_follows_the_model.ensures.full s c.args.who c.args.id c.args.mode in
     (none_told s c.args.who c.args.id c.args.mode there fit (mode_against gs grant) (length (grants_of gs c.args.who)) lock many none, none_locked s c.args.who c.args.id c.args.mode there fit (mode_against gs grant) (length (grants_of gs c.args.who)) lock many none) in
-    let begins = subst (λ r. Begins g.D.Disk c.args.id.block (gets_draft c.in-Some.kind c.args.mode) c.self.inside.disk c.first_draft.new.disk c.self.inside.space c.first_draft.new.space r) c.in-Ok.is
-    (subst (λ w. Begins g.D.Disk c.args.id.block w c.self.inside.disk c.first_draft.new.disk c.self.inside.space c.first_draft.new.space c.first_draft.result) c.gets_draft.ensures c.first_draft.ensures.begins) in
-    let pushed = c.open.ensures ∙ ap (λ ss. ss ++ record { grant = grant; drafting = c.in-Ok.draft } ∷ []) c.reserve.ensures.handles in
-    subst (λ x. Tries g.D.Disk x (record k { disk = c.first_draft.new.disk; space = c.first_draft.new.space; words = c.next.new.self; handles = c.open.new.self.handles }) c.args.who request (Ok (replies.Grant tuid))) c.self.view_is
-    (subst (λ ss. Tries g.D.Disk k (record k { disk = c.first_draft.new.disk; space = c.first_draft.new.space; words = c.next.new.self; handles = ss }) c.args.who request (Ok (replies.Grant tuid))) (sym pushed)
-    (tries_open g.D.Disk g.met.D.Disk.left_sized g.met.D.Disk.sized k c.args.who c.args.id c.args.mode c.in-Some.kind listed tuid tuid_is goes c.first_draft.new.disk c.first_draft.new.space c.next.new.self c.next.ensures.drawn c.in-Ok.draft begins))
+    let goes : (s : State) → CoreServes g.D.Disk mid s → (refusal_of s c.args.who request ≡ None) × (is_locked s c.args.who request ≡ false) =
+    λ s serves.
+    let table = ap grants_in c.reserve.ensures.handles ∙ serves.front.grants in
+    let there = there_now g.D.Disk mid s serves c.args.id c.in-Some.kind listed in
+    let fit = fit_is g.D.Disk mid s serves c.args.id c.in-Some.kind listed c.args.mode ∙ sym c.is_unfit.ensures ∙ c.if-is_unfit.false in
+    let lock = ap (λ xs. is_some (mode_against xs grant)) table ∙ c.table_follows_the_model.ensures.locked s c.args.who grant in
+    let many = ap (λ xs. nat_le MOST_GRANTS (length (grants_of xs c.args.who))) table ∙ c.table_follows_the_model.ensures.full s c.args.who c.args.id c.args.mode in
+    (none_told s c.args.who c.args.id c.args.mode there fit (mode_against gs grant) (length (grants_of gs c.args.who)) lock many none, none_locked s c.args.who c.args.id c.args.mode there fit (mode_against gs grant) (length (grants_of gs c.args.who)) lock many none) in
+    let begins = subst (λ w. Begins G c.args.id.block w c.finish_if.new.disk c.first_draft.new.disk c.finish_if.new.space c.first_draft.new.space (Ok c.in-Ok-first_draft.draft)) (c.in-Ok.ensures.room ∙ c.gets_draft-wanted.ensures) (subst (λ r. Begins G c.args.id.block (is_some c.in-Ok.room) c.finish_if.new.disk c.first_draft.new.disk c.finish_if.new.space c.first_draft.new.space r) c.in-Ok-first_draft.is c.first_draft.ensures.begins) in
+    let pushed = c.open.ensures ∙ ap (λ ss. ss ++ record { grant = grant; drafting = c.in-Ok-first_draft.draft } ∷ []) c.reserve.ensures.handles in
+    let new : Kernel _ = record k { disk = c.first_draft.new.disk; space = c.first_draft.new.space; words = c.next.new.self; handles = k.handles ++ record { grant = grant; drafting = c.in-Ok-first_draft.draft } ∷ [] } in
+    let done : Tries G k new c.args.who request (Ok (replies.Grant tuid)) = elim (cases_Bool c.gets_draft-wanted.result) [
+      | inl wants ↦ (
+          let fin = subst (λ r. FinishesLeft G k.disk c.finish_if.new.disk k.space c.finish_if.new.space r) c.in-Ok-finish_if.is (c.finish_if.ensures.finished wants) in
+          let now = tries_open G g.met.D.Disk.left_sized g.met.D.Disk.sized mid c.args.who c.args.id c.args.mode c.in-Some.kind listed tuid tuid_is goes c.first_draft.new.disk c.first_draft.new.space c.next.new.self c.next.ensures.drawn c.in-Ok-first_draft.draft begins in
+          tries_since G k c.finish_if.new.disk c.finish_if.new.space c.in-Ok-finish_if.tried fin g.met.D.Disk.left_sized g.met.D.Disk.sized new begins.calls.same.size request (Ok (replies.Grant tuid)) refl (λ is. cc) c.args.who (λ s serves. (goes_on s serves).0) now)
+      | inr bare ↦ (
+          let idle = (c.finish_if.ensures.idle bare) in
+          let none_begun = c.first_draft.ensures.bare (c.in-Ok.ensures.room ∙ bare) in
+          let draft_is : c.in-Ok-first_draft.draft ≡ None = ok_is c.in-Ok-first_draft.draft None (sym c.in-Ok-first_draft.is ∙ none_begun.0) in
+          subst (λ o. Tries G k (record k { disk = c.first_draft.new.disk; space = c.first_draft.new.space; words = c.next.new.self; handles = k.handles ++ record { grant = grant; drafting = o } ∷ [] }) c.args.who request (Ok (replies.Grant tuid))) (sym draft_is)
+          (subst (λ d. Tries G k (record k { disk = d; space = c.first_draft.new.space; words = c.next.new.self; handles = k.handles ++ record { grant = grant; drafting = None } ∷ [] }) c.args.who request (Ok (replies.Grant tuid))) (sym (none_begun.1 ∙ idle.1))
+          (subst (λ y. Tries G k (record k { space = y; words = c.next.new.self; handles = k.handles ++ record { grant = grant; drafting = None } ∷ [] }) c.args.who request (Ok (replies.Grant tuid))) (sym (none_begun.2 ∙ idle.2))
+          (tries_bare G g.met.D.Disk.left_sized g.met.D.Disk.sized k c.args.who c.args.id c.args.mode c.in-Some.kind listed tuid tuid_is (λ s serves. (goes_on s serves).0) (sym c.gets_draft-wanted.ensures ∙ bare) c.next.new.self c.next.ensures.drawn))))
+    ] in
+    subst (λ x. Tries G x (record k { disk = c.first_draft.new.disk; space = c.first_draft.new.space; words = c.next.new.self; handles = c.open.new.self.handles }) c.args.who request (Ok (replies.Grant tuid))) c.self.view_is
+    (subst (λ ss. Tries G k (record k { disk = c.first_draft.new.disk; space = c.first_draft.new.space; words = c.next.new.self; handles = ss }) c.args.who request (Ok (replies.Grant tuid))) (sym pushed) done)

@@ -3,7 +3,7 @@ use Rattle.cfs_core.proofs.Words.{session_grant, Through}
 use Rattle.ufs_model.specs.declared.asked.Request.TheVariants as asks
 use Rattle.cfs_core.specs.Calls.{Tries}
 use Rattle.cfs_core.specs.Kernel.{Kernel, grants_in}
-use Rattle.cfs_core.proofs.Altered.{tries_read}
+use Rattle.cfs_core.proofs.Reached.{tries_read}
 use Rattle.cfs_core.proofs.Ending.{held_in}
 use Rattle.cfs_core.proofs.Readied.{ready_at, ready_for}
 use Rattle.cfs_core.proofs.kernel.Core.read_draft.Goals as goal

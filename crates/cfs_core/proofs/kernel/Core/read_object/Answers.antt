@@ -18,5 +18,5 @@ returns g c =
     let request = asks.Read c.args.to c.args.offset c.args.count in
     let reach = subst (λ x. ReachesAll g.D.Disk objects.File x c.args.who request c.in-Ok.file) (sym c.self.view_is) (c.in-Ok.ensures.reached request (record { to = refl; each = λ s who. refl })) in
     subst (λ x. Tries g.D.Disk x (record k { disk = c.content.new.disk }) c.args.who request c.content.result) c.self.view_is
-    (tries_seen g.D.Disk g.met.D.Disk.left_sized g.met.D.Disk.sized objects.File k c.in-Ok.file c.args.who request reach (1 + nodes_touched c.args.offset c.args.count + leaves_touched c.args.offset c.args.count) c.content.new.disk (λ f. content_reply f c.args.offset c.args.count) c.content.result refl (λ s reply. (refl, refl))
+    (tries_seen g.D.Disk g.met.D.Disk.left_sized g.met.D.Disk.sized objects.File k c.in-Ok.file c.shown-at.result.0 c.shown-at.ensures.shown c.args.who request reach (1 + nodes_touched c.args.offset c.args.count + leaves_touched c.args.offset c.args.count) c.content.new.disk (λ f. content_reply f c.args.offset c.args.count) c.content.result refl (λ s. refl) (λ s reply. refl)
     (λ s f serves r. (refl, read_seen k.words.seed s c.args.who c.args.to c.in-Ok.file f c.args.offset c.args.count r)) c.content.ensures.plain c.content.ensures.exact c.content.ensures.calm)

@@ -1,4 +1,4 @@
-use Rattle.std.proofs.Common.{◌≡◌, ◌*◌, ◌<◌, ◌≤◌, ℕ, true, false, refl, sym, ◌∙◌, ap, subst, arith, nat_lt}
+use Rattle.std.proofs.Common.{◌≡◌, ◌<◌, ◌≤◌, ℕ, Err, true, false, refl, sym, ◌∙◌, ap, subst, arith, nat_lt}
 use Rattle.cfs_core.proofs.Words.{nat_tests, SetSize}
 use Rattle.ufs_model.specs.declared.asked.Reply.TheVariants as replies
 use Rattle.ufs_model.specs.declared.asked.Request.TheVariants as asks
@@ -6,10 +6,11 @@ use Rattle.ufs_model.specs.declared.object.Object.TheVariants as objects
 use Rattle.cfs_core.specs.Calls.{Tries}
 use Rattle.cfs_core.specs.Kernel.{Kernel}
 use Rattle.cfs_core.specs.Looks.{ReachesAll}
-use Rattle.cfs_core.specs.StandsFor.{CoreServes}
+use Rattle.cfs_core.specs.Finished.{since}
+use Rattle.cfs_core.specs.StandsFor.{ServesIs}
 use Rattle.cfs_core.proofs.Answering.{reads_none, tries_refusal, tries_want}
-use Rattle.cfs_core.proofs.Carried.{alters, ends_altered}
-use Rattle.cfs_core.proofs.Filed.{resize_changes, tries_changed}
+use Rattle.cfs_core.proofs.Filed.{resize_changes, tries_filed}
+use Rattle.cfs_core.proofs.Joined.{left_none, tries_unfinished}
 use Rattle.cfs_core.proofs.Refusing.{resize_goes, resize_range}
 use Rattle.leaf_changes.specs.Tops.{disk_top}
 use Rattle.cfs_core.proofs.kernel.Core.resize_object.Goals as goal
@@ -36,28 +37,30 @@ returns-in-Err-room_for g c =
     let k = c.args.self.now in
     tries_want g.D.Disk g.met.D.Disk.left_sized g.met.D.Disk.sized 0 k k (reads_none g.D.Disk 0 k.disk) refl c.args.who (asks.Resize c.args.to c.args.size) c.in-Err-room_for.refused c.in-Err-room_for.ensures.wants
 
-pub carry_on-requires : goal.carry_on-requires
-carry_on-requires g c =
-    let ends = c.resize-ended.ensures.changes.ends in
-    ends.calls.same.size ∙ c.self.invariant.size ∙ ap (λ (n : ℕ). 64 * n) (sym ends.cylinders)
+pub returns-in-Err-finish : goal.returns-in-Err-finish
+returns-in-Err-finish g c =
+    let k : Kernel _ = record { disk = c.self.inside.disk; root = c.self.inside.root; directory = c.self.inside.directory; space = c.self.inside.space; words = c.self.inside.words; handles = c.self.inside.handles.handles; collections = c.self.inside.collections; stop = c.self.inside.stop } in
+    let request = asks.Resize c.args.to c.args.size in
+    let reach = subst (λ x. ReachesAll g.D.Disk objects.File x c.args.who request c.in-Ok.there.0) (sym c.self.view_is) (c.in-Ok.ensures.reached request (record { to = refl; each = λ s who. refl })) in
+    subst (λ x. Tries g.D.Disk x (record k { disk = c.finish.new.disk; space = c.finish.new.space }) c.args.who request (Err c.from.result)) c.self.view_is
+    (tries_unfinished g.D.Disk g.met.D.Disk.left_sized g.met.D.Disk.sized k c.finish.new.disk c.finish.new.space c.in-Err-finish.trouble c.in-Err-finish.ensures request c.args.who c.from.result c.from.ensures
+    (λ s serves.
+    let r = reach.0 s serves in
+    resize_goes k.words.seed s c.args.who c.args.to c.in-Ok.there.0 r.0 c.args.size r.1 (within c.args.size (omega (arith, c.if-size-gt-MOST_BYTES.false)))))
 
 pub returns : goal.returns
 returns g c =
     let k : Kernel _ = record { disk = c.self.inside.disk; root = c.self.inside.root; directory = c.self.inside.directory; space = c.self.inside.space; words = c.self.inside.words; handles = c.self.inside.handles.handles; collections = c.self.inside.collections; stop = c.self.inside.stop } in
+    let G = g.D.Disk in
     let request = asks.Resize c.args.to c.args.size in
-    let reach = subst (λ x. ReachesAll g.D.Disk objects.File x c.args.who request c.in-Ok.there.0) (sym c.self.view_is) (c.in-Ok.ensures.reached request (record { to = refl; each = λ s who. refl })) in
-    let at = c.in-Ok.there.0.block in
-    let kind = c.in-Ok.there.1 in
-    let d1 = c.resize-ended.new.disk in
-    let k1 = c.resize-ended.new.space in
-    let d2 = c.carry_on.new.disk in
-    let k2 = c.carry_on.new.space in
-    let new : Kernel _ = record k { disk = d2; space = k2 } in
+    let reach = subst (λ x. ReachesAll G objects.File x c.args.who request c.in-Ok.there.0) (sym c.self.view_is) (c.in-Ok.ensures.reached request (record { to = refl; each = λ s who. refl })) in
+    let d1 = c.finish.new.disk in
+    let new : Kernel _ = record k { disk = c.resize-ended.new.disk; space = c.resize-ended.new.space } in
+    let changes = c.resize-ended.ensures.changes in
     let less : c.args.size ≤ 7864320 = omega (arith, c.if-size-gt-MOST_BYTES.false) in
-    let done = tries_changed g.D.Disk g.met.D.Disk.left_sized g.met.D.Disk.sized 0 k k.disk d2 k2 (reads_none g.D.Disk 0 k.disk) c.in-Ok.there.0 kind (SetSize c.args.size) request
-    (resize_changes c.args.to c.args.size) c.carry_on.result
-    (λ tells. alters g.D.Disk k.disk d1 d2 k.space k1 k2 at kind 4 (SetSize c.args.size) c.resize-ended.result c.carry_on.result c.resize-ended.ensures.changes c.carry_on.ensures)
-    (disk_top g.D.Disk at k.disk) refl (λ size far. far)
-    (ends_altered g.D.Disk k.disk d1 d2 k.space k1 k2 (disk_top g.D.Disk at k.disk) kind 4 (SetSize c.args.size) c.resize-ended.result c.carry_on.result c.resize-ended.ensures.changes.ends c.carry_on.ensures) c.args.who reach
-    (λ s f serves r knows. (c.in-Ok.ensures.kind s f (subst (λ x. CoreServes g.D.Disk x s) c.self.view_is serves) r.there, less, resize_goes k.words.seed s c.args.who c.args.to c.in-Ok.there.0 f c.args.size r (within c.args.size less))) in
-    subst (λ x. Tries g.D.Disk x new c.args.who request c.done.result) c.self.view_is (subst (λ r. Tries g.D.Disk k new c.args.who request r) (sym c.done.ensures) done)
+    let done = tries_filed G g.met.D.Disk.left_sized g.met.D.Disk.sized k 0 k.disk (reads_none G 0 k.disk) d1 c.finish.new.space c.in-Ok-finish.tried c.in-Ok-finish.ensures 0 d1 (reads_none G 0 d1) c.in-Ok.there.0 request c.args.who reach
+    c.resize-ended.new.disk c.resize-ended.new.space c.in-Ok.there.1 (SetSize c.args.size) (resize_changes c.args.to c.args.size) c.resize-ended.result
+    (disk_top G c.in-Ok.there.0.block d1) refl changes.ends (λ told tells. changes)
+    (λ none size far. subst (λ (x : _). (disk_top G c.in-Ok.there.0.block x).IsFar size) (c.in-Ok-finish.ensures.none (left_none k.space.left (sym c.in-Ok-finish.ensures.told ∙ none))).0 far) (λ some size far. far) (λ special wanted. (rw wanted at (c.resize-ended.ensures.memory (c.in-Ok-room_for.ensures.room special))) refl)
+    (λ s f serves r shut. (c.in-Ok.ensures.kind s f (subst (λ x. ServesIs G x s) c.self.view_is serves) r.there, less, resize_goes k.words.seed s c.args.who c.args.to c.in-Ok.there.0 f c.args.size r (within c.args.size less))) in
+    subst (λ x. Tries G x new c.args.who request c.since.result) c.self.view_is (subst (λ r. Tries G k new c.args.who request r) (sym (c.since.ensures ∙ ap (since c.in-Ok-finish.tried) c.done.ensures)) done)

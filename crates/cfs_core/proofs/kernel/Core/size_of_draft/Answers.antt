@@ -4,7 +4,7 @@ use Rattle.ufs_model.specs.declared.asked.Reply.TheVariants as replies
 use Rattle.ufs_model.specs.declared.asked.Request.TheVariants as asks
 use Rattle.cfs_core.specs.Calls.{Tries}
 use Rattle.cfs_core.specs.Handles.{drafting_at}
-use Rattle.cfs_core.proofs.Altered.{tries_size}
+use Rattle.cfs_core.proofs.Reached.{tries_size}
 use Rattle.cfs_core.proofs.Ending.{held_in}
 use Rattle.cfs_core.proofs.Rewritten.{same_draft}
 use Rattle.cfs_core.proofs.kernel.Core.size_of_draft.Goals as goal

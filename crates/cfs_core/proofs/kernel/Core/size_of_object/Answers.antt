@@ -17,5 +17,5 @@ returns g c =
     let request = asks.Size c.args.to in
     let reach = subst (λ x. ReachesAll g.D.Disk objects.File x c.args.who request c.in-Ok.file) (sym c.self.view_is) (c.in-Ok.ensures.reached request (record { to = refl; each = λ s who. refl })) in
     subst (λ x. Tries g.D.Disk x (record k { disk = c.measure.new.disk }) c.args.who request c.measure.result) c.self.view_is
-    (tries_seen g.D.Disk g.met.D.Disk.left_sized g.met.D.Disk.sized objects.File k c.in-Ok.file c.args.who request reach 1 c.measure.new.disk measured c.measure.result refl (λ s reply. (refl, refl))
+    (tries_seen g.D.Disk g.met.D.Disk.left_sized g.met.D.Disk.sized objects.File k c.in-Ok.file c.shown-at.result.0 c.shown-at.ensures.shown c.args.who request reach 1 c.measure.new.disk measured c.measure.result refl (λ s. refl) (λ s reply. refl)
     (λ s f serves r. (refl, size_seen k.words.seed s c.args.who c.args.to c.in-Ok.file f r)) c.measure.ensures.plain c.measure.ensures.exact c.measure.ensures.calm)

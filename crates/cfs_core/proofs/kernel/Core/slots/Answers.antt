@@ -17,5 +17,5 @@ returns g c =
     let request = asks.Slots c.args.to in
     let reach = subst (λ x. ReachesAll g.D.Disk objects.Index x c.args.who request c.in-Ok.index) (sym c.self.view_is) (c.in-Ok.ensures.reached request (record { to = refl; each = λ s who. refl })) in
     subst (λ x. Tries g.D.Disk x (record k { disk = c.count.new.disk }) c.args.who request c.count.result) c.self.view_is
-    (tries_seen g.D.Disk g.met.D.Disk.left_sized g.met.D.Disk.sized objects.Index k c.in-Ok.index c.args.who request reach 1 c.count.new.disk counted c.count.result refl (λ s reply. (refl, refl))
+    (tries_seen g.D.Disk g.met.D.Disk.left_sized g.met.D.Disk.sized objects.Index k c.in-Ok.index c.shown-at.result.0 c.shown-at.ensures.shown c.args.who request reach 1 c.count.new.disk counted c.count.result refl (λ s. refl) (λ s reply. refl)
     (λ s i serves r. (refl, slots_seen k.words.seed s c.args.who c.args.to c.in-Ok.index i r)) c.count.ensures.plain c.count.ensures.exact c.count.ensures.calm)

@@ -7,21 +7,27 @@ use Rattle.cfs_serve.proofs.hall.Hall.new.Goals as goal
 record IsFirst (collections turns : ℕ) (rest : Rest) : Type 0 where
   pub refused : rest.refused ≡ None
   pub events : rest.events ≤ 3 * collections + 1
+  pub paired : 0 < rest.events
+  pub least : rest.turns ≤ turns
   pub none : collections ≡ 0 → rest.turns ≡ 0
   pub some : 0 < collections → (rest.turns ≡ turns) × (rest.events ≡ 3 * collections + 1)
 
-first_is : (collections turns : ℕ) (rest : Rest) → (collections ≡ 0 → rest ≡ record { turns = 0; events = 0; refused = None })
+first_is : (collections turns : ℕ) (rest : Rest) → (collections ≡ 0 → rest ≡ record { turns = 0; events = 1; refused = None })
     → (0 < collections → rest ≡ record { turns = turns; events = 3 * collections + 1; refused = None }) → IsFirst collections turns rest
 first_is collections turns rest none some = elim (cases_lt 0 collections) [
   | inl more ↦ (let is = some more in record {
     refused = ap (λ (r : Rest). r.refused) is;
     events = omega (arith, ap (λ (r : Rest). r.events) is);
+    paired = omega (arith, ap (λ (r : Rest). r.events) is);
+    least = omega (arith, ap (λ (r : Rest). r.turns) is);
     none = λ no. absurd (omega (arith, no, more));
     some = λ _. (ap (λ (r : Rest). r.turns) is, ap (λ (r : Rest). r.events) is);
   })
   | inr few ↦ (let is = none (omega (arith, few)) in record {
     refused = ap (λ (r : Rest). r.refused) is;
     events = omega (arith, ap (λ (r : Rest). r.events) is);
+    paired = omega (arith, ap (λ (r : Rest). r.events) is);
+    least = omega (arith, ap (λ (r : Rest). r.turns) is);
     none = λ _. ap (λ (r : Rest). r.turns) is;
     some = λ more. absurd (omega (arith, more, few));
   })
@@ -40,7 +46,7 @@ invariant_of-result g c =
         | inl some ↦ (let is = rest.some some in rw made.server (omega (arith, is.0, c.requires.turns), omega (arith, is.1, c.requires.events)))
         | inr none ↦ absurd (omega (arith, more, rest.none (omega (arith, none))))
       ],
-      λ none. (rest.none (omega (arith, none, c.requires.charter)), rest.refused),
+      λ none. rest.none (omega (arith, none, c.requires.charter)),
       λ over whole. elim (cases_lt 0 c.args.collections) [
         | inl some ↦ absurd (omega (arith, over, (rest.some some).0, c.requires.turns))
         | inr none ↦ (let called : t.collections ≡ 0 = omega (arith, none, c.requires.charter) in rw made.events (sym called))
@@ -53,4 +59,6 @@ invariant_of-result g c =
           })),
       subst (λ (o : Option CollectFault). TellsStop o (g.A.Server.stop c.new.result.server)) (sym rest.refused) tt,
       λ wants. absurd (cc (rest.refused, wants)),
+      λ _. rest.paired,
+      omega (arith, rest.least, c.requires.small),
     )

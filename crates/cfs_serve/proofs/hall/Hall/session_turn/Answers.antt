@@ -37,6 +37,8 @@ invariant_of-self g c =
       counted_turn g.A.Server.faults g.A.Asker.stands g.J.Charter.charter c.self.inside.journal c.port_turn.new.journal c.port_turn.ensures.raised _ k.8,
       tells_on c.self.inside.rest.refused (g.A.Server.stop c.self.inside.journal.server) (g.A.Server.stop c.port_turn.new.journal.server) c.port_turn.ensures.stays k.9,
       λ wants. rw moves.recorded (wanting_by g.J.Charter.charter.collections c.self.inside.journal.events c.args.session p q moves.event moves.kind (k.10 wants)),
+      k.11,
+      k.12,
     )
 
 pub returns-clause-turn : goal.returns-clause-turn
@@ -51,7 +53,7 @@ returns-clause-turn g c =
       ports = refl;
       moves = c.port_turn.ensures.moves;
       stamped = c.port_turn.ensures.stamped;
-      collector = (refl, refl, refl);
+      collector = (refl, refl);
     })
 
 pub returns-clause-raised : goal.returns-clause-raised

@@ -1,0 +1,87 @@
+//! One part of a commit that is unfinished, made between two calls.
+ghost use Rattle.std.specs.Prelude.{◌≡◌, ◌<◌};
+ghost use Rattle.cfs_core.specs.Tidy as spec;
+ghost use Rattle.cyl_alloc.specs.Left.{parts_left};
+
+use crate::kernel::{Core, Stop};
+use cfs_base::{Damage, Disk, Trouble};
+
+/// What a turn did.
+#[derive(Clone, Copy, Debug, PartialEq, Eq)]
+pub enum Tidy {
+    /// Nothing: no commit is unfinished.
+    Idle,
+    /// One part was made.
+    Step,
+}
+
+/// Why a part wasn't made.
+#[derive(Clone, Copy, Debug, PartialEq, Eq)]
+pub enum TidyFault {
+    /// A device call failed. Without a doubt all is as it was; with one the core stopped, and that is the moment.
+    Disk { doubt: Option<u64> },
+    /// A map block that was read is none. The core stopped at this moment.
+    Damaged { damage: Damage, moment: u64 },
+    /// The core had stopped at this moment.
+    Stopped { moment: u64 },
+}
+
+impl<D: Disk> Core<D> {
+    /// How many parts are left of the commit that is unfinished.
+    pub fn parts_left(&self) -> u64
+        ensures is { result ≡ parts_left self.now.space.left }
+        ensures small { result < 4611686018427387904 }
+    {
+        self.space.parts_left()
+    }
+
+    /// Makes one part of the commit that is unfinished, by at most 4 device calls. Takes no memory.
+    pub fn tidy(&mut self) -> Result<Tidy, TidyFault>
+        ensures { spec.TidiesVolume D.Disk self.old self.new result }
+    {
+        if let Some(stop) = self.stop {
+            return Err(TidyFault::Stopped {
+                moment: stop.moment,
+            });
+        }
+        if self.space.unfinished() == 0 {
+            return Ok(Tidy::Idle);
+        }
+        match finisher::step(&mut self.disk, &mut self.space) {
+            Ok(_) => Ok(Tidy::Step),
+            Err(trouble) => Err(self.halt(trouble)),
+        }
+    }
+
+    /// Why a part wasn't made. The core stops where a write had been tried, and at a damage.
+    fn halt(&mut self, trouble: Trouble) -> TidyFault
+        ensures told { result ≡ spec.tidy_fault_by trouble (D.moment self.old.disk) }
+        ensures stop { self.new
+            ≡ record self.old {
+              stop = spec.halt_by (spec.tidy_fault_by trouble (D.moment self.old.disk))
+                  self.old.stop;
+            } }
+    {
+        match trouble {
+            Trouble::Disk { tried: false } => TidyFault::Disk { doubt: None },
+            Trouble::Disk { tried: true } => {
+                let moment = self.disk.moment().saturating_sub(1);
+                self.stop = Some(Stop {
+                    moment,
+                    damage: None,
+                });
+                TidyFault::Disk {
+                    doubt: Some(moment),
+                }
+            }
+            Trouble::Damaged(damage) => {
+                let moment = self.disk.moment();
+                self.stop = Some(Stop {
+                    moment,
+                    damage: Some(damage),
+                });
+                TidyFault::Damaged { damage, moment }
+            }
+        }
+    }
+}
