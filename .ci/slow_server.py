@@ -182,9 +182,7 @@ class Server:
         is_index = self.target.kind == 'index'
         if self.verb in OF_INDEX and not is_index:
             return 'no not-index'
-        if is_index and (self.verb in OF_FILE or self.parts.get('MODE') == 'write'):
-            return 'no not-file'
-        return None
+        return 'no not-file' if is_index and self.verb in OF_FILE else None
 
     def refused_lock(self):
         if self.grant:
@@ -217,11 +215,13 @@ class Server:
     def need(self):
         """How many blocks the request takes."""
         if self.verb in ('create-file', 'create-index'):
-            return 4
+            return 1 + (self.slot_need() if self.grant else 3)
+        if self.verb in ('retain', 'delete') and self.grant:
+            return self.slot_need()
         if self.verb == 'retain':
             return 3
         if self.verb == 'open':
-            return int(self.parts['MODE'] == 'write' and self.target.kind == 'special')
+            return int(self.is_drafted())
         if self.verb not in ('write', 'resize'):
             return 0
         if self.verb == 'resize' and self.target.kind == 'normal':
@@ -232,6 +232,15 @@ class Server:
         if self.grant:
             return len(leaves - self.grant.leaves) + len(nodes - self.grant.nodes)
         return len(leaves) + len(nodes) + 1
+
+    def is_drafted(self):
+        """Whether what is opened gets a draft."""
+        return self.parts['MODE'] == 'write' and self.target.kind != 'normal'
+
+    def slot_need(self):
+        """What a slot takes in a draft: its leaf, and that leaf's node, where they aren't the draft's own."""
+        leaf = self.numbers[-1] // 64
+        return 0 if leaf in self.grant.leaves else 1 + (leaf // NODE not in self.grant.nodes)
 
     def written(self):
         """The leaves and nodes that a write or resize writes anew, where the leaves aren't a draft's own."""
@@ -260,7 +269,7 @@ class Server:
         if self.verb == 'retain':
             self.put(numbers[0], self.named)
         elif self.verb == 'delete':
-            del target.slots[numbers[0]]
+            self.put(numbers[0], None)
         elif self.verb == 'close':
             self.close()
         elif self.verb == 'write':
@@ -278,8 +287,7 @@ class Server:
             return 'ok and a number'
         number = int(reply[3:], 16)
         if self.verb == 'open':
-            drafted = self.parts['MODE'] == 'write' and self.target.kind == 'special'
-            draft = deepcopy(self.target) if drafted else None
+            draft = deepcopy(self.target) if self.is_drafted() else None
             self.grants[number] = Grant(self.id, self.parts['MODE'], self.who, draft)
         else:
             block = number >> 32
@@ -294,8 +302,16 @@ class Server:
         return reply
 
     def put(self, slot, id):
-        self.target.slots[slot] = id
-        self.target.held.add(slot // 64)
+        """Makes a slot hold this, or nothing."""
+        leaf = slot // 64
+        if id is None:
+            del self.target.slots[slot]
+        else:
+            self.target.slots[slot] = id
+        self.target.held.add(leaf)
+        if self.grant:
+            self.grant.leaves.add(leaf)
+            self.grant.nodes.add(leaf // NODE)
 
     def write(self):
         leaves, nodes = self.written()

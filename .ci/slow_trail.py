@@ -153,7 +153,7 @@ class Trail:
             raise BadLine
         self.running(self.phase is None)
         self.phase = 'marking'
-        self.edges = {(id, x) for id, found in self.server.objects.items() for x in found.slots.values()}
+        self.edges = self.references()
         self.starts = self.open_or_root()
 
     def finished(self, words):
@@ -168,6 +168,11 @@ class Trail:
         moment = number(words[0], U64)
         self.running()
         self.stopped = moment
+
+    def references(self):
+        """Each index with each object to which it refers, by its slots or by a draft's."""
+        drafts = [(grant.id, grant.draft) for grant in self.server.grants.values() if grant.draft]
+        return {(id, x) for id, found in [*self.server.objects.items(), *drafts] for x in found.slots.values()}
 
     def open_or_root(self):
         return {self.server.root} | {grant.id for grant in self.server.grants.values()}
@@ -194,11 +199,11 @@ class Trail:
         if any(a >= b for a, b in zip(ids, ids[1:])):
             raise BadLine
         objects, gone = self.server.objects, set(ids)
-        slots = {(id, x) for id, found in objects.items() for x in found.slots.values()}
-        kept = self.reached(self.open_or_root(), slots)
+        references = self.references()
+        kept = self.reached(self.open_or_root(), references)
         cut_off = set(objects) - self.reached(self.starts, self.edges)
         self.running(self.phase == 'marking' and gone <= set(objects) and not gone & kept
-                     and not any(x in gone and id not in gone for id, x in slots) and cut_off <= gone)
+                     and not any(x in gone and id not in gone for id, x in references) and cut_off <= gone)
         self.phase = 'sweeping'
         for id in ids:
             del objects[id]
@@ -234,7 +239,7 @@ class Trail:
         refusal = server.refusal()
         if reply[:2] == ['no', 'full']:
             free, need = int(reply[2]), int(reply[3])
-            self.running(refusal is None and verb != 'delete' and need == self.need() and free < need + 4)
+            self.running(refusal is None and (verb != 'delete' or server.grant) and need == self.need() and free < need + 4)
         elif refusal is not None or reply[0] == 'no':
             self.running(' '.join(reply) == refusal)
         elif verb == 'open':

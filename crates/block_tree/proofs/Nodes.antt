@@ -1,5 +1,5 @@
 -- The pointers of nodes, and where they end.
-use Rattle.std.proofs.Common.{◌≡◌, ◌≢◌, inl, inr, ℕ, zero, suc, ◌+◌, ◌<◌, ◌≤◌, List, [], ◌∷◌, length, get_or, replicate, refl, sym, ap, arith}
+use Rattle.std.proofs.Common.{◌≡◌, ◌≢◌, inl, inr, ℕ, zero, suc, ◌+◌, ◌<◌, List, [], ◌∷◌, length, get_or, replicate, refl, sym, arith}
 use Rattle.std.proofs.lemmas.List.{length-replicate}
 use Rattle.block_tree.proofs.Words.{Image, Level, block_at, cases_lt, end_of, get_or-replicate, get_or_past, leaf_pointers, leaves_at, length-map-range_with_len, levels_below, levels_of, node_levels, node_pointers, number_at, pointer, pointers_of, tree_of}
 

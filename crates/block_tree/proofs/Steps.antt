@@ -74,7 +74,7 @@ module _ (image : Image) (root : Root) (count : length root.nodes ≡ node_point
     pub none_in : (from place : ℕ) → NoneHeld image R from (leaf_pointers.count * k + place) → IsFirstSet (leaves k) place None → NoneHeld image R from (leaf_pointers.count * k + leaf_pointers.count)
     none_in from place before none = none_join from (leaf_pointers.count * k + place) (leaf_pointers.count * k + leaf_pointers.count) before (none_to place leaf_pointers.count (omega arith) (λ i on less. none i on))
 
-  leads_to_later : (k : ℕ) → HasNoDeadEnd image R → (some : SomeSet root.nodes k) → SomeHeld image R (leaf_pointers.count * some.place)
+  pub leads_to_later : (k : ℕ) → HasNoDeadEnd image R → (some : SomeSet root.nodes k) → SomeHeld image R (leaf_pointers.count * some.place)
   leads_to_later k alive some = leads_to some.place (omega (arith, some.inside, count)) some.set some.fits alive
 
   module _ (k place : ℕ) (below : k < node_pointers.count) (some : node k ≢ 0) (fits : node k < 2 ^ 32) where

@@ -21,6 +21,6 @@ pub use leaf::{LEAF_LIMIT, leaf_at, leaf_of, node_of, read_leaf};
 pub use node::{LEAVES, Node};
 pub use reads::{read_block, read_node, read_root};
 pub use root::{BadRoot, NODE_LEVELS, NODES, Root, SIZE_LIMIT};
-pub use step::{HeldStep, step_held};
+pub use step::{HeldStep, holds_any, step_held};
 pub use walk::{HeldLeaf, walk_held};
 pub use way::one_path_changes;

@@ -2,13 +2,14 @@
 ghost use Rattle.std.specs.Prelude.{◌≡◌, ◌≢◌, ℕ, ◌+◌, ◌*◌, ◌<◌, ◌≤◌, length, get_or, IfOk, IfErr, IfSome, IsFalse};
 ghost use Rattle.std.specs.Prelude.{IsTrue};
 ghost use Rattle.cfs_base.specs.Calls.{OnlyReads};
-ghost use Rattle.cfs_base.specs.Disk.{block_at};
+ghost use Rattle.cfs_base.specs.Disk.{Image, block_at};
 ghost use Rattle.cfs_base.specs.Run.{Tells};
 ghost use Rattle.block_tree.specs.Pointers.{leaf_limit, leaf_pointers, node_pointers, pointers_of};
 ghost use Rattle.block_tree.specs.Reads.{IsFault, IsPast};
 ghost use Rattle.block_tree.specs.Root.{root_spelling};
-ghost use Rattle.block_tree.specs.Step.{IsFirstSet, IsPastFrom, IsStepIn, IsStepped, NoneSet, SomeSet};
-ghost use Rattle.block_tree.specs.Tree.{HasNoDeadEnd, leaf_block};
+ghost use Rattle.block_tree.specs.Step.{IsFirstSet, IsPastFrom, IsStepIn, IsStepped, NoneHeld, NoneSet, SomeHeld};
+ghost use Rattle.block_tree.specs.Step.{SomeSet};
+ghost use Rattle.block_tree.specs.Tree.{HasNoDeadEnd, leaf_block, leaf_count};
 
 use crate::fault::TreeFault;
 use crate::leaf::node_at;
@@ -107,4 +108,14 @@ pub fn step_held<D: Disk>(
         return Ok(None);
     };
     step_in(disk, root, second, 0)
+}
+
+/// Whether the tree of a root holds a leaf. Makes no device call.
+pub fn holds_any(root: &Root) -> bool
+    ensures some { (image : Image) → HasNoDeadEnd image (root_spelling root.now) → IsTrue result
+        → SomeHeld image (root_spelling root.now) 0 }
+    ensures none { (image : Image) → IsFalse result
+        → NoneHeld image (root_spelling root.now) 0 (leaf_count (root_spelling root.now)) }
+{
+    has_set(&root.nodes, 0)
 }

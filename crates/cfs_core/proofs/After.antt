@@ -1,11 +1,16 @@
 -- A call that reads, and then goes on.
-use Rattle.std.proofs.Common.{◌≡◌, ℕ, ◌<◌, length, true, false, Option, None, Result, Ok, Err, refl, ◌∙◌, ap, subst, ◌+◌, arith}
+use Rattle.std.proofs.Common.{◌≡◌, ℕ, ◌<◌, length, true, false, Option, None, Result, Ok, Err, refl, ◌∙◌, ap, subst, ◌+◌, arith, []}
 use Rattle.cfs_core.proofs.Words.{Ghosts, Image, Index, Leaves, OnlyReads, Puid, refusal_of, Refused, Reply, Request, State, then, wider, reads_then}
 use Rattle.cfs_base.specs.declared.refusal.Refused.TheVariants as refusals
 use Rattle.cyl_alloc.specs.Left.{LeftCommit}
 use Rattle.intentions.specs.Left.{coming}
 use Rattle.ufs_model.specs.declared.asked.Reply.TheVariants as replies
 use Rattle.ufs_model.specs.declared.object.Object.TheVariants as objects
+use Rattle.cfs_base.specs.declared.identifier.Tuid.{Tuid}
+use Rattle.ufs_model.specs.declared.change.Change.{Change}
+use Rattle.cfs_core.specs.Drafts.{AltersSo, TriesThroughWith}
+use Rattle.cfs_core.specs.StandsFor.{drafts_of_handles}
+use Rattle.vol_owners.specs.Account.{drafts_of}
 use Rattle.cfs_core.specs.Calls.{AddsNoStray, Answers, EndsSo, IsAsItWas, Owes, TriesWith, TriesOnWith}
 use Rattle.cfs_core.specs.Claimed.{TakesForRequest}
 use Rattle.cfs_core.specs.Kernel.{Kernel}
@@ -57,11 +62,18 @@ module _ {D : Type 0} (g : Ghosts D) (n : ℕ) (old : Kernel D) (d : D) (new : K
     ends (Err refusals.Memory) is = answers replies.Memory is
 
   pub tries_then : {w : Option LeftCommit} (index : Puid) (slot : ℕ) (who : ℕ) (result : Result Reply Refused) → ReachesAll g objects.Index old who request index → TriesOnWith g w mid new index slot request result
-      → ((s : State) (i : Index) → ServesWith g old s w → Reaches s who request index (objects.Index i) → (slot < length i.slots) × (refusal_of s who request ≡ None)) → TriesWith g w old new who request result
+      → ((s : State) (i : Index) → ServesWith g old s w → Reaches s who request index (objects.Index i) → drafts_of (drafts_of_handles old.handles s.grants) index ≡ [] → (slot < length i.slots) × (refusal_of s who request ≡ None)) → TriesWith g w old new who request result
   tries_then {w} index slot who result reaches tries goes = record {
     ends = λ s serves none.
         let i = reaches.0 s (serves_is g old s serves) in
-        let may = goes s i.0 serves i.1 in
-        ends w s who result (tries.ends s who i.0 (serves_on g n old mid reads refl s serves) none i.1 may.0 may.1);
+        let may = goes s i.0 serves i.1 i.2 in
+        ends w s who result (tries.ends s who i.0 (serves_on g n old mid reads refl s serves) none i.1 i.2 may.0 may.1);
     went = went_then g n old d new reads request result (tries.went reaches.1);
+  }
+
+  pub through_then : {w : Option LeftCommit} (who : ℕ) (t : Tuid) (change : Change) (result : Result Reply Refused) → TriesThroughWith g w mid new who t change request result
+      → ((s : State) → ServesWith g old s w → AltersSo s who t change request) → TriesWith g w old new who request result
+  through_then {w} who t change result tries so = record {
+    ends = λ s serves none. ends w s who result (tries.ends s (serves_on g n old mid reads refl s serves) none (so s serves));
+    went = went_then g n old d new reads request result tries.went;
   }

@@ -1,6 +1,7 @@
--- A file through a grant with a draft: what a change of it makes of the state.
+-- A change through a grant with a draft: what it makes of the state.
 use Rattle.std.proofs.Common.{◌≡◌, ◌⊎◌, inl, inr, ℕ, zero, suc, ◌+◌, ◌<◌, ◌≤◌, List, [], ◌∷◌, ◌++◌, length, get_or, Bool, true, false, cond, not, Option, Some, None, Ok, Err, IsTrue, refl, sym, ◌∙◌, ap, subst, arith, Result, filter, map, option_and_then, option_to_list, sum}
-use Rattle.cfs_core.proofs.Words.{and_parts, DraftBecomes, blocks_taken, Change, change_need, changed, changed_draft, changed_object, Draft, draft_blocks, Drafting, File, Fill, filter-rises, first_level, fresh_of, Ghosts, Grant, grant_of, has_number, held_levels, here, Holds, Image, in_filter, in_with, is_grant, is_normal, ChangesOnly}
+use Rattle.std.proofs.lemmas.Option.{same_Some}
+use Rattle.cfs_core.proofs.Words.{and_parts, DraftBecomes, blocks_taken, Change, change_need, changed, changed_draft, changed_object, Draft, draft_blocks, Drafting, Fill, filter-rises, first_level, fresh_of, Ghosts, Grant, grant_of, has_number, held_levels, here, Holds, Image, in_filter, in_with, is_grant, is_normal, ChangesOnly}
 use Rattle.cfs_core.proofs.Words.{Kept, later, Leaves, list_all, MapEntry, merged, missing, need_beside, need_of, next, next_keeps, next_levels, numbers-rise, numbers_rise, Object, of_draft, OnlyReads, Opened, opened_as, outcome_legal, Overwrite, Puid, put_draft-at, range_with_len, refusal_of, Refused, replaced, Reply, Request, same_puid}
 use Rattle.cfs_core.proofs.Words.{same_puid_itself, seen, seen_draft, SetSize, shadow_need, shared, State, sum_by, sum_by-cons, target, Through, Tuid, wider, with_draft, with_numbers, within, without_draft, written_anew}
 use Rattle.cfs_base.specs.declared.refusal.Need as needs
@@ -10,9 +11,12 @@ use Rattle.ufs_model.specs.declared.asked.Event.TheVariants as events
 use Rattle.ufs_model.specs.declared.asked.Reply.TheVariants as replies
 use Rattle.ufs_model.specs.declared.object.Object.TheVariants as objects
 use Rattle.cfs_core.specs.Calls.{Answers, ByOutcome, ByWant, EndsSo, IsInDoubt, TriesWith, Undone, done_or}
-use Rattle.cfs_core.specs.Drafts.{AltersDraft, ChangesDraft, KnowsDraft}
+use Rattle.cfs_core.specs.Drafts.{AltersDraft, ChangesDraft, IsAltering, IsChangeOf, KnowsDraft, TriesThroughWith}
 use Rattle.cfs_core.specs.Kernel.{Kernel, Handle, is_ready}
 use Rattle.cfs_core.specs.Handles.{drafting_at, with_drafting}
+use Rattle.ufs_model.specs.declared.asked.Ref.{Ref}
+use Rattle.ufs_model.specs.Next.{is_direct_delete}
+use Rattle.ufs_model.specs.State.{draft_of}
 use Rattle.cfs_core.specs.StandsFor.{CoreServes, bare, drafts_of_handles, free_to_come}
 use Rattle.intentions.specs.Left.{StoreWith, coming, final_image}
 use Rattle.cfs_core.proofs.Answering.{disk_failed, full_still, owes}
@@ -23,7 +27,7 @@ use Rattle.cfs_core.proofs.Damages.{told_of_draft}
 use Rattle.cfs_core.proofs.Went.{went_done}
 use Rattle.cfs_core.proofs.Filed.{IsChanging}
 use Rattle.cfs_core.proofs.Readied.{ready_at, ready_for}
-use Rattle.cfs_core.proofs.Reached.{files, written_in}
+use Rattle.cfs_core.proofs.Reached.{written_in}
 use Rattle.cfs_core.proofs.Handled.{grants_with}
 use Rattle.cfs_core.proofs.Serving.{fits, running, stays}
 use Rattle.cfs_core.proofs.Moved.{HasStepped, IsStepped, four_left, makes_stepped}
@@ -38,11 +42,11 @@ use Rattle.special_files.specs.Refusal.{top_of}
 
 -- ---- how many blocks of a draft are fresh
 
-set_rises : (flags : List Bool) → numbers_rise (set_in flags) ≡ true
+pub set_rises : (flags : List Bool) → numbers_rise (set_in flags) ≡ true
 unfolding set_in
 set_rises flags = filter-rises (λ n. get_or flags n false) (range_with_len 0 (length flags)) (numbers-rise 0 (length flags))
 
-all_rise : (levels : List (List ℕ)) → ((k : ℕ) → numbers_rise (get_or levels k []) ≡ true) → list_all numbers_rise levels ≡ true
+pub all_rise : (levels : List (List ℕ)) → ((k : ℕ) → numbers_rise (get_or levels k []) ≡ true) → list_all numbers_rise levels ≡ true
 all_rise [] up = refl
 all_rise (ns ∷ levels) up = rw (up 0, all_rise levels (λ k. up (suc k))) refl
 
@@ -76,7 +80,7 @@ in_both x (n ∷ ns) ms has = elim (in_with x n (with_numbers ns ms) has) [
 ]
 
 -- no more than there were, and what is written anew and wasn't fresh
-fresh_few : (anew fresh held : List (List ℕ)) → list_all numbers_rise (within (merged anew fresh) held) ≡ true → sum_by length (within (merged anew fresh) held) ≤ sum_by length fresh + missing anew fresh
+pub fresh_few : (anew fresh held : List (List ℕ)) → list_all numbers_rise (within (merged anew fresh) held) ≡ true → sum_by length (within (merged anew fresh) held) ≤ sum_by length fresh + missing anew fresh
 fresh_few [] fresh held up = omega (arith, within_less fresh held)
 fresh_few (ns ∷ anew) fresh held up =
     let level = shared (with_numbers ns (first_level fresh)) (first_level held) in
@@ -92,14 +96,14 @@ fresh_few (ns ∷ anew) fresh held up =
 
 -- ---- one draft for another
 
-without_replaced : (e : Opened) (ds : List Opened) → without_draft e.id (replaced e ds) ≡ without_draft e.id ds
+pub without_replaced : (e : Opened) (ds : List Opened) → without_draft e.id (replaced e ds) ≡ without_draft e.id ds
 without_replaced e [] = refl
 without_replaced e (f ∷ ds) = elim (same_puid f.id e.id) as (λ b. same_puid f.id e.id ≡ b → without_draft e.id (cond b e f ∷ replaced e ds) ≡ cond (not b) (f ∷ without_draft e.id ds) (without_draft e.id ds)) [
   | true ↦ λ same. rw (same_puid_itself e.id) (without_replaced e ds)
   | false ↦ λ other. rw other (ap (λ es. f ∷ es) (without_replaced e ds))
 ] refl
 
-bare_with : (who : ℕ) (t : Tuid) (d : Draft) (grants : List Grant) → map bare (with_draft who t d grants) ≡ map bare grants
+pub bare_with : (who : ℕ) (t : Tuid) (d : Draft) (grants : List Grant) → map bare (with_draft who t d grants) ≡ map bare grants
 bare_with who t d [] = refl
 bare_with who t d (x ∷ grants) = elim (is_grant who t x) as (λ b. bare (cond b (record x { draft = Some d }) x) ∷ map bare (with_draft who t d grants) ≡ bare x ∷ map bare grants) [
   | true ↦ ap (λ gs. bare x ∷ gs) (bare_with who t d grants)
@@ -108,18 +112,51 @@ bare_with who t d (x ∷ grants) = elim (is_grant who t x) as (λ b. bare (cond 
 
 -- ---- kinds
 
-still_special : (c : Change) (f : File) → is_normal (objects.File f) ≡ false → is_normal (changed_object c (objects.File f)) ≡ false
-still_special (Overwrite offset bytes) f is = is
-still_special (SetSize size) f is = is
-still_special (Fill slot what) f is = is
+pub still_special : (c : Change) (o : Object) → is_normal o ≡ false → is_normal (changed_object c o) ≡ false
+still_special (Overwrite offset bytes) (objects.File f) is = is
+still_special (SetSize size) (objects.File f) is = is
+still_special (Fill slot what) (objects.File f) is = is
+still_special (Overwrite offset bytes) (objects.Index i) is = refl
+still_special (SetSize size) (objects.Index i) is = refl
+still_special (Fill slot what) (objects.Index i) is = refl
 
-need_by : (s : State) (who : ℕ) (t : Tuid) (x : Grant) (d : Draft) (change : Change) → grant_of s who t ≡ Some x → x.draft ≡ Some d → is_normal d.object ≡ false
+pub need_by : (s : State) (who : ℕ) (t : Tuid) (x : Grant) (d : Draft) (change : Change) → grant_of s who t ≡ Some x → x.draft ≡ Some d → is_normal d.object ≡ false
     → change_need s who (Through t) change ≡ missing (written_anew change d.object d.fresh) d.fresh
 need_by s who t x d change found has normal = rw (found, has, normal) (omega arith)
 
 -- a draft that has its shadow root takes none
-none_needed : (was : Drafting) (n : ℕ) → was.shadow ≡ Some n → shadow_need was ≡ 0
+pub none_needed : (was : Drafting) (n : ℕ) → was.shadow ≡ Some n → shadow_need was ≡ 0
 none_needed was n is = rw is refl
+
+-- ---- a request that changes a draft
+
+-- what is put into the draft of a grant
+pub changed_through : (s : State) (who : ℕ) (t : Tuid) (change : Change) (x : Grant) (d : Draft) → grant_of s who t ≡ Some x → x.draft ≡ Some d
+    → changed s who (Through t) change ≡ record s { grants = with_draft who t (changed_draft change d) s.grants }
+changed_through s who t change x d found has = put_draft-at s who t x d (changed_draft change (seen s who (Through t))) found has
+    ∙ ap (λ (e : Draft). record s { grants = with_draft who t (changed_draft change e) s.grants }) (seen_draft s who t x d found has)
+
+-- a draft isn't changed beside itself
+pub not_beside : (s : State) (who : ℕ) (t : Tuid) (d : Draft) → draft_of s who (Through t) ≡ Some d → is_beside s who (Through t) ≡ false
+not_beside s who t d has = ap (λ (o : Option Draft). is_none o && not (is_normal (seen s who (Through t)).object)) has
+
+-- that of a file is one
+pub file_alters : (s : State) (who : ℕ) (t : Tuid) (request : Request) (change : Change) → IsChanging request change → target request ≡ Through t → IsAltering s who t request change
+file_alters s who t request change is to = record {
+  memory = s.collection;
+  sweeps = refl;
+  outcome = λ seed b x d found has. is.outcome seed s who b ∙ ap (λ (y : State). (replies.Done, y)) (ap (λ (r : Ref). changed s who r change) to ∙ changed_through s who t change x d found has);
+  need = is.need s who ∙ ap (λ (r : Ref). change_need s who r change) to;
+  makes = is.makes;
+  to = to;
+  claims = λ handles reply d has. is.claims handles s who reply ∙ ap (λ (r : Ref). claims_through handles s who r change) to
+      ∙ ap (λ (o : Option Draft). elim o [ None ↦ claims_in_file (root_reached s who (Through t)) change (file_seen s who (Through t)) | Some e ↦ option_map_or (claims_in_draft change e) (drafting_at handles t.draw) [] ]) has;
+  alone = λ d has. is.alone s who ∙ ap (is_beside s who) to ∙ not_beside s who t d has;
+  commits_is = λ d has. is.commits_is s who ∙ ap (is_beside s who) to ∙ not_beside s who t d has;
+  delete = is.delete;
+  full = λ seed n. is.full seed s who n;
+  speaks = is.speaks who;
+}
 
 -- ---- a grant with a draft, as the core has it
 
@@ -133,27 +170,42 @@ module _ {D : Type 0} (g : Ghosts D) (k : Kernel D) (s : State) (serves : CoreSe
   abbrev before : Draft
   before = held.before
 
-  pub knows : KnowsDraft g s.graph ds k.disk k.space id was before
-  knows = record { store = serves.store; object = held.object; there = held.there; is_open = open_in g k s serves who t was held; file = (files g k s serves who t was held).1.0; is_file = (files g k s serves who t was held).1.1 }
+  -- the handles where it stays as it was
+  pub unchanged : (now : Drafting) → now ≡ was → with_drafting t.draw (Some now) k.handles ≡ k.handles
+  unchanged now same =
+      let place = held.place in
+      with_is who t k.handles s.grants held.handle held.x place (Some now)
+      ∙ ap (λ (w : Option Drafting). place.ss1 ++ record { grant = held.handle.grant; drafting = w } ∷ place.ss2) (ap (λ (w : Drafting). Some w) same ∙ sym held.drafting)
+      ∙ sym place.handles_are
 
   -- ---- it is changed
 
-  module _ (ready : list_all (is_ready k.directory.room) k.handles ≡ true) (change : Change) (request : Request) (is : IsChanging request change) (goes_to : target request ≡ Through t) (goes : refusal_of s who request ≡ None) where
+  module _ (ready : list_all (is_ready k.directory.room) k.handles ≡ true) (change : Change) (request : Request) (is : IsAltering s who t request change) (of_it : IsChangeOf change before.object) (goes : refusal_of s who request ≡ None) where
     abbrev d : Draft
     d = changed_draft change before
 
     abbrev after : State
-    after = record s { grants = with_draft who t d s.grants }
+    after = record s { grants = with_draft who t d s.grants; collection = is.memory }
 
-    changed_is : changed s who (target request) change ≡ after
-    changed_is = ap (λ to. changed s who to change) goes_to ∙ put_draft-at s who t held.x before (changed_draft change (seen s who (Through t))) held.found held.draft_was
-        ∙ ap (λ (e : Draft). record s { grants = with_draft who t (changed_draft change e) s.grants }) (seen_draft s who t held.x before held.found held.draft_was)
+    -- the reference has the draft
+    has_it : draft_of s who (Through t) ≡ Some before
+    has_it = ap (option_and_then (λ (x : Grant). x.draft)) held.found ∙ held.draft_was
+
+    pub knows : KnowsDraft g change s.graph ds k.disk k.space id was before
+    knows = record {
+      store = serves.store;
+      object = held.object;
+      there = held.there;
+      is_open = open_in g k s serves who t was held;
+      shadow = (ready_for k.directory.room was (ready_at k.directory.room t.draw k.handles ready was held.at)).shadow;
+      of_it = of_it;
+    }
 
     not_normal : is_normal before.object ≡ false
     not_normal = special who t k.handles s.grants held.handle held.x held.place serves.drafts was before held.drafting held.draft_was
 
     need_is : need_of s who request ≡ missing (written_anew change before.object before.fresh) before.fresh
-    need_is = is.need s who ∙ ap (λ to. change_need s who to change) goes_to ∙ need_by s who t held.x before change held.found held.draft_was not_normal
+    need_is = is.need ∙ need_by s who t held.x before change held.found held.draft_was not_normal
 
     beside_is : need_beside change before was ≡ need_of s who request
     beside_is =
@@ -161,21 +213,16 @@ module _ {D : Type 0} (g : Ghosts D) (k : Kernel D) (s : State) (serves : CoreSe
         omega (arith, none_needed was shadow.0 shadow.1, need_is)
 
     legal : k.stop ≡ None → next k.words.seed s (events.Ask who request replies.Done) ≡ Some after
-    legal none = subst (λ (p : Reply × State). next k.words.seed s (events.Ask who request p.0) ≡ Some p.1) (is.outcome k.words.seed s who 0 ∙ ap (λ (y : State). (replies.Done, y)) changed_is)
+    legal none = subst (λ (p : Reply × State). next k.words.seed s (events.Ask who request p.0) ≡ Some p.1) (is.outcome k.words.seed 0 held.x before held.found held.draft_was)
         (outcome_legal k.words.seed s who request 0 (running g k s serves none) goes (λ made. let no : true ≡ false = sym made ∙ is.makes in cc))
-
-    -- it isn't changed beside itself
-    not_beside : is_beside s who (target request) ≡ false
-    not_beside = ap (is_beside s who) goes_to ∙ ap (λ (o : Option Draft). is_none o && not (is_normal (seen s who (Through t)).object)) (ap (option_and_then (λ (x : Grant). x.draft)) held.found ∙ held.draft_was)
 
     takes : (disk : D) → ClaimsInOrder (claims_in_draft change before was) (id.block ∷ []) (g.content k.disk) (g.content disk) → TakesForRequest k.handles s who request replies.Done (g.content k.disk) (g.content disk)
     takes disk order =
         let here : held.x.id ≡ id = sym (ap (λ e. e.id) held.place.here) in
-        let claims : claims_for k.handles s who request replies.Done ≡ claims_in_draft change before was = is.claims k.handles s who replies.Done ∙ ap (λ to. claims_through k.handles s who to change) goes_to
-        ∙ ap (λ (o : Option Draft). elim o [ None ↦ claims_in_file (root_reached s who (Through t)) change (file_seen s who (Through t)) | Some e ↦ option_map_or (claims_in_draft change e) (drafting_at k.handles t.draw) [] ]) (ap (option_and_then (λ (x : Grant). x.draft)) held.found ∙ held.draft_was)
-        ∙ ap (λ o. option_map_or (claims_in_draft change before) o []) held.at in
-        let owners : owners_of s who request replies.Done ≡ id.block ∷ [] = rw (is.makes, goes_to, held.found) (ap (λ (x : Puid). x.block ∷ []) here) in
-        takes_alone k.handles s who request replies.Done (g.content k.disk) (g.content disk) (is.alone s who ∙ not_beside) (subst (λ (cs : List MapEntry). ClaimsInOrder cs (owners_of s who request replies.Done) (g.content k.disk) (g.content disk)) (sym claims)
+        let claims : claims_for k.handles s who request replies.Done ≡ claims_in_draft change before was =
+        is.claims k.handles replies.Done before has_it ∙ ap (λ o. option_map_or (claims_in_draft change before) o []) held.at in
+        let owners : owners_of s who request replies.Done ≡ id.block ∷ [] = rw (is.makes, is.to, held.found) (ap (λ (x : Puid). x.block ∷ []) here) in
+        takes_alone k.handles s who request replies.Done (g.content k.disk) (g.content disk) (is.alone before has_it) (subst (λ (cs : List MapEntry). ClaimsInOrder cs (owners_of s who request replies.Done) (g.content k.disk) (g.content disk)) (sym claims)
         (subst (λ (ns : List ℕ). ClaimsInOrder (claims_in_draft change before was) ns (g.content k.disk) (g.content disk)) (sym owners) order))
 
     module _ (now : Drafting) (disk : D) (space : Kept) where
@@ -196,7 +243,7 @@ module _ {D : Type 0} (g : Ghosts D) (k : Kernel D) (s : State) (serves : CoreSe
         graph = refl;
         rooted = refl;
         stopped = refl;
-        sweeping = refl;
+        sweeping = is.sweeps;
         drawn = serves.front.drawn;
         named = serves.front.directory;
         root = refl;
@@ -241,33 +288,25 @@ module _ {D : Type 0} (g : Ghosts D) (k : Kernel D) (s : State) (serves : CoreSe
         pub altered : ((c : D) (n : ℕ) (i : Image) → g.left_since c n i → length i ≡ g.blocks c) → length (g.content k.disk) ≡ g.blocks disk → k.stop ≡ None → Leaves g k.disk disk (λ c. Holds c s.graph)
             → ClaimsInOrder (claims_in_draft change before was) (id.block ∷ []) (g.content k.disk) (g.content disk) → Answers g None k new s who request replies.Done
         altered left_sized wide none leaves order = record {
-          event = makes_stepped g k new s after s.graph serves T es has stepped (next_keeps k.words.seed s after (events.Ask who request replies.Done) serves.state (is.speaks who) (legal none))
+          event = makes_stepped g k new s after s.graph serves T es has stepped (next_keeps k.words.seed s after (events.Ask who request replies.Done) serves.state is.speaks (legal none))
               (changed_drafts who t k.handles s.grants held.handle held.x held.place serves.drafts was before held.drafting held.draft_was now d)
               (changed_have who t k.handles s.grants held.handle held.x held.place serves.drafts was before held.drafting held.draft_was now d
-              (record { is_open = becomes.is_open; writes = written_in g k s serves who t was held; special = subst (λ (y : Object). is_normal (changed_object change y) ≡ false) (sym (files g k s serves who t was held).1.1) (still_special change (files g k s serves who t was held).1.0 (subst (λ (y : Object). is_normal y ≡ false) (files g k s serves who t was held).1.1 not_normal)) })) four
+              (record { is_open = becomes.is_open; writes = written_in g k s serves who t was held; special = still_special change before.object not_normal })) four
               left_sized wide (events.Ask who request replies.Done) (legal none) refl leaves;
           still = λ all. let no : true ≡ false = sym all in cc;
           full = λ full. let no : false ≡ true = full in cc;
           taken = λ done. subst (TakesForRequest k.handles s who request replies.Done (g.content k.disk)) (sym end_is) (takes disk order);
-          noted = λ done some. let no : true ≡ false = sym some ∙ is.commits_is s who ∙ not_beside in cc;
+          noted = λ done some. let no : true ≡ false = sym some ∙ is.commits_is before has_it in cc;
           owed = owes k.words.seed s who request (g.content k.disk) (sum k.space.free) replies.Done tt (ByOutcome goes (record {
             block = 0;
             least = λ made. let no : true ≡ false = sym made ∙ is.makes in cc;
-            reply_is = sym (ap (λ (p : Reply × State). p.0) (is.outcome k.words.seed s who 0));
+            reply_is = sym (ap (λ (p : Reply × State). p.0) (is.outcome k.words.seed 0 held.x before held.found held.draft_was));
             room = λ short. omega (arith, short.few, room, beside_is);
           }));
         }
 
-      -- the handles where it stays as it was
-      unchanged : now ≡ was → with_drafting t.draw (Some now) k.handles ≡ k.handles
-      unchanged same =
-          let place = held.place in
-          with_is who t k.handles s.grants held.handle held.x place (Some now)
-          ∙ ap (λ (w : Option Drafting). place.ss1 ++ record { grant = held.handle.grant; drafting = w } ∷ place.ss2) (ap (λ (w : Drafting). Some w) same ∙ sym held.drafting)
-          ∙ sym place.handles_are
-
       as_it_was : (space ≡ k.space) → now ≡ was → new ≡ record k { disk = disk }
-      as_it_was same before_it = ap (λ (y : Kept). record k { disk = disk; space = y; handles = with_drafting t.draw (Some now) k.handles }) same ∙ ap (λ (ss : List Handle). record k { disk = disk; handles = ss }) (unchanged before_it)
+      as_it_was same before_it = ap (λ (y : Kept). record k { disk = disk; space = y; handles = with_drafting t.draw (Some now) k.handles }) same ∙ ap (λ (ss : List Handle). record k { disk = disk; handles = ss }) (unchanged now before_it)
 
       module _ (left_sized : (c : D) (n : ℕ) (i : Image) → g.left_since c n i → length i ≡ g.blocks c) (sized : (c : D) → IsTrue (g.honest c) → length (g.content c) ≡ g.blocks c) (none : k.stop ≡ None)
           (result : Result (Unit {0}) Refused) (changes : ChangesDraft g change k.disk disk k.space space was now result) where
@@ -285,7 +324,7 @@ module _ {D : Type 0} (g : Ghosts D) (k : Kernel D) (s : State) (serves : CoreSe
             let free_so : n.free ≡ sum k.space.free = ap (λ (y : needs.Need). y.free) is_need in
             record {
               event = stays g 31092 k new reads (as_it_was same before_it) s serves left_sized (sized k.disk serves.store.carries.tells.honest) (events.Ask who request (replies.Full n))
-                  (is.full k.words.seed s who n (running g k s serves none) goes need_so (omega (arith, short, need_so, free_so, beside_is)));
+                  (is.full k.words.seed n (running g k s serves none) goes need_so (omega (arith, short, need_so, free_so, beside_is)));
               still = λ all. let no : false ≡ true = all in cc;
               full = λ _. full_still g left_sized sized 31092 k new reads (as_it_was same before_it) s who serves none refl;
               taken = λ done. let no : false ≡ true = done in cc;
@@ -319,16 +358,29 @@ module _ {D : Type 0} (g : Ghosts D) (k : Kernel D) (s : State) (serves : CoreSe
         ends_so = did result refl
 
 -- the whole call, of a grant that has a draft
-pub tries_altered : {D : Type 0} (g : Ghosts D) (left_sized : (d : D) (t : ℕ) (c : Image) → g.left_since d t c → length c ≡ g.blocks d) (sized : (d : D) → IsTrue (g.honest d) → length (g.content d) ≡ g.blocks d)
+module _ {D : Type 0} (g : Ghosts D) (left_sized : (d : D) (t : ℕ) (c : Image) → g.left_since d t c → length c ≡ g.blocks d) (sized : (d : D) → IsTrue (g.honest d) → length (g.content d) ≡ g.blocks d)
     (k : Kernel D) (ready : list_all (is_ready k.directory.room) k.handles ≡ true) (who : ℕ) (t : Tuid) (was : Drafting) (drafting : drafting_at k.handles t.draw ≡ Some was) (the : (s : State) → CoreServes g k s → IsHeld g k s who t was)
-    (change : Change) (request : Request) (is : IsChanging request change) (goes_to : target request ≡ Through t) → ((s : State) → CoreServes g k s → refusal_of s who request ≡ None)
-    → (now : Drafting) (disk : D) (space : Kept) (result : Result (Unit {0}) Refused) → ChangesDraft g change k.disk disk k.space space was now result
-    → TriesWith g None k (record k { disk = disk; space = space; handles = with_drafting t.draw (Some now) k.handles }) who request (done_or result)
-tries_altered g left_sized sized k ready who t was drafting the change request is goes_to goes now disk space result changes = record {
-  ends = λ s serves none.
-      ends_so g k s serves who t was (the s serves) ready change request is goes_to (goes s serves) now disk space left_sized sized none result changes;
-  went = went_done g k disk space (with_drafting t.draw (Some now) k.handles) changes.calls.same.size changes.calls.faults changes.calls.later request result (λ tried is. rw is at changes.refused)
-      (λ damage met. told_of_draft g k (record k { disk = disk; space = space; handles = with_drafting t.draw (Some now) k.handles }) (Some request) was.at (inr (inl (t.draw, was, drafting, refl))) damage changes.calls.same.size t.draw was drafting refl
-      (damage_as g (top_of was) (draft_top was) refl k.disk disk space (λ far. FarRoots (inr far)) damage (rw met at changes.refused)))
-      (λ need want. let why = rw want at changes.refused in let kept = ((rw want at changes.spared) refl).1 in (is.delete, why.0 ∙ ap (λ (x : Kept). sum x.free) kept, why.1));
-}
+    (change : Change) (request : Request) (delete : is_direct_delete request ≡ false) (now : Drafting) (disk : D) (space : Kept) (result : Result (Unit {0}) Refused) (changes : ChangesDraft g change k.disk disk k.space space was now result) where
+  pub altered_through : TriesThroughWith g None k (record k { disk = disk; space = space; handles = with_drafting t.draw (Some now) k.handles }) who t change request (done_or result)
+  altered_through = record {
+    ends = λ s serves none so.
+        let held = the s serves in
+        ends_so g k s serves who t was held ready change request so.alters (so.of_it held.before (ap (option_and_then (λ (x : Grant). x.draft)) held.found ∙ held.draft_was)) so.goes now disk space left_sized sized none result changes;
+    went = went_done g k disk space (with_drafting t.draw (Some now) k.handles) changes.calls.same.size changes.calls.faults changes.calls.later request result (λ tried is. rw is at changes.refused)
+        (λ damage met. told_of_draft g k (record k { disk = disk; space = space; handles = with_drafting t.draw (Some now) k.handles }) (Some request) was.at (inr (inl (t.draw, was, drafting, refl))) damage changes.calls.same.size t.draw was drafting refl
+        (damage_as g (top_of was) (draft_top was) refl k.disk disk space (λ far. FarRoots (inr far)) damage (rw met at changes.refused)))
+        (λ need want. let why = rw want at changes.refused in let kept = ((rw want at changes.spared) refl).1 in (delete, why.0 ∙ ap (λ (x : Kept). sum x.free) kept, why.1));
+  }
+
+  pub tries_altered : ((s : State) → CoreServes g k s → IsAltering s who t request change) → ((s : State) (serves : CoreServes g k s) → IsChangeOf change (the s serves).before.object) → ((s : State) → CoreServes g k s → refusal_of s who request ≡ None)
+      → TriesWith g None k (record k { disk = disk; space = space; handles = with_drafting t.draw (Some now) k.handles }) who request (done_or result)
+  tries_altered is of_it goes = record {
+    ends = λ s serves none.
+        let held = the s serves in
+        altered_through.ends s serves none (record {
+          alters = is s serves;
+          of_it = λ d has. subst (λ (e : Draft). IsChangeOf change e.object) (same_Some held.before d (sym (ap (option_and_then (λ (x : Grant). x.draft)) held.found ∙ held.draft_was) ∙ has)) (of_it s serves);
+          goes = goes s serves;
+        });
+    went = altered_through.went;
+  }

@@ -20,7 +20,7 @@ use Rattle.cfs_core.proofs.Refusing.{IsSeen}
 use Rattle.cfs_core.specs.Damage.{IsRootHere}
 use Rattle.cfs_core.proofs.Damages.{told_of_read}
 use Rattle.cfs_core.proofs.Went.{went_so}
-use Rattle.cfs_core.proofs.Serving.{end_same, honest, running, shut, stays}
+use Rattle.cfs_core.proofs.Serving.{end_same, honest, running, stays}
 use Rattle.cfs_core.specs.Claimed.{ClaimsInOrder, claims_for, owners_of}
 use Rattle.cfs_core.proofs.Claimed.{alone_not, claims_none, refused_undone, takes_alone}
 
@@ -143,8 +143,8 @@ module _ {D : Type 0} {w : Option LeftCommit} (g : Ghosts D) (left_sized : (d : 
 pub knows_that : {D : Type 0} (g : Ghosts D) (k : Kernel D) (s : State) → ServesIs g k s → (id : Puid) (o : Object) (at : ℕ) → at ≡ block_shown k.space.left id.block → object_at s.graph id ≡ Some o → drafts_of (drafts_of_handles k.handles s.grants) id ≡ [] → KnowsObject g k.disk at o
 knows_that g k s serves id o at shown there shut = record { graph = s.graph; drafts = drafts_of_handles k.handles s.grants; space = k.space; id = id; seen = record { store = serves.store; there = there; shown = shown }; shut = shut }
 
-pub known : {D : Type 0} (g : Ghosts D) (k : Kernel D) (s : State) → ServesIs g k s → (index : Puid) (i : Index) (at : ℕ) → at ≡ block_shown k.space.left index.block → object_at s.graph index ≡ Some (objects.Index i) → KnowsObject g k.disk at (objects.Index i)
-known g k s serves index i at shown there = knows_that g k s serves index (objects.Index i) at shown there (shut g k s serves index i there)
+pub known : {D : Type 0} (g : Ghosts D) (k : Kernel D) (s : State) → ServesIs g k s → (index : Puid) (i : Index) (at : ℕ) → at ≡ block_shown k.space.left index.block → object_at s.graph index ≡ Some (objects.Index i) → drafts_of (drafts_of_handles k.handles s.grants) index ≡ [] → KnowsObject g k.disk at (objects.Index i)
+known g k s serves index i at shown there shut = knows_that g k s serves index (objects.Index i) at shown there shut
 
 -- the block at which an object is shown that has a name
 pub shown_here : {D : Type 0} (k : Kernel D) (request : Request) (root at : ℕ) → at ≡ block_shown k.space.left root → has_root_in k.directory.named root ≡ true → IsRootHere k (Some request) at

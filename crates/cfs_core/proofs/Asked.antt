@@ -1,9 +1,10 @@
 -- A request that was asked: of a core that stopped, answered, or refused by what lies below.
 use Rattle.std.proofs.Common.{◌≡◌, inl, inr, ⊎_elim, ℕ, ◌-◌, ◌≤◌, List, [], length, true, false, Option, Some, None, Ok, Err, IsTrue, refl, sym, ◌∙◌, ap, subst, arith, sum, eq-eqb}
-use Rattle.cfs_core.proofs.Words.{After, call, CutInDoubt, Event, Ghosts, Graph, Image, InDoubt, is_carried_out, IsPlainReply, Kept, Late, Listing, next, refusal_of, Refused, Reply, Request, Rescue, rescues_of, State, stopped_at, wider}
+use Rattle.cfs_core.proofs.Words.{After, call, CutInDoubt, Event, Ghosts, Graph, Image, InDoubt, is_carried_out, IsPlainReply, Kept, Late, Listing, next, Puid, refusal_of, Refused, Reply, Request, Rescue, rescues_of, State, stopped_at, wider}
 use Rattle.cfs_base.specs.declared.refusal.Refused.TheVariants as refusals
 use Rattle.ufs_model.specs.declared.asked.Event.TheVariants as events
 use Rattle.ufs_model.specs.declared.asked.Reply.TheVariants as replies
+use Rattle.ufs_model.specs.declared.asked.Request.TheVariants as asks
 use Rattle.cfs_core.specs.declared.collecting.Collections.{Collections}
 use Rattle.cfs_core.specs.declared.kernel.Stop.{Stop}
 use Rattle.cfs_core.specs.Asked.{Asks, Happens, IsShortContent, IsToldCause, stopped_by, reply_to}
@@ -11,7 +12,7 @@ use Rattle.cfs_core.proofs.Damages.{told_as, told_asked}
 use Rattle.cfs_core.specs.Calls.{Answers, CutShort, EndsSo, IsAsItWas, IsCauseOf, IsFinished, IsInDoubt, IsWant, MayBeRead, Owes, Tries, Undone, Whole, is_full_reply, leaves_all}
 use Rattle.cfs_core.specs.Damage.{IsDamageTold, IsMet}
 use Rattle.cfs_core.specs.Kernel.{Kernel}
-use Rattle.cfs_core.specs.Rescues.{AreRescued}
+use Rattle.cfs_core.specs.Rescues.{AreRescued, ended_by}
 use Rattle.cfs_core.specs.StandsFor.{IsFront, ServesIs, Stands, end_in, free_to_come}
 use Rattle.cfs_core.proofs.Answering.{reads_none}
 use Rattle.cfs_core.proofs.Collected.{collection_asked, collection_ready, rescued_after, same_rescued}
@@ -42,15 +43,20 @@ told_short (refusals.Disk true) moment = tt
 told_short (refusals.Damaged damage) moment = tt
 told_short refusals.Memory moment = tt
 
+-- no grant ends with what isn't done
+no_end : (s : State) (who : ℕ) (request : Request) (reply : Reply) → is_carried_out reply ≡ false → ended_by s who request reply ≡ []
+no_end s who (asks.Close grant commit) replies.Done undone = cc
+no_end s who request reply undone = refl
+
 -- A call that answered, and whose collector was told of it: `mid` had room for the rescue.
-module _ {D : Type 0} (g : Ghosts D) (old : Kernel D) (x : Collections) (ready : AreRescued old.collections.collector x.collector []) where
+module _ {D : Type 0} (g : Ghosts D) (old : Kernel D) (x : Collections) (ready : AreRescued old.collections.collector x.collector [] []) where
   abbrev roomy : Kernel D
   roomy = record old { collections = x }
 
   pub serves_roomy : (s : State) → ServesIs g old s → ServesIs g roomy s
   serves_roomy s serves = stored g old s serves x (collection_ready (end_in g old) s old.collections.collector x.collector ready serves.collecting)
 
-  happens : ((d : D) → IsTrue (g.honest d) → length (g.content d) ≡ g.blocks d) → (mid : Kernel D) → g.blocks mid.disk ≡ g.blocks old.disk → (y : Collections) (s : State) (who : ℕ) (request : Request) (reply : Reply) → mid.stop ≡ None → AreRescued x.collector y.collector (rescues_of s who request reply) → ServesIs g old s
+  happens : ((d : D) → IsTrue (g.honest d) → length (g.content d) ≡ g.blocks d) → (mid : Kernel D) → g.blocks mid.disk ≡ g.blocks old.disk → (y : Collections) (s : State) (who : ℕ) (request : Request) (reply : Reply) → mid.stop ≡ None → AreRescued x.collector y.collector (rescues_of s who request reply) (ended_by s who request reply) → ServesIs g old s
       → Answers g old.space.left roomy mid s who request reply → Happens g old (record mid { collections = y }) s (events.Ask who request reply)
   happens sized mid size y s who request reply none rescued serves is = record {
     after = is.event.after;
@@ -82,10 +88,10 @@ module _ {D : Type 0} (g : Ghosts D) (old : Kernel D) (x : Collections) (ready :
     stopped = λ stop is. cc;
     stops = λ _. none;
     cause = λ _. tt;
-    rescued = λ _ s stands. ready;
+    rescued = λ _ s stands. subst (AreRescued old.collections.collector x.collector []) (sym (no_end s who request replies.Memory refl)) ready;
     called = called;
     finished = finished;
-    waits = adds_one (g.blocks old.disk) old.collections x [] ready called finished (omega arith);
+    waits = adds_one (g.blocks old.disk) old.collections x [] [] ready called finished (omega arith);
     later = omega arith;
     size = refl;
     faults = omega arith;
@@ -124,11 +130,11 @@ asks_stopped g k who request stop is = record {
     step s front = rw (front.stopped, is, eq-eqb stop.moment stop.moment refl) refl
 
 -- one that answered
-pub asks_answered : {D : Type 0} (g : Ghosts D) → ((d : D) → IsTrue (g.honest d) → length (g.content d) ≡ g.blocks d) → (old : Kernel D) (x : Collections) → AreRescued old.collections.collector x.collector []
-    → x.called ≡ old.collections.called → x.finished ≡ old.collections.finished → (mid : Kernel D) (y : Collections) (who : ℕ) (request : Request) (reply : Reply) (more : List Rescue)
-    → ((s : State) → ServesIs g (record old { collections = x }) s → more ≡ rescues_of s who request reply) → AreRescued mid.collections.collector y.collector more → y.called ≡ mid.collections.called → y.finished ≡ mid.collections.finished → old.stop ≡ None
+pub asks_answered : {D : Type 0} (g : Ghosts D) → ((d : D) → IsTrue (g.honest d) → length (g.content d) ≡ g.blocks d) → (old : Kernel D) (x : Collections) → AreRescued old.collections.collector x.collector [] []
+    → x.called ≡ old.collections.called → x.finished ≡ old.collections.finished → (mid : Kernel D) (y : Collections) (who : ℕ) (request : Request) (reply : Reply) (more : List Rescue) (over : List Puid)
+    → ((s : State) → ServesIs g (record old { collections = x }) s → (more ≡ rescues_of s who request reply) × (over ≡ ended_by s who request reply)) → AreRescued mid.collections.collector y.collector more over → y.called ≡ mid.collections.called → y.finished ≡ mid.collections.finished → old.stop ≡ None
     → length more ≤ 1 → Tries g (record old { collections = x }) mid who request (Ok reply) → Asks g old (record mid { collections = y }) who request reply
-asks_answered {D = D} g sized old x ready called finished mid y who request reply more are rescued called_on finished_on none few tries = record {
+asks_answered {D = D} g sized old x ready called finished mid y who request reply more over are rescued called_on finished_on none few tries = record {
   event = λ s stands. let serves = serves_from g old s none stands in
       happens g old x ready sized mid tries.went.size y s who request reply (tries.went.stop ∙ none) (all_rescued s serves) serves
       (tries.ends s (serves_roomy g old x ready s serves) none);
@@ -146,10 +152,10 @@ asks_answered {D = D} g sized old x ready called finished mid y who request repl
   stopped = λ stop is. cc;
   stops = λ _. tries.went.stop ∙ none ∙ sym (plain_goes_on reply tries.went.plain None);
   cause = λ _. plain_cause g old (record mid { collections = y }) request reply tries.went.plain;
-  rescued = λ _ s stands. rescued_after old.collections.collector x.collector y.collector (rescues_of s who request reply) ready (all_rescued s (serves_from g old s none stands));
+  rescued = λ _ s stands. rescued_after old.collections.collector x.collector y.collector (rescues_of s who request reply) (ended_by s who request reply) ready (all_rescued s (serves_from g old s none stands));
   called = called_on ∙ ap (λ (c : Collections). c.called) tries.went.collections ∙ called;
   finished = finished_on ∙ ap (λ (c : Collections). c.finished) tries.went.collections ∙ finished;
-  waits = adds_one (g.blocks old.disk) old.collections y more (rescued_after old.collections.collector x.collector y.collector more ready (subst (λ (c : Collections). AreRescued c.collector y.collector more) tries.went.collections rescued))
+  waits = adds_one (g.blocks old.disk) old.collections y more over (rescued_after old.collections.collector x.collector y.collector more over ready (subst (λ (c : Collections). AreRescued c.collector y.collector more over) tries.went.collections rescued))
       (called_on ∙ ap (λ (c : Collections). c.called) tries.went.collections ∙ called) (finished_on ∙ ap (λ (c : Collections). c.finished) tries.went.collections ∙ finished) few;
   later = tries.went.later;
   size = tries.went.size;
@@ -160,12 +166,15 @@ asks_answered {D = D} g sized old x ready called finished mid y who request repl
   drawn = tries.went.drawn;
 }
   where
-    all_rescued : (s : State) → ServesIs g old s → AreRescued x.collector y.collector (rescues_of s who request reply)
-    all_rescued s serves = subst (AreRescued x.collector y.collector) (are s (serves_roomy g old x ready s serves)) (subst (λ (c : Collections). AreRescued c.collector y.collector more) tries.went.collections rescued)
+    all_rescued : (s : State) → ServesIs g old s → AreRescued x.collector y.collector (rescues_of s who request reply) (ended_by s who request reply)
+    all_rescued s serves =
+        let both = are s (serves_roomy g old x ready s serves) in
+        subst (AreRescued x.collector y.collector (rescues_of s who request reply)) both.1
+        (subst (λ (m : List Rescue). AreRescued x.collector y.collector m over) both.0 (subst (λ (c : Collections). AreRescued c.collector y.collector more over) tries.went.collections rescued))
 
 -- one that was refused from below
 module _ {D : Type 0} (g : Ghosts D) (left_sized : (d : D) (t : ℕ) (c : Image) → g.left_since d t c → length c ≡ g.blocks d) (sized : (d : D) → IsTrue (g.honest d) → length (g.content d) ≡ g.blocks d)
-    (old : Kernel D) (x : Collections) (ready : AreRescued old.collections.collector x.collector []) (called : x.called ≡ old.collections.called) (finished : x.finished ≡ old.collections.finished) (mid : Kernel D) (size : g.blocks mid.disk ≡ g.blocks old.disk) (who : ℕ) (request : Request) (none : old.stop ≡ None) where
+    (old : Kernel D) (x : Collections) (ready : AreRescued old.collections.collector x.collector [] []) (called : x.called ≡ old.collections.called) (finished : x.finished ≡ old.collections.finished) (mid : Kernel D) (size : g.blocks mid.disk ≡ g.blocks old.disk) (who : ℕ) (request : Request) (none : old.stop ≡ None) where
   abbrev stopped_as : Reply → Kernel D
   stopped_as reply = record mid { stop = stopped_by reply mid.stop }
 
@@ -203,8 +212,9 @@ module _ {D : Type 0} (g : Ghosts D) (left_sized : (d : D) (t : ℕ) (c : Image)
   refused_so : (reply : Reply) (s : State) → mid.stop ≡ None → mid.collections ≡ x → is_carried_out reply ≡ false → ServesIs g old s → Answers g old.space.left (roomy g old x ready) mid s who request reply → Happens g old mid s (events.Ask who request reply)
   refused_so reply s runs same undone serves is =
       happens g old x ready sized mid size mid.collections s who request reply runs
-      (subst (λ (more : List Rescue). AreRescued x.collector mid.collections.collector more) (sym (nothing s reply undone))
-      (subst (λ (c : Collections). AreRescued x.collector c.collector []) (sym same) (same_rescued x.collector))) serves is
+      (subst (AreRescued x.collector mid.collections.collector (rescues_of s who request reply)) (sym (no_end s who request reply undone))
+      (subst (λ (more : List Rescue). AreRescued x.collector mid.collections.collector more []) (sym (nothing s reply undone))
+      (subst (λ (c : Collections). AreRescued x.collector c.collector [] []) (sym same) (same_rescued x.collector)))) serves is
 
   told_happens : (refused : Refused) (moment : ℕ) (s : State) → mid.stop ≡ None → mid.collections ≡ x → ServesIs g old s → EndsSo g old.space.left (roomy g old x ready) mid s who request (Err refused) → Happens g old (stopped_as (reply_to refused moment)) s (events.Ask who request (reply_to refused moment))
   told_happens (refusals.Full need) moment s runs same serves is = refused_so (replies.Full need) s runs same refl serves is
@@ -277,11 +287,13 @@ module _ {D : Type 0} (g : Ghosts D) (left_sized : (d : D) (t : ℕ) (c : Image)
     stopped = λ stop same. cc;
     stops = λ _. ap (λ (o : Option Stop). stopped_by (reply_to refused (g.moment mid.disk)) o) (tries.went.stop ∙ none);
     cause = λ _. told_cause refused _ tries.went.cause;
-    rescued = λ _ s stands. subst (λ (more : List Rescue). AreRescued old.collections.collector mid.collections.collector more) (sym (nothing s (reply_to refused (g.moment mid.disk)) (undone refused (g.moment mid.disk))))
-        (subst (λ (c : Collections). AreRescued old.collections.collector c.collector []) (sym tries.went.collections) ready);
+    rescued = λ _ s stands. let none = undone refused (g.moment mid.disk) in
+        subst (AreRescued old.collections.collector mid.collections.collector (rescues_of s who request (reply_to refused (g.moment mid.disk)))) (sym (no_end s who request (reply_to refused (g.moment mid.disk)) none))
+        (subst (λ (more : List Rescue). AreRescued old.collections.collector mid.collections.collector more []) (sym (nothing s (reply_to refused (g.moment mid.disk)) none))
+        (subst (λ (c : Collections). AreRescued old.collections.collector c.collector [] []) (sym tries.went.collections) ready));
     called = ap (λ (c : Collections). c.called) tries.went.collections ∙ called;
     finished = ap (λ (c : Collections). c.finished) tries.went.collections ∙ finished;
-    waits = adds_one (g.blocks old.disk) old.collections mid.collections [] (subst (λ (c : Collections). AreRescued old.collections.collector c.collector []) (sym tries.went.collections) ready)
+    waits = adds_one (g.blocks old.disk) old.collections mid.collections [] [] (subst (λ (c : Collections). AreRescued old.collections.collector c.collector [] []) (sym tries.went.collections) ready)
         (ap (λ (c : Collections). c.called) tries.went.collections ∙ called) (ap (λ (c : Collections). c.finished) tries.went.collections ∙ finished) (omega arith);
     later = tries.went.later;
     size = size;

@@ -63,12 +63,13 @@ module _ {D : Type 0} (g : Ghosts D) (left_sized : (d : D) (t : ℕ) (c : Image)
   fits_before : FitsDisk (g.blocks new.disk) s.graph
   fits_before = fits g old s serves (g.blocks new.disk) wide
 
-  pub in_doubt : new ≡ record old { disk = new.disk; space = new.space } → IsInDoubt g old new s who request
-  in_doubt same = record {
+  -- whatever drafts there are
+  pub doubtful : new.words.drawn ≡ old.words.drawn → new.directory ≡ old.directory → grants_in new.handles ≡ grants_in old.handles → IsInDoubt g old new s who request
+  doubtful drawn named grants = record {
     allowed = is.allowed;
-    drawn = ap (λ (k : Kernel D). k.words.drawn) same;
-    named = ap (λ (k : Kernel D). k.directory) same;
-    grants = ap (λ (k : Kernel D). grants_in k.handles) same;
+    drawn = drawn;
+    named = named;
+    grants = grants;
     leaves = wider g old.disk new.disk _ _ leaves (λ c holds. stood c holds);
   }
     where
@@ -77,32 +78,20 @@ module _ {D : Type 0} (g : Ghosts D) (left_sized : (d : D) (t : ℕ) (c : Image)
       stood c (inl (inr after)) = record { graph = h; may = subst (MayBeRead old.words.seed s who request) (ap (λ (p : Reply × State). p.1.graph) is.out ∙ is.graph) (Whole b is.names); fits = fits_after; holds = after }
       stood c (inr cut) = record { graph = with_object s.graph cut.id (objects.File cut.file); may = CutShort cut.id cut.was cut.now cut.file cut.changes cut.between; fits = cut.fits; holds = cut.holds }
 
-  module _ (stepped : IsStepped old new s after h) (handles : new.handles ≡ old.handles) (grants : after.grants ≡ s.grants) (rs : List ℕ) (has : HasStepped g None old new s h (λ entry. of_owners rs entry) (drafts_of_handles old.handles s.grants)) where
-    abbrev drafts : List Opened
-    drafts = drafts_of_handles old.handles s.grants
+  pub in_doubt : new ≡ record old { disk = new.disk; space = new.space } → IsInDoubt g old new s who request
+  in_doubt same = doubtful (ap (λ (k : Kernel D). k.words.drawn) same) (ap (λ (k : Kernel D). k.directory) same) (ap (λ (k : Kernel D). grants_in k.handles) same)
 
-    abbrev T : Option MapEntry → Bool
-    T entry = of_owners rs entry
-
-    same_drafts : drafts_of_handles new.handles after.grants ≡ drafts
-    same_drafts = ap (λ x. drafts_of_handles x after.grants) handles ∙ ap (λ (gs : List Grant). drafts_of_handles old.handles gs) grants
-
-    have : AreDraftsOf drafts new.handles after.grants
-    have = subst (λ x. AreDraftsOf drafts x after.grants) (sym handles) (subst (λ (gs : List Grant). AreDraftsOf drafts old.handles gs) (sym grants) serves.drafts)
-
-    four : 4 ≤ free_to_come g new
-    four = four_left g old new s after h serves T drafts has n (omega (arith, is.few)) is.free
-
-    pub did : IsPlainReply reply → leaves_all reply ≡ false → (¬ IsShortOfBlocks s who request (sum old.space.free)) → (creates request ≡ true → IsLeastFree (g.content old.disk) b) → TakesForRequest old.handles s who request reply (g.content old.disk) (end_in g new) → (commits s who request ≡ true → IsSome new.space.left) → Answers g None old new s who request reply
-    did plain changes short least takes noted = record {
+  module _ (stepped : IsStepped old new s after h) (T : Option MapEntry → Bool) (es : List Opened) (has : HasStepped g None old new s h T es) (drafts_are : drafts_of_handles new.handles after.grants ≡ es) (have : AreDraftsOf es new.handles after.grants) (four : 4 ≤ free_to_come g new) where
+    pub did_with : IsPlainReply reply → leaves_all reply ≡ false → (¬ IsShortOfBlocks s who request (sum old.space.free)) → (creates request ≡ true → IsLeastFree (g.content old.disk) b) → TakesForRequest old.handles s who request reply (g.content old.disk) (end_in g new) → (commits s who request ≡ true → IsSome new.space.left) → Answers g None old new s who request reply
+    did_with plain changes short least takes noted = record {
       event = record {
         after = after;
         step = step;
-        stores = stores_stepped g old new s after h serves T drafts has stepped state same_drafts have four;
-        strays = strays_stepped g old new s after h serves T drafts has stepped state same_drafts have four;
+        stores = stores_stepped g old new s after h serves T es has stepped state drafts_are have four;
+        strays = strays_stepped g old new s after h serves T es has stepped state drafts_are have four;
         survives = call g left_sized old.words.seed s e old.disk new.disk (record {
           crashes = wider g old.disk new.disk _ _ leaves (λ c holds. stood c holds);
-          now = λ c left. record { graph = h; may = late; fits = fits_after; holds = holds_in g h drafts new.disk new.space new.space.left has.store c left };
+          now = λ c left. record { graph = h; may = late; fits = fits_after; holds = holds_in g h es new.disk new.space new.space.left has.store c left };
         });
       };
       still = λ all. let no : true ≡ false = sym all ∙ changes in cc;
@@ -128,3 +117,22 @@ module _ {D : Type 0} (g : Ghosts D) (left_sized : (d : D) (t : ℕ) (c : Image)
           fits = cut.fits;
           holds = cut.holds;
         }
+
+  module _ (stepped : IsStepped old new s after h) (handles : new.handles ≡ old.handles) (grants : after.grants ≡ s.grants) (rs : List ℕ) (has : HasStepped g None old new s h (λ entry. of_owners rs entry) (drafts_of_handles old.handles s.grants)) where
+    abbrev drafts : List Opened
+    drafts = drafts_of_handles old.handles s.grants
+
+    abbrev T : Option MapEntry → Bool
+    T entry = of_owners rs entry
+
+    same_drafts : drafts_of_handles new.handles after.grants ≡ drafts
+    same_drafts = ap (λ x. drafts_of_handles x after.grants) handles ∙ ap (λ (gs : List Grant). drafts_of_handles old.handles gs) grants
+
+    have : AreDraftsOf drafts new.handles after.grants
+    have = subst (λ x. AreDraftsOf drafts x after.grants) (sym handles) (subst (λ (gs : List Grant). AreDraftsOf drafts old.handles gs) (sym grants) serves.drafts)
+
+    four : 4 ≤ free_to_come g new
+    four = four_left g old new s after h serves T drafts has n (omega (arith, is.few)) is.free
+
+    pub did : IsPlainReply reply → leaves_all reply ≡ false → (¬ IsShortOfBlocks s who request (sum old.space.free)) → (creates request ≡ true → IsLeastFree (g.content old.disk) b) → TakesForRequest old.handles s who request reply (g.content old.disk) (end_in g new) → (commits s who request ≡ true → IsSome new.space.left) → Answers g None old new s who request reply
+    did = did_with stepped T drafts has same_drafts have four

@@ -20,7 +20,7 @@ use Rattle.cfs_core.proofs.Grown.{filled_blocks, replaced_blocks}
 abbrev blocks : Puid × Object → ℕ
 blocks e = blocks_of e.1
 
-more_sum : (k : Puid) (o : Object) (es : List (Puid × Object)) → sum_by (λ e. blocks_of e.1) (insert_entry puid_cmp es k o) ≤ sum_by (λ e. blocks_of e.1) es + blocks_of o
+pub more_sum : (k : Puid) (o : Object) (es : List (Puid × Object)) → sum_by (λ e. blocks_of e.1) (insert_entry puid_cmp es k o) ≤ sum_by (λ e. blocks_of e.1) es + blocks_of o
 more_sum k o [] = omega (arith, sum_by-cons blocks (k, o) [])
 more_sum k o (e ∷ es) = elim (puid_cmp k e.0) as (λ r. sum_by blocks (match_ordering r ((k, o) ∷ e ∷ es) ((e.0, o) ∷ es) (e ∷ insert_entry puid_cmp es k o)) ≤ sum_by blocks (e ∷ es) + blocks_of o) [
   | Less ↦ omega (arith, sum_by-cons blocks (k, o) (e ∷ es))
@@ -43,7 +43,7 @@ least_there image (suc w) n none some = elim (is_free_in image n) as (λ t. is_f
   | false ↦ λ taken. least_there image w (n + 1) (λ m below. elim (cases_lt m n) [ inl less ↦ none m less | inr same ↦ (let is : m ≡ n = omega (arith, below, same) in rw is taken) ]) (omega (arith, some, sum_by-cons (λ (m : ℕ). cond (is_free_in image m) 1 0) n (range_with_len (n + 1) w), ap {B = ℕ} (λ (t : Bool). cond t 1 0) taken))
 ] refl
 
-free_inside : (image : Image) (g : Graph) (n : ℕ) → Holds image g → is_free_in image n ≡ true → n < length image
+pub free_inside : (image : Image) (g : Graph) (n : ℕ) → Holds image g → is_free_in image n ≡ true → n < length image
 free_inside image g n holds free = at (entry_in image n) refl free
   where
     at : (e : Option MapEntry) → entry_in image n ≡ e → is_free_entry e ≡ true → n < length image

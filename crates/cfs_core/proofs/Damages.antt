@@ -1,6 +1,6 @@
 -- What a damage of one call of the store tells of the core's call.
 use Rattle.std.proofs.Common.{◌≡◌, ◌⊎◌, inl, inr, ℕ, ◌/◌, ◌%◌, ◌<◌, ◌*◌, ◌+◌, Some, None, Option, true, refl, sym, ◌∙◌, ap, subst, arith, List, slice_index, sum, [], ◌∷◌}
-use Rattle.cfs_core.proofs.Words.{Ghosts, Image, IsIndexRefusal, IsOpenMap, OnlyReads, Request}
+use Rattle.cfs_core.proofs.Words.{Ghosts, Image, IsIndexRefusal, IsOpenMap, OnlyReads, Puid, Request}
 use Rattle.cfs_base.specs.Codes.{past_disk}
 use Rattle.cfs_base.proofs.Calls.{tells_on}
 use Rattle.cfs_base.specs.Disk.{block_at}
@@ -33,8 +33,8 @@ use Rattle.cfs_base.specs.declared.kind.FileKind.{FileKind}
 use Rattle.cfs_base.specs.declared.kind.FileKind.TheVariants as kinds
 use Rattle.cyl_alloc.specs.Space.{IsBadMap}
 use Rattle.cfs_core.specs.declared.collecting.Collections.{Collections}
-use Rattle.cfs_core.specs.Damage.{After, Before, FarBelow, FarDraft, FarNode, FarRoot, FewLeft, IsDamageTold, IsOutside, IsRootHere, NoEntry, NoRoot, FindsFew, NotOwned, OpenMap, OtherCount, bytes_wanted}
-use Rattle.cfs_core.specs.Handles.{drafting_at}
+use Rattle.cfs_core.specs.Damage.{After, Before, FarBelow, FarDraft, FarDrafted, FarNode, FarRoot, FewLeft, IsDamageTold, IsOutside, IsRootHere, NoEntry, NoRoot, FindsFew, NotOwned, OpenMap, OtherCount, bytes_wanted}
+use Rattle.cfs_core.specs.Handles.{drafting_at, root_at}
 use Rattle.cfs_core.specs.Kernel.{Kernel}
 use Rattle.cyl_alloc.proofs.Miscounts.{miscounted_as}
 use Rattle.leaf_changes.specs.Tops.{Top, disk_top, still_top}
@@ -58,6 +58,7 @@ module _ {D : Type 0} (g : Ghosts D) (old new : Kernel D) where
   told_asked x request damage (OtherCount code why) = OtherCount code why
   told_asked x request damage (FarDraft code draw was at block far) = FarDraft code draw was at block far
   told_asked x request damage (NotOwned made is creates code why) = NotOwned made is creates code why
+  told_asked x request damage (FarDrafted code id root here at why) = FarDrafted code id root here at why
   told_asked x request damage (FewLeft code block few) = FewLeft code block few
 
   -- by a core with the same disk and counts afterwards
@@ -68,6 +69,7 @@ module _ {D : Type 0} (g : Ghosts D) (old new : Kernel D) where
   told_as now request damage disk space (OtherCount code why) = OtherCount code (rw (disk, space) why)
   told_as now request damage disk space (FarDraft code draw was at block far) = FarDraft code draw was at block (rw disk far)
   told_as now request damage disk space (NotOwned made is creates code why) = NotOwned made is creates code why
+  told_as now request damage disk space (FarDrafted code id root here at why) = FarDrafted code id root here at why
   told_as now request damage disk space (FewLeft code block few) = FewLeft code block (rw space few)
 
   -- after reads
@@ -88,6 +90,7 @@ module _ {D : Type 0} (g : Ghosts D) (old new : Kernel D) where
       by (OtherCount code why) = OtherCount code (miscounted_as on refl refl why)
       by (FarDraft code draw was at block far) = FarDraft code draw was at block far
       by (NotOwned made is creates code why) = NotOwned made is creates code (rw reads.same.size at why)
+      by (FarDrafted code id root there at why) = FarDrafted code id root (here request id.block there) at (λ tells. rw (reads.content, reads.same.size) at (why (on tells)))
       by (FewLeft code block few) = FewLeft code block few
 
 -- ---- of a read
@@ -178,7 +181,7 @@ module _ {D : Type 0} (g : Ghosts D) (old new : Kernel D) (request : Option Requ
 spelled : (image : Image) (at : ℕ) (root : Root) → IsRootBlock (block_at image at) root → block_at image at ≡ root_spelling root
 spelled image at root is = is.spelled
 
-far_leaf : (image : Image) (size at : ℕ) (root : Root) (leaf : ℕ) (damage : Damage) → IsRootBlock (block_at image at) root → causes.IsFarLeaf image size at root leaf damage → LeadsPast image size at damage.block
+far_leaf : (image : Image) (size at : ℕ) (root : Root) (leaf : ℕ) (damage : Damage) → IsRootBlock (block_at image at) root → causes.IsFarLeaf image size at root leaf damage → LeadsPast image size (block_at image at) at damage.block
 far_leaf image size at root leaf damage is (causes.FarNode code block past above) =
     let two = past_is image size (root_spelling root) leaf past above in
     record { path = []; k = leaf / 128; at = block; past = rw (spelled image at root is) (subst (IsPast size) (two.0 ∙ sym (node_block image (root_spelling root) (leaf / 128))) two.1) }
@@ -210,9 +213,10 @@ outside_file g top at old mid damage same on content size far (normal.FarNode co
 -- ---- of a step of the collector
 
 module _ {D : Type 0} (g : Ghosts D) (old new : Kernel D) (damage : Damage) where
-  pub told_of_scan : (at : ℕ) → IsRootHere old None at → IsIndexDamage g old.disk at damage → IsDamageTold g old new None damage
-  told_of_scan at here (scan.NoRoot code block why) = Before (NoRoot code (subst (IsRootHere old None) (sym block) here) (λ tells root is. absurd (why tells root (rw block at is))))
-  told_of_scan at here (scan.PastDisk code why) = Before (FarBelow code at here why)
+  pub told_of_scan : (id : Puid) (draft : Option Root) → IsRootHere old None id.block → draft ≡ root_at old.handles id → IsIndexDamage g old.disk draft id.block damage → IsDamageTold g old new None damage
+  told_of_scan id draft here root (scan.NoRoot code block why) = Before (NoRoot code (subst (IsRootHere old None) (sym block) here) (λ tells root is. absurd (why tells root (rw block at is))))
+  told_of_scan id draft here root (scan.PastDisk code why) = Before (FarBelow code id.block here why)
+  told_of_scan id draft here root (scan.PastDraft of same code why) = FarDrafted code id of here (sym root ∙ same) why
 
   pub told_of_map : (n : ℕ) → IsNoMap g old.disk n damage → IsDamageTold g old new None damage
   told_of_map n is = Before (NoEntry is.code (omega (arith, is.block)) (λ tells. bad_map (is.bad tells)))

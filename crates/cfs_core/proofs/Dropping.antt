@@ -1,6 +1,6 @@
 -- A grant of a session that leaves is dropped.
 use Rattle.std.proofs.Common.{◌≡◌, ◌⊎◌, inl, inr, ℕ, List, [], ◌∷◌, Bool, true, false, cond, not, Option, Some, None, refl, sym, ◌∙◌, ap, subst, arith, ◌==◌, filter}
-use Rattle.cfs_core.proofs.Words.{closed, Drafting, Ghosts, Grant, grant_of, Holds, is_grant, next, outcome_legal, State, Tuid, without_session-without_grant}
+use Rattle.cfs_core.proofs.Words.{closed, Drafting, Ghosts, Grant, grant_of, Holds, is_grant, next, outcome_legal, Puid, State, Tuid, without_session-without_grant}
 use Rattle.open_table.specs.declared.grant.Grant as handles
 use Rattle.open_table.specs.Grants as tables
 use Rattle.ufs_model.specs.declared.asked.Event.TheVariants as events
@@ -15,7 +15,9 @@ use Rattle.cfs_core.specs.Leaving.{GaveUp, GivesUp, IsGivenUp, ServesFewer, Shed
 use Rattle.cfs_core.proofs.Joined.{serves_finished}
 use Rattle.cfs_core.specs.Handles.{drafting_at, have_draft, is_at, handles_but, with_drafting}
 use Rattle.cfs_core.specs.StandsFor.{CoreServes, ServesIs, drafts_of_handles, end_in}
-use Rattle.cfs_core.proofs.Collected.{collection_asked, same_rescued}
+use Rattle.cfs_core.specs.Rescues.{AreRescued, ended_by}
+use Rattle.cfs_core.specs.declared.collecting.Collections.{Collections}
+use Rattle.cfs_core.proofs.Collected.{collection_asked}
 use Rattle.cfs_core.proofs.Damages.{told_of_draft}
 use Rattle.cfs_core.proofs.Drafted.{but_with, opened}
 use Rattle.cfs_core.proofs.Ended.{IsHeld, held_by, stores_aborted, strays_aborted}
@@ -45,19 +47,30 @@ others_stay who t (x ∷ grants) = at (others_stay who t grants) (x.session == w
 
 -- ---- the handle is gone
 
-module _ {D : Type 0} (g : Ghosts D) (k : Kernel D) (who : ℕ) (t : Tuid) (the : (s : State) → ServesIs g k s → (x : Grant) × (grant_of s who t ≡ Some x)) where
+module _ {D : Type 0} (g : Ghosts D) (k : Kernel D) (who : ℕ) (t : Tuid) (id : Puid) (the : (s : State) → ServesIs g k s → (x : Grant) × (grant_of s who t ≡ Some x) × (x.id ≡ id))
+    (y : Collections) (told : AreRescued k.collections.collector y.collector [] (id ∷ [])) (called : y.called ≡ k.collections.called) (finished : y.finished ≡ k.collections.finished) where
   step : (s : State) → ServesIs g k s → k.stop ≡ None → next k.words.seed s (events.Ask who (asks.Close t false) replies.Done) ≡ Some (closed s who t false)
   step s serves none = (let x = the s serves in outcome_legal k.words.seed s who (asks.Close t false) 0 (running g k s serves none) (close_goes 0 s who t false x.0 x.1) (λ made. let no : true ≡ false = sym made in cc))
+
+  -- the collector is told of its end
+  ends : (s : State) → ServesIs g k s → AreRescued k.collections.collector y.collector [] (ended_by s who (asks.Close t false) replies.Done)
+  ends s serves =
+      let x = the s serves in
+      let these : ended_by s who (asks.Close t false) replies.Done ≡ id ∷ [] = rw x.1 (ap (λ (i : Puid). i ∷ []) x.2) in
+      subst (AreRescued k.collections.collector y.collector []) (sym these) told
 
   handles_others : (ss : List Handle) → tables.without_session (grants_in (handles_but (tables.is_session_grant who t) ss)) who ≡ tables.without_session (grants_in ss) who
   handles_others ss = ap (λ gs. tables.without_session gs who) (grants_but (tables.is_session_grant who t) ss) ∙ without_session-without_grant (grants_in ss) who t
 
   -- it had no draft
-  pub shed_bare : have_draft (is_at t.draw) k.handles ≡ false → Sheds g who k (record k { handles = handles_but (tables.is_session_grant who t) k.handles })
+  pub shed_bare : have_draft (is_at t.draw) k.handles ≡ false → Sheds g who k (record k { handles = handles_but (tables.is_session_grant who t) k.handles; collections = y })
   shed_bare none_drawn = record {
     words = refl;
     directory = refl;
-    collections = refl;
+    over = id ∷ [];
+    ended = told;
+    called = called;
+    finished = finished;
     others = handles_others k.handles;
     size = refl;
     faults = omega arith;
@@ -66,9 +79,9 @@ module _ {D : Type 0} (g : Ghosts D) (k : Kernel D) (who : ℕ) (t : Tuid) (the 
     leaves = λ s serves none. nothing_left g k.disk (λ c. Holds c s.graph);
     serves = λ s serves none runs. record {
       grants = (closed s who t false).grants;
-      serves = let x = the s serves in stores_closed g k s serves who t false x.0 x.1 none_drawn k.collections
+      serves = let x = the s serves in stores_closed g k s serves who t false x.0 x.1 none_drawn y
           (collection_asked (end_in g k) (end_in g k) k.words.seed s (closed s who t false) who (asks.Close t false) replies.Done (step s serves none) serves.state (none_more (end_in g k) (end_in g k) s.graph refl)
-          k.collections.collector k.collections.collector (same_rescued k.collections.collector) serves.collecting);
+          k.collections.collector y.collector (ends s serves) serves.collecting);
       others = others_stay who t s.grants;
     };
     strays = λ s serves none runs. none_more (end_in g k) (end_in g k) s.graph refl;
@@ -80,11 +93,11 @@ module _ {D : Type 0} (g : Ghosts D) (k : Kernel D) (who : ℕ) (t : Tuid) (the 
   -- it had one, which was given up
   module _ (was : Drafting) (drafting : drafting_at k.handles t.draw ≡ Some was) (bare : was.created ≡ None) (new : Kernel D) where
     abbrev mid : Kernel D
-    mid = record k { handles = handles_but (tables.is_session_grant who t) (with_drafting t.draw None k.handles) }
+    mid = record k { handles = handles_but (tables.is_session_grant who t) (with_drafting t.draw None k.handles); collections = y }
 
     module _ (gives : GivesUp g was mid new) where
       held : (s : State) → ServesIs g k s → IsHeld g k s who t was
-      held s serves = held_by g k s serves who t was drafting (the s serves)
+      held s serves = let x = the s serves in held_by g k s serves who t was drafting (x.0, x.1)
 
       gave : (s : State) (serves : ServesIs g k s) → k.stop ≡ None → GaveUp g s.graph (drafts_of_handles k.handles s.grants) (held s serves).handle.grant.id was.created mid new
       gave s serves none = gives.ends s.graph _ _ _ _ serves.store (held s serves).there (let h = held s serves in opened who t k.handles s.grants h.handle h.x h.place serves.drafts was h.before h.drafting h.draft_was) none
@@ -105,24 +118,24 @@ module _ {D : Type 0} (g : Ghosts D) (k : Kernel D) (who : ℕ) (t : Tuid) (the 
             let h = held s serves in
             record { at = h.at; x = h.x; found = h.found; handle = h.handle; place = h.place; drafting = h.drafting; before = h.before; draft_was = h.draft_was; object = h.object; there = h.there; there_x = h.there_x }
 
-        finished : new.space.left ≡ None
-        finished = gives.left none runs
+        done : new.space.left ≡ None
+        done = gives.left none runs
 
-        new_is : new ≡ record calm { disk = new.disk; space = new.space; handles = handles_but (tables.is_session_grant who t) k.handles }
+        new_is : new ≡ record calm { disk = new.disk; space = new.space; handles = handles_but (tables.is_session_grant who t) k.handles; collections = y }
         new_is =
-            gives.same ∙ ap (λ ss. record k { disk = new.disk; space = new.space; handles = ss; stop = new.stop }) (let h = held s serves in but_with who t k.handles s.grants h.handle h.x h.place)
-            ∙ ap (λ o. record k { disk = new.disk; space = new.space; handles = handles_but (tables.is_session_grant who t) k.handles; stop = o }) (runs ∙ sym none)
+            gives.same ∙ ap (λ ss. record k { disk = new.disk; space = new.space; handles = ss; collections = y; stop = new.stop }) (let h = held s serves in but_with who t k.handles s.grants h.handle h.x h.place)
+            ∙ ap (λ o. record k { disk = new.disk; space = new.space; handles = handles_but (tables.is_session_grant who t) k.handles; collections = y; stop = o }) (runs ∙ sym none)
 
         strays : AddsNoStray (end_in g k) (end_in g new) s.graph s.graph
-        strays = subst (λ (i : Image). AddsNoStray i (end_in g new) s.graph s.graph) given.content (strays_aborted g calm s calm_serves who t was calm_held new.disk new.space bare finished given.dropped)
+        strays = subst (λ (i : Image). AddsNoStray i (end_in g new) s.graph s.graph) given.content (strays_aborted g calm s calm_serves who t was calm_held new.disk new.space bare done given.dropped)
 
         fewer : ServesFewer g new s who
         fewer = subst (λ (j : Kernel D). ServesFewer g j s who) (sym new_is) (record {
           grants = (closed s who t false).grants;
-          serves = stores_aborted g calm s calm_serves who t was calm_held new.disk new.space bare finished given.dropped k.collections
+          serves = stores_aborted g calm s calm_serves who t was calm_held new.disk new.space bare done given.dropped y
               (collection_asked (g.content given.mid) (final_image g new.disk new.space) k.words.seed s (closed s who t false) who (asks.Close t false) replies.Done (step s serves none) serves.state
-              (strays_aborted g calm s calm_serves who t was calm_held new.disk new.space bare finished given.dropped)
-              k.collections.collector k.collections.collector (same_rescued k.collections.collector) calm_serves.collecting);
+              (strays_aborted g calm s calm_serves who t was calm_held new.disk new.space bare done given.dropped)
+              k.collections.collector y.collector (ends s serves) calm_serves.collecting);
           others = others_stay who t s.grants;
         })
 
@@ -134,7 +147,10 @@ module _ {D : Type 0} (g : Ghosts D) (k : Kernel D) (who : ℕ) (t : Tuid) (the 
       shed_drafted = record {
         words = ap (λ (j : Kernel D). j.words) gives.same;
         directory = ap (λ (j : Kernel D). j.directory) gives.same;
-        collections = ap (λ (j : Kernel D). j.collections) gives.same;
+        over = id ∷ [];
+        ended = subst (λ (c : Collections). AreRescued k.collections.collector c.collector [] (id ∷ [])) (sym (ap (λ (j : Kernel D). j.collections) gives.same)) told;
+        called = ap (λ (j : Kernel D). j.collections.called) gives.same ∙ called;
+        finished = ap (λ (j : Kernel D). j.collections.finished) gives.same ∙ finished;
         others = ap (λ (j : Kernel D). tables.without_session (grants_in j.handles) who) gives.same ∙ handles_others (with_drafting t.draw None k.handles) ∙ ap (λ gs. tables.without_session gs who) (grants_with t.draw None k.handles);
         size = gives.size;
         faults = gives.faults;

@@ -17,7 +17,6 @@ use Rattle.cfs_core.specs.Drafts.{DraftEnds, EndsDraft, LeavesDraftCommit}
 use Rattle.cfs_core.specs.Kernel.{Kernel, Handle}
 use Rattle.cfs_core.specs.Handles.{drafting_at, is_drawn, handles_but, with_drafting}
 use Rattle.std.specs.Prelude.{IsSome}
-use Rattle.cyl_alloc.specs.Left.{LeftCommit}
 use Rattle.intentions.specs.Left.{StoreWith, coming, final_image}
 use Rattle.special_files.specs.Committing.{IsNoted}
 use Rattle.cfs_core.specs.StandsFor.{AreDraftsOf, HasDraftOf, CoreServes, ServesWith, StoresState, drafts_of_handles, free_to_come}
@@ -47,7 +46,7 @@ pub find_drawn : (draw : ℕ) (handle : Handle) (ss2 ss1 : List Handle) → is_d
 find_drawn draw handle ss2 [] is none = rw is refl
 find_drawn draw handle ss2 (z ∷ ss1) is none = (let two = or_parts (is_drawn draw z) (list_any (is_drawn draw) ss1) none in rw two.0 (find_drawn draw handle ss2 ss1 is two.1))
 
-kind_alike : (o d : Object) → is_draft_of o d ≡ true → object_kind d ≡ object_kind o
+pub kind_alike : (o d : Object) → is_draft_of o d ≡ true → object_kind d ≡ object_kind o
 kind_alike (objects.File f) (objects.File e) is =
     at e.kind f.kind (and_parts (same_kind e.kind f.kind) _ (and_parts _ _ is).0).0
   where
@@ -57,7 +56,8 @@ kind_alike (objects.File f) (objects.File e) is =
     at file_kinds.Special file_kinds.Normal same = cc
     at file_kinds.Special file_kinds.Special same = refl
 kind_alike (objects.File f) (objects.Index i) is = cc
-kind_alike (objects.Index i) d is = cc
+kind_alike (objects.Index i) (objects.Index d) is = refl
+kind_alike (objects.Index i) (objects.File f) is = cc
 
 -- the one draft of an object is among the drafts, and all are what the others take and it
 pub alone_take : (id : Puid) (e : Opened) (ds : List Opened) → drafts_of ds id ≡ e ∷ [] → sum_by draft_blocks ds ≡ sum_by draft_blocks (without_draft id ds) + draft_blocks e

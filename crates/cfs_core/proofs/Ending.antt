@@ -2,6 +2,7 @@
 use Rattle.std.proofs.Common.{◌≡◌, inr, ℕ, List, length, Bool, Option, Some, None, Ok, Err, IsTrue, refl, sym, ◌∙◌, ap, subst, IsSome, OnErr, OnOk, Result, option_map, inl}
 use Rattle.cfs_core.proofs.Words.{Drafting, Ghosts, Grant, grant_of, Image, IsDraftTrouble, Kept, NoGrant, refused_by, Request, shown, State, table_of, Trouble, Tuid, MakesAtMost}
 use Rattle.cfs_base.specs.declared.refusal.Trouble.TheVariants as troubles
+use Rattle.std.proofs.lemmas.Option.{same_Some}
 use Rattle.open_table.specs.Grants as tables
 use Rattle.open_table.specs.declared.grant.Grant as handles
 use Rattle.ufs_model.specs.declared.asked.Reply.TheVariants as replies
@@ -34,6 +35,11 @@ none_there (Some y) is = cc
 pub the_grant : (found : Option handles.Grant) (o : Option Grant) → IsSome found → found ≡ option_map shown o → (y : Grant) × (o ≡ Some y)
 the_grant None o some is = cc
 the_grant (Some x) o some is = shown_by o x is
+
+-- and it is on the same object
+pub the_same : (found : Option handles.Grant) (o : Option Grant) (g : handles.Grant) → found ≡ Some g → found ≡ option_map shown o → (y : Grant) × (o ≡ Some y) × (y.id ≡ g.id)
+the_same found None g is same = let no : Some g ≡ None = sym is ∙ same in cc
+the_same found (Some y) g is same = (y, refl, ap (λ (z : handles.Grant). z.id) (same_Some (shown y) g (sym same ∙ is)))
 
 -- the grant that is found is closed
 pub closed_handles : (who : ℕ) (t : Tuid) (r : Result handles.Grant NoGrant) (old new : List Handle) → IsSome (tables.session_grant (grants_in old) who t) → OnOk r (new ≡ handles_but (tables.is_session_grant who t) old) → OnErr r (tables.session_grant (grants_in old) who t ≡ None) → new ≡ handles_but (tables.is_session_grant who t) old

@@ -12,7 +12,8 @@ use Rattle.ufs_model.specs.declared.asked.Request.TheVariants as asks
 use Rattle.ufs_model.specs.declared.object.Object.TheVariants as objects
 use Rattle.ufs_model.specs.Graph.{IsClosedGraph}
 use Rattle.cfs_core.specs.Calls.{Answers, ByWant, EndsSo, IsCause, IsInDoubt, IsShortOfBlocks, IsWant, Tries, Undone, Went, done_or, leaves_all}
-use Rattle.cfs_core.specs.Damage.{IsDamageTold, bytes_wanted, asks_delete, is_set_size}
+use Rattle.ufs_model.specs.Next.{is_direct_delete}
+use Rattle.cfs_core.specs.Damage.{IsDamageTold, bytes_wanted, is_set_size}
 use Rattle.file_ops.specs.Changes.{ChangesFile, ClaimsFor, EndsChange, claims_beside, least_size}
 use Rattle.cfs_core.specs.Kernel.{Kernel, Handle}
 use Rattle.cfs_core.specs.Looks.{IsCalmCause, KnowsObject, ReachesAll}
@@ -59,7 +60,7 @@ pub record IsChanging (request : Request) (change : Change) : Type 0 where
   pub commits_is : (s : State) (who : ℕ) → commits s who request ≡ is_beside s who (target request)
   pub claims : (handles : List Handle) (s : State) (who : ℕ) (reply : Reply) → claims_for handles s who request reply ≡ claims_through handles s who (target request) change
   pub alone : (s : State) (who : ℕ) → commits_alone s who request ≡ is_beside s who (target request)
-  pub delete : asks_delete request ≡ false
+  pub delete : is_direct_delete request ≡ false
   pub sets : is_resize change ≡ true → is_set_size request ≡ true
   pub wants : bytes_wanted (Some request) ≡ least_size change
   pub full : (seed : ℕ) (s : State) (who : ℕ) (n : Need) → is_running s ≡ true → refusal_of s who request ≡ None → n.need ≡ need_of s who request → n.free < n.need + 4

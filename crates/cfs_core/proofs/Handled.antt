@@ -1,12 +1,31 @@
 -- What is handled: grants with the drafts that are held for their draws.
-use Rattle.std.proofs.Common.{◌≡◌, ℕ, List, [], ◌∷◌, ◌++◌, Bool, true, false, cond, not, ◌||◌, ◌&&◌, Option, Some, None, Result, Ok, Err, is_some, refl, sym, ◌∙◌, ap, subst, arith, ◌==◌, IfSome, IsOk, OnErr, OnOk, filter}
+use Rattle.std.proofs.Common.{◌≡◌, ℕ, suc, ◌+◌, List, [], ◌∷◌, ◌++◌, drop, slice_get, add-one, rules, Bool, true, false, cond, not, ◌||◌, ◌&&◌, Option, Some, None, Result, Ok, Err, is_some, refl, sym, ◌∙◌, ap, subst, arith, ◌==◌, IfSome, IsOk, IsSome, OnErr, OnOk, filter}
 use Rattle.cfs_core.proofs.Words.{and_right, Drafting, eq-eqb, eqb-true, false_from_ne_true, list_any, list_any-append, nat_tests, or_from, or_parts, same_tuid, true≢false, Tuid}
 use Rattle.open_table.specs.declared.grant.Grant.{Grant}
 use Rattle.open_table.specs.Grants.{is_session_grant}
 use Rattle.cfs_core.specs.Kernel.{Handle, grants_in}
-use Rattle.cfs_core.specs.Handles.{AreOfGrants, drafting_at, have_draft, is_at, is_drawn, handled, handles_but, with_drafting}
+use Rattle.cfs_core.specs.Handles.{AreOfGrants, drafting_at, have_draft, is_at, is_drawn, handled, handles_but, root_at, with_drafting}
+use Rattle.std.proofs.Math.Seq.{drop-cons}
+use Rattle.std.proofs.lemmas.Option.{get_or_from_slice_get, slice_get_within}
+use Rattle.ufs_model.specs.Identifier.{same_puid}
+use Rattle.cfs_base.specs.declared.identifier.Puid.{Puid}
+
+pub alike : (a b : Puid) → ((a.block == b.block) && (a.word == b.word)) ≡ same_puid a b
+alike a b = search rules
+
+at_place : (gs : List Grant) (place : ℕ) (g : Grant) → slice_get gs place ≡ Some g → drop place gs ≡ g ∷ drop (place + 1) gs
+at_place gs place g here = rw add-one (drop-cons gs place g (slice_get_within gs place g here) ∙ ap (λ x. x ∷ drop (suc place) gs) (get_or_from_slice_get gs place g g here))
 
 module _ (held : ℕ → Option Drafting) where
+  -- a grant on another object, or with no draft, is passed
+  pub root_passed : (gs : List Grant) (place : ℕ) (g : Grant) (id : Puid) → slice_get gs place ≡ Some g → (same_puid id g.id && is_some (held g.tuid.draw)) ≡ false
+      → root_at (handled held (drop place gs)) id ≡ root_at (handled held (drop (place + 1) gs)) id
+  root_passed gs place g id here is = ap (λ xs. root_at (handled held xs) id) (at_place gs place g here) ∙ rw is refl
+
+  pub root_found : (gs : List Grant) (place : ℕ) (g : Grant) (id : Puid) (d : Drafting) → slice_get gs place ≡ Some g → same_puid id g.id ≡ true → held g.tuid.draw ≡ Some d
+      → root_at (handled held (drop place gs)) id ≡ Some d.root
+  root_found gs place g id d here same has = ap (λ xs. root_at (handled held xs) id) (at_place gs place g here) ∙ rw (same, has) refl
+
   pub handled_grants : (gs : List Grant) → grants_in (handled held gs) ≡ gs
   handled_grants [] = refl
   handled_grants (g ∷ gs) = ap (λ rest. g ∷ rest) (handled_grants gs)
@@ -172,3 +191,8 @@ stays_or (Err e) P done kept p q = subst P (sym kept) q
 pub on_err : {A E P Q : Type 0} (r : Result A E) → (P → Q) → OnErr r P → OnErr r Q
 on_err (Ok a) f p = tt
 on_err (Err e) f p = f p
+
+-- what is there
+pub some_it : {A : Type 0} (o : Option A) → IsSome o → (x : A) × (o ≡ Some x)
+some_it None is = cc
+some_it (Some x) is = (x, refl)

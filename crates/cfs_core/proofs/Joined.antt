@@ -2,6 +2,7 @@
 use Rattle.std.proofs.Common.{◌≡◌, ◌≢◌, inl, ℕ, length, Bool, true, false, Option, Some, None, Result, Ok, Err, IsTrue, refl, sym, ◌∙◌, ap, subst, arith, IfOk, sum, IsSome}
 use Rattle.cfs_core.proofs.Words.{Before, Early, Event, Ghosts, Holds, Image, Kept, keeps, Late, Leaves, OnlyReads, Opened, refusal_of, Refused, Reply, Request, State, StoreHas, sum_is, then, wider, HoldsSome, Puid, IsSwept}
 use Rattle.cfs_base.specs.declared.refusal.Damage.{Damage}
+use Rattle.cfs_base.specs.declared.refusal.Need.{Need}
 use Rattle.cfs_base.specs.declared.refusal.Refused.TheVariants as refusals
 use Rattle.cfs_base.specs.declared.refusal.Trouble.{Trouble}
 use Rattle.cfs_base.specs.declared.refusal.Trouble.TheVariants as troubles
@@ -14,6 +15,9 @@ use Rattle.finisher.specs.Going.{IsLeftTrouble, calls_left, tries_left}
 use Rattle.survival.specs.Call.{ReadsIn}
 use Rattle.ufs_model.specs.declared.asked.Event.TheVariants as events
 use Rattle.ufs_model.specs.declared.asked.Reply.TheVariants as replies
+use Rattle.cfs_base.specs.declared.identifier.Tuid.{Tuid}
+use Rattle.ufs_model.specs.declared.change.Change.{Change}
+use Rattle.cfs_core.specs.Drafts.{TriesMakingWith, TriesThroughWith}
 use Rattle.cfs_core.specs.Calls.{AddsNoStray, Answers, EndsSo, IsCauseOf, IsWant, MayBeRead, Owes, Tries, TriesOn, TriesOnWith, TriesWith, Undone, Went, done_or, leaves_all}
 use Rattle.cfs_core.specs.Claimed.{TakesForRequest}
 use Rattle.cfs_core.specs.Damage.{After, IsDamageTold, IsMet, NoEntry}
@@ -189,9 +193,21 @@ module _ {D : Type 0} (g : Ghosts D) (old : Kernel D) (d : D) (space : Kept) (tr
       (request : Request) (result : Result Reply Refused) (decides : IfOk result (λ reply. leaves_all reply ≡ false)) (never : result ≢ Err refusals.Memory) where
     pub tries_on_since : (index : Puid) (slot : ℕ) → TriesOnWith g None mid new index slot request result → TriesOn g old new index slot request (since tried result)
     tries_on_since index slot tries = record {
-      ends = λ s who i serves none reach inside goes. ends_since left_sized sized new s who request serves none goes result (λ some. decides) (λ some. never) size
-          (tries.ends s who i (serves_mid s serves) none reach inside goes);
+      ends = λ s who i serves none reach shut inside goes. ends_since left_sized sized new s who request serves none goes result (λ some. decides) (λ some. never) size
+          (tries.ends s who i (serves_mid s serves) none reach shut inside goes);
       went = λ named. went_since new request result (tries.went named);
+    }
+
+    pub tries_through_since : (who : ℕ) (t : Tuid) (change : Change) → TriesThroughWith g None mid new who t change request result → TriesThroughWith g old.space.left old new who t change request (since tried result)
+    tries_through_since who t change tries = record {
+      ends = λ s serves none so. ends_since left_sized sized new s who request serves none so.goes result (λ some. decides) (λ some. never) size (tries.ends s (serves_mid s serves) none so);
+      went = went_since new request result tries.went;
+    }
+
+    pub tries_making_since : (who : ℕ) (t : Tuid) → TriesMakingWith g None mid new who t request result → TriesMakingWith g old.space.left old new who t request (since tried result)
+    tries_making_since who t tries = record {
+      ends = λ s serves none so. ends_since left_sized sized new s who request serves none so.goes result (λ some. decides) (λ some. never) size (tries.ends s (serves_mid s serves) none so);
+      went = went_since new request result tries.went;
     }
 
     pub tries_since : (who : ℕ) → ((s : State) → ServesIs g old s → refusal_of s who request ≡ None) → TriesWith g None mid new who request result → Tries g old new who request (since tried result)
@@ -246,8 +262,20 @@ module _ {D : Type 0} (g : Ghosts D) (left_sized : (d : D) (t : ℕ) (c : Image)
 
   pub tries_on_unfinished : (index : Puid) (slot : ℕ) (e : Refused) → e ≡ refused_by why → TriesOn g old cut index slot request (Err e)
   tries_on_unfinished index slot e is = subst (λ (x : Refused). TriesOn g old cut index slot request (Err x)) (sym is) (record {
-    ends = λ s who i serves none reach inside goes. ends_unfinished s who serves none goes;
+    ends = λ s who i serves none reach shut inside goes. ends_unfinished s who serves none goes;
     went = λ named. went_unfinished;
+  })
+
+  pub through_unfinished : (who : ℕ) (t : Tuid) (change : Change) (e : Refused) → e ≡ refused_by why → TriesThroughWith g old.space.left old cut who t change request (Err e)
+  through_unfinished who t change e is = subst (λ (x : Refused). TriesThroughWith g old.space.left old cut who t change request (Err x)) (sym is) (record {
+    ends = λ s serves none so. ends_unfinished s who serves none so.goes;
+    went = went_unfinished;
+  })
+
+  pub making_unfinished : (who : ℕ) (t : Tuid) (e : Refused) → e ≡ refused_by why → TriesMakingWith g old.space.left old cut who t request (Err e)
+  making_unfinished who t e is = subst (λ (x : Refused). TriesMakingWith g old.space.left old cut who t request (Err x)) (sym is) (record {
+    ends = λ s serves none so. ends_unfinished s who serves none so.goes;
+    went = went_unfinished;
   })
 
   pub tries_unfinished : (who : ℕ) (e : Refused) → e ≡ refused_by why → ((s : State) → ServesIs g old s → refusal_of s who request ≡ None) → Tries g old cut who request (Err e)
@@ -284,6 +312,10 @@ tries_cut g left_sized sized k n d0 first d space why fin request who e is goes 
 pub damaged_since : (tried : Bool) (damage : Damage) → refused_since tried (refusals.Damaged damage) ≡ refusals.Damaged damage
 damaged_since true damage = refl
 damaged_since false damage = refl
+
+pub full_since : (tried : Bool) (need : Need) → refused_since tried (refusals.Full need) ≡ refusals.Full need
+full_since true need = refl
+full_since false need = refl
 
 pub left_none : (w : Option LeftCommit) → is_some w ≡ false → w ≡ None
 left_none None is = refl

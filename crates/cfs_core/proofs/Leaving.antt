@@ -1,5 +1,5 @@
 -- A session's grants are dropped, one after the other, and then it has left.
-use Rattle.std.proofs.Common.{◌≡◌, ◌⊎◌, ⊎_elim, inl, inr, ℕ, List, [], ◌∷◌, length, Bool, true, false, cond, not, Option, Some, None, IsTrue, refl, sym, ◌∙◌, ap, subst, arith, ◌==◌, find, map, option_map}
+use Rattle.std.proofs.Common.{◌≡◌, ◌⊎◌, ⊎_elim, inl, inr, ℕ, List, [], ◌∷◌, ◌++◌, length, Bool, true, false, cond, not, Option, Some, None, IsTrue, refl, sym, ◌∙◌, ap, subst, arith, ◌==◌, find, map, option_map}
 use Rattle.cfs_core.proofs.Words.{after_leave, Ghosts, Grant, Holds, Image, Leaves, loose, State, stopped_at, then, without_session-none}
 use Rattle.open_table.specs.declared.grant.Grant as handles
 use Rattle.open_table.specs.Grants as tables
@@ -10,6 +10,7 @@ use Rattle.cfs_core.specs.Calls.{AddsNoStray}
 use Rattle.cfs_core.specs.Kernel.{Kernel, grants_in}
 use Rattle.cfs_base.proofs.Calls.{failed_since}
 use Rattle.cfs_core.specs.Leaving.{ServesFewer, Sheds, StopsSo, halt_of, of_others}
+use Rattle.cfs_core.proofs.Collected.{ended_then, same_rescued}
 use Rattle.cfs_core.proofs.Damages.{told_as}
 use Rattle.cfs_core.specs.StandsFor.{IsFront, ServesIs, Stands, StandsFor, bare, end_in, front_of}
 use Rattle.cfs_core.proofs.Serving.{fewer_lost, fits, honest, none_more, pending, running, nothing_left}
@@ -20,7 +21,10 @@ module _ {D : Type 0} (g : Ghosts D) (who : ℕ) where
   sheds_none k = record {
     words = refl;
     directory = refl;
-    collections = refl;
+    over = [];
+    ended = same_rescued k.collections.collector;
+    called = refl;
+    finished = refl;
     others = refl;
     size = refl;
     faults = omega arith;
@@ -86,7 +90,10 @@ module _ {D : Type 0} (g : Ghosts D) (who : ℕ) where
     sheds_then = record {
       words = two.words ∙ one.words;
       directory = two.directory ∙ one.directory;
-      collections = two.collections ∙ one.collections;
+      over = one.over ++ two.over;
+      ended = ended_then a.collections.collector b.collections.collector c.collections.collector one.over two.over one.ended two.ended;
+      called = two.called ∙ one.called;
+      finished = two.finished ∙ one.finished;
       others = two.others ∙ one.others;
       size = two.size ∙ one.size;
       faults = omega (arith, one.faults, two.faults);

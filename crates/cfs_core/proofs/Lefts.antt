@@ -1,16 +1,17 @@
 -- How much the collections that were called for have left: a step takes from it, and a request adds one step at most.
-use Rattle.std.proofs.Common.{◌≡◌, ℕ, ◌+◌, ◌*◌, ◌/◌, ◌<◌, ◌≤◌, List, [], length, Bool, true, false, cond, ◌||◌, Option, Some, None, refl, sym, ◌∙◌, ap, subst, arith, add-mul, one-mul, length-append, option_to_list, nat_lt}
-use Rattle.cfs_core.proofs.Words.{Collecting, IsPhaseOf, Pass, Phase, Rescue, events_left, left_in, most_steps, next_phase, reads_left, steps_left, volume_of, waiting_in}
+use Rattle.std.proofs.Common.{◌≡◌, ℕ, ◌+◌, ◌*◌, ◌/◌, ◌<◌, ◌≤◌, List, [], ◌∷◌, length, Bool, true, false, cond, ◌||◌, Option, Some, None, refl, sym, ◌∙◌, ap, subst, arith, add-mul, one-mul, length-append, option_to_list, nat_lt, IfSome}
+use Rattle.cfs_core.proofs.Words.{Collecting, Colours, colours_in, IsPhaseOf, Pass, Phase, Puid, Rescue, events_left, left_in, most_steps, next_phase, reads_left, steps_left, volume_of, waiting_in}
 use Rattle.collector_steps.specs.declared.phase.Phase.TheVariants as phases
 use Rattle.ufs_model.specs.declared.asked.Event.{Event}
 use Rattle.ufs_model.specs.declared.asked.Event.TheVariants as events
 use Rattle.cfs_core.specs.declared.collecting.Collections.{Collections}
 use Rattle.cfs_core.specs.declared.collecting.Step.{Step}
 use Rattle.cfs_core.specs.declared.collecting.Step.TheVariants as steps
-use Rattle.cfs_core.specs.Kernel.{marks_in, collection_runs, sweeps_in}
-use Rattle.cfs_core.specs.Left.{AddsOne, LeavesFewer, RunsBy, events_due, steps_of, to_begin}
-use Rattle.cfs_core.specs.Rescues.{AreRescued, HasRescued, while_marking}
-use Rattle.collector_marks.specs.Kept.{Marked, blocks_marked, colours_of}
+use Rattle.cfs_core.specs.Kernel.{AreCollections, marks_in, collection_runs, sweeps_in}
+use Rattle.cfs_core.specs.Left.{AddsNone, AddsOne, LeavesFewer, RunsBy, events_due, steps_of, to_begin}
+use Rattle.cfs_core.specs.Rescues.{AreRescued, HasRescued, all_ended, while_marking}
+use Rattle.collector_steps.proofs.Lefts.{ended_less}
+use Rattle.marking.specs.Colours.{draft_over}
 
 -- ---- a step
 
@@ -89,36 +90,61 @@ few_wait : (b : Bool) (more : List Rescue) → length (cond b more []) ≤ lengt
 few_wait true more = omega arith
 few_wait false more = omega arith
 
-rescued_left : (k l : Collecting) (more : List Rescue) → HasRescued k l more → steps_left l ≤ steps_left k + length more
-rescued_left k l more is = subst (λ p. left_in p l ≤ left_in k.phase k + length more) (sym is.phase) (at k.phase)
+all_ended_less : (blocks : ℕ) (over : List Puid) (c : Colours) → reads_left blocks (all_ended over c) ≤ reads_left blocks c
+all_ended_less blocks [] c = omega arith
+all_ended_less blocks (id ∷ ids) c = omega (arith, ended_less blocks id c, all_ended_less blocks ids (draft_over id c))
+
+rescued_left : (k l : Collecting) (more : List Rescue) (over : List Puid) → HasRescued k l more over → steps_left l ≤ steps_left k + length more
+rescued_left k l more over is = subst (λ p. left_in p l ≤ left_in k.phase k + length more) (sym is.phase) (at k.phase)
   where
     volume : volume_of l ≡ volume_of k
-    volume = ap blocks_marked is.marks
+    volume = is.volume
 
     at : (p : Phase) → left_in p l ≤ left_in p k + length more
     at phases.Idle = omega arith
     at phases.Marking =
         let waits = ap length is.waiting ∙ length-append (waiting_in k) (while_marking k more) in
         let few = few_wait (marks_in k.phase) more in
-        let cylinders = ap (λ (m : Marked). blocks_marked m / 64) is.marks in
-        let reads = ap (λ (m : Marked). reads_left (blocks_marked m) (colours_of m)) is.marks in
-        omega (arith, waits, few, cylinders, reads)
+        let cylinders = ap (λ (n : ℕ). n / 64) is.volume in
+        let reads = ap (λ (n : ℕ). reads_left n (colours_in l)) is.volume ∙ ap (reads_left (volume_of k)) is.colours in
+        omega (arith, waits, few, cylinders, reads, all_ended_less (volume_of k) over (colours_in k))
     at (phases.Inner c) = omega (arith, volume)
     at (phases.Roots c) = omega (arith, volume)
     at phases.Swept = omega arith
 
-rescued_runs : (o p : Option Collecting) (more : List Rescue) → AreRescued o p more → (collection_runs p ≡ collection_runs o) × (steps_of p ≤ steps_of o + length more) × (events_due p ≡ events_due o)
-rescued_runs None None more is = (refl, omega arith, refl)
-rescued_runs (Some k) (Some l) more is = (ap (λ p. marks_in p || sweeps_in p) is.phase, rescued_left k l more is, ap events_left is.phase)
-rescued_runs None (Some l) more is = absurd is
-rescued_runs (Some k) None more is = absurd is
+rescued_runs : (o p : Option Collecting) (more : List Rescue) (over : List Puid) → AreRescued o p more over → (collection_runs p ≡ collection_runs o) × (steps_of p ≤ steps_of o + length more) × (events_due p ≡ events_due o)
+rescued_runs None None more over is = (refl, omega arith, refl)
+rescued_runs (Some k) (Some l) more over is = (ap (λ p. marks_in p || sweeps_in p) is.phase, rescued_left k l more over is, ap events_left is.phase)
+rescued_runs None (Some l) more over is = absurd is
+rescued_runs (Some k) None more over is = absurd is
 
-pub adds_one : (blocks : ℕ) (c d : Collections) (more : List Rescue) → AreRescued c.collector d.collector more → d.called ≡ c.called → d.finished ≡ c.finished → length more ≤ 1 → AddsOne blocks c d
-adds_one blocks c d more is called finished few =
-    let three = rescued_runs c.collector d.collector more is in
+pub adds_one : (blocks : ℕ) (c d : Collections) (more : List Rescue) (over : List Puid) → AreRescued c.collector d.collector more over → d.called ≡ c.called → d.finished ≡ c.finished → length more ≤ 1 → AddsOne blocks c d
+adds_one blocks c d more over is called finished few =
+    let three = rescued_runs c.collector d.collector more over is in
     let same : to_begin d ≡ to_begin c = omega (arith, called, finished, ap {B = ℕ} (λ r. cond r 1 0) three.0) in
     let steps = ap (λ n. n * most_steps blocks) same in
     record { running = three.0; more = omega (arith, steps, three.1, few); events = omega (arith, same, three.2) }
+
+-- the collector is one of the volume still
+pub kept_told : (room : ℕ) (c d : Collections) (more : List Rescue) (over : List Puid) → AreRescued c.collector d.collector more over → d.called ≡ c.called → d.finished ≡ c.finished → AreCollections room c → AreCollections room d
+kept_told room c d more over told called finished kept = record {
+  volume = at c.collector d.collector told kept.volume;
+  few = omega (arith, kept.few, called, finished, ap {B = ℕ} (λ r. cond r 1 0) (rescued_runs c.collector d.collector more over told).0);
+}
+  where
+    at : (o p : Option Collecting) → AreRescued o p more over → IfSome o (λ k. volume_of k ≡ room) → IfSome p (λ k. volume_of k ≡ room)
+    at None None told is = tt
+    at (Some k) (Some l) told is = told.volume ∙ is
+    at None (Some l) told is = absurd told
+    at (Some k) None told is = absurd told
+
+-- nothing is rescued
+pub adds_nothing : (blocks : ℕ) (c d : Collections) (over : List Puid) → AreRescued c.collector d.collector [] over → d.called ≡ c.called → d.finished ≡ c.finished → AddsNone blocks c d
+adds_nothing blocks c d over is called finished =
+    let three = rescued_runs c.collector d.collector [] over is in
+    let same : to_begin d ≡ to_begin c = omega (arith, called, finished, ap {B = ℕ} (λ r. cond r 1 0) three.0) in
+    let steps = ap (λ n. n * most_steps blocks) same in
+    record { running = three.0; no_more = omega (arith, steps, three.1); events = omega (arith, same, three.2) }
 
 pub adds_none : (blocks : ℕ) (c : Collections) → AddsOne blocks c c
 adds_none blocks c = record { running = refl; more = omega arith; events = refl }

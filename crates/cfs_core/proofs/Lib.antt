@@ -1,3 +1,4 @@
+mod Refilled
 mod Words
 mod Handled
 mod Readied
@@ -11,10 +12,12 @@ mod Claimed
 mod Answering
 mod Joined
 mod Calm
+mod Looked
 mod Grown
 mod Committed
 mod Changed
 mod Few
+mod DraftEnds
 mod Collected
 mod Lefts
 mod Putting
@@ -35,6 +38,10 @@ mod Leaving
 mod Dropping
 mod Openings
 mod Reached
+mod Fitting
+mod Indexed
+mod Slotted
+mod MadeIn
 mod Altered
 mod Barred
 mod Rewritten
@@ -43,6 +50,8 @@ mod SoundGraph
 mod Opened
 mod Tidied
 mod Swept
+mod DraftRoots
+mod Unread
 mod Stepping
 mod Stepped
 mod Parted

@@ -1,5 +1,5 @@
 -- The two requests that make an object.
-use Rattle.std.proofs.Common.{◌≡◌, ℕ, ◌*◌, ◌<◌, ◌||◌, true, false, length, None, Some, refl, sym, ◌∙◌, subst, arith, ◌==◌, nat_lt}
+use Rattle.std.proofs.Common.{◌≡◌, ℕ, ◌+◌, ◌*◌, ◌<◌, ◌||◌, true, false, length, None, Some, refl, sym, ◌∙◌, subst, arith, ◌==◌, nat_lt, eq-eqb}
 use Rattle.cfs_core.proofs.Words.{FileKind, Index, Kind, made_of, nat_tests, new_file, new_index, Puid, Ref, refusal_of, State}
 use Rattle.cfs_base.specs.declared.kind.FileKind.TheVariants as file_kinds
 use Rattle.cfs_base.specs.declared.kind.Kind.TheVariants as kinds
@@ -18,8 +18,10 @@ file_making kind fill to slot bytes = record {
   need = λ s who. refl;
   delete = refl;
   claims = λ handles s who reply. refl;
+  alone = λ s who. refl;
+  commits_is = λ s who. refl;
   wants = refl;
-  full = λ seed s who free run goes need few. let less : nat_lt free 8 ≡ true = grind (arith, nat_tests) in rw (run, goes, need, less) refl;
+  full = λ seed s who n run goes need few. let less : nat_lt n.free (n.need + 4) ≡ true = grind (arith, nat_tests) in rw (run, goes, eq-eqb n.need _ need, less) refl;
   speaks = λ who reply. bytes;
 }
 
@@ -31,8 +33,10 @@ index_making slots to slot = record {
   need = λ s who. refl;
   delete = refl;
   claims = λ handles s who reply. refl;
+  alone = λ s who. refl;
+  commits_is = λ s who. refl;
   wants = refl;
-  full = λ seed s who free run goes need few. let less : nat_lt free 8 ≡ true = grind (arith, nat_tests) in rw (run, goes, need, less) refl;
+  full = λ seed s who n run goes need few. let less : nat_lt n.free (n.need + 4) ≡ true = grind (arith, nat_tests) in rw (run, goes, eq-eqb n.need _ need, less) refl;
   speaks = λ who reply. refl;
 }
 

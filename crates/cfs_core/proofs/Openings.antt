@@ -1,8 +1,8 @@
 -- How an opening ends.
 use Rattle.std.proofs.Common.{◌≡◌, inl, ℕ, ◌+◌, ◌<◌, ◌≤◌, List, [], ◌∷◌, ◌++◌, length, Bool, true, false, cond, get_or, Option, Some, None, Ok, Err, IsTrue, refl, sym, ◌∙◌, ap, subst, arith, IfSome, Result, is_some, map, nat_le, nat_lt, option_to_list, sum}
-use Rattle.cfs_core.proofs.Words.{AcquireFault, begun_at, begun_fresh, block_there, changes_begin, differs, draft_blocks, Drafting, drafts_of, Draws, fault_by, FileKind, first_draft, first_here, first_others, fresh_of, Ghosts, Grant, granted, granted_keeps, Graph, had_tried, has_all_grants, Holds, Image, has_met_damage, is_full_refusal, is_locked, is_normal, is_reading, is_there, is_unwanted_index, IsOpen}
+use Rattle.cfs_core.proofs.Words.{AcquireFault, begun_at, begun_fresh, block_there, changes_begin, differs, draft_blocks, Drafting, drafts_of, Draws, fault_by, FileKind, first_draft, first_here, first_others, fresh_of, Ghosts, Grant, granted, Graph, had_tried, has_all_grants, Holds, Image, has_met_damage, is_full_refusal, is_locked, is_normal, is_reading, is_there, IsOpen, next_keeps}
 use Rattle.cfs_core.proofs.Words.{IsPlainReply, IsState, Kept, Kind, directory_kind, object_kind, Leaves, length-none, list_any, Mode, MOST_GRANTS, nat_tests, Need, need_of, next, Object, object_at, of_draft, one_if, OnlyReads, Opened, opened_as, or_parts, outcome_legal, outcome_of, Puid, Reading, refusal_of, Refused, Reply, Request, same_puid, start_stays, State, sum_by-cons, takes_draft, Tuid}
-use Rattle.cfs_core.proofs.Words.{wanted, wider, word, Writing, MapEntry, stands_for, entry_in, the_draft, ChangesOnly}
+use Rattle.cfs_core.proofs.Words.{wider, word, Writing, MapEntry, stands_for, entry_in, the_draft, ChangesOnly}
 use Rattle.cfs_base.specs.declared.kind.FileKind.TheVariants as file_kinds
 use Rattle.cfs_base.specs.declared.kind.Kind.TheVariants as kinds
 use Rattle.cfs_base.specs.declared.refusal.Refused.TheVariants as refusals
@@ -14,7 +14,7 @@ use Rattle.ufs_model.specs.declared.asked.Request.TheVariants as asks
 use Rattle.ufs_model.specs.declared.object.Object.TheVariants as objects
 use Rattle.cfs_core.specs.Calls.{Answers, ByOutcome, ByWant, EndsSo, IsCause, Owes, Tries, TriesWith, Undone}
 use Rattle.cfs_core.specs.Kernel.{Kernel, Handle, grants_in, is_ready}
-use Rattle.cfs_core.specs.Opening.{Begins, BeginsSo, IsBegun, gets_draft, is_unfit, reply_to_fault}
+use Rattle.cfs_core.specs.Opening.{Begins, BeginsSo, IsBegun, gets_draft, reply_to_fault}
 use Rattle.cyl_alloc.specs.Left.{LeftCommit}
 use Rattle.intentions.specs.Left.{StoreWith, coming, final_image}
 use Rattle.cfs_core.specs.StandsFor.{HasDraftOf, CoreServes, ServesIs, ServesWith, bare, drafts_at, drafts_of_handles, end_in, free_to_come, free_with, sweeps_now}
@@ -24,7 +24,8 @@ use Rattle.cfs_core.proofs.Ended.{of_its_draft}
 use Rattle.cfs_core.proofs.Readied.{for_ready}
 use Rattle.cfs_core.proofs.Regranted.{grants_push, push_drafts, push_have}
 use Rattle.cfs_core.proofs.Granted.{locked_by, many_by, none_by}
-use Rattle.cfs_core.specs.Damage.{IsRootHere, asks_delete}
+use Rattle.ufs_model.specs.Next.{is_direct_delete}
+use Rattle.cfs_core.specs.Damage.{IsRootHere}
 use Rattle.special_files.specs.Refusal.{IsDraftRefusal}
 use Rattle.cfs_core.specs.Opening.{IsRefusalOrMemory}
 use Rattle.cfs_core.proofs.Damages.{told_still}
@@ -39,17 +40,6 @@ use Rattle.cfs_base.specs.declared.kind.Place.TheVariants as places
 use Rattle.leaf_changes.specs.Tops.{Top, still_top}
 
 -- ---- by its kind
-
-pub unfit_is : (o : Object) (kind : Kind) → object_kind o ≡ kind → (id : Puid) (mode : Mode) → is_unwanted_index (wanted (asks.OpenFor id mode)) (Some o) ≡ is_unfit kind mode
-unfit_is (objects.Index i) kind is id Reading = ap (λ k. is_unfit k Reading) is
-unfit_is (objects.Index i) kind is id Writing = ap (λ k. is_unfit k Writing) is
-unfit_is (objects.File f) kind is id mode = at f.kind mode ∙ ap (λ k. is_unfit k mode) is
-  where
-    at : (k : FileKind) (m : Mode) → is_unwanted_index (wanted (asks.OpenFor id m)) (Some (objects.File f)) ≡ is_unfit (object_kind (objects.File (record f { kind = k }))) m
-    at file_kinds.Normal Reading = refl
-    at file_kinds.Normal Writing = refl
-    at file_kinds.Special Reading = refl
-    at file_kinds.Special Writing = refl
 
 pub gets_is : (o : Object) (kind : Kind) → object_kind o ≡ kind → (mode : Mode) → takes_draft mode (Some o) ≡ gets_draft kind mode
 gets_is (objects.Index i) kind is Reading = ap (λ k. gets_draft k Reading) is
@@ -80,43 +70,17 @@ written_of Writing o gets = refl
 
 module _ (s : State) (who : ℕ) (id : Puid) where
   pub open_gone : (mode : Mode) → is_there s.graph id ≡ false → refusal_of s who (asks.OpenFor id mode) ≡ Some replies.NoObject
-  open_gone Reading gone = rw gone refl
-  open_gone Writing gone = rw gone refl
+  open_gone mode gone = rw gone refl
 
   module _ (there : is_there s.graph id ≡ true) (mode : Mode) where
-    abbrev unwanted : Bool
-    unwanted = is_unwanted_index (wanted (asks.OpenFor id mode)) (object_at s.graph id)
+    pub open_locked : is_locked s who (asks.OpenFor id mode) ≡ true → refusal_of s who (asks.OpenFor id mode) ≡ Some replies.Locked
+    open_locked locked = rw (there, locked) refl
 
-    pub open_index : unwanted ≡ true → refusal_of s who (asks.OpenFor id mode) ≡ Some replies.NotFile
-    open_index index = at mode index
-      where
-        at : (m : Mode) → is_unwanted_index (wanted (asks.OpenFor id m)) (object_at s.graph id) ≡ true → refusal_of s who (asks.OpenFor id m) ≡ Some replies.NotFile
-        at Reading h = cc
-        at Writing h = rw (there, h) refl
+    pub open_many : is_locked s who (asks.OpenFor id mode) ≡ false → has_all_grants s who (asks.OpenFor id mode) ≡ true → refusal_of s who (asks.OpenFor id mode) ≡ Some replies.Grants
+    open_many free many = rw (there, free, many) refl
 
-    module _ (fit : unwanted ≡ false) where
-      pub open_locked : is_locked s who (asks.OpenFor id mode) ≡ true → refusal_of s who (asks.OpenFor id mode) ≡ Some replies.Locked
-      open_locked locked = at mode fit locked
-        where
-          at : (m : Mode) → is_unwanted_index (wanted (asks.OpenFor id m)) (object_at s.graph id) ≡ false → is_locked s who (asks.OpenFor id m) ≡ true → refusal_of s who (asks.OpenFor id m) ≡ Some replies.Locked
-          at Reading h l = rw (there, l) refl
-          at Writing h l = rw (there, h, l) refl
-
-      pub open_many : is_locked s who (asks.OpenFor id mode) ≡ false → has_all_grants s who (asks.OpenFor id mode) ≡ true → refusal_of s who (asks.OpenFor id mode) ≡ Some replies.Grants
-      open_many free many = at mode fit free many
-        where
-          at : (m : Mode) → is_unwanted_index (wanted (asks.OpenFor id m)) (object_at s.graph id) ≡ false → is_locked s who (asks.OpenFor id m) ≡ false → has_all_grants s who (asks.OpenFor id m) ≡ true
-              → refusal_of s who (asks.OpenFor id m) ≡ Some replies.Grants
-          at Reading h l n = rw (there, l, n) refl
-          at Writing h l n = rw (there, h, l, n) refl
-
-      pub open_goes : is_locked s who (asks.OpenFor id mode) ≡ false → has_all_grants s who (asks.OpenFor id mode) ≡ false → refusal_of s who (asks.OpenFor id mode) ≡ None
-      open_goes free few = at mode fit free few
-        where
-          at : (m : Mode) → is_unwanted_index (wanted (asks.OpenFor id m)) (object_at s.graph id) ≡ false → is_locked s who (asks.OpenFor id m) ≡ false → has_all_grants s who (asks.OpenFor id m) ≡ false
-              → refusal_of s who (asks.OpenFor id m) ≡ None
-          at Reading h l n = rw (there, l, n) refl
-          at Writing h l n = rw (there, h, l, n) refl
+    pub open_goes : is_locked s who (asks.OpenFor id mode) ≡ false → has_all_grants s who (asks.OpenFor id mode) ≡ false → refusal_of s who (asks.OpenFor id mode) ≡ None
+    open_goes free few = rw (there, free, few) refl
 
 -- ---- as the core finds it
 
@@ -130,9 +94,6 @@ module _ {D : Type 0} {w : Option LeftCommit} (g : Ghosts D) (k : Kernel D) (s :
   pub there_now : is_there s.graph id ≡ true
   there_now = ap is_some the_object.1
 
-  pub fit_is : (mode : Mode) → is_unwanted_index (wanted (asks.OpenFor id mode)) (object_at s.graph id) ≡ is_unfit kind mode
-  fit_is mode = ap (is_unwanted_index (wanted (asks.OpenFor id mode))) the_object.1 ∙ unfit_is the_object.0 kind the_kind id mode
-
   pub gets_now : (mode : Mode) → takes_draft mode (Some the_object.0) ≡ gets_draft kind mode
   gets_now mode = gets_is the_object.0 kind the_kind mode
 
@@ -140,14 +101,14 @@ pub told_plain : (fault : AcquireFault) → IsPlainReply (reply_to_fault fault)
 told_plain (faults.Locked mode) = tt
 told_plain faults.Grants = tt
 
-module _ (s : State) (who : ℕ) (id : Puid) (mode : Mode) (there : is_there s.graph id ≡ true) (fit : is_unwanted_index (wanted (asks.OpenFor id mode)) (object_at s.graph id) ≡ false)
+module _ (s : State) (who : ℕ) (id : Puid) (mode : Mode) (there : is_there s.graph id ≡ true)
     (m : Option Mode) (count : ℕ) (lock : is_some m ≡ is_locked s who (asks.OpenFor id mode)) (many : nat_le MOST_GRANTS count ≡ has_all_grants s who (asks.OpenFor id mode)) where
   pub fault_told : (fault : AcquireFault) → fault_by m count ≡ Some fault → refusal_of s who (asks.OpenFor id mode) ≡ Some (reply_to_fault fault)
-  fault_told (faults.Locked held) is = open_locked s who id there mode fit (sym lock ∙ locked_by m count (faults.Locked held) held is refl)
-  fault_told faults.Grants is = (let two = many_by m count faults.Grants is refl in open_many s who id there mode fit (sym lock ∙ two.0) (sym many ∙ two.1))
+  fault_told (faults.Locked held) is = open_locked s who id there mode (sym lock ∙ locked_by m count (faults.Locked held) held is refl)
+  fault_told faults.Grants is = (let two = many_by m count faults.Grants is refl in open_many s who id there mode (sym lock ∙ two.0) (sym many ∙ two.1))
 
   pub none_told : fault_by m count ≡ None → refusal_of s who (asks.OpenFor id mode) ≡ None
-  none_told is = (let two = none_by m count is in open_goes s who id there mode fit (sym lock ∙ two.0) (sym many ∙ two.1))
+  none_told is = (let two = none_by m count is in open_goes s who id there mode (sym lock ∙ two.0) (sym many ∙ two.1))
 
   pub none_locked : fault_by m count ≡ None → is_locked s who (asks.OpenFor id mode) ≡ false
   none_locked is = sym lock ∙ (none_by m count is).0
@@ -273,7 +234,7 @@ module _ {D : Type 0} {w : Option LeftCommit} (g : Ghosts D) (left_sized : (d : 
     drafts_are = push_drafts ds handle grant k.handles s.grants serves.drafts
 
     state : IsState after
-    state = granted_keeps k.words.seed s who id mode serves.state is_there_now
+    state = next_keeps k.words.seed s after (events.Ask who request (replies.Grant tuid)) serves.state refl legal
 
   owed : (image : Image) (free : ℕ) → need_of s who request + 4 ≤ free → Owes k.words.seed s who request image free (replies.Grant tuid)
   owed image free more = owes k.words.seed s who request image free (replies.Grant tuid) tt
@@ -387,7 +348,7 @@ or_memory g at floor old new before after (refusals.Disk was) is full = is
 or_memory g at floor old new before after (refusals.Damaged damage) is full = is
 or_memory g at floor old new before after refusals.Memory is full = tt
 
-begin_cause : {D : Type 0} (g : Ghosts D) (old now : Kernel D) (request : Request) (at : ℕ) → IsRootHere old (Some request) at → asks_delete request ≡ false → g.blocks now.disk ≡ g.blocks old.disk → (e : Refused) → IsRefusalOrMemory g (still_top at) 4 old.disk now.disk old.space now.space e → IsCause g old now (Some request) e
+begin_cause : {D : Type 0} (g : Ghosts D) (old now : Kernel D) (request : Request) (at : ℕ) → IsRootHere old (Some request) at → is_direct_delete request ≡ false → g.blocks now.disk ≡ g.blocks old.disk → (e : Refused) → IsRefusalOrMemory g (still_top at) 4 old.disk now.disk old.space now.space e → IsCause g old now (Some request) e
 begin_cause g old now asked at here delete size (refusals.Full need) is = (delete, is.0, is.1)
 begin_cause g old now asked at here delete size (refusals.Disk tried) is = is
 begin_cause g old now asked at here delete size (refusals.Damaged damage) is = told_still g old now (Some asked) at here damage size is

@@ -1,6 +1,6 @@
 -- What the store says of an object that is made, as the core has it.
 use Rattle.std.proofs.Common.{Bool, ◌≡◌, ◌⊎◌, inl, inr, ⊎_elim, ℕ, ◌+◌, ◌<◌, ◌≤◌, List, [], ◌∷◌, length, true, false, None, Some, Result, Ok, Err, IsTrue, refl, sym, ◌∙◌, ap, subst, arith, ◌==◌, IfErr, sum, ◌/◌}
-use Rattle.cfs_core.proofs.Words.{blocks_of, created, Ghosts, Graph, has_block, has_root_in, HasSlot, HasStopped, Holds, Image, Index, insert_entry, has_met_damage, IsIndexRefusal, IsLeastFree, IsOpenMap, Kept, keys_of-kinds_in, Kind, object_kind, kinds_of, list_any, Need, Object, OnlyReads, Puid, puid_cmp, PutsObject, refusal_of, Refused, Reply, Request, State, sum_is, target, wider}
+use Rattle.cfs_core.proofs.Words.{blocks_of, created, Ghosts, Graph, has_block, has_root_in, HasSlot, HasStopped, Holds, Image, Index, insert_entry, has_met_damage, IsIndexRefusal, IsLeastFree, IsOpenMap, Kept, keys_of-kinds_in, Kind, object_kind, kinds_of, list_any, made_of, Need, Object, OnlyReads, Puid, puid_cmp, PutsObject, refusal_of, Refused, Reply, Request, State, sum_is, target, wider, drafts_of}
 use Rattle.cfs_core.proofs.Words.{with_made, word, block_named}
 use Rattle.cfs_base.specs.declared.refusal.Refused.TheVariants as refusals
 use Rattle.special_files.specs.Committing.{puid_at}
@@ -23,19 +23,31 @@ use Rattle.cfs_core.proofs.Committed.{LeavesThese, did, in_doubt, uncut}
 use Rattle.cfs_core.proofs.Created.{filled_is, inside, least_one, least_there, need_is, no_root, not_zero, outcome, stepped, theirs}
 use Rattle.cfs_core.proofs.Damages.{told_of_making}
 use Rattle.cfs_core.proofs.Went.{cause_of, causes_met, went_so}
-use Rattle.cfs_core.proofs.Serving.{running, shut, stays}
-use Rattle.cfs_core.specs.Claimed.{TakesForRequest}
+use Rattle.cfs_core.proofs.Serving.{running, stays}
+use Rattle.cfs_core.specs.Claimed.{TakesForRequest, claims_for_slot}
 use Rattle.cfs_core.proofs.Claimed.{claims_then, takes_last}
 use Rattle.index_ops.specs.Changes.{leaf_and_node}
 use Rattle.cyl_alloc.specs.Space.{intended}
 use Rattle.index_ops.specs.Changes as ops
+use Rattle.cfs_base.specs.declared.kind.Kind.TheVariants as kinds
 use Rattle.cfs_base.specs.declared.kind.Place.TheVariants as places
 
-root_is : (named : List (Puid × Kind)) (g : Graph) (b : ℕ) → named ≡ kinds_of g → has_root_in named b ≡ has_block g.objects b
+-- a new object is its root alone, of the kind that it is made of
+pub kind_is : (kind : Kind) (fill size : ℕ) → object_kind (made_of kind fill size) ≡ kind
+kind_is kinds.Normal fill size = refl
+kind_is kinds.Special fill size = refl
+kind_is kinds.Index fill size = refl
+
+pub one_block : (kind : Kind) (fill size : ℕ) → blocks_of (made_of kind fill size) ≡ 1
+one_block kinds.Normal fill size = refl
+one_block kinds.Special fill size = refl
+one_block kinds.Index fill size = refl
+
+pub root_is : (named : List (Puid × Kind)) (g : Graph) (b : ℕ) → named ≡ kinds_of g → has_root_in named b ≡ has_block g.objects b
 root_is named g b is = ap (λ ns. has_root_in ns b) is ∙ ap (λ ids. list_any (λ (id : Puid). id.block == b) ids) (keys_of-kinds_in g.objects)
 
 -- an object that was made where a root is
-if_astray : {D : Type 0} (g : Ghosts D) (old new : Kernel D) (request : Request) (id : Puid) (directory : Listing) (result : Result Reply Refused) → creates request ≡ true → directory ≡ old.directory → old.directory.room ≡ g.blocks old.disk → IfErr result (IsAstray directory id) → IfErr result (IsCause g old new (Some request))
+pub if_astray : {D : Type 0} (g : Ghosts D) (old new : Kernel D) (request : Request) (id : Puid) (directory : Listing) (result : Result Reply Refused) → creates request ≡ true → directory ≡ old.directory → old.directory.room ≡ g.blocks old.disk → IfErr result (IsAstray directory id) → IfErr result (IsCause g old new (Some request))
 if_astray g old new request id directory (Ok reply) makes same room is = tt
 if_astray g old new request id directory (Err e) makes same room is =
     subst (IsCause g old new (Some request)) (sym is.is) (NotOwned request refl makes refl (rw (sym room, ap (λ (l : Listing). l.room) (sym same), ap (λ (l : Listing). l.named) (sym same)) is.why))
@@ -61,13 +73,13 @@ module _ {D : Type 0} (g : Ghosts D) (left_sized : (d : D) (t : ℕ) (c : Image)
   size : g.blocks d ≡ g.blocks k.disk
   size = puts.calls.same.size
 
-  module _ (request : Request) (making : IsMaking request slot o) (s : State) (who : ℕ) (i : Index) (serves : CoreServes g k s) (none : k.stop ≡ None) (reach : Reaches s who request index (objects.Index i)) (within : slot < length i.slots) (goes : refusal_of s who request ≡ None) where
+  module _ (request : Request) (making : IsMaking request slot o) (s : State) (who : ℕ) (i : Index) (serves : CoreServes g k s) (none : k.stop ≡ None) (reach : Reaches s who request index (objects.Index i)) (shut : drafts_of (drafts_of_handles k.handles s.grants) index ≡ []) (within : slot < length i.slots) (goes : refusal_of s who request ≡ None) where
     has : HasSlot g s.graph (drafts_of_handles k.handles s.grants) k.disk k.space index.block index i slot
     has = record {
       store = serves.store;
       root = refl;
       there = reach.there;
-      shut = shut g k s serves index i reach.there;
+      shut = shut;
       inside = within;
     }
 
@@ -86,7 +98,7 @@ module _ {D : Type 0} (g : Ghosts D) (left_sized : (d : D) (t : ℕ) (c : Image)
 
     takes : (reply : Reply) (b : ℕ) → block_named reply ≡ b → ops.TakesEntries (intended places.Root b ∷ leaf_and_node (slot / 64) index.block) index.block (b ∷ []) (g.content k.disk) (final_image g d space) → TakesForRequest k.handles s who request reply (g.content k.disk) (final_image g d space)
     takes reply b is taken =
-        takes_last k.handles s who request reply (g.content k.disk) (final_image g d space) (intended places.Root b ∷ leaf_and_node (slot / 64) index.block) (index.block ∷ b ∷ []) index.block (making.claims k.handles s who reply ∙ rw (is, reach.name) refl) (rw (making.makes, is, reach.name) refl) (rw reach.name refl)
+        takes_last k.handles s who request reply (g.content k.disk) (final_image g d space) (intended places.Root b ∷ leaf_and_node (slot / 64) index.block) (index.block ∷ b ∷ []) index.block (making.claims k.handles s who reply ∙ rw (reach.bare, is, reach.name, claims_for_slot) refl) (rw (making.makes, is, reach.name) refl) (rw reach.name refl)
         (claims_then (intended places.Root b ∷ leaf_and_node (slot / 64) index.block) index.block (b ∷ []) (g.content k.disk) (final_image g d space) taken)
 
     made : (p : Puid) → r ≡ Ok p → (new : Kernel D) (result : Result Reply Refused) → NamesMade mid new p (object_kind o) result → EndsSo g None k new s who request result
@@ -143,7 +155,7 @@ module _ {D : Type 0} (g : Ghosts D) (left_sized : (d : D) (t : ℕ) (c : Image)
   module _ (request : Request) (making : IsMaking request slot o) where
     pub tries_made : (p : Puid) → r ≡ Ok p → (new : Kernel D) (result : Result Reply Refused) → NamesMade mid new p (object_kind o) result → TriesOnWith g None k new index slot request result
     tries_made p is new result names = record {
-      ends = λ s who i serves none reach within goes. made request making s who i serves none reach within goes p is new result names;
+      ends = λ s who i serves none reach shut within goes. made request making s who i serves none reach shut within goes p is new result names;
       went = λ named. record {
         plain = names.plain;
         cause = causes_met g k new request result (if_astray g k new request p k.directory result making.makes refl room names.astray);
@@ -160,10 +172,10 @@ module _ {D : Type 0} (g : Ghosts D) (left_sized : (d : D) (t : ℕ) (c : Image)
 
     pub tries_unmade : (e : Refused) → r ≡ Err e → TriesOnWith g None k mid index slot request (Err e)
     tries_unmade e is = record {
-      ends = λ s who i serves none reach within goes. failed request making s who i serves none reach within goes e
+      ends = λ s who i serves none reach shut within goes. failed request making s who i serves none reach shut within goes e
           (subst (λ (x : Result Puid Refused). IfErr x (λ f. f ≡ refusals.Disk false → (space ≡ k.space) × OnlyReads g 9 k.disk d)) is puts.untried)
           (subst (λ (x : Result Puid Refused). IfErr x (λ f. IsIndexRefusal g index.block slot k.disk d space f ⊎ IsOpenMap g k.disk k.space f)) is puts.refused)
-          (sound_at request making s who i serves none reach within goes e is);
+          (sound_at request making s who i serves none reach shut within goes e is);
       went = λ named. went_so g k d space k.handles size puts.calls.faults puts.calls.later request (Err e) tt (cause_of g k mid (Some request) e (stopped_so g index.block slot k.disk d k.space space e (rw is at puts.refused))
           (λ damage same. told_of_making g k mid (Some request) index.block (inl named) damage size slot making.wants (rw same at (rw is at puts.refused)))
           (λ need same. absurd (never_full g index.block slot k.disk d k.space space need (rw same at (rw is at puts.refused)))));
@@ -178,10 +190,10 @@ module _ {D : Type 0} (g : Ghosts D) (left_sized : (d : D) (t : ℕ) (c : Image)
 
   pub tries_short : (request : Request) → IsMaking request slot o → TriesOnWith g None k (record k { disk = d; space = space }) index slot request (Err (refusals.Full (record { free = sum k.space.free; need = 4 })))
   tries_short request making = record {
-    ends = λ s who i serves none reach within goes.
+    ends = λ s who i serves none reach shut within goes.
         let need = need_is s who index i slot o request making reach in record {
           event = stays g 0 k (record k { disk = d; space = space }) reads (ap (λ (x : Kept). record k { disk = d; space = x }) same_space) s serves left_sized (sized k.disk serves.store.carries.tells.honest)
-              (events.Ask who request (replies.Full (record { free = sum k.space.free; need = 4 }))) (making.full k.words.seed s who (sum k.space.free) (running g k s serves none) goes need few);
+              (events.Ask who request (replies.Full (record { free = sum k.space.free; need = 4 }))) (making.full k.words.seed s who (record { free = sum k.space.free; need = 4 }) (running g k s serves none) goes (sym need) few);
           still = λ all. let no : false ≡ true = all in cc;
           full = λ full. full_still g left_sized sized 0 k (record k { disk = d; space = space }) reads (ap (λ (x : Kept). record k { disk = d; space = x }) same_space) s who serves none refl;
           taken = λ done. let no : false ≡ true = done in cc;

@@ -1,6 +1,6 @@
 -- What the store says of a slot that is filled or emptied, as the core has it.
 use Rattle.std.proofs.Common.{◌≡◌, inl, ℕ, ◌+◌, ◌*◌, ◌<◌, ◌≤◌, length, true, false, Option, None, Some, Result, Ok, Err, IsTrue, refl, sym, ◌∙◌, ap, subst, arith, sum, ◌⊎◌, inr, [], ◌∷◌, is_none, ◌/◌, set, IsSome}
-use Rattle.cfs_core.proofs.Words.{creates, Ghosts, HasSlot, Image, Index, index_with, IsSpeakable, Kept, Need, OnlyReads, outcome_of, Puid, PutsSlot, Ref, refusal_of, Refused, Request, State, with_object, Object, Holds, slot_of, target, object_at-with_object, same_puid_itself}
+use Rattle.cfs_core.proofs.Words.{creates, Ghosts, HasSlot, Image, Index, index_with, IsSpeakable, Kept, Need, OnlyReads, outcome_of, Puid, PutsSlot, Ref, refusal_of, Refused, Request, State, with_object, Object, Holds, slot_of, target, object_at-with_object, same_puid_itself, drafts_of, need_of, Direct, Through}
 use Rattle.cfs_base.specs.declared.refusal.Refused.TheVariants as refusals
 use Rattle.ufs_model.specs.declared.asked.Event.TheVariants as events
 use Rattle.ufs_model.specs.declared.asked.Reply.TheVariants as replies
@@ -9,7 +9,7 @@ use Rattle.ufs_model.specs.declared.object.Object.TheVariants as objects
 use Rattle.cyl_alloc.specs.Left.{LeftCommit}
 use Rattle.intentions.specs.Left.{StoreIs, coming, final_image}
 use Rattle.index_ops.specs.Changes.{LeavesCommit}
-use Rattle.cfs_core.specs.Calls.{ByWant, EndsSo, IsShortOfBlocks, TriesOn, TriesOnWith, done_or}
+use Rattle.cfs_core.specs.Calls.{ByWant, EndsSo, IsShortOfBlocks, TriesOn, TriesOnWith, done_or, delete_floor}
 use Rattle.cfs_core.proofs.Stored.{account_in}
 use Rattle.cfs_core.specs.Damage.{bytes_wanted}
 use Rattle.cfs_core.specs.Kernel.{Kernel}
@@ -19,10 +19,10 @@ use Rattle.cfs_core.proofs.Answering.{disk_failed, full_still, memory, reads_non
 use Rattle.cfs_core.proofs.Changed.{object_did, object_in_doubt}
 use Rattle.cfs_core.proofs.Committed.{LeavesThese, uncut}
 use Rattle.cfs_core.proofs.Grown.{added_by, filled_blocks}
-use Rattle.cfs_core.proofs.Refusing.{Puts, retain_full, retain_need}
+use Rattle.cfs_core.proofs.Refusing.{delete_full, delete_need, Puts, retain_full, retain_need}
 use Rattle.cfs_core.proofs.Damages.{told_of_index}
 use Rattle.cfs_core.proofs.Went.{went_done, went_so}
-use Rattle.cfs_core.proofs.Serving.{running, shut, stays}
+use Rattle.cfs_core.proofs.Serving.{running, stays}
 use Rattle.std.proofs.lemmas.List.{get_or-set_same}
 use Rattle.std.proofs.lemmas.Option.{unwrap_or-slice_get}
 use Rattle.cfs_core.specs.Claimed.{TakesForRequest, claims_for, owners_of, root_reached}
@@ -38,18 +38,18 @@ module _ {D : Type 0} (g : Ghosts D) (left_sized : (d : D) (t : ℕ) (c : Image)
     (out : (s : State) (who : ℕ) (i : Index) → CoreServes g k s → Reaches s who request index (objects.Index i)
     → (outcome_of k.words.seed s who request 0 ≡ (replies.Done, (outcome_of k.words.seed s who request 0).1)) × Puts s (outcome_of k.words.seed s who request 0).1 index (index_with i slot what))
     (room : (s : State) (who : ℕ) (i : Index) → CoreServes g k s → Reaches s who request index (objects.Index i) → (¬ IsShortOfBlocks s who request (sum k.space.free)) × (added_by what + 4 ≤ sum k.space.free))
-    (claims : (s : State) (who : ℕ) → (claims_for k.handles s who request replies.Done ≡ leaf_and_node (slot / 64) (root_reached s who (target request))) × (owners_of s who request replies.Done ≡ root_reached s who (target request) ∷ []))
+    (claims : (s : State) (who : ℕ) (i : Index) → Reaches s who request index (objects.Index i) → (claims_for k.handles s who request replies.Done ≡ leaf_and_node (slot / 64) (root_reached s who (target request))) × (owners_of s who request replies.Done ≡ root_reached s who (target request) ∷ []))
     (holds : (s : State) (who : ℕ) (i : Index) → Reaches s who request index (objects.Index i) → refusal_of s who request ≡ None → what ≡ None → is_none (slot_of i slot) ≡ false) where
   abbrev new : Kernel D
   new = record k { disk = d; space = space }
 
-  module _ (s : State) (who : ℕ) (i : Index) (serves : CoreServes g k s) (none : k.stop ≡ None) (reach : Reaches s who request index (objects.Index i)) (inside : slot < length i.slots) (goes : refusal_of s who request ≡ None) where
+  module _ (s : State) (who : ℕ) (i : Index) (serves : CoreServes g k s) (none : k.stop ≡ None) (reach : Reaches s who request index (objects.Index i)) (shut : drafts_of (drafts_of_handles k.handles s.grants) index ≡ []) (inside : slot < length i.slots) (goes : refusal_of s who request ≡ None) where
     has : HasSlot g s.graph (drafts_of_handles k.handles s.grants) k.disk k.space index.block index i slot
     has = record {
       store = serves.store;
       root = refl;
       there = reach.there;
-      shut = shut g k s serves index i reach.there;
+      shut = shut;
       inside = inside;
     }
 
@@ -74,7 +74,7 @@ module _ {D : Type 0} (g : Ghosts D) (left_sized : (d : D) (t : ℕ) (c : Image)
     takes : StoreIs g (with_object s.graph index (index_with i slot what)) (drafts_of_handles k.handles s.grants) d space → ChangesLeaf g (slot / 64) index.block what k.disk d space → TakesForRequest k.handles s who request replies.Done (g.content k.disk) (final_image g d space)
     takes store leaf =
         let at : root_reached s who (target request) ≡ index.block = rw reach.name refl in
-        takes_last k.handles s who request replies.Done (g.content k.disk) (final_image g d space) (leaf_and_node (slot / 64) index.block) (index.block ∷ []) index.block ((claims s who).0 ∙ ap (leaf_and_node (slot / 64)) at) ((claims s who).1 ∙ ap (λ n. n ∷ []) at) at (by leaf.takes)
+        takes_last k.handles s who request replies.Done (g.content k.disk) (final_image g d space) (leaf_and_node (slot / 64) index.block) (index.block ∷ []) index.block ((claims s who i reach).0 ∙ ap (leaf_and_node (slot / 64)) at) ((claims s who i reach).1 ∙ ap (λ n. n ∷ []) at) at (by leaf.takes)
       where
         by : ((what ≡ None) × (final_image g d space ≡ g.content k.disk)) ⊎ ops.TakesEntries (leaf_and_node (slot / 64) index.block) index.block [] (g.content k.disk) (final_image g d space)
             → Commits (leaf_and_node (slot / 64) index.block) (index.block ∷ []) index.block (g.content k.disk) (final_image g d space)
@@ -101,7 +101,7 @@ module _ {D : Type 0} (g : Ghosts D) (left_sized : (d : D) (t : ℕ) (c : Image)
 
   pub tries_put : TriesOnWith g None k new index slot request (done_or result)
   tries_put = record {
-    ends = λ s who i serves none reach inside goes. ends s who i serves none reach inside goes result refl;
+    ends = λ s who i serves none reach shut inside goes. ends s who i serves none reach shut inside goes result refl;
     went = λ named. went_done g k d space k.handles puts.calls.same.size puts.calls.faults puts.calls.later request result (λ tried is. rw is at puts.refused)
         (λ damage is. told_of_index g k new (Some request) index.block (inl named) damage puts.calls.same.size slot bytes (rw is at puts.refused))
         (λ need is. absurd (rw is at puts.refused));
@@ -125,7 +125,7 @@ module _ {D : Type 0} (g : Ghosts D) (left_sized : (d : D) (t : ℕ) (c : Image)
 
   pub tries_full : TriesOnWith g None k (record k { disk = d; space = space }) index slot request (Err (refusals.Full need))
   tries_full = record {
-    ends = λ s who i serves none reach inside goes. record {
+    ends = λ s who i serves none reach shut inside goes. record {
       event = stays g 0 k (record k { disk = d; space = space }) reads as_it_was s serves left_sized (sized k.disk serves.store.carries.tells.honest) (events.Ask who request (replies.Full need))
           (retain_full k.words.seed s who to index i slot (sum k.space.free) id reach (running g k s serves none) goes few);
       still = λ all. let no : false ≡ true = all in cc;
@@ -138,11 +138,47 @@ module _ {D : Type 0} (g : Ghosts D) (left_sized : (d : D) (t : ℕ) (c : Image)
     went = λ named. went_so g k d space k.handles (ap g.blocks same_disk) reads.faults reads.images.later request (Err (refusals.Full need)) tt (refl, refl, omega (arith, few));
   }
 
+-- ---- a delete that goes through a grant without a draft
+
+-- beside so many blocks as must stay Free
+pub not_short : (s : State) (who : ℕ) (to : Ref) (slot floor free : ℕ) → floor ≡ delete_floor to → 3 + floor ≤ free → need_of s who (asks.Delete to slot) ≡ 3 → ¬ IsShortOfBlocks s who (asks.Delete to slot) free
+not_short s who (Direct x) slot floor free is room need = λ short. let no = short.delete in cc
+not_short s who (Through t) slot floor free is room need = λ short. omega (arith, short.few, room, is, need)
+
+-- too few are Free
+pub delete_short : {D : Type 0} (g : Ghosts D) (left_sized : (d : D) (t : ℕ) (c : Image) → g.left_since d t c → length c ≡ g.blocks d) (sized : (d : D) → IsTrue (g.honest d) → length (g.content d) ≡ g.blocks d)
+    (k : Kernel D) (index : Puid) (to : Ref) (slot floor : ℕ) → floor ≡ delete_floor to → sum k.space.free < 3 + floor → 3 ≤ sum k.space.free
+    → TriesOnWith g None k k index slot (asks.Delete to slot) (Err (refusals.Full (record { free = sum k.space.free; need = 3 })))
+delete_short g left_sized sized k index (Direct x) slot floor is less enough = absurd (omega (arith, is, less, enough))
+delete_short g left_sized sized k index (Through t) slot floor is less enough = record {
+  ends = λ s who i serves none reach shut inside goes.
+      let need = delete_need k.words.seed s who (Through t) index i slot reach in
+      record {
+        event = stays g 0 k k (reads_none g 0 k.disk) refl s serves left_sized (sized k.disk serves.store.carries.tells.honest) (events.Ask who request (replies.Full full))
+            (delete_full k.words.seed s who (Through t) index i slot (sum k.space.free) reach (running g k s serves none) goes refl few);
+        still = λ all. let no : false ≡ true = all in cc;
+        full = λ full. full_still g left_sized sized 0 k k (reads_none g 0 k.disk) refl s who serves none refl;
+        taken = λ done. let no : false ≡ true = done in cc;
+        noted = λ done. let no : false ≡ true = done in cc;
+        owed = ByWant goes (record { delete = refl; few = omega (arith, few, need) }) (ap (λ (n : ℕ). replies.Full (record { free = sum k.space.free; need = n })) (sym need));
+      };
+  went = λ named. went_so g k k.disk k.space k.handles refl (omega arith) (omega arith) request (Err (refusals.Full full)) tt (refl, refl, omega (arith, few));
+}
+  where
+    request : Request
+    request = asks.Delete (Through t) slot
+
+    full : Need
+    full = record { free = sum k.space.free; need = 3 }
+
+    few : sum k.space.free < 7
+    few = omega (arith, is, less)
+
 -- ---- memory is wanted
 
 pub tries_want_on : {D : Type 0} (g : Ghosts D) (left_sized : (d : D) (t : ℕ) (c : Image) → g.left_since d t c → length c ≡ g.blocks d) (sized : (d : D) → IsTrue (g.honest d) → length (g.content d) ≡ g.blocks d)
     (k : Kernel D) (index : Puid) (slot : ℕ) (request : Request) (e : Refused) → e ≡ refusals.Memory → TriesOn g k k index slot request (Err e)
 tries_want_on g left_sized sized k index slot request e is = subst (λ (x : Refused). TriesOn g k k index slot request (Err x)) (sym is) (record {
-  ends = λ s who i serves none reach inside goes. memory g left_sized sized 0 k k (reads_none g 0 k.disk) refl s who serves none request;
+  ends = λ s who i serves none reach shut inside goes. memory g left_sized sized 0 k k (reads_none g 0 k.disk) refl s who serves none request;
   went = λ named. went_so g k k.disk k.space k.handles refl (omega arith) (omega arith) request (Err refusals.Memory) tt tt;
 })

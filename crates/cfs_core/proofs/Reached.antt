@@ -25,10 +25,10 @@ use Rattle.cfs_core.proofs.Serving.{account}
 
 -- ---- kinds
 
-pub file_in : (o d : Object) → is_draft_of o d ≡ true → ((f : File) × (o ≡ objects.File f)) × ((e : File) × (d ≡ objects.File e))
-file_in (objects.File f) (objects.File e) is = ((f, refl), (e, refl))
-file_in (objects.File f) (objects.Index i) is = cc
-file_in (objects.Index i) d is = cc
+-- the draft of a file is one
+file_in : (f : File) (d : Object) → is_draft_of (objects.File f) d ≡ true → (e : File) × (d ≡ objects.File e)
+file_in f (objects.File e) is = (e, refl)
+file_in f (objects.Index i) is = cc
 
 -- ---- what is asked through a grant with a draft
 
@@ -59,6 +59,17 @@ module _ (s : State) (who : ℕ) (t : Tuid) (x : Grant) (d : Draft) (f f0 : File
 -- ---- a grant with a draft, as the core has it
 
 module _ {D : Type 0} {w : Option LeftCommit} (g : Ghosts D) (k : Kernel D) (s : State) (serves : ServesWith g k s w) (who : ℕ) (t : Tuid) (was : Drafting) (held : IsHeld g k s who t was) where
+  pub written_in : is_reading held.handle.grant.mode ≡ false
+  written_in = written who t k.handles s.grants held.handle held.x held.place serves.drafts was held.before held.drafting held.draft_was
+
+  pub writes_by : is_reading held.x.mode ≡ false
+  writes_by = ap is_reading (sym (ap (λ e. e.mode) held.place.here)) ∙ written_in
+
+  pub had : HasDraft (coming (g.content k.disk) w) held.handle.grant.id (opened_as held.handle.grant.id was held.before)
+  had = the_draft (coming (g.content k.disk) w) (drafts_of_handles k.handles s.grants) held.handle.grant.id was held.before (open_in g k s serves who t was held) ((account g k s serves).drafts held.handle.grant.id held.object held.there)
+
+-- and its object is a file
+module _ {D : Type 0} {w : Option LeftCommit} (g : Ghosts D) (k : Kernel D) (s : State) (serves : ServesWith g k s w) (who : ℕ) (t : Tuid) (was : Drafting) (held : IsHeld g k s who t was) (filed : (f0 : File) × (held.object ≡ objects.File f0)) where
   abbrev ds : List Opened
   ds = drafts_of_handles k.handles s.grants
 
@@ -69,7 +80,7 @@ module _ {D : Type 0} {w : Option LeftCommit} (g : Ghosts D) (k : Kernel D) (s :
   before = held.before
 
   pub files : ((f : File) × (held.object ≡ objects.File f)) × ((e : File) × (before.object ≡ objects.File e))
-  files = file_in held.object before.object (so g k s serves who t was held)
+  files = (filed, file_in filed.0 before.object (subst (λ (o : Object). is_draft_of o before.object ≡ true) filed.1 (so g k s serves who t was held)))
 
   abbrev file : File
   file = files.1.0
@@ -80,18 +91,9 @@ module _ {D : Type 0} {w : Option LeftCommit} (g : Ghosts D) (k : Kernel D) (s :
   is_file_there : object_at s.graph held.x.id ≡ Some (objects.File files.0.0)
   is_file_there = held.there_x ∙ ap (λ (y : Object). Some y) files.0.1
 
-  had : HasDraft (coming (g.content k.disk) w) id (opened_as id was before)
-  had = the_draft (coming (g.content k.disk) w) ds id was before (open_in g k s serves who t was held) ((account g k s serves).drafts id held.object held.there)
-
   -- its size is in the root that the object is to get
   pub size_is : was.root.size ≡ length file.bytes
-  size_is = sym (file_to_leaves was.root _ file (had.tree.object ∙ file_is)).size
-
-  pub written_in : is_reading held.handle.grant.mode ≡ false
-  written_in = written who t k.handles s.grants held.handle held.x held.place serves.drafts was before held.drafting held.draft_was
-
-  writes : is_reading held.x.mode ≡ false
-  writes = ap is_reading (sym (ap (λ e. e.mode) held.place.here)) ∙ written_in
+  size_is = sym (file_to_leaves was.root _ file ((had g k s serves who t was held).tree.object ∙ file_is)).size
 
   -- ---- what is asked of it
 
@@ -102,16 +104,16 @@ module _ {D : Type 0} {w : Option LeftCommit} (g : Ghosts D) (k : Kernel D) (s :
   read_told = read_by s who t held.x before file files.0.0 held.found held.draft_was file_is is_file_there
 
   pub write_goes : (offset : ℕ) (bytes : List ℕ) → is_range (length file.bytes) offset (length bytes) ≡ true → refusal_of s who (asks.Write (Through t) offset bytes) ≡ None
-  write_goes = write_by s who t held.x before file files.0.0 held.found held.draft_was file_is is_file_there writes
+  write_goes = write_by s who t held.x before file files.0.0 held.found held.draft_was file_is is_file_there (writes_by g k s serves who t was held)
 
   pub write_range : (offset : ℕ) (bytes : List ℕ) → is_range (length file.bytes) offset (length bytes) ≡ false → refusal_of s who (asks.Write (Through t) offset bytes) ≡ Some replies.Range
-  write_range = write_not_by s who t held.x before file files.0.0 held.found held.draft_was file_is is_file_there writes
+  write_range = write_not_by s who t held.x before file files.0.0 held.found held.draft_was file_is is_file_there (writes_by g k s serves who t was held)
 
   pub resize_goes : (size : ℕ) → nat_lt 7864320 size ≡ false → refusal_of s who (asks.Resize (Through t) size) ≡ None
-  resize_goes = resize_by s who t held.x before file files.0.0 held.found held.draft_was file_is is_file_there writes
+  resize_goes = resize_by s who t held.x before file files.0.0 held.found held.draft_was file_is is_file_there (writes_by g k s serves who t was held)
 
   pub resize_range : (size : ℕ) → nat_lt 7864320 size ≡ true → refusal_of s who (asks.Resize (Through t) size) ≡ Some replies.Range
-  resize_range = resize_not_by s who t held.x before file files.0.0 held.found held.draft_was file_is is_file_there writes
+  resize_range = resize_not_by s who t held.x before file files.0.0 held.found held.draft_was file_is is_file_there (writes_by g k s serves who t was held)
 
 -- ---- a grant without a draft
 
@@ -132,11 +134,11 @@ undrafted g k s serves who t none = at (grant_of s who t) refl
 -- ---- calls that only read
 
 module _ {D : Type 0} (g : Ghosts D) (left_sized : (d : D) (t : ℕ) (c : Image) → g.left_since d t c → length c ≡ g.blocks d) (sized : (d : D) → IsTrue (g.honest d) → length (g.content d) ≡ g.blocks d)
-    (k : Kernel D) (who : ℕ) (t : Tuid) (was : Drafting) (drafting : drafting_at k.handles t.draw ≡ Some was) (the : (s : State) → ServesIs g k s → IsHeld g k s who t was) where
+    (k : Kernel D) (who : ℕ) (t : Tuid) (was : Drafting) (drafting : drafting_at k.handles t.draw ≡ Some was) (the : (s : State) → ServesIs g k s → IsHeld g k s who t was) (filed : (s : State) (serves : ServesIs g k s) → (f : File) × ((the s serves).object ≡ objects.File f)) where
   pub tries_size : Tries g k k who (asks.Size (Through t)) (Ok (replies.Number was.root.size))
   tries_size = tries_so g left_sized sized 0 k k (reads_none g 0 k.disk) refl who (asks.Size (Through t)) (Ok (replies.Number was.root.size))
       (λ s serves none. told g left_sized sized 0 k k (reads_none g 0 k.disk) refl s who serves none (asks.Size (Through t)) (replies.Number was.root.size) refl refl refl refl
-      (subst (IsSeen k.words.seed s who (asks.Size (Through t))) (ap replies.Number (sym (size_is g k s serves who t was (the s serves)))) (size_told g k s serves who t was (the s serves) k.words.seed)))
+      (subst (IsSeen k.words.seed s who (asks.Size (Through t))) (ap replies.Number (sym (size_is g k s serves who t was (the s serves) (filed s serves)))) (size_told g k s serves who t was (the s serves) (filed s serves) k.words.seed)))
       tt tt
 
   module _ (n : ℕ) (d : D) (reads : OnlyReads g n k.disk d) (offset count : ℕ) where
@@ -154,8 +156,8 @@ module _ {D : Type 0} (g : Ghosts D) (left_sized : (d : D) (t : ℕ) (c : Image)
         (λ s serves none.
         let held = the s serves in
         told g left_sized sized n k (record k { disk = d }) reads refl s who serves none read reply refl refl refl refl
-        (subst (IsSeen k.words.seed s who read) (sym (exact s.graph (drafts_of_handles k.handles s.grants) k.space _ held.object _ (files g k s serves who t was held).1.0 serves.store held.there (open_in g k s serves who t was held) (files g k s serves who t was held).1.1 (sym (size_is g k s serves who t was held))))
-        (read_told g k s serves who t was (the s serves) k.words.seed offset count)))
+        (subst (IsSeen k.words.seed s who read) (sym (exact s.graph (drafts_of_handles k.handles s.grants) k.space _ held.object _ (files g k s serves who t was held (filed s serves)).1.0 serves.store held.there (open_in g k s serves who t was held) (files g k s serves who t was held (filed s serves)).1.1 (sym (size_is g k s serves who t was held (filed s serves)))))
+        (read_told g k s serves who t was (the s serves) (filed s serves) k.words.seed offset count)))
         plain tt
     tries_read (Err (refusals.Full need)) exact plain sound cause = absurd cause
     tries_read (Err (refusals.Disk tried)) exact plain sound cause = subst (λ (b : Bool). Tries g k (record k { disk = d }) who read (Err (refusals.Disk b))) (sym cause.0)

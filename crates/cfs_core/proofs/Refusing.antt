@@ -1,5 +1,6 @@
 -- Requests on an index that they reach: when they are refused, and what they do.
 use Rattle.std.proofs.Common.{◌≡◌, ◌⊎◌, inl, inr, ℕ, List, ◌<◌, length, Bool, true, false, Option, Some, None, is_none, refl, sym, ◌∙◌, ap, subst, arith, nat_le, nat_lt}
+use Rattle.ufs_model.specs.Next.{is_direct_delete}
 use Rattle.cfs_core.proofs.Words.{AFile, AnIndex, Change, changed, changed_draft, changed_object, Draft, draft_of, edge_stays, File, FileKind, Fill, has_no_slot, Index, index_with, is_id, is_range, is_running, object_kind, named, nat_tests, need_of, next, Object, object_at, outcome_of, Puid, put_object-at, Ref, refusal_of, Reply, Request, seen, seen_object, slot_named, slot_of, State, with_object}
 use Rattle.cfs_base.specs.declared.kind.FileKind.TheVariants as file_kinds
 use Rattle.ufs_model.specs.declared.asked.Reply.TheVariants as replies
@@ -112,6 +113,13 @@ module _ (seed : ℕ) (s : State) (who : ℕ) (to : Ref) (index : Puid) (i : Ind
 
   pub retain_need : (slot : ℕ) (id : Puid) → Reached (asks.Retain to slot id) → need_of s who (asks.Retain to slot id) ≡ 3
   retain_need slot id r = rw (r.bare, r.name, r.there) refl
+
+  pub delete_need : (slot : ℕ) → Reached (asks.Delete to slot) → need_of s who (asks.Delete to slot) ≡ 3
+  delete_need slot r = rw (r.bare, r.name, r.there) refl
+
+  pub delete_full : (slot free : ℕ) → Reached (asks.Delete to slot) → is_running s ≡ true → refusal_of s who (asks.Delete to slot) ≡ None → is_direct_delete (asks.Delete to slot) ≡ false → free < 7
+      → next seed s (events.Ask who (asks.Delete to slot) (replies.Full (record { free = free; need = 3 }))) ≡ Some s
+  delete_full slot free r run goes indirect few = let less : nat_lt free 7 ≡ true = grind (arith, nat_tests) in rw (run, goes, indirect, delete_need slot r, less) refl
 
   -- ---- one that names a slot
 

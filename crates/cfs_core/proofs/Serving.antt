@@ -1,20 +1,18 @@
 -- What a core that serves knows of its disk, and what it goes on to know after calls that only read.
 use Rattle.std.proofs.Common.{◌≡◌, ◌≢◌, cond, ℕ, ◌+◌, ◌*◌, ◌/◌, ◌≤◌, List, [], ◌∷◌, length, Bool, true, false, Option, Some, None, IsTrue, refl, sym, ◌∙◌, ap, subst, arith, ◌==◌, ◌||◌, is_some, option_map, sum, eq-eqb, inl}
-use Rattle.cfs_core.proofs.Words.{blocks_taken, closed_graph, drafts_of, entry_in, Event, FitsDisk, Ghosts, Graph, graph_blocks, has_root_in, Holds, Image, Index, is_running, is_stray, is_there, IsClosedGraph, IsSwept, Kind, directory_kind, directory_kind-kinds_in, object_kind, left_now, loose, next, no_strays, Object, object_at, ones_le, OnlyReads, Opened, Puid, room, same_puid, same_puid_is, State}
+use Rattle.cfs_core.proofs.Words.{blocks_taken, closed_graph, entry_in, Event, FitsDisk, Ghosts, Graph, graph_blocks, has_root_in, Holds, Image, is_running, is_stray, is_there, IsClosedGraph, IsSwept, Kind, directory_kind, directory_kind-kinds_in, object_kind, left_now, loose, next, no_strays, Object, object_at, ones_le, OnlyReads, Opened, Puid, room, same_puid, same_puid_is, State}
 use Rattle.cfs_core.proofs.Words.{ids_of, rises, stray_blocks, sum_is, wider, Leaves}
 use Rattle.cyl_alloc.specs.Left.{LeftCommit}
 use Rattle.cyl_alloc.specs.Space.{AreCounts}
 use Rattle.intentions.specs.Left.{coming}
 use Rattle.intentions.proofs.Reading.{store_reads as store_on}
 use Rattle.vol_owners.specs.Account.{Accounts}
-use Rattle.ufs_model.specs.declared.object.Object.TheVariants as objects
 use Rattle.cfs_core.specs.Calls.{AddsNoStray, MakesEvent}
 use Rattle.cfs_core.specs.Kernel.{Kernel}
 use Rattle.cfs_core.specs.Room.{lost_blocks}
 use Rattle.cfs_core.specs.declared.collecting.Collections.{Collections}
 use Rattle.cfs_core.specs.StandsFor.{HasCollection, CoreServes, ServesIs, ServesWith, Stands, StandsFor, StoresState, drafts_of_handles, end_in, free_of, free_with, sweeps_now}
 use Rattle.cfs_core.proofs.Stored.{account_in, counts_in, free_is, holds_in, honest_in, length_in, ordered_in}
-use Rattle.cfs_core.proofs.Ways.{shut_at}
 
 -- ---- the directory
 
@@ -108,10 +106,6 @@ module _ {D : Type 0} {w : Option LeftCommit} (g : Ghosts D) (k : Kernel D) (s :
 
   pub running : k.stop ≡ None → is_running s ≡ true
   running none = rw (serves.front.stopped, none) refl
-
-  -- an index has no draft
-  pub shut : (index : Puid) (i : Index) → object_at s.graph index ≡ Some (objects.Index i) → drafts_of drafts index ≡ []
-  shut index i found = shut_at s.graph index i found k.handles s.grants serves.front.grants serves.state.grants
 
   pub kind_there : (id : Puid) → directory_kind k.directory.named id ≡ option_map object_kind (object_at s.graph id)
   kind_there id = ap (λ named. directory_kind named id) serves.front.directory ∙ directory_kind-kinds_in s.graph.objects id

@@ -22,9 +22,10 @@ use Rattle.cfs_core.specs.Rescues.{AreRescued}
 use Rattle.cfs_core.proofs.Collected.{collection_ready}
 use Rattle.cfs_core.proofs.Lefts.{goes_begun, goes_ended}
 use Rattle.intentions.specs.Left.{coming}
-use Rattle.cfs_core.proofs.Serving.{stored_with, fits, pending, running, serves_from, serves_is, serves_now, stands_from, nothing_left}
+use Rattle.cfs_core.proofs.Serving.{stored_with, fits, pending, room_with, running, serves_from, serves_is, serves_now, stands_from, nothing_left}
 use Rattle.cfs_core.proofs.Stepping.{begins, ended, read_calls}
 use Rattle.cfs_core.proofs.Tidied.{tidy}
+use Rattle.cfs_core.proofs.Unread.{unread_few}
 
 -- ---- what is told of it
 
@@ -200,7 +201,7 @@ module _ {D : Type 0} (g : Ghosts D) (k : Kernel D) where
   }
 
   -- memory is wanted
-  pub steps_starved : (c : Collections) → phase_of k.collections.collector ≡ phases.Idle → k.collections.finished < k.collections.called → AreRescued k.collections.collector c.collector [] → c.called ≡ k.collections.called → c.finished ≡ k.collections.finished
+  pub steps_starved : (c : Collections) → phase_of k.collections.collector ≡ phases.Idle → k.collections.finished < k.collections.called → AreRescued k.collections.collector c.collector [] [] → c.called ≡ k.collections.called → c.finished ≡ k.collections.finished
       → TriesStep g k (record k { collections = c }) (Err refusals.Memory)
   steps_starved c idle more same called finished = steps_here c (Err refusals.Memory) (record {
     ends = λ s serves none. record {
@@ -227,11 +228,12 @@ module _ {D : Type 0} (g : Ghosts D) (k : Kernel D) where
       rw (here, open_are handles grants rest) refl
 
   pub steps_begun : (roots : List Puid) → roots ≡ k.root ∷ map (λ (x : Handle). x.grant.id) k.handles → (l : Collecting) → HasBegunCollection roots k.directory.named l
-      → phase_of k.collections.collector ≡ phases.Idle → k.collections.finished < k.collections.called → volume_of l ≡ g.blocks k.disk → TriesStep g k (record k { collections = record k.collections { collector = Some l } }) (Ok steps.Began)
-  steps_begun roots are l begun idle more volume = steps_here (record k.collections { collector = Some l }) (Ok steps.Began) (record {
+      → phase_of k.collections.collector ≡ phases.Idle → k.collections.finished < k.collections.called → volume_of l ≡ g.blocks k.disk → g.blocks k.disk ≡ 64 * length k.space.free → TriesStep g k (record k { collections = record k.collections { collector = Some l } }) (Ok steps.Began)
+  steps_begun roots are l begun idle more volume size = steps_here (record k.collections { collector = Some l }) (Ok steps.Began) (record {
     moves = λ s serves none.
         let these = are ∙ ap (λ (x : Puid). x ∷ map (λ (y : Handle). y.grant.id) k.handles) (sym serves.root) ∙ ap (λ (ids : List Puid). s.graph.root ∷ ids) (open_are k.handles s.grants serves.front.grants) in
-        begins g k s serves (running g k s serves none) (record k.collections { collector = Some l }) l refl idle roots these begun;
+        begins g k s serves (running g k s serves none) (record k.collections { collector = Some l }) l refl idle roots these begun
+        (omega (arith, unread_few g k s serves, room_with g k s serves, size, volume));
     due = (runs_not k.collections.collector idle, more);
     counted = (begun.steps, begun.added, refl);
     sweeps = λ s serves. tt;
@@ -260,7 +262,7 @@ module _ {D : Type 0} (g : Ghosts D) (k : Kernel D) where
         (subst (λ p. IsCollecting p (g.content k.disk) s col) swept (col_there s serves).collects).0
 
     pub steps_ended : l.steps ≡ count_after col.steps → l.added ≡ col.added → volume_of col ≡ g.blocks k.disk
-        → ((s : State) (image : Image) → Keeps.Collects image s col → col.added < 2 ^ 64 - 1 → l.steps ≤ volume_of col + col.added + 2 * (volume_of col / 64) + 3)
+        → ((s : State) (image : Image) → Keeps.Collects image s col → col.added < 2 ^ 64 - 1 → l.steps ≤ 2 * volume_of col + 2 * col.added + 2 * (volume_of col / 64) + 3)
         → TriesStep g k (record k { collections = ended_as }) (Ok steps.Finished)
     steps_ended made added volume bounded = steps_here ended_as (Ok steps.Finished) (record {
       moves = λ s serves none. ended g k s serves (running g k s serves none) ended_as l refl col (col_there s serves) swept idle;
@@ -286,7 +288,7 @@ kept_on room c col l there before after volume kept = record {
 }
 
 pub sized_on : {D : Type 0} (g : Ghosts D) (d e : D) (directory left : Listing) (before after : Kept) (ss : List Handle) (drawn : ℕ) (c : Collections) (col l : Collecting) (result : Result Step Refused)
-    → c.collector ≡ Some col → collection_runs (Some col) ≡ true → StepsSo g d e before after directory left col l result → IsSizedKernel g.blocks d directory before ss drawn c → IsSizedKernel g.blocks e left after ss drawn (record c { collector = Some l })
+    → c.collector ≡ Some col → collection_runs (Some col) ≡ true → StepsSo g d e before after directory left ss col l result → IsSizedKernel g.blocks d directory before ss drawn c → IsSizedKernel g.blocks e left after ss drawn (record c { collector = Some l })
 sized_on g d e directory left before after ss drawn c col l result there running is sized = record {
   size = is.size ∙ sized.size ∙ ap (λ (n : ℕ). 64 * n) (sym is.cylinders);
   room = is.room ∙ sized.room ∙ sym is.size;

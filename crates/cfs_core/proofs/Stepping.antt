@@ -6,7 +6,10 @@ use Rattle.cfs_core.proofs.Words.{open_ids, open_kept, Opened, opened_as, or_cas
 use Rattle.std.specs.Cmp as cmp
 use Rattle.cfs_base.specs.declared.refusal.Trouble.TheVariants as trouble
 use Rattle.cfs_base.specs.declared.refusal.Refused.TheVariants as refusals
+use Rattle.block_tree.specs.declared.root.Root.{Root}
 use Rattle.collector_steps.specs.Collecting.{Serves as IsServed}
+use Rattle.marking.specs.Colours.{none_marked}
+use Rattle.marking.specs.Pace.{unread}
 use Rattle.collector_steps.specs.declared.phase.Phase.TheVariants as phases
 use Rattle.ufs_model.specs.declared.asked.Event.TheVariants as events
 use Rattle.ufs_model.specs.declared.collection.Collection.TheVariants as collections
@@ -20,6 +23,7 @@ use Rattle.cfs_core.specs.Collect.{EndsUnmade, HasBegunCollection, IsStepMade, I
 use Rattle.cfs_core.specs.Kernel.{Kernel, Handle, marks_in, collection_runs, sweeps_in}
 use Rattle.cfs_core.specs.Left.{LeavesFewer, RunsBy}
 use Rattle.cfs_core.specs.Room.{MayLose, lost_blocks}
+use Rattle.cfs_core.specs.Handles.{root_at}
 use Rattle.cfs_core.specs.StandsFor.{HasCollection, HasCollector, CoreServes, bare, drafts_of_handles, sweeps_now}
 use Rattle.cfs_core.proofs.Answering.{reads_none}
 use Rattle.cfs_core.proofs.Collected.{as_before, collection_ready, none_is}
@@ -109,7 +113,7 @@ module _ {D : Type 0} (g : Ghosts D) (k : Kernel D) (old : D) (space : Kept) (di
     gone = record s { graph = without s.graph ids; collection = collections.Sweeping }
 
     pub condemns : (seed : ℕ) → next seed s (events.Vanish ids) ≡ Some gone
-    condemns seed = rw (runs, may_vanish_test s ids serves.state.graph legal) refl
+    condemns seed = rw (runs, may_vanish_test s ids serves.state legal) refl
 
     still_there : (es : List Opened) → list_all (λ d. is_among d.id (open_ids s)) es ≡ true → list_all (λ d. is_there s.graph d.id) es ≡ true → list_all (λ d. is_there (without s.graph ids) d.id) es ≡ true
     still_there [] opened there = refl
@@ -250,11 +254,12 @@ module _ {D : Type 0} (g : Ghosts D) (k : Kernel D) (s : State) (serves : CoreSe
   }
 
   module _ (l : Collecting) (there : c.collector ≡ Some l) where
-    pub begins : phase_of k.collections.collector ≡ phases.Idle → (roots : List Puid) → roots ≡ s.graph.root ∷ open_ids s → HasBegunCollection roots k.directory.named l → MovesTo g k (record k { collections = c }) s (Some events.Began)
-    begins idle roots are begun = staged events.Began stage tt comes (λ calm. serves.swept (ap sweeps_now none)) (rw there (record {
+    pub begins : phase_of k.collections.collector ≡ phases.Idle → (roots : List Puid) → roots ≡ s.graph.root ∷ open_ids s → HasBegunCollection roots k.directory.named l → unread s none_marked ≤ volume_of l
+        → MovesTo g k (record k { collections = c }) s (Some events.Began)
+    begins idle roots are begun few = staged events.Began stage tt comes (λ calm. serves.swept (ap sweeps_now none)) (rw there (record {
       marking = ap marks_in (sym begun.phase);
       sweeping = ap sweeps_in (sym begun.phase);
-      collects = begun.keeps 0 s (in_stage stage) (g.content k.disk) serves.state serves.front.directory (λ x. ap (is_among x) are ∙ starts_are s x) (comes 0);
+      collects = begun.keeps 0 s (in_stage stage) (g.content k.disk) serves.state serves.front.directory (λ x. ap (is_among x) are ∙ starts_are s x) (comes 0) few;
     })) (omega arith)
       where
         none : s.collection ≡ collections.None
@@ -306,7 +311,7 @@ never e none some = let no : false ≡ true = sym none ∙ some in cc
 runs_on : (k l : Collecting) → k.phase ≡ phases.Marking → l.phase ≡ k.phase → collection_runs (Some l) ≡ true
 runs_on k l marking phase = ap (λ p. marks_in p || sweeps_in p) (phase ∙ marking)
 
-module _ {D : Type 0} (g : Ghosts D) (old : D) (space : Kept) (directory : Listing) (k l : Collecting) (volume : volume_of l ≡ volume_of k) where
+module _ {D : Type 0} (g : Ghosts D) (old : D) (space : Kept) (directory : Listing) (handles : List Handle) (k l : Collecting) (volume : volume_of l ≡ volume_of k) where
   abbrev before : Kernel D → Kernel D
   before core = with_parts core old space directory k
 
@@ -315,9 +320,9 @@ module _ {D : Type 0} (g : Ghosts D) (old : D) (space : Kept) (directory : Listi
     abbrev after_read : Kernel D → Kernel D
     after_read core = with_parts core new space directory l
 
-    read_step : l.phase ≡ k.phase → (result : Result Step Refused) → ((core : Kernel D) → IsMadeOrNot g (before core) (after_read core) result) → StepsSo g old new space space directory directory k l result
+    read_step : l.phase ≡ k.phase → (result : Result Step Refused) → ((core : Kernel D) → core.handles ≡ handles → IsMadeOrNot g (before core) (after_read core) result) → StepsSo g old new space space directory directory handles k l result
     read_step phase result ends = record {
-      tries = λ core. record { ends = ends core; calls = read_calls g old new n reads few; left = refl; same = refl };
+      tries = λ core here. record { ends = ends core here; calls = read_calls g old new n reads few; left = refl; same = refl };
       size = reads.same.size;
       runs = runs_on k l marking phase;
       volume = volume;
@@ -326,19 +331,19 @@ module _ {D : Type 0} (g : Ghosts D) (old : D) (space : Kept) (directory : Listi
       cylinders = refl;
     }
 
-    pub steps_read : l.phase ≡ k.phase → ((s : State) (ds : List Opened) → IsServed g old directory.named s ds → Collects (g.content old) s k → Collects (g.content new) s l) → (step : Step)
-        → ((core : Kernel D) → ((s : State) → CoreServes g (before core) s → core.stop ≡ None → MovesTo g (before core) (after_read core) s None) → IsStepMade g (before core) (after_read core) step) → StepsSo g old new space space directory directory k l (Ok step)
+    pub steps_read : l.phase ≡ k.phase → ((core : Kernel D) → core.handles ≡ handles → (s : State) → CoreServes g (before core) s → Collects (g.content new) s l) → (step : Step)
+        → ((core : Kernel D) → ((s : State) → CoreServes g (before core) s → core.stop ≡ None → MovesTo g (before core) (after_read core) s None) → IsStepMade g (before core) (after_read core) step) → StepsSo g old new space space directory directory handles k l (Ok step)
     steps_read phase keeps step made = read_step phase (Ok step)
-        (λ core. made core (λ s serves none. read_on g core old space directory k s serves l n new reads phase (keeps s _ (served g core old space directory k s serves l) serves.collecting.collects)))
+        (λ core here. made core (λ s serves none. read_on g core old space directory k s serves l n new reads phase (keeps core here s serves)))
 
     -- one that failed, with nothing tried: of a disk that serves only for want of memory, or since a device call failed
-    pub steps_failed : IsAsBefore k l → (e : Refused) → ((core : Kernel D) → IsCause g (before core) (after_read core) None e) → is_starved e ≡ false → ((s : State) (ds : List Opened) → IsServed g old directory.named s ds → Collects (g.content old) s k → is_calm_refusal e ≡ true)
-        → StepsSo g old new space space directory directory k l (Err e)
-    steps_failed same e cause no_want calm = read_step same.phase (Err e) (λ core. record {
-      ends = λ s serves none. subst (EndsUnmade g (before core) (after_read core) s) (sym (calm_is e no_want (calm s _ (served g core old space directory k s serves l) serves.collecting.collects)))
+    pub steps_failed : IsAsBefore k l → (e : Refused) → ((core : Kernel D) → core.handles ≡ handles → IsCause g (before core) (after_read core) None e) → is_starved e ≡ false
+        → ((core : Kernel D) → core.handles ≡ handles → (s : State) → CoreServes g (before core) s → is_calm_refusal e ≡ true) → StepsSo g old new space space directory directory handles k l (Err e)
+    steps_failed same e cause no_want calm = read_step same.phase (Err e) (λ core here. record {
+      ends = λ s serves none. subst (EndsUnmade g (before core) (after_read core) s) (sym (calm_is e no_want (calm core here s serves)))
           (stayed g core old space directory k s serves l n new reads same);
       still = λ untried. record { reads = reads_within g old new n 4 few reads; directory = refl; space = refl; collector = as_before k l same; finished = refl };
-      cause = cause core;
+      cause = cause core here;
       wants = λ some. never e no_want some;
     })
 
@@ -360,9 +365,9 @@ module _ {D : Type 0} (g : Ghosts D) (old : D) (space : Kept) (directory : Listi
       → ((s : State) → IsState s → directory.named ≡ kinds_of s.graph → Collects (g.content old) s k → MayVanish s ids)
       → ((s t : State) → directory.named ≡ kinds_of s.graph → Collects (g.content old) s k → graph_blocks s.graph ≤ volume_of k → next 0 s (events.Vanish ids) ≡ Some t → Collects (g.content old) t l)
       → ((s t : State) → directory.named ≡ kinds_of s.graph → next 0 s (events.Vanish ids) ≡ Some t → left.named ≡ kinds_of t.graph)
-      → (IsTrue (g.honest old) → length (g.content old) ≤ volume_of k) → steps_left l < steps_left k → StepsSo g old old space space directory left k l (Ok (steps.Condemned ids))
+      → (IsTrue (g.honest old) → length (g.content old) ≤ volume_of k) → steps_left l < steps_left k → StepsSo g old old space space directory left handles k l (Ok (steps.Condemned ids))
   steps_condemned left ids test kept room_is phase due counted legal keeps lists wide less = record {
-    tries = λ core. record {
+    tries = λ core here. record {
       ends = record {
         moves = moves core;
         due = due;
@@ -399,8 +404,8 @@ module _ {D : Type 0} (g : Ghosts D) (old : D) (space : Kept) (directory : Listi
 
   -- ---- a cylinder is swept
 
-  pub steps_swept : (new : D) (after : Kept) (pass : Pass) (result : Result (Unit {0}) Trouble) (told : Result Step Refused) → IsPhaseOf pass k.phase → g.blocks old ≡ volume_of k → HasSwept g directory.named pass old new space after k l result → told ≡ told_as result → StepsSo g old new space after directory directory k l told
-  steps_swept new after pass result told phase blocks is same = subst (StepsSo g old new space after directory directory k l) (sym same) (by result refl)
+  pub steps_swept : (new : D) (after : Kept) (pass : Pass) (result : Result (Unit {0}) Trouble) (told : Result Step Refused) → IsPhaseOf pass k.phase → g.blocks old ≡ volume_of k → HasSwept g directory.named pass old new space after k l result → told ≡ told_as result → StepsSo g old new space after directory directory handles k l told
+  steps_swept new after pass result told phase blocks is same = subst (StepsSo g old new space after directory directory handles k l) (sym same) (by result refl)
     where
       sweeping : (p : Phase) → IsPhaseOf pass p → sweeps_blocks p ≡ true
       sweeping phases.Idle h = absurd h
@@ -416,9 +421,9 @@ module _ {D : Type 0} (g : Ghosts D) (old : D) (space : Kept) (directory : Listi
       sweeps_on (phases.Roots c) h = refl
       sweeps_on phases.Swept h = absurd h
 
-      swept_step : (r : Result (Unit {0}) Trouble) → collection_runs (Some l) ≡ true → ((core : Kernel D) → IsMadeOrNot g (before core) (with_parts core new after directory l) (told_as r)) → StepsSo g old new space after directory directory k l (told_as r)
+      swept_step : (r : Result (Unit {0}) Trouble) → collection_runs (Some l) ≡ true → ((core : Kernel D) → IsMadeOrNot g (before core) (with_parts core new after directory l) (told_as r)) → StepsSo g old new space after directory directory handles k l (told_as r)
       swept_step r runs ends = record {
-        tries = λ core. record { ends = ends core; calls = fewer_calls g 2 1 4 1 old new (omega arith) (omega arith) is.sweep.calls; left = is.sweep.left; same = refl };
+        tries = λ core here. record { ends = ends core; calls = fewer_calls g 2 1 4 1 old new (omega arith) (omega arith) is.sweep.calls; left = is.sweep.left; same = refl };
         size = is.sweep.calls.same.size;
         runs = runs;
         volume = volume;
@@ -427,7 +432,7 @@ module _ {D : Type 0} (g : Ghosts D) (old : D) (space : Kept) (directory : Listi
         cylinders = is.sweep.cylinders;
       }
 
-      by : (r : Result (Unit {0}) Trouble) → result ≡ r → StepsSo g old new space after directory directory k l (told_as r)
+      by : (r : Result (Unit {0}) Trouble) → result ≡ r → StepsSo g old new space after directory directory handles k l (told_as r)
       by (Ok u) at = swept_step (Ok u) (or_right (marks_in l.phase) (sweeps_in l.phase) (ap sweeps_in (rw at at is.phase) ∙ sweeps_still (volume_of k / 64) pass k.phase phase)) (λ core. record {
         moves = λ s serves none.
             let has = served g core old space directory k s serves l in
@@ -486,14 +491,15 @@ marks_on blocks c k l step marks phase less by =
 
 -- ---- why a leaf wasn't read
 
-pub scan_cause : {D : Type 0} (g : Ghosts D) (old new : Kernel D) (r : ℕ) (t : Trouble) → IsOfGrey old r → IsScanTrouble g old.disk new.disk r t → IsCause g old new None (refused_by t)
-scan_cause g old new r (trouble.Disk tried) here is = is
-scan_cause g old new r (trouble.Damaged damage) here is = told_of_scan g old new damage r (inr here) is
+pub scan_cause : {D : Type 0} (g : Ghosts D) (old new : Kernel D) (id : Puid) (draft : Option Root) (t : Trouble) → IsOfGrey old id.block → draft ≡ root_at old.handles id → IsScanTrouble g old.disk new.disk draft id.block t
+    → IsCause g old new None (refused_by t)
+scan_cause g old new id draft (trouble.Disk tried) here root is = is
+scan_cause g old new id draft (trouble.Damaged damage) here root is = told_of_scan g old new damage id draft (inr here) root is
 
-pub scan_calm : {D : Type 0} (g : Ghosts D) (old new : D) (r : ℕ) (t : Trouble) → IsScanTrouble g old new r t → ¬ IsDamaged t → trouble_had_tried t ≡ false → is_calm_refusal (refused_by t) ≡ true
-scan_calm g old new r (trouble.Disk false) is sound untried = refl
-scan_calm g old new r (trouble.Disk true) is sound untried = cc
-scan_calm g old new r (trouble.Damaged damage) is sound untried = absurd (sound tt)
+pub scan_calm : {D : Type 0} (g : Ghosts D) (old new : D) (draft : Option Root) (r : ℕ) (t : Trouble) → IsScanTrouble g old new draft r t → ¬ IsDamaged t → trouble_had_tried t ≡ false → is_calm_refusal (refused_by t) ≡ true
+scan_calm g old new draft r (trouble.Disk false) is sound untried = refl
+scan_calm g old new draft r (trouble.Disk true) is sound untried = cc
+scan_calm g old new draft r (trouble.Damaged damage) is sound untried = absurd (sound tt)
 
 -- ---- what waits, and what is grey
 

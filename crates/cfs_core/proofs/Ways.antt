@@ -1,13 +1,14 @@
 -- What refuses a request on its way, and what a table of grants tells of it.
-use Rattle.std.proofs.Common.{◌≡◌, ℕ, List, [], ◌∷◌, ◌++◌, Bool, true, false, cond, not, ◌&&◌, ◌||◌, Option, Some, None, is_some, is_none, refl, sym, ◌∙◌, ap, subst, map, option_map, option_and_then}
-use Rattle.cfs_core.proofs.Words.{AFile, and_parts, AnIndex, Direct, Draft, draft_of, Drafting, drafts_of, Either, FileKind, filter-append, goes_nowhere, goes_through_reading, Grant, grant_found, grant_of, Graph, has_no_such_grant, Index, is_for_reading, is_grant_in, is_open_so, is_unwanted_file, is_unwanted_index, IsState, object_kind, list_all, meets_a_grant, named, Object, object_at, object_of}
-use Rattle.cfs_core.proofs.Words.{open_there, Puid, Ref, refusal_of, Reply, Request, same_puid, same_puid_is, shown, State, target, Through, Wanted}
+use Rattle.std.proofs.Common.{◌≡◌, ℕ, List, [], ◌∷◌, ◌++◌, Bool, true, false, cond, not, ◌&&◌, ◌||◌, Option, Some, None, is_some, is_none, refl, sym, ◌∙◌, ap, subst, option_map, option_and_then}
+use Rattle.cfs_core.proofs.Words.{AFile, and_parts, AnIndex, Direct, Draft, draft_of, Drafting, drafts_of, Either, FileKind, filter-append, goes_nowhere, goes_through_reading, Grant, grant_found, grant_of, has_no_such_grant, is_for_reading, is_draft_of, is_open_so, is_unwanted_file, is_unwanted_index, IsState, object_kind, meets_a_grant, named, Object, object_at, object_of}
+use Rattle.cfs_core.proofs.Words.{open_there, Puid, Ref, refusal_of, Reply, Request, same_kind, same_puid, shown, State, target, Through, Wanted}
 use Rattle.cfs_base.specs.declared.kind.FileKind.TheVariants as file_kinds
 use Rattle.open_table.specs.declared.grant.Grant as handles
 use Rattle.ufs_model.specs.declared.asked.Reply.TheVariants as replies
 use Rattle.ufs_model.specs.declared.object.Object.TheVariants as objects
 use Rattle.ufs_model.specs.Refusal.{first_of}
 use Rattle.cfs_core.specs.declared.way.Way.{Way}
+use Rattle.cfs_core.specs.Drafts.{HasNoneOf}
 use Rattle.cfs_core.specs.Kernel.{Handle}
 use Rattle.cfs_core.specs.StandsFor.{bare, drafts_at, drafts_of_handles}
 use Rattle.cfs_core.specs.Ways.{Arrives, GoesBy, Reaches, is_gone, on_the_way, once_there, reads_by, unfit_of}
@@ -40,27 +41,6 @@ adds_none id handle x ss grants rest other =
     at None d is was = refl
     at (Some o) None is was = refl
     at (Some o) (Some d) is was = rw (other o d is was) refl
-
--- ---- an index has no draft
-
-module _ (graph : Graph) (index : Puid) (i : Index) (found : object_at graph index ≡ Some (objects.Index i)) where
-  not_of : (id : Puid) (d : Draft) → is_open_so (object_at graph id) (Some d) ≡ true → same_puid id index ≡ false
-  not_of id d so = elim (same_puid id index) as (λ b. same_puid id index ≡ b → b ≡ false) [
-    | true ↦ λ same. (let here : object_at graph id ≡ Some (objects.Index i) = ap (object_at graph) (same_puid_is id index same) ∙ found in
-        let no : false ≡ true = subst (λ o. is_open_so o (Some d) ≡ true) here so in cc)
-    | false ↦ λ same. refl
-  ] refl
-
-  pub shut_at : (ss : List Handle) (grants : List Grant) → map (λ (handle : Handle). handle.grant) ss ≡ map bare grants → list_all (is_grant_in graph) grants ≡ true → drafts_of (drafts_of_handles ss grants) index ≡ []
-  shut_at [] [] are well = refl
-  shut_at [] (grant ∷ grants) are well = cc
-  shut_at (handle ∷ ss) [] are well = refl
-  shut_at (handle ∷ ss) (grant ∷ grants) are well =
-      let one : handle.grant ≡ bare grant = cc in
-      let tails : map (λ (x : Handle). x.grant) ss ≡ map bare grants = cc in
-      let parts = and_parts (is_grant_in graph grant) (list_all (is_grant_in graph) grants) well in
-      adds_none index handle grant ss grants (shut_at ss grants tails parts.1) (λ drafting d has is. not_of handle.grant.id d
-      (subst (λ (x : Puid). is_open_so (object_at graph x) (Some d) ≡ true) (sym (ap (λ (x : handles.Grant). x.id) one)) (subst (λ o. is_open_so (object_at graph grant.id) o ≡ true) is parts.0)))
 
 -- ---- what a table of grants tells
 
@@ -179,20 +159,34 @@ module _ (s : State) (who : ℕ) (wants : Wanted) (way : Way) where
 
 -- ---- an object that is reached, without a draft
 
--- through no reference an index has a draft
-pub no_draft : (s : State) (who : ℕ) (ref : Ref) (id : Puid) (i : Index) → IsState s → named s who ref ≡ Some id → object_at s.graph id ≡ Some (objects.Index i) → draft_of s who ref ≡ None
-no_draft s who (Direct x) id i state name there = refl
-no_draft s who (Through t) id i state name there = at (grant_of s who t) refl name
+-- a draft is of its object's kind
+draft_kind : (o d : Object) → is_draft_of o d ≡ true → object_kind d ≡ object_kind o
+draft_kind (objects.File f) (objects.File e) is = at e.kind f.kind (and_parts (same_kind e.kind f.kind) _ (and_parts _ _ is).0).0
   where
-    none : (d : Option Draft) → is_open_so (Some (objects.Index i)) d ≡ true → d ≡ None
-    none None so = refl
-    none (Some d) so = cc
+    at : (a b : FileKind) → same_kind a b ≡ true → object_kind (objects.File (record e { kind = a })) ≡ object_kind (objects.File (record f { kind = b }))
+    at file_kinds.Normal file_kinds.Normal same = refl
+    at file_kinds.Normal file_kinds.Special same = cc
+    at file_kinds.Special file_kinds.Normal same = cc
+    at file_kinds.Special file_kinds.Special same = refl
+draft_kind (objects.File f) (objects.Index i) is = cc
+draft_kind (objects.Index i) (objects.Index d) is = refl
+draft_kind (objects.Index i) (objects.File f) is = cc
 
-    at : (o : Option Grant) → grant_of s who t ≡ o → option_and_then (λ (g : Grant). Some g.id) o ≡ Some id → option_and_then (λ (g : Grant). g.draft) o ≡ None
-    at None found is = refl
-    at (Some g) found is =
+-- what is wanted has no draft through a reference that has none of what is wanted
+pub bare_of : (s : State) (who : ℕ) (wants : Wanted) (ref : Ref) (id : Puid) (o : Object) → IsState s → named s who ref ≡ Some id → object_at s.graph id ≡ Some o → unfit_of wants (Some (object_kind o)) ≡ None
+    → HasNoneOf wants (draft_of s who ref) → draft_of s who ref ≡ None
+bare_of s who wants (Direct x) id o state name there fit none = refl
+bare_of s who wants (Through t) id o state name there fit none = at (grant_of s who t) refl name none
+  where
+    by : (d : Option Draft) → is_open_so (Some o) d ≡ true → HasNoneOf wants d → d ≡ None
+    by None so h = refl
+    by (Some d) so h = absurd (h (ap (λ k. unfit_of wants (Some k)) (draft_kind o d.object so) ∙ fit))
+
+    at : (x : Option Grant) → grant_of s who t ≡ x → option_and_then (λ (g : Grant). Some g.id) x ≡ Some id → HasNoneOf wants (option_and_then (λ (g : Grant). g.draft) x) → option_and_then (λ (g : Grant). g.draft) x ≡ None
+    at None found is h = refl
+    at (Some g) found is h =
         let same : g.id ≡ id = cc in
-        none g.draft (subst (λ o. is_open_so o g.draft ≡ true) (ap (object_at s.graph) same ∙ there) (grant_found s who t g state found).1)
+        by g.draft (subst (λ p. is_open_so p g.draft ≡ true) (ap (object_at s.graph) same ∙ there) (grant_found s who t g state found).1) h
 
 pub reaches : (s : State) (who : ℕ) (request : Request) (id : Puid) (o : Object) → Arrives s who request id o → draft_of s who (target request) ≡ None → Reaches s who request id o
 reaches s who request id o arrives bare = record { there = arrives.there; name = arrives.name; bare = bare; rest = arrives.rest }

@@ -43,9 +43,9 @@ pub use Rattle.leaf_changes.proofs.Given.{file_to_leaves, index_to_leaves, slot_
 pub use Rattle.leaf_changes.proofs.HeldNumbers.{held-rise, to_held}
 pub use Rattle.leaf_changes.proofs.SlotBytes.{same_slot}
 pub use Rattle.leaf_changes.specs.Gives.{GivesFile, GivesIndex}
-pub use Rattle.marking.proofs.Asked.{allowed, ask_changes, less_open}
+pub use Rattle.marking.proofs.Asked.{allowed, ask_changes}
 pub use Rattle.marking.proofs.Changed.{changes_keep}
-pub use Rattle.marking.proofs.Paces.{pace_change, pace_rescue}
+pub use Rattle.marking.proofs.Paces.{pace_change}
 pub use Rattle.marking.proofs.Wells.{well}
 pub use Rattle.marking.specs.Colours.{Colours}
 pub use Rattle.marking.specs.Marking.{IsMarking}

@@ -24,7 +24,7 @@ use Rattle.cfs_core.specs.Commits.{commits}
 use Rattle.cfs_core.specs.Damage.{IsDamageMet, IsMet}
 use Rattle.cfs_core.specs.Kernel.{Kernel}
 use Rattle.cfs_core.specs.Left.{AddsOne}
-use Rattle.cfs_core.specs.Rescues.{AreRescued}
+use Rattle.cfs_core.specs.Rescues.{AreRescued, ended_by}
 use Rattle.cfs_core.specs.Room.{MayLose, lost_blocks}
 use Rattle.cfs_core.specs.StandsFor.{StandsFor, end_in, free_to_come}
 
@@ -103,9 +103,11 @@ pub record Asks {D : Type 0} (g : Ghosts D) (old new : Kernel D) (who : ℕ) (re
   -- it stops after a doubt and at a damage alone
   pub stops : old.stop ≡ None → new.stop ≡ stopped_by reply None
   pub cause : old.stop ≡ None → IsToldCause g old new request reply
-  -- what was put into an index, or opened, is a rescue while a collection marks; no step of one is made
+  -- What was put into an index, or opened, is a rescue while a collection marks, and the draft of a grant that ended is
+  -- read no more; no step of one is made.
   pub rescued : old.stop ≡ None → (s : State) → StandsFor g old s
       → AreRescued old.collections.collector new.collections.collector (rescues_of s who request reply)
+      (ended_by s who request reply)
   pub called : new.collections.called ≡ old.collections.called
   pub finished : new.collections.finished ≡ old.collections.finished
   -- on any disk

@@ -1,5 +1,5 @@
 -- What a call of a core is: one event, and how exact its reply is.
-use Rattle.std.specs.Prelude.{◌≡◌, ℕ, ◌+◌, ◌<◌, ◌≤◌, Bool, true, false, nat_le, if◌then◌else◌}
+use Rattle.std.specs.Prelude.{◌≡◌, ℕ, ◌+◌, ◌<◌, ◌≤◌, Bool, true, false, nat_le, if◌then◌else◌, []}
 use Rattle.std.specs.Prelude.{length, sum, Result, Ok, Err, IfErr, IfOk, IsSome, Option, Some, None}
 use Rattle.cfs_base.specs.Calls.{HasStopped, OnlyReads}
 use Rattle.cfs_base.specs.Disk.{Image}
@@ -19,6 +19,8 @@ use Rattle.survival.specs.Call.{CallSurvives}
 use Rattle.survival.specs.Held.{HoldsSome}
 use Rattle.ufs_model.specs.declared.asked.Event.{Event}
 use Rattle.ufs_model.specs.declared.asked.Event.TheVariants as events
+use Rattle.ufs_model.specs.declared.asked.Ref.{Ref}
+use Rattle.ufs_model.specs.declared.asked.Ref.TheVariants.{Direct, Through}
 use Rattle.ufs_model.specs.declared.asked.Reply.{Reply}
 use Rattle.ufs_model.specs.declared.asked.Reply.TheVariants as replies
 use Rattle.ufs_model.specs.declared.asked.Request.{Request}
@@ -28,26 +30,27 @@ use Rattle.ufs_model.specs.declared.object.Object.TheVariants as objects
 use Rattle.ufs_model.specs.Graph.{Graph, with_object}
 use Rattle.ufs_model.specs.Limits.{reserve}
 use Rattle.ufs_model.specs.Need.{need_of}
-use Rattle.ufs_model.specs.Next.{next}
+use Rattle.ufs_model.specs.Next.{is_direct_delete, next}
 use Rattle.ufs_model.specs.Object.{slot_of}
 use Rattle.ufs_model.specs.Outcome.{creates, draws, outcome_of, slot_reply}
 use Rattle.ufs_model.specs.Plain.{IsPlainReply}
 use Rattle.ufs_model.specs.Refusal.{refusal_of}
 use Rattle.ufs_model.specs.State.{State}
 use Rattle.vol_image.specs.Survives.{ChangesInPlace, IsBetween, MayName}
+use Rattle.vol_owners.specs.Account.{drafts_of}
 use Rattle.vol_owners.specs.Owner.{is_stray}
 use Rattle.cfs_core.specs.Claimed.{TakesForRequest}
 use Rattle.cfs_core.specs.Commits.{commits}
-use Rattle.cfs_core.specs.Damage.{IsDamageMet, IsDamageTold, IsMet, asks_delete}
+use Rattle.cfs_core.specs.Damage.{IsDamageMet, IsDamageTold, IsMet}
 use Rattle.cfs_core.specs.Kernel.{Kernel, grants_in}
-use Rattle.cfs_core.specs.StandsFor.{ServesWith, StoresState, end_in, free_with}
+use Rattle.cfs_core.specs.StandsFor.{ServesWith, StoresState, drafts_of_handles, end_in, free_with}
 use Rattle.cfs_core.specs.Ways.{Reaches}
 
 -- ---- replies
 
--- the request takes blocks, isn't a delete, and more than may be taken
+-- the request takes blocks, isn't a delete that goes through no grant, and more than may be taken
 pub record IsShortOfBlocks (s : State) (who : ℕ) (request : Request) (free : ℕ) : Type 0 where
-  pub delete : asks_delete request ≡ false
+  pub delete : is_direct_delete request ≡ false
   pub few : free < need_of s who request + reserve
 
 -- the outcome of the definitions, with the least Free block as a new object's root; so many as it takes were Free
@@ -161,11 +164,12 @@ EndsSo g commit old new s who request (Err (refusals.Disk true)) = IsInDoubt g o
 EndsSo g commit old new s who request (Err (refusals.Damaged damage)) = ⊥
 EndsSo g commit old new s who request (Err refusals.Memory) = Answers g commit old new s who request replies.Memory
 
--- a request that isn't a delete finds so many blocks counted Free as it tells, too few beside the last four
+-- a request that isn't a delete which goes through no grant finds so many blocks counted Free as it tells, too few
+-- beside the last four
 abbrev pub IsWant : Option Request → (free : ℕ) → Need → Type 0
 IsWant None free need = ⊥
 IsWant (Some request) free need =
-    (asks_delete request ≡ false) × (need.free ≡ free) × (need.free < need.need + reserve)
+    (is_direct_delete request ≡ false) × (need.free ≡ free) × (need.free < need.need + reserve)
 
 -- a device call failed in this call, of a request or of none; a block that was read is outside its table; or too few
 -- blocks are counted Free
@@ -206,11 +210,11 @@ pub record TriesWith {D : Type 0} (g : Ghosts D) (commit : Option LeftCommit) (o
 abbrev pub Tries : {D : Type 0} → Ghosts D → Kernel D → Kernel D → ℕ → Request → Result Reply Refused → Type 0
 Tries g old new who request result = TriesWith g old.space.left old new who request result
 
--- The same of a request on a slot that an index has, which has a name.
+-- The same of a request on a slot that an index has, which has a name, and no draft.
 pub record TriesOnWith {D : Type 0} (g : Ghosts D) (commit : Option LeftCommit) (old new : Kernel D) (index : Puid)
     (slot : ℕ) (request : Request) (result : Result Reply Refused) : Type 0 where
   pub ends : (s : State) (who : ℕ) (i : Index) → ServesWith g old s commit → old.stop ≡ None
-      → Reaches s who request index (objects.Index i)
+      → Reaches s who request index (objects.Index i) → drafts_of (drafts_of_handles old.handles s.grants) index ≡ []
       → slot < length i.slots → refusal_of s who request ≡ None → EndsSo g commit old new s who request result
   pub went : has_root_in old.directory.named index.block ≡ true → Went g old new request result
 
@@ -221,6 +225,11 @@ TriesOn g old new index slot request result = TriesOnWith g old.space.left old n
 
 abbrev pub looked : Index → ℕ → Reply
 looked i slot = if nat_le (length i.slots) slot then replies.Slot else slot_reply (slot_of i slot)
+
+-- what must stay Free beside a delete: nothing where it goes through no grant, and else the last four blocks
+abbrev pub delete_floor : Ref → ℕ
+delete_floor (Direct id) = 0
+delete_floor (Through t) = reserve
 
 -- how a call ends that has nothing else to say
 abbrev pub done_or : Result (Unit {0}) Refused → Result Reply Refused

@@ -7,7 +7,7 @@ use Rattle.cfs_base.specs.declared.identifier.Puid.{Puid}
 use Rattle.cfs_base.specs.declared.kind.FileKind.TheVariants as kinds
 use Rattle.cfs_base.specs.declared.kind.Place.TheVariants as places
 use Rattle.claims.specs.Claims.{AreClaimed}
-use Rattle.cyl_alloc.specs.Space.{intended}
+use Rattle.cyl_alloc.specs.Space.{allocated, intended}
 use Rattle.cyl_map.specs.Volume.{entry_in}
 use Rattle.cyl_map.specs.declared.entry.MapEntry.{MapEntry}
 use Rattle.file_ops.specs.Changes.{claims_beside}
@@ -15,7 +15,7 @@ use Rattle.index_ops.specs.Changes.{leaf_and_node}
 use Rattle.normal_files.specs.Order as plain
 use Rattle.special_files.specs.Committing.{TakesShadow}
 use Rattle.special_files.specs.Drafting.{Drafting}
-use Rattle.special_files.specs.Order.{claims_anew, claims_between}
+use Rattle.special_files.specs.Order.{claims_anew, claims_between, leaf_claims}
 use Rattle.ufs_model.specs.Need.{is_normal, takes_draft}
 use Rattle.ufs_model.specs.Graph.{object_at}
 use Rattle.ufs_model.specs.Object.{leaves_in, written_anew}
@@ -63,7 +63,7 @@ claims_in_file at change f = elim f.kind [
 abbrev pub claims_in_draft : Change → Draft → Drafting → List MapEntry
 claims_in_draft (Overwrite offset bytes) d was = claims_between was (offset / 512) (leaves_in (offset + length bytes))
 claims_in_draft (SetSize size) d was = claims_anew was.at (written_anew (SetSize size) d.object d.fresh) d.fresh
-claims_in_draft (Fill slot what) d was = []
+claims_in_draft (Fill slot what) d was = leaf_claims was.at was.leaves was.nodes (slot / 64)
 
 abbrev pub drafting_of : List Handle → Ref → Option Drafting
 drafting_of handles (Direct id) = None
@@ -80,17 +80,30 @@ claims_through handles s who ref change = elim (draft_of s who ref) [
   | Some d ↦ option_map_or (claims_in_draft change d) (drafting_of handles ref) []
 ]
 
+-- a slot of an index: its leaf and its node, or in a draft what isn't fresh of these
+abbrev pub claims_for_slot : List Handle → State → ℕ → Ref → (slot : ℕ) → List MapEntry
+claims_for_slot handles s who ref slot = elim (draft_of s who ref) [
+  | None ↦ leaf_and_node (slot / 64) (root_reached s who ref)
+  | Some d ↦ option_map_or (claims_in_draft (Fill slot None) d) (drafting_of handles ref) []
+]
+
+-- the root of a new object: where it is made in a draft it is Allocated at once
+abbrev pub made_entry : State → ℕ → Ref → Reply → MapEntry
+made_entry s who ref reply =
+    if is_none (draft_of s who ref) then intended places.Root (block_named reply)
+    else allocated places.Root (block_named reply)
+
 -- ---- a request
 
 -- The entries for which it claims blocks, in their order: a new object's root, then leaves, each with its node; and the
 -- shadow root of a draft that is begun.
 abbrev pub claims_for : List Handle → State → ℕ → Request → Reply → List MapEntry
 claims_for handles s who (asks.CreateFile kind fill index slot) reply =
-    intended places.Root (block_named reply) ∷ leaf_and_node (slot / 64) (root_reached s who index)
+    made_entry s who index reply ∷ claims_for_slot handles s who index slot
 claims_for handles s who (asks.CreateIndex slots index slot) reply =
-    intended places.Root (block_named reply) ∷ leaf_and_node (slot / 64) (root_reached s who index)
-claims_for handles s who (asks.Retain index slot id) reply = leaf_and_node (slot / 64) (root_reached s who index)
-claims_for handles s who (asks.Delete index slot) reply = leaf_and_node (slot / 64) (root_reached s who index)
+    made_entry s who index reply ∷ claims_for_slot handles s who index slot
+claims_for handles s who (asks.Retain index slot id) reply = claims_for_slot handles s who index slot
+claims_for handles s who (asks.Delete index slot) reply = claims_for_slot handles s who index slot
 claims_for handles s who (asks.OpenFor id mode) reply =
     if takes_draft mode (object_at s.graph id) then intended places.ShadowRoot id.block ∷ [] else []
 claims_for handles s who (asks.Write file offset bytes) reply = claims_through handles s who file (Overwrite offset bytes)
@@ -108,10 +121,10 @@ is_beside s who ref = is_none (draft_of s who ref) && not (is_normal (seen s who
 
 -- Whether it is a commit of its own: that takes a shadow root last, and gives it back.
 abbrev pub commits_alone : State → ℕ → Request → Bool
-commits_alone s who (asks.CreateFile kind fill index slot) = true
-commits_alone s who (asks.CreateIndex slots index slot) = true
-commits_alone s who (asks.Retain index slot id) = true
-commits_alone s who (asks.Delete index slot) = true
+commits_alone s who (asks.CreateFile kind fill index slot) = is_beside s who index
+commits_alone s who (asks.CreateIndex slots index slot) = is_beside s who index
+commits_alone s who (asks.Retain index slot id) = is_beside s who index
+commits_alone s who (asks.Delete index slot) = is_beside s who index
 commits_alone s who (asks.Write file offset bytes) = is_beside s who file
 commits_alone s who (asks.Resize file size) = is_beside s who file
 commits_alone s who request = false

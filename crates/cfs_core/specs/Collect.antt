@@ -20,6 +20,8 @@ use Rattle.collector_steps.specs.declared.phase.Phase.{Phase}
 use Rattle.collector_steps.specs.declared.phase.Phase.TheVariants as phases
 use Rattle.cyl_alloc.specs.Space.{Kept}
 use Rattle.cyl_map.specs.Volume.{is_free_in}
+use Rattle.marking.specs.Colours.{none_marked}
+use Rattle.marking.specs.Pace.{unread}
 use Rattle.puid_space.specs.Directory.{Listing, has_root_in}
 use Rattle.puid_space.specs.Kinds.{kinds_of}
 use Rattle.survival.specs.Call.{CallKeeps}
@@ -43,7 +45,7 @@ use Rattle.cfs_core.specs.declared.kernel.Stop.{Stop}
 use Rattle.cfs_core.specs.Asked.{Happens}
 use Rattle.cfs_core.specs.Calls.{IsCause}
 use Rattle.cfs_core.specs.Damage.{IsDamageTold}
-use Rattle.cfs_core.specs.Kernel.{AreCollections, Kernel, collection_runs}
+use Rattle.cfs_core.specs.Kernel.{AreCollections, Kernel, Handle, collection_runs}
 use Rattle.cfs_core.specs.Left.{LeavesFewer}
 use Rattle.cfs_core.specs.Rescues.{AreRescued}
 use Rattle.cfs_core.specs.Room.{MayLoseBy, lost_blocks}
@@ -111,9 +113,10 @@ pub record HasBegunCollection (roots : List Puid) (named : List (Puid × Kind)) 
   pub steps : l.steps ≡ 1
   pub added : l.added ≡ 0
   pub left : steps_left l < most_steps (volume_of l)
+  -- the leaves of the objects and their drafts are no more than the blocks
   pub keeps : (seed : ℕ) (s t : State) (image : Image) → IsState s → named ≡ kinds_of s.graph
       → ((x : Puid) → is_among x roots ≡ is_among x (starts_now s))
-      → next seed s events.Began ≡ Some t → Keeps.Collects image t l
+      → next seed s events.Began ≡ Some t → unread t none_marked ≤ volume_of l → Keeps.Collects image t l
 
 -- ---- a step of a core
 
@@ -173,11 +176,11 @@ abbrev pub IsTidyVolume : Image → Graph → Type 0
 IsTidyVolume image graph =
     (n : ℕ) → n < length image → (is_free_in image n ≡ false) ↔ ((is_fixed n ≡ true) ⊎ IsHeldBy image graph n)
 
--- It took no more steps than one for each block and each rescue, two for each cylinder, and three; as long as rescues
--- were counted.
+-- It took no more steps than two for each block, each rescue and each cylinder, and three; as long as rescues were
+-- counted.
 abbrev pub IsBounded : ℕ → Collections → Type 0
-IsBounded blocks c =
-    added_in c.collector < 2 ^ 64 - 1 → steps_in c.collector ≤ blocks + added_in c.collector + 2 * (blocks / 64) + 3
+IsBounded blocks c = added_in c.collector < 2 ^ 64 - 1
+    → steps_in c.collector ≤ 2 * blocks + 2 * added_in c.collector + 2 * (blocks / 64) + 3
 
 -- and where nothing is open the volume is tidy
 abbrev pub IsOver : {D : Type 0} → Ghosts D → Kernel D → Kernel D → State → Step → Type 0
@@ -192,7 +195,7 @@ pub record IsUnchanged {D : Type 0} (g : Ghosts D) (old new : Kernel D) : Type 0
   pub reads : OnlyReads g 4 old.disk new.disk
   pub directory : new.directory ≡ old.directory
   pub space : new.space ≡ old.space
-  pub collector : AreRescued old.collections.collector new.collections.collector []
+  pub collector : AreRescued old.collections.collector new.collections.collector [] []
   pub finished : new.collections.finished ≡ old.collections.finished
 
 -- ---- a call that tries to make a step of a core, on any disk
@@ -244,11 +247,10 @@ with_parts k disk space directory l =
       collections = record k.collections { collector = Some l };
     }
 
--- The same of these parts of any core, with a collection that runs, and runs on.
+-- The same of these parts of any core with these handles, with a collection that runs, and runs on.
 pub record StepsSo {D : Type 0} (g : Ghosts D) (old new : D) (before after : Kept) (directory left : Listing)
-    (k l : Collecting)
-    (result : Result Step Refused) : Type 0 where
-  pub tries : (core : Kernel D)
+    (handles : List Handle) (k l : Collecting) (result : Result Step Refused) : Type 0 where
+  pub tries : (core : Kernel D) → core.handles ≡ handles
       → TriesStep g (with_parts core old before directory k) (with_parts core new after left l) result
   pub size : g.blocks new ≡ g.blocks old
   pub runs : collection_runs (Some l) ≡ true

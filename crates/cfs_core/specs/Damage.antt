@@ -5,9 +5,10 @@ use Rattle.cfs_base.specs.Codes.{no_entry, no_root, not_owned, other_count, past
 use Rattle.cfs_base.specs.Disk.{Image, block_at}
 use Rattle.cfs_base.specs.Run.{Tells}
 use Rattle.cfs_base.specs.declared.disk.Disk.{Ghosts}
+use Rattle.cfs_base.specs.declared.identifier.Puid.{Puid}
 use Rattle.cfs_base.specs.declared.refusal.Damage.{Damage}
 use Rattle.block_tree.specs.Pointers.{node_pointers}
-use Rattle.block_tree.specs.Root.{IsRootBlock}
+use Rattle.block_tree.specs.Root.{IsRootBlock, root_spelling}
 use Rattle.block_tree.specs.declared.root.Root.{Root}
 use Rattle.collector_steps.specs.Collecting.{Collecting, colours_in}
 use Rattle.collector_steps.specs.Scan.{LeadsPast}
@@ -26,7 +27,7 @@ use Rattle.ufs_model.specs.declared.asked.Request.{Request}
 use Rattle.ufs_model.specs.declared.asked.Request.TheVariants as asks
 use Rattle.ufs_model.specs.Outcome.{creates}
 use Rattle.cfs_core.specs.Kernel.{Kernel}
-use Rattle.cfs_core.specs.Handles.{drafting_at}
+use Rattle.cfs_core.specs.Handles.{drafting_at, root_at}
 
 -- so many bytes the root must have to which the request goes
 abbrev pub bytes_wanted : Option Request → ℕ
@@ -62,7 +63,8 @@ pub data IsOutside (Told : Type 0) (image : Image) (size : ℕ) (IsRoot : ℕ �
   FarRoot : damage.code ≡ past_disk → IsRoot damage.block
       → (Told → IsFarBlock size image node_pointers damage.block) → IsOutside Told image size IsRoot bytes damage
   -- a block of the tree of a root that has
-  FarBelow : damage.code ≡ past_disk → (at : ℕ) → IsRoot at → (Told → LeadsPast image size at damage.block)
+  FarBelow : damage.code ≡ past_disk → (at : ℕ) → IsRoot at
+      → (Told → LeadsPast image size (block_at image at) at damage.block)
       → IsOutside Told image size IsRoot bytes damage
 
 -- a draft stands of the object with this root
@@ -121,6 +123,12 @@ pub data IsDamageTold {D : Type 0} (g : Ghosts D) (old new : Kernel D) (request 
   NotOwned : (made : Request) → request ≡ Some made → creates made ≡ true → damage.code ≡ not_owned
       → (damage.block ≡ 0)
       ⊎ ((g.blocks old.disk ≤ damage.block) ⊎ (has_root_in old.directory.named damage.block ≡ true))
+      → IsDamageTold g old new request damage
+  -- in a step of the collector, a block of the tree of a draft has a pointer past the disk
+  FarDrafted : damage.code ≡ past_disk → (id : Puid) (root : Root) → IsRootHere old request id.block
+      → root_at old.handles id ≡ Some root
+      → (Tells g old.disk
+      → LeadsPast (g.content old.disk) (g.blocks old.disk) (root_spelling root) id.block damage.block)
       → IsDamageTold g old new request damage
   FewLeft : damage.code ≡ too_full → damage.block ≡ 0 → FindsFew request (sum old.space.free) (sum new.space.free)
       → IsDamageTold g old new request damage

@@ -1,9 +1,12 @@
--- The grants of all sessions, with the drafts of special files that are open for writing.
+-- The grants of all sessions, with the drafts of special files and indices that are open for writing.
 use Rattle.std.specs.Prelude.{◌≡◌, ℕ, Bool, false, not, ◌&&◌, ◌==◌, if◌then◌else◌, List}
-use Rattle.std.specs.Prelude.{map, filter, find, Option, None, option_and_then, is_some}
+use Rattle.std.specs.Prelude.{map, filter, find, [], ◌∷◌, Option, None, option_and_then, option_map, is_some}
 use Rattle.std.specs.List.{list_any}
+use Rattle.block_tree.specs.declared.root.Root.{Root}
+use Rattle.cfs_base.specs.declared.identifier.Puid.{Puid}
 use Rattle.open_table.specs.declared.grant.Grant.{Grant}
 use Rattle.special_files.specs.Drafting.{Drafting}
+use Rattle.ufs_model.specs.Identifier.{same_puid}
 use Rattle.cfs_core.specs.Kernel.{Handle}
 
 -- the handles in the order of acquiring, and whether there is room for one more, with a draft
@@ -31,6 +34,13 @@ drafting_at handles draw = option_and_then (λ handle. handle.drafting) (find (i
 abbrev pub with_drafting : ℕ → Option Drafting → List Handle → List Handle
 with_drafting draw drafting handles =
     map (λ handle. if is_drawn draw handle then record { grant = handle.grant; drafting = drafting } else handle) handles
+
+-- the root that this object is to get by a draft, where it has one
+abbrev pub root_at : List Handle → Puid → Option Root
+root_at [] id = None
+root_at (handle ∷ handles) id =
+    if same_puid id handle.grant.id && is_some handle.drafting then option_map (λ d. d.root) handle.drafting
+    else root_at handles id
 
 -- a handle whose grant passes the test has a draft
 abbrev pub have_draft : (Grant → Bool) → List Handle → Bool

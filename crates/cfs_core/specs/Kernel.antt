@@ -15,7 +15,7 @@ use Rattle.special_files.specs.Drafting.{Drafting}
 use Rattle.cfs_core.specs.declared.collecting.Collections.{Collections}
 use Rattle.cfs_core.specs.declared.kernel.Stop.{Stop}
 
--- a grant, and the draft of a special file that is open for writing
+-- a grant, and the draft of a special file or an index that is open for writing
 pub record Handle : Type 0 where
   pub grant : Grant
   pub drafting : Option Drafting

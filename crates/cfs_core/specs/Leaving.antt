@@ -1,6 +1,6 @@
 -- A session leaves: its grants are dropped one after the other, and their drafts are given up, once what was left of a
 -- commit is carried out.
-use Rattle.std.specs.Prelude.{◌≡◌, ◌⊎◌, ℕ, ◌-◌, ◌≤◌, not, ◌==◌, List, filter, Option, Some, None, Result, Ok, Err}
+use Rattle.std.specs.Prelude.{◌≡◌, ◌⊎◌, ℕ, ◌-◌, ◌≤◌, not, ◌==◌, List, [], filter, Option, Some, None, Result, Ok, Err}
 use Rattle.cfs_base.specs.Calls.{HasFailed, MakesAtMost}
 use Rattle.cfs_base.specs.Run.{Leaves}
 use Rattle.cfs_base.specs.declared.disk.Disk.{Ghosts}
@@ -27,6 +27,7 @@ use Rattle.cfs_core.specs.declared.kernel.Stop.{Stop}
 use Rattle.cfs_core.specs.Calls.{AddsNoStray}
 use Rattle.cfs_core.specs.Damage.{IsDamageTold}
 use Rattle.cfs_core.specs.Kernel.{Kernel, grants_in}
+use Rattle.cfs_core.specs.Rescues.{AreRescued}
 use Rattle.cfs_core.specs.StandsFor.{ServesIs, end_in}
 
 -- the grants of all others
@@ -57,7 +58,11 @@ pub record StopsSo {D : Type 0} (g : Ghosts D) (old new : Kernel D) (stop : Stop
 pub record Sheds {D : Type 0} (g : Ghosts D) (who : ℕ) (old new : Kernel D) : Type 0 where
   pub words : new.words ≡ old.words
   pub directory : new.directory ≡ old.directory
-  pub collections : new.collections ≡ old.collections
+  -- of the objects of these grants the drafts are read no more
+  pub over : List Puid
+  pub ended : AreRescued old.collections.collector new.collections.collector [] over
+  pub called : new.collections.called ≡ old.collections.called
+  pub finished : new.collections.finished ≡ old.collections.finished
   pub others : without_session (grants_in new.handles) who ≡ without_session (grants_in old.handles) who
   pub size : g.blocks new.disk ≡ g.blocks old.disk
   pub faults : g.faults old.disk ≤ g.faults new.disk

@@ -52,3 +52,9 @@ pub record AddsOne (blocks : ℕ) (c d : Collections) : Type 0 where
   pub running : collection_runs d.collector ≡ collection_runs c.collector
   pub more : steps_ahead blocks d ≤ steps_ahead blocks c + 1
   pub events : events_ahead d ≡ events_ahead c
+
+-- It moves no collection on, and adds no step.
+pub record AddsNone (blocks : ℕ) (c d : Collections) : Type 0 where
+  pub running : collection_runs d.collector ≡ collection_runs c.collector
+  pub no_more : steps_ahead blocks d ≤ steps_ahead blocks c
+  pub events : events_ahead d ≡ events_ahead c

@@ -1,5 +1,5 @@
 -- A request that makes an object, and how it ends.
-use Rattle.std.specs.Prelude.{◌≡◌, ◌≢◌, ◌⊎◌, ℕ, ◌+◌, ◌*◌, ◌/◌, ◌<◌, ◌≤◌, true, false, List, ◌∷◌}
+use Rattle.std.specs.Prelude.{◌≡◌, ◌≢◌, ◌⊎◌, ℕ, ◌+◌, ◌*◌, ◌<◌, ◌≤◌, true, false, List, ◌∷◌}
 use Rattle.std.specs.Prelude.{Result, Ok, IfErr, IfOk, Some, None}
 use Rattle.std.specs.BTreeMap.{insert_entry}
 use Rattle.cfs_base.specs.declared.identifier.Puid.{Puid}
@@ -7,6 +7,7 @@ use Rattle.cfs_base.specs.declared.kind.FileKind.{FileKind}
 use Rattle.cfs_base.specs.declared.kind.FileKind.TheVariants as file_kinds
 use Rattle.cfs_base.specs.declared.kind.Kind.{Kind}
 use Rattle.cfs_base.specs.declared.kind.Kind.TheVariants as kinds
+use Rattle.cfs_base.specs.declared.refusal.Need.{Need}
 use Rattle.cfs_base.specs.declared.refusal.Refused.{Refused}
 use Rattle.cfs_base.specs.declared.refusal.Refused.TheVariants as refusals
 use Rattle.puid_space.specs.Directory.{Listing, has_root_in}
@@ -17,20 +18,19 @@ use Rattle.ufs_model.specs.declared.asked.Request.{Request}
 use Rattle.ufs_model.specs.declared.change.Change.TheVariants.{Fill}
 use Rattle.ufs_model.specs.declared.object.Object.{Object}
 use Rattle.ufs_model.specs.Identifier.{puid_cmp}
+use Rattle.ufs_model.specs.Limits.{reserve}
 use Rattle.ufs_model.specs.Need.{change_need, need_of}
-use Rattle.ufs_model.specs.Next.{next}
-use Rattle.ufs_model.specs.Outcome.{created, creates, draws, outcome_of, block_named}
+use Rattle.ufs_model.specs.Next.{is_direct_delete, next}
+use Rattle.ufs_model.specs.Outcome.{created, creates, draws, outcome_of}
 use Rattle.ufs_model.specs.Plain.{IsPlainReply}
 use Rattle.ufs_model.specs.Refusal.{refusal_of, target}
 use Rattle.ufs_model.specs.State.{State, is_running}
 use Rattle.ufs_model.specs.WellFormed.{IsSpeakable}
 use Rattle.cfs_base.specs.Codes.{not_owned}
-use Rattle.cfs_core.specs.Damage.{bytes_wanted, asks_delete}
+use Rattle.cfs_core.specs.Damage.{bytes_wanted}
 use Rattle.cfs_core.specs.Kernel.{Kernel, Handle}
-use Rattle.cfs_core.specs.Claimed.{claims_for, root_reached}
-use Rattle.cyl_alloc.specs.Space.{intended}
-use Rattle.index_ops.specs.Changes.{leaf_and_node}
-use Rattle.cfs_base.specs.declared.kind.Place.TheVariants as places
+use Rattle.cfs_core.specs.Claimed.{claims_for, claims_for_slot, commits_alone, is_beside, made_entry}
+use Rattle.cfs_core.specs.Commits.{commits}
 
 -- the kind of an object that is such a file
 abbrev pub made_kind : FileKind → Kind
@@ -44,13 +44,15 @@ pub record IsMaking (request : Request) (slot : ℕ) (o : Object) : Type 0 where
   pub makes : creates request ≡ true
   pub draw : draws request ≡ 1
   pub need : (s : State) (who : ℕ) → need_of s who request ≡ 1 + change_need s who (target request) (Fill slot None)
-  pub delete : asks_delete request ≡ false
+  pub delete : is_direct_delete request ≡ false
   pub claims : (handles : List Handle) (s : State) (who : ℕ) (reply : Reply) → claims_for handles s who request reply
-      ≡ intended places.Root (block_named reply) ∷ leaf_and_node (slot / 64) (root_reached s who (target request))
+      ≡ made_entry s who (target request) reply ∷ claims_for_slot handles s who (target request) slot
+  pub alone : (s : State) (who : ℕ) → commits_alone s who request ≡ is_beside s who (target request)
+  pub commits_is : (s : State) (who : ℕ) → commits s who request ≡ is_beside s who (target request)
   pub wants : bytes_wanted (Some request) ≡ 8 * slot + 8
-  pub full : (seed : ℕ) (s : State) (who free : ℕ) → is_running s ≡ true → refusal_of s who request ≡ None
-      → need_of s who request ≡ 4 → free < 8
-      → next seed s (events.Ask who request (replies.Full (record { free = free; need = 4 }))) ≡ Some s
+  pub full : (seed : ℕ) (s : State) (who : ℕ) (n : Need) → is_running s ≡ true → refusal_of s who request ≡ None
+      → n.need ≡ need_of s who request → n.free < n.need + reserve
+      → next seed s (events.Ask who request (replies.Full n)) ≡ Some s
   pub speaks : (who : ℕ) (reply : Reply) → IsSpeakable (events.Ask who request reply)
 
 -- it isn't given its name: its block is 0, none of the disk's, or the root of an object already

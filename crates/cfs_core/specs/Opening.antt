@@ -28,19 +28,13 @@ use Rattle.ufs_model.specs.Limits.{reserve}
 use Rattle.vol_image.specs.Sound.{Holds}
 use Rattle.vol_owners.specs.Account.{Opened, drafts_of}
 
--- an index is to be opened for writing
-abbrev pub is_unfit : Kind → Mode → Bool
-is_unfit kinds.Index modes.Writing = true
-is_unfit kinds.Index modes.Reading = false
-is_unfit kinds.Normal mode = false
-is_unfit kinds.Special mode = false
-
 -- an object of this kind gets a draft where it is opened so
 abbrev pub gets_draft : Kind → Mode → Bool
 gets_draft kinds.Special modes.Writing = true
 gets_draft kinds.Special modes.Reading = false
 gets_draft kinds.Normal mode = false
-gets_draft kinds.Index mode = false
+gets_draft kinds.Index modes.Writing = true
+gets_draft kinds.Index modes.Reading = false
 
 abbrev pub reply_to_fault : AcquireFault → Reply
 reply_to_fault (faults.Locked mode) = replies.Locked

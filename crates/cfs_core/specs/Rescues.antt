@@ -1,15 +1,19 @@
--- What is put into an index, or opened, and so is a rescue while a collection marks.
+-- What a collection is told while it marks: an object that was put into an index, or opened, is a rescue; and where a
+-- grant ends its draft is read no more.
 use Rattle.std.specs.Prelude.{◌≡◌, ℕ, ◌<◌, Bool, true, false, if◌then◌else◌, List}
-use Rattle.std.specs.Prelude.{[], ◌∷◌, ◌++◌, Option, Some, None, option_map}
-use Rattle.cfs_base.specs.Outside.{count_after}
+use Rattle.std.specs.Prelude.{[], ◌∷◌, ◌++◌, Option, Some, None, option_map, option_to_list}
 use Rattle.cfs_base.specs.declared.identifier.Puid.{Puid}
-use Rattle.collector_steps.specs.Collecting.{Collecting, waiting_in}
+use Rattle.collector_steps.specs.Collecting.{Collecting, colours_in, volume_of, waiting_in}
+use Rattle.marking.specs.Colours.{Colours, draft_over}
 use Rattle.marking.specs.declared.memory.Rescue.{Rescue}
 use Rattle.marking.specs.Meanwhile.{is_carried_out}
+use Rattle.marking.specs.Pace.{added_with}
 use Rattle.ufs_model.specs.declared.asked.Reply.{Reply}
 use Rattle.ufs_model.specs.declared.asked.Reply.TheVariants as replies
 use Rattle.ufs_model.specs.declared.asked.Request.{Request}
 use Rattle.ufs_model.specs.declared.asked.Request.TheVariants as asks
+use Rattle.ufs_model.specs.declared.asked.Ref.TheVariants.{Through}
+use Rattle.ufs_model.specs.State.{State, named}
 use Rattle.cfs_core.specs.Kernel.{marks_in}
 
 -- a request that puts an object into an index, or opens one
@@ -42,24 +46,39 @@ abbrev pub HasRoomFor : Request → Option Collecting → Type 0
 HasRoomFor request None = Unit {0}
 HasRoomFor request (Some k) = marks_in k.phase ≡ true → may_rescue request ≡ true → 0 < k.rescues.room
 
--- the count of rescues, and that of one more for each of these
-abbrev pub added_with : List Rescue → ℕ → ℕ
-added_with [] n = n
-added_with (r ∷ rs) n = added_with rs (count_after n)
-
 abbrev pub while_marking : Collecting → List Rescue → List Rescue
 while_marking k more = if marks_in k.phase then more else []
 
--- Where it marks these rescues wait as well, and are counted; nothing but room is otherwise changed.
-pub record HasRescued (k l : Collecting) (more : List Rescue) : Type 0 where
-  pub marks : l.marks ≡ k.marks
+-- ---- where a grant ends
+
+-- the object whose grant a request ends, where it was done
+abbrev pub ended_of : Option Puid → Reply → List Puid
+ended_of id replies.Done = option_to_list id
+ended_of id reply = []
+
+abbrev pub ended_by : State → ℕ → Request → Reply → List Puid
+ended_by s who (asks.Close grant commit) reply = ended_of (named s who (Through grant)) reply
+ended_by s who request reply = []
+
+-- the drafts of these objects, where they had any, are read no more
+abbrev pub all_ended : List Puid → Colours → Colours
+all_ended [] c = c
+all_ended (id ∷ ids) c = all_ended ids (draft_over id c)
+
+-- ---- what the collector is told
+
+-- Where it marks these rescues wait as well, and are counted; of these objects the drafts are read no more. Nothing but
+-- room is otherwise changed.
+pub record HasRescued (k l : Collecting) (more : List Rescue) (over : List Puid) : Type 0 where
+  pub volume : volume_of l ≡ volume_of k
+  pub colours : colours_in l ≡ all_ended over (colours_in k)
   pub phase : l.phase ≡ k.phase
   pub steps : l.steps ≡ k.steps
   pub waiting : waiting_in l ≡ waiting_in k ++ while_marking k more
   pub added : l.added ≡ added_with (while_marking k more) k.added
 
-abbrev pub AreRescued : Option Collecting → Option Collecting → List Rescue → Type 0
-AreRescued None None more = Unit {0}
-AreRescued (Some k) (Some l) more = HasRescued k l more
-AreRescued None (Some l) more = ⊥
-AreRescued (Some k) None more = ⊥
+abbrev pub AreRescued : Option Collecting → Option Collecting → List Rescue → List Puid → Type 0
+AreRescued None None more over = Unit {0}
+AreRescued (Some k) (Some l) more over = HasRescued k l more over
+AreRescued None (Some l) more over = ⊥
+AreRescued (Some k) None more over = ⊥

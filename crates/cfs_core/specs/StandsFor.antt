@@ -43,7 +43,7 @@ drafts_of_handles (handle ∷ handles) (grant ∷ grants) =
 drafts_of_handles [] grants = []
 drafts_of_handles (handle ∷ handles) [] = []
 
--- the draft of a special file, which a grant for writing has
+-- the draft of a special file or an index, which a grant for writing has
 pub record IsDraftOf (ds : List Opened) (grant : handles.Grant) (drafting : Drafting) (d : Draft) : Type 0 where
   pub is_open : IsOpen ds grant.id drafting d
   pub special : is_normal d.object ≡ false

@@ -2,7 +2,7 @@
 ghost use Rattle.std.specs.Prelude.{◌≡◌, ◌<◌, option_to_list};
 ghost use Rattle.cfs_core.specs.Asked.{Asks, stopped_by, reply_to};
 ghost use Rattle.cfs_core.specs.Calls.{Tries};
-ghost use Rattle.cfs_core.specs.Rescues.{AreRescued, HasRoomFor, rescue_of};
+ghost use Rattle.cfs_core.specs.Rescues.{AreRescued, HasRoomFor, ended_of, rescue_of};
 
 use crate::kernel::{Core, Stop};
 use cfs_base::{Disk, Puid, Refused, Session};
@@ -28,8 +28,9 @@ impl<D: Disk> Core<D> {
             return Reply::Memory;
         }
         let index = self.aim(who, request);
+        let closed = self.closes(who, request);
         match self.answer(alloc, who, request) {
-            Ok(reply) => self.tell(index, request, reply),
+            Ok(reply) => self.tell(index, closed, request, reply),
             Err(refused) => self.refuse(refused),
         }
     }
@@ -70,17 +71,26 @@ impl<D: Disk> Core<D> {
         }
     }
 
-    /// Tells the collector what was put into this index, or opened.
-    fn tell(&mut self, index: Option<Puid>, request: &Request, reply: Reply) -> Reply
+    /// Tells the collector what was put into this index, or opened; or that a grant on this object ended.
+    fn tell(
+        &mut self,
+        index: Option<Puid>,
+        closed: Option<Puid>,
+        request: &Request,
+        reply: Reply,
+    ) -> Reply
         requires room { HasRoomFor request.now self.old.collections.collector }
         ensures told { result ≡ reply }
         ensures new { self.new ≡ record self.old { collections = self.new.collections } }
         ensures rescued { AreRescued self.old.collections.collector self.new.collections.collector
-            (option_to_list (rescue_of index request.now reply)) }
+            (option_to_list (rescue_of index request.now reply)) (ended_of closed reply) }
         ensures called { self.new.collections.called ≡ self.old.collections.called }
         ensures finished { self.new.collections.finished ≡ self.old.collections.finished }
     {
         self.collections.rescue(index, request, &reply);
+        if let (Some(id), Reply::Done) = (closed, &reply) {
+            self.collections.draft_ended(id);
+        }
         reply
     }
 

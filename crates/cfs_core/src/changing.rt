@@ -1,8 +1,12 @@
 //! Requests that change an index.
-ghost use Rattle.std.specs.Prelude.{◌≡◌, ◌≢◌, ◌<◌};
-ghost use Rattle.cfs_core.specs.Calls.{Tries, TriesOn, done_or};
+ghost use Rattle.std.specs.Prelude.{◌≡◌, ◌≢◌, ◌<◌, ◌≤◌};
+ghost use Rattle.cfs_core.specs.Calls.{Tries, TriesOn, delete_floor, done_or};
 ghost use Rattle.ufs_model.specs.Plain.{is_id};
 ghost use Rattle.ufs_model.specs.declared.asked.Ref.{Ref};
+ghost use Rattle.cfs_core.specs.Drafts.{HasNoneOf};
+ghost use Rattle.cfs_core.specs.StandsFor.{ServesIs};
+ghost use Rattle.ufs_model.specs.State.{State, draft_of};
+ghost use Rattle.ufs_model.specs.declared.asked.Wanted.TheVariants.{AnIndex};
 ghost use Rattle.ufs_model.specs.declared.asked.Request.TheVariants as asks;
 
 use crate::finishing::{finish, since, take_room};
@@ -12,10 +16,20 @@ use crate::way::Way;
 use cfs_base::{BlockNo, Damage, Disk, Puid, Refused, Session, code};
 use index_ops::{delete, retain};
 use std::alloc::Global;
-use ufs_model::{Ref, Reply};
+use ufs_model::{RESERVE, Ref, Reply, Wanted};
+
+/// How many blocks must stay Free beside those that a delete takes: none where it goes through no grant.
+fn floor_for(to: Ref) -> u32
+    ensures { result ≡ delete_floor to }
+{
+    match to {
+        Ref::Direct(_) => 0,
+        Ref::Through(_) => RESERVE,
+    }
+}
 
 /// Whether this reply tells that a slot holds an identifier.
-fn holds_something(reply: &Reply) -> bool
+pub(crate) fn holds_something(reply: &Reply) -> bool
     ensures { result ≡ is_id reply.now }
 {
     match reply {
@@ -46,6 +60,24 @@ impl<D: Disk> Core<D> {
     ) -> Result<Reply, Refused>
         ensures { Tries D.Disk self.old self.new who (asks.Retain to slot id) result }
     {
+        match self.drafted(who, to, Wanted::AnIndex) {
+            Some(grant) => self.retain_draft(who, grant, slot, id),
+            None => self.retain_object(alloc, who, to, slot, id),
+        }
+    }
+
+    /// The same where the reference has no draft.
+    fn retain_object(
+        &mut self,
+        alloc: Global,
+        who: Session,
+        to: Ref,
+        slot: u64,
+        id: Puid,
+    ) -> Result<Reply, Refused>
+        requires bare { (s : State) → ServesIs D.Disk self.old s → HasNoneOf AnIndex (draft_of s who to) }
+        ensures { Tries D.Disk self.old self.new who (asks.Retain to slot id) result }
+    {
         let way = Way {
             to,
             also: Some(id),
@@ -73,6 +105,23 @@ impl<D: Disk> Core<D> {
     ) -> Result<Reply, Refused>
         ensures { Tries D.Disk self.old self.new who (asks.Delete to slot) result }
     {
+        match self.drafted(who, to, Wanted::AnIndex) {
+            Some(grant) => self.delete_draft(who, grant, slot),
+            None => self.delete_object(alloc, who, to, slot),
+        }
+    }
+
+    /// The same where the reference has no draft.
+    fn delete_object(
+        &mut self,
+        alloc: Global,
+        who: Session,
+        to: Ref,
+        slot: u64,
+    ) -> Result<Reply, Refused>
+        requires bare { (s : State) → ServesIs D.Disk self.old s → HasNoneOf AnIndex (draft_of s who to) }
+        ensures { Tries D.Disk self.old self.new who (asks.Delete to slot) result }
+    {
         let way = Way {
             to,
             also: None,
@@ -86,7 +135,7 @@ impl<D: Disk> Core<D> {
         match look(&mut self.disk, at, slot) {
             Ok(reply) => {
                 if holds_something(&reply) {
-                    self.empty(alloc, index, slot)
+                    self.empty(alloc, index, slot, floor_for(to))
                 } else {
                     Ok(reply)
                 }
@@ -116,12 +165,15 @@ impl<D: Disk> Core<D> {
         since(tried, done(ended))
     }
 
-    /// Empties a slot that holds something. On a disk that lies too few blocks may be Free for it.
-    fn empty(&mut self, alloc: Global, index: Puid, slot: u64) -> Result<Reply, Refused>
+    /// Empties a slot that holds something, where so many blocks stay Free beside it. On a disk that lies too few
+    /// blocks may be Free for it.
+    fn empty(&mut self, alloc: Global, index: Puid, slot: u64, floor: u32) -> Result<Reply, Refused>
         requires on_disk { index.block < D.blocks self.old.disk }
         requires some { index.block ≢ 0 }
         requires few { slot < 983040 }
-        ensures { (to : Ref) → TriesOn D.Disk self.old self.new index slot (asks.Delete to slot) result }
+        requires floor { floor ≤ 4 }
+        ensures { (to : Ref) → floor ≡ delete_floor to
+            → TriesOn D.Disk self.old self.new index slot (asks.Delete to slot) result }
     {
         let room = match take_room(alloc) {
             Ok(room) => room,
@@ -136,6 +188,9 @@ impl<D: Disk> Core<D> {
                 block: 0,
                 code: code::TOO_FULL,
             }));
+        }
+        if let Err(refused) = self.space.has_room(3, floor) {
+            return Err(refused);
         }
         let at = BlockNo(index.block);
         let ended = delete(room, &mut self.disk, &mut self.space, at, slot);

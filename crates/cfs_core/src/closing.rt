@@ -1,6 +1,7 @@
 //! The ends of grants: a request that closes one, and a session that leaves.
-ghost use Rattle.std.specs.Prelude.{◌≡◌, ◌≢◌, ◌≤◌, ◌*◌, List, length, false, true, IfErr, IfOk, OnOk, IsSome, None};
+ghost use Rattle.std.specs.Prelude.{◌≡◌, ◌≢◌, ◌≤◌, ◌*◌, List, [], length, false, true, IfErr, IfOk, OnOk, IsSome, None};
 ghost use Rattle.std.specs.Prelude.{Some, Ok};
+ghost use Rattle.cfs_base.specs.declared.identifier.Puid.{Puid};
 ghost use Rattle.cfs_base.specs.declared.refusal.Refused.TheVariants as refusals;
 ghost use Rattle.cfs_core.specs.Asked.{Happens, halted};
 ghost use Rattle.cfs_core.specs.Calls.{Tries, TriesWith, leaves_all};
@@ -8,6 +9,8 @@ ghost use Rattle.cfs_core.specs.Drafts.{EndsDraft};
 ghost use Rattle.cfs_core.specs.Kernel.{Handle, grants_in, is_ready_for};
 ghost use Rattle.cfs_core.specs.Leaving as spec;
 ghost use Rattle.cfs_core.specs.Leaving.{GivesUp, Sheds, StopsSo};
+ghost use Rattle.cfs_core.specs.Left.{AddsNone};
+ghost use Rattle.cfs_core.specs.Rescues.{AreRescued};
 ghost use Rattle.cfs_core.specs.Handles.{drafting_at, have_draft, is_at, with_drafting};
 ghost use Rattle.cfs_core.specs.StandsFor.{ServesIs, StandsFor};
 ghost use Rattle.cfs_core.specs.declared.kernel.Stop.{Stop};
@@ -20,7 +23,7 @@ use crate::finishing::{finish, since};
 use crate::kernel::{Core, Halt, Stop};
 use cfs_base::{Disk, Refused, Session, Trouble, Tuid};
 use cyl_alloc::Space;
-use open_table::table_follows_the_model;
+use open_table::{Grant, table_follows_the_model};
 use special_files::Draft;
 use ufs_model::Reply;
 
@@ -123,7 +126,12 @@ impl<D: Disk> Core<D> {
         ensures size { D.blocks self.new.disk ≡ D.blocks self.old.disk }
         ensures faults { D.faults self.old.disk ≤ D.faults self.new.disk }
         ensures later { D.moment self.old.disk ≤ D.moment self.new.disk }
-        ensures collections { self.new.collections ≡ self.old.collections }
+        // A collection reads no draft of the objects of its grants any more, and makes no step.
+        ensures ended { (over : List Puid)
+            × AreRescued self.old.collections.collector self.new.collections.collector [] over }
+        ensures called { self.new.collections.called ≡ self.old.collections.called }
+        ensures finished { self.new.collections.finished ≡ self.old.collections.finished }
+        ensures waits { AddsNone (D.blocks self.old.disk) self.old.collections self.new.collections }
         ensures goes_on { OnOk result (self.new.stop ≡ self.old.stop) }
         // The core stopped at this moment: the one before the disk's now where a device call failed, and the disk's now
         // at a damage.
@@ -137,21 +145,22 @@ impl<D: Disk> Core<D> {
     {
         let before = self.stop;
         while let Some(grant) = self.handles.next_of(who) {
-            self.drop_grant(who, grant.tuid);
+            self.drop_grant(who, grant);
         }
         halt_of(before, self.stop)
     }
 
     /// Drops a grant of a session. Its draft is given up, unless the core has stopped; where that fails, the core
     /// stops.
-    fn drop_grant(&mut self, who: Session, grant: Tuid)
-        requires found { IsSome (session_grant (grants_in self.old.handles) who grant) }
+    fn drop_grant(&mut self, who: Session, grant: Grant)
+        requires found { session_grant (grants_in self.old.handles) who grant.tuid ≡ Some grant }
         ensures sheds { Sheds D.Disk who self.old self.new }
-        ensures gone { grants_in self.new.handles ≡ without_grant (grants_in self.old.handles) who grant }
+        ensures gone { grants_in self.new.handles ≡ without_grant (grants_in self.old.handles) who grant.tuid }
     {
         table_follows_the_model();
-        let draft = self.handles.take(grant.draw);
-        let _ = self.handles.close(who, grant);
+        let draft = self.handles.take(grant.tuid.draw);
+        let _ = self.handles.close(who, grant.tuid);
+        self.collections.draft_ended(grant.id);
         match draft {
             Some(draft) => self.give_up(draft),
             None => {}

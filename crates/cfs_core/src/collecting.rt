@@ -1,5 +1,5 @@
 //! Collections: how many were called for, and the steps of the collector.
-ghost use Rattle.std.specs.Prelude.{◌≡◌, ◌||◌, ◌+◌, ◌*◌, ◌++◌, ◌∷◌, ◌<◌, ◌≤◌, IfOk};
+ghost use Rattle.std.specs.Prelude.{◌≡◌, ◌||◌, ◌+◌, ◌*◌, ◌++◌, ◌∷◌, ◌<◌, ◌≤◌, IfOk, List};
 ghost use Rattle.std.specs.Prelude.{None, Ok, OnOk, length, map, sum, true};
 ghost use Rattle.cfs_core.specs.Collect.{CollectsStep, HasBegunCollection, StepsSo, TriesStep, fault_for};
 ghost use Rattle.cfs_core.specs.Collect.{phase_of, stop_by, sweeps_blocks, told_as};
@@ -9,6 +9,7 @@ ghost use Rattle.collector_steps.specs.Left.{most_steps};
 ghost use Rattle.cyl_alloc.specs.Space as space;
 ghost use Rattle.open_table.specs.declared.grant.Grant as grant;
 
+use crate::handles::Handles;
 use crate::kernel::{Core, Stop};
 use cfs_base::{Damage, Disk, Ids, NoMemory, Puid, Refused, Trouble};
 use collector_steps::{Collector, Phase};
@@ -103,19 +104,21 @@ fn mark<D: Disk>(
     collector: &mut Collector,
     disk: &mut D,
     directory: &mut Directory,
+    handles: &Handles,
 ) -> Result<Step, Refused>
     requires marks { collector.old.phase ≡ Phase.Marking }
     requires room { directory.old.room ≤ volume_of collector.old }
     requires size { D.blocks disk.old ≡ volume_of collector.old }
     ensures { (kept : space.Kept)
-        → StepsSo D.Disk disk.old disk.new kept kept directory.old directory.new collector.old collector.new result }
+        → StepsSo D.Disk disk.old disk.new kept kept directory.old directory.new handles.now.handles collector.old collector.new
+        result }
 {
     if collector.has_rescue() {
         collector.take(directory);
         return Ok(Step::Took);
     }
-    if collector.has_grey() {
-        return match collector.scan(disk, directory) {
+    if let Some(id) = collector.next_index() {
+        return match collector.scan(disk, directory, handles.root_on(id)) {
             Ok(()) => Ok(Step::Scanned),
             Err(trouble) => Err(Refused::from(trouble)),
         };
@@ -134,7 +137,8 @@ fn sweep<D: Disk>(
     requires sweeps { sweeps_blocks collector.old.phase ≡ true }
     requires size { D.blocks disk.old ≡ volume_of collector.old }
     requires counts { 64 * length space.old.free ≡ volume_of collector.old }
-    ensures { StepsSo D.Disk disk.old disk.new space.old space.new directory.now directory.now collector.old
+    ensures { (handles : List Handle)
+        → StepsSo D.Disk disk.old disk.new space.old space.new directory.now directory.now handles collector.old
         collector.new
         result }
 {
@@ -198,10 +202,10 @@ impl<D: Disk> Core<D> {
     /// How many steps a collection takes on this disk at most, whatever lies there, and one for each rescue.
     pub fn most_steps(&self) -> u64
         ensures steps { result ≡ most_steps (D.blocks self.now.disk) }
-        ensures small { result < 70368744177664 }
+        ensures small { result < 140737488355328 }
     {
         let blocks = u64::from(self.disk.blocks());
-        15_361 * blocks + 2 * (blocks / 64) + 5
+        30_721 * blocks + 2 * (blocks / 64) + 5
     }
 
     /// Makes one step of the collector, the first that is due. At most 4 device calls, at most one of them a write.
@@ -245,7 +249,12 @@ impl<D: Disk> Core<D> {
         ensures { TriesStep D.Disk self.old self.new result }
     {
         match &mut self.collections.collector {
-            Some(collector) => mark(collector, &mut self.disk, &mut self.directory),
+            Some(collector) => mark(
+                collector,
+                &mut self.disk,
+                &mut self.directory,
+                &self.handles,
+            ),
             None => unreachable!(),
         }
     }

@@ -4,6 +4,10 @@ ghost use Rattle.cfs_base.specs.declared.refusal.Refused.TheVariants as refusals
 ghost use Rattle.cfs_core.specs.Calls.{Tries, TriesOn};
 ghost use Rattle.cfs_core.specs.Makes.{IsMaking, NamesMade, made_kind};
 ghost use Rattle.index_ops.specs.Creates.{MayBeMade, PutsObject, made_of};
+ghost use Rattle.cfs_core.specs.Drafts.{HasNoneOf};
+ghost use Rattle.cfs_core.specs.StandsFor.{ServesIs};
+ghost use Rattle.ufs_model.specs.State.{State, draft_of};
+ghost use Rattle.ufs_model.specs.declared.asked.Wanted.TheVariants.{AnIndex};
 ghost use Rattle.ufs_model.specs.declared.asked.Request.TheVariants as asks;
 ghost use Rattle.ufs_model.specs.declared.asked.Request.{Request};
 
@@ -14,10 +18,10 @@ use crate::way::Way;
 use cfs_base::{BlockNo, Damage, Disk, FileKind, Kind, Puid, Refused, Session, code};
 use index_ops::create;
 use std::alloc::Global;
-use ufs_model::{MOST_SLOTS, Ref, Reply};
+use ufs_model::{MOST_SLOTS, Ref, Reply, Wanted};
 
 /// The kind of an object that is such a file.
-fn kind_of(kind: FileKind) -> Kind
+pub(crate) fn kind_of(kind: FileKind) -> Kind
     ensures { result ≡ made_kind kind }
 {
     match kind {
@@ -38,6 +42,26 @@ impl<D: Disk> Core<D> {
         slot: u64,
     ) -> Result<Reply, Refused>
         requires words { self.old.words.drawn < 4294967295 }
+        ensures { Tries D.Disk self.old self.new who (asks.CreateFile kind fill to slot) result }
+    {
+        match self.drafted(who, to, Wanted::AnIndex) {
+            Some(grant) => self.create_file_drafted(who, grant, kind, fill, slot),
+            None => self.create_file_object(alloc, who, kind, fill, to, slot),
+        }
+    }
+
+    /// The same where the reference has no draft.
+    fn create_file_object(
+        &mut self,
+        alloc: Global,
+        who: Session,
+        kind: FileKind,
+        fill: u8,
+        to: Ref,
+        slot: u64,
+    ) -> Result<Reply, Refused>
+        requires words { self.old.words.drawn < 4294967295 }
+        requires bare { (s : State) → ServesIs D.Disk self.old s → HasNoneOf AnIndex (draft_of s who to) }
         ensures { Tries D.Disk self.old self.new who (asks.CreateFile kind fill to slot) result }
     {
         let way = Way {
@@ -67,6 +91,25 @@ impl<D: Disk> Core<D> {
         slot: u64,
     ) -> Result<Reply, Refused>
         requires words { self.old.words.drawn < 4294967295 }
+        ensures { Tries D.Disk self.old self.new who (asks.CreateIndex slots to slot) result }
+    {
+        match self.drafted(who, to, Wanted::AnIndex) {
+            Some(grant) => self.create_index_drafted(who, grant, slots, slot),
+            None => self.create_index_object(alloc, who, slots, to, slot),
+        }
+    }
+
+    /// The same where the reference has no draft.
+    fn create_index_object(
+        &mut self,
+        alloc: Global,
+        who: Session,
+        slots: u64,
+        to: Ref,
+        slot: u64,
+    ) -> Result<Reply, Refused>
+        requires words { self.old.words.drawn < 4294967295 }
+        requires bare { (s : State) → ServesIs D.Disk self.old s → HasNoneOf AnIndex (draft_of s who to) }
         ensures { Tries D.Disk self.old self.new who (asks.CreateIndex slots to slot) result }
     {
         let way = Way {
@@ -136,7 +179,7 @@ impl<D: Disk> Core<D> {
 
     /// Names an object that was made, with the word that is drawn for it. On a disk that lies its root block may be
     /// another object's, or past the disk's end.
-    fn name(&mut self, id: Puid, kind: Kind) -> Result<Reply, Refused>
+    pub(crate) fn name(&mut self, id: Puid, kind: Kind) -> Result<Reply, Refused>
         requires words { self.old.words.drawn < 4294967295 }
         ensures { NamesMade self.old self.new id kind result }
     {

@@ -4,7 +4,7 @@ ghost use Rattle.std.specs.Prelude.{IfNone, IfSome, List, Some, length, None};
 ghost use Rattle.cfs_base.specs.Calls.{OnlyReads};
 ghost use Rattle.cfs_base.specs.declared.identifier.Puid.{Puid};
 ghost use Rattle.cfs_core.specs.Calls.{Tries};
-ghost use Rattle.cfs_core.specs.Drafts.{ChangesDraft, IsDrafted};
+ghost use Rattle.cfs_core.specs.Drafts.{ChangesDraft, HasNoneOf, IsDrafted};
 ghost use Rattle.cfs_core.specs.Looks.{IsDraftCause, content_reply};
 ghost use Rattle.cfs_core.specs.Handles.{drafting_at};
 ghost use Rattle.cfs_core.specs.StandsFor.{ServesIs};
@@ -18,6 +18,7 @@ ghost use Rattle.ufs_model.specs.Plain.{IsPlainReply};
 ghost use Rattle.ufs_model.specs.State.{State, draft_of};
 ghost use Rattle.ufs_model.specs.declared.asked.Ref.TheVariants as refs;
 ghost use Rattle.ufs_model.specs.declared.asked.Request.TheVariants as asks;
+ghost use Rattle.ufs_model.specs.declared.asked.Wanted.TheVariants.{AFile};
 ghost use Rattle.ufs_model.specs.declared.change.Change.TheVariants.{Overwrite, SetSize};
 ghost use Rattle.ufs_model.specs.declared.object.Draft as drafts;
 ghost use Rattle.ufs_model.specs.declared.object.File.{File};
@@ -29,13 +30,14 @@ use crate::changing::done;
 use crate::finishing::{finish, since};
 use crate::kernel::Core;
 use crate::reading::is_range;
+use crate::way::is_fit;
 use cfs_base::{Bytes, Disk, NoMemory, Refused, Session, Tuid};
 use cyl_alloc::Space;
 use open_table::table_follows_the_model;
 use special_files::Draft;
 use std::alloc::Global;
 use ufs_model::laws::are_bytes;
-use ufs_model::{MOST_BYTES, RESERVE, Ref, Reply};
+use ufs_model::{MOST_BYTES, RESERVE, Ref, Reply, Wanted};
 
 /// So many bytes.
 fn zeros(alloc: Global, count: usize) -> Result<Vec<u8>, NoMemory>
@@ -112,18 +114,22 @@ pub(crate) fn set_size<D: Disk>(
 }
 
 impl<D: Disk> Core<D> {
-    /// The session's grant that a reference goes through, where it has a draft.
-    pub(crate) fn drafted(&self, who: Session, to: Ref) -> Option<Tuid>
+    /// The session's grant that a reference goes through, where it has a draft of what is wanted.
+    pub(crate) fn drafted(&self, who: Session, to: Ref, wants: Wanted) -> Option<Tuid>
         ensures through { IfSome result (λ grant. to ≡ refs.Through grant) }
-        ensures has { IfSome result (λ grant. IsDrafted self.now who grant) }
-        ensures bare { IfNone result ((s : State) → ServesIs D.Disk self.now s → draft_of s who to ≡ None) }
+        ensures has { IfSome result (IsDrafted self.now wants who) }
+        ensures bare { IfNone result ((s : State) → ServesIs D.Disk self.now s → HasNoneOf wants (draft_of s who to)) }
     {
         table_follows_the_model();
         let grant = match to {
             Ref::Direct(_) => return None,
             Ref::Through(grant) => grant,
         };
-        if self.handles.find(who, grant).is_some() && self.handles.draft(grant.draw).is_some() {
+        let found = match self.handles.find(who, grant) {
+            Some(found) => found,
+            None => return None,
+        };
+        if self.handles.draft(grant.draw).is_some() && is_fit(wants, self.kind(found.id)) {
             Some(grant)
         } else {
             None
@@ -139,7 +145,7 @@ impl<D: Disk> Core<D> {
         offset: u64,
         count: u64,
     ) -> Result<Reply, Refused>
-        requires { IsDrafted self.old who grant }
+        requires { IsDrafted self.old AFile who grant }
         ensures { Tries D.Disk self.old self.new who (asks.Read (refs.Through grant) offset count) result }
     {
         table_follows_the_model();
@@ -151,7 +157,7 @@ impl<D: Disk> Core<D> {
 
     /// The size of a draft in bytes.
     pub(crate) fn size_of_draft(&self, who: Session, grant: Tuid) -> Reply
-        requires { IsDrafted self.now who grant }
+        requires { IsDrafted self.now AFile who grant }
         ensures { Tries D.Disk self.now self.now who (asks.Size (refs.Through grant)) (Ok result) }
     {
         table_follows_the_model();
@@ -169,7 +175,7 @@ impl<D: Disk> Core<D> {
         offset: u64,
         bytes: &[u8],
     ) -> Result<Reply, Refused>
-        requires { IsDrafted self.old who grant }
+        requires { IsDrafted self.old AFile who grant }
         ensures { Tries D.Disk self.old self.new who (asks.Write (refs.Through grant) offset bytes.now) result }
     {
         are_bytes(bytes);
@@ -198,7 +204,7 @@ impl<D: Disk> Core<D> {
         grant: Tuid,
         size: u64,
     ) -> Result<Reply, Refused>
-        requires { IsDrafted self.old who grant }
+        requires { IsDrafted self.old AFile who grant }
         ensures { Tries D.Disk self.old self.new who (asks.Resize (refs.Through grant) size) result }
     {
         table_follows_the_model();

@@ -15,22 +15,12 @@ use special_files::{Draft, Room};
 use std::alloc::Global;
 use ufs_model::{RESERVE, Reply};
 
-/// Whether an object of this kind is an index that is to be opened for writing.
-fn is_unfit(kind: Kind, mode: Mode) -> bool
-    ensures { result ≡ spec.is_unfit kind mode }
-{
-    match (kind, mode) {
-        (Kind::Index, Mode::Writing) => true,
-        _ => false,
-    }
-}
-
 /// Whether an object of this kind gets a draft where it is opened so.
 fn gets_draft(kind: Kind, mode: Mode) -> bool
     ensures { result ≡ spec.gets_draft kind mode }
 {
     match (kind, mode) {
-        (Kind::Special, Mode::Writing) => true,
+        (Kind::Special | Kind::Index, Mode::Writing) => true,
         _ => false,
     }
 }
@@ -100,7 +90,7 @@ fn first_draft<D: Disk>(
 }
 
 impl<D: Disk> Core<D> {
-    /// Opens an object: a special file for writing with a draft, of which all memory is taken before what was left of a
+    /// Opens an object: a special file or an index for writing with a draft, of which all memory is taken before what was left of a
     /// commit is carried out, and its shadow root is taken.
     pub(crate) fn open_for(
         &mut self,
@@ -116,9 +106,6 @@ impl<D: Disk> Core<D> {
             Some(kind) => kind,
             None => return Ok(Reply::NoObject),
         };
-        if is_unfit(kind, mode) {
-            return Ok(Reply::NotFile);
-        }
         table_follows_the_model();
         if let Err(want) = self.handles.reserve() {
             return Err(Refused::from(want));

@@ -1,17 +1,21 @@
-//! The grants of all sessions, with the drafts of special files that are open for writing.
+//! The grants of all sessions, with the drafts of special files and indices that are open for writing.
 ghost use Rattle.std.specs.Prelude.{◌≡◌, ◌+◌, ◌*◌, ◌<◌, ◌≤◌, ◌++◌, [], ◌∷◌, IfOk, IfSome, IsSome, None};
 ghost use Rattle.std.specs.Prelude.{OnErr, OnOk, Some, IsTrue, length, option_copied, true, false};
 ghost use Rattle.std.specs.List.{list_any};
-ghost use Rattle.cfs_core.specs.Drafts.{ChangesDraft};
+ghost use Rattle.cfs_core.specs.Drafts.{ChangesDraft, MakesInDraft};
 ghost use Rattle.cfs_core.specs.Kernel.{grants_in};
-ghost use Rattle.cfs_core.specs.Handles.{drafting_at, have_draft, is_at, is_drawn, handles_but, with_drafting};
+ghost use Rattle.cfs_core.specs.Handles.{drafting_at, have_draft, is_at, is_drawn, handles_but, root_at, with_drafting};
 ghost use Rattle.open_table.specs.Grants.{fault_of, first_grant, session_grant, is_session_grant, is_grant_table};
 ghost use Rattle.open_table.specs.Grants.{open_mode};
+ghost use Rattle.index_ops.specs.Creates.{MayBeMade};
+ghost use Rattle.leaf_changes.specs.Bytes.{IsSlot};
 ghost use Rattle.special_files.specs.Drafting.{Drafting};
-ghost use Rattle.ufs_model.specs.declared.change.Change.TheVariants.{Overwrite, SetSize};
+ghost use Rattle.ufs_model.specs.declared.change.Change.TheVariants.{Fill, Overwrite, SetSize};
 
 use crate::drafting::{overwrite, set_size};
-use cfs_base::{Disk, Mode, NoMemory, Puid, Refused, Session, Tuid};
+use crate::filling::{make_in, put_slot};
+use block_tree::Root;
+use cfs_base::{Disk, Kind, Mode, NoMemory, Puid, Refused, Session, Tuid};
 use cyl_alloc::Space;
 use open_table::{AcquireFault, Grant, Grants, NoGrant};
 use special_files::Draft;
@@ -130,6 +134,21 @@ impl Handles {
         self.drafts.get(&draw)
     }
 
+    /// The root that this object is to get by a draft, where it has one. Goes over the grants.
+    pub fn root_on(&self, id: Puid) -> Option<&Root>
+        ensures { option_copied result ≡ root_at self.now.handles id }
+    {
+        for place in 0..self.grants.len() {
+            let grant = self.grants.at(place);
+            if id == grant.id {
+                if let Some(draft) = self.drafts.get(&grant.tuid.draw) {
+                    return Some(draft.root());
+                }
+            }
+        }
+        None
+    }
+
     /// Writes bytes into the draft of one draw, within its size.
     pub fn write<D: Disk>(
         &mut self,
@@ -172,6 +191,57 @@ impl Handles {
     {
         match self.drafts.get_mut(&draw) {
             Some(draft) => set_size(draft, disk, space, size),
+            None => unreachable!(),
+        }
+    }
+
+    /// Makes a slot of the draft of one draw hold this, or nothing.
+    pub fn put<D: Disk>(
+        &mut self,
+        draw: u32,
+        disk: &mut D,
+        space: &mut Space,
+        slot: u64,
+        what: Option<Puid>,
+    ) -> Result<(), Refused>
+        requires has { IsSome (drafting_at self.old.handles draw) }
+        requires within { IfSome (drafting_at self.old.handles draw) (λ d. (d.at < D.blocks disk.old)
+            × (8 * slot + 8 ≤ d.root.size)) }
+        requires slot { IsSlot what }
+        requires size { D.blocks disk.old ≡ 64 * length space.old.free }
+        ensures { IfSome (drafting_at self.old.handles draw) (λ was. (now : Drafting)
+            × (self.new.handles ≡ with_drafting draw (Some now) self.old.handles)
+            × ChangesDraft D.Disk (Fill slot what) disk.old disk.new space.old space.new was now result) }
+    {
+        match self.drafts.get_mut(&draw) {
+            Some(draft) => put_slot(draft, disk, space, slot, what),
+            None => unreachable!(),
+        }
+    }
+
+    /// Makes an object in the draft of one draw, and puts its identifier into a slot.
+    pub fn create<D: Disk>(
+        &mut self,
+        draw: u32,
+        disk: &mut D,
+        space: &mut Space,
+        slot: u64,
+        kind: Kind,
+        fill: u8,
+        size: u64,
+        word: u32,
+    ) -> Result<Puid, Refused>
+        requires has { IsSome (drafting_at self.old.handles draw) }
+        requires within { IfSome (drafting_at self.old.handles draw) (λ d. (d.at < D.blocks disk.old)
+            × (8 * slot + 8 ≤ d.root.size)) }
+        requires made { MayBeMade kind fill size }
+        requires size { D.blocks disk.old ≡ 64 * length space.old.free }
+        ensures { IfSome (drafting_at self.old.handles draw) (λ was. (now : Drafting)
+            × (self.new.handles ≡ with_drafting draw (Some now) self.old.handles)
+            × MakesInDraft D.Disk slot kind fill size word disk.old disk.new space.old space.new was now result) }
+    {
+        match self.drafts.get_mut(&draw) {
+            Some(draft) => make_in(draft, disk, space, slot, kind, fill, size, word),
             None => unreachable!(),
         }
     }

@@ -8,6 +8,7 @@ mod closing;
 mod collecting;
 mod creating;
 mod drafting;
+mod filling;
 mod finishing;
 mod granting;
 mod handles;

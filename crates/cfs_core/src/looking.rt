@@ -2,6 +2,10 @@
 ghost use Rattle.std.specs.Prelude.{◌≡◌, ◌<◌, nat_lt, length, true, IfOk};
 ghost use Rattle.cfs_core.specs.Calls.{Tries, looked};
 ghost use Rattle.cfs_core.specs.Looks.{IsCalm, KnowsObject, counted};
+ghost use Rattle.cfs_core.specs.Drafts.{HasNoneOf};
+ghost use Rattle.cfs_core.specs.StandsFor.{ServesIs};
+ghost use Rattle.ufs_model.specs.State.{State, draft_of};
+ghost use Rattle.ufs_model.specs.declared.asked.Wanted.TheVariants.{AnIndex};
 ghost use Rattle.ufs_model.specs.declared.asked.Request.TheVariants as asks;
 ghost use Rattle.ufs_model.specs.Plain.{IsPlainReply, is_id};
 ghost use Rattle.ufs_model.specs.declared.object.Index.{Index};
@@ -11,7 +15,7 @@ use crate::kernel::Core;
 use crate::way::Way;
 use cfs_base::{BlockNo, Disk, Refused, Session};
 use index_ops::{retrieve, slots};
-use ufs_model::{Ref, Reply};
+use ufs_model::{Ref, Reply, Wanted};
 
 /// What a slot of the index at a block holds, as a reply: `Slot` where it has no such slot, `Empty` where it holds
 /// nothing.
@@ -70,6 +74,17 @@ impl<D: Disk> Core<D> {
     pub(crate) fn retrieve(&mut self, who: Session, to: Ref, slot: u64) -> Result<Reply, Refused>
         ensures { Tries D.Disk self.old self.new who (asks.Retrieve to slot) result }
     {
+        match self.drafted(who, to, Wanted::AnIndex) {
+            Some(grant) => self.retrieve_draft(who, grant, slot),
+            None => self.retrieve_object(who, to, slot),
+        }
+    }
+
+    /// The same where the reference has no draft.
+    fn retrieve_object(&mut self, who: Session, to: Ref, slot: u64) -> Result<Reply, Refused>
+        requires bare { (s : State) → ServesIs D.Disk self.old s → HasNoneOf AnIndex (draft_of s who to) }
+        ensures { Tries D.Disk self.old self.new who (asks.Retrieve to slot) result }
+    {
         let way = Way {
             to,
             also: None,
@@ -85,6 +100,17 @@ impl<D: Disk> Core<D> {
 
     /// The number of slots.
     pub(crate) fn slots(&mut self, who: Session, to: Ref) -> Result<Reply, Refused>
+        ensures { Tries D.Disk self.old self.new who (asks.Slots to) result }
+    {
+        match self.drafted(who, to, Wanted::AnIndex) {
+            Some(grant) => Ok(self.slots_of_draft(who, grant)),
+            None => self.slots_of_object(who, to),
+        }
+    }
+
+    /// The same where the reference has no draft.
+    fn slots_of_object(&mut self, who: Session, to: Ref) -> Result<Reply, Refused>
+        requires bare { (s : State) → ServesIs D.Disk self.old s → HasNoneOf AnIndex (draft_of s who to) }
         ensures { Tries D.Disk self.old self.new who (asks.Slots to) result }
     {
         let way = Way {

@@ -3,6 +3,7 @@ ghost use Rattle.std.specs.Prelude.{◌≡◌, ◌≢◌, ◌+◌, ◌<◌, ◌�
 ghost use Rattle.cfs_base.specs.Run.{Tells};
 ghost use Rattle.cfs_base.specs.declared.refusal.Refused.TheVariants as refusals;
 ghost use Rattle.cfs_core.specs.Calls.{Tries};
+ghost use Rattle.cfs_core.specs.Drafts.{HasNoneOf};
 ghost use Rattle.cfs_core.specs.Looks.{IsCalm, KnowsObject, content_reply, measured};
 ghost use Rattle.cfs_core.specs.StandsFor.{ServesIs};
 ghost use Rattle.normal_files.specs.Standing.{IsRootAt};
@@ -11,6 +12,7 @@ ghost use Rattle.ufs_model.specs.Plain.{IsPlainReply};
 ghost use Rattle.ufs_model.specs.Refusal as refusal;
 ghost use Rattle.ufs_model.specs.State.{State, draft_of};
 ghost use Rattle.ufs_model.specs.declared.asked.Request.TheVariants as asks;
+ghost use Rattle.ufs_model.specs.declared.asked.Wanted.TheVariants.{AFile};
 ghost use Rattle.ufs_model.specs.declared.object.File.{File};
 ghost use Rattle.ufs_model.specs.declared.object.Object.TheVariants as objects;
 
@@ -19,7 +21,7 @@ use crate::way::Way;
 use block_tree::Root;
 use cfs_base::{BlockNo, Disk, Refused, Session};
 use std::alloc::Global;
-use ufs_model::{MOST_AT_ONCE, Ref, Reply};
+use ufs_model::{MOST_AT_ONCE, Ref, Reply, Wanted};
 
 /// Whether 1 to 4,096 bytes lie within the size.
 pub(crate) fn is_range(size: u64, offset: u64, count: u64) -> bool
@@ -99,7 +101,7 @@ impl<D: Disk> Core<D> {
     ) -> Result<Reply, Refused>
         ensures { Tries D.Disk self.old self.new who (asks.Read to offset count) result }
     {
-        match self.drafted(who, to) {
+        match self.drafted(who, to, Wanted::AFile) {
             Some(grant) => self.read_draft(alloc, who, grant, offset, count),
             None => self.read_object(alloc, who, to, offset, count),
         }
@@ -114,7 +116,7 @@ impl<D: Disk> Core<D> {
         offset: u64,
         count: u64,
     ) -> Result<Reply, Refused>
-        requires bare { (s : State) → ServesIs D.Disk self.old s → draft_of s who to ≡ None }
+        requires bare { (s : State) → ServesIs D.Disk self.old s → HasNoneOf AFile (draft_of s who to) }
         ensures { Tries D.Disk self.old self.new who (asks.Read to offset count) result }
     {
         let way = Way {
@@ -134,7 +136,7 @@ impl<D: Disk> Core<D> {
     pub(crate) fn size(&mut self, who: Session, to: Ref) -> Result<Reply, Refused>
         ensures { Tries D.Disk self.old self.new who (asks.Size to) result }
     {
-        match self.drafted(who, to) {
+        match self.drafted(who, to, Wanted::AFile) {
             Some(grant) => Ok(self.size_of_draft(who, grant)),
             None => self.size_of_object(who, to),
         }
@@ -142,7 +144,7 @@ impl<D: Disk> Core<D> {
 
     /// The same where the reference has no draft.
     fn size_of_object(&mut self, who: Session, to: Ref) -> Result<Reply, Refused>
-        requires bare { (s : State) → ServesIs D.Disk self.old s → draft_of s who to ≡ None }
+        requires bare { (s : State) → ServesIs D.Disk self.old s → HasNoneOf AFile (draft_of s who to) }
         ensures { Tries D.Disk self.old self.new who (asks.Size to) result }
     {
         let way = Way {

@@ -1,5 +1,5 @@
 //! What is put into an index, or opened, while a collection marks.
-ghost use Rattle.std.specs.Prelude.{◌≡◌, [], OnOk, option_to_list};
+ghost use Rattle.std.specs.Prelude.{◌≡◌, [], ◌∷◌, OnOk, option_to_list};
 ghost use Rattle.cfs_core.specs.Kernel.{marks_in};
 ghost use Rattle.cfs_core.specs.Rescues as spec;
 ghost use Rattle.cfs_core.specs.Rescues.{AreRescued, HasRoomFor};
@@ -13,7 +13,7 @@ use crate::kernel::Core;
 use cfs_base::{Disk, NoMemory, Puid, Session};
 use collector_steps::{Collector, Phase};
 use marking::Rescue;
-use ufs_model::{Reply, Request};
+use ufs_model::{Ref, Reply, Request};
 
 /// Whether a request puts an object into an index, or opens one.
 fn may_rescue(request: &Request) -> bool
@@ -83,7 +83,7 @@ impl Collections {
     /// Makes room for the rescue that a request may add, where a collection marks.
     pub(crate) fn make_room(&mut self, request: &Request) -> Result<(), NoMemory>
         ensures room { OnOk result (HasRoomFor request.now self.new.collector) }
-        ensures same { AreRescued self.old.collector self.new.collector [] }
+        ensures same { AreRescued self.old.collector self.new.collector [] [] }
         ensures called { self.new.called ≡ self.old.called }
         ensures finished { self.new.finished ≡ self.old.finished }
     {
@@ -103,7 +103,7 @@ impl Collections {
     pub(crate) fn rescue(&mut self, index: Option<Puid>, request: &Request, reply: &Reply)
         requires room { HasRoomFor request.now self.old.collector }
         ensures rescued { AreRescued self.old.collector self.new.collector
-            (option_to_list (spec.rescue_of index request.now reply.now)) }
+            (option_to_list (spec.rescue_of index request.now reply.now)) [] }
         ensures called { self.new.called ≡ self.old.called }
         ensures finished { self.new.finished ≡ self.old.finished }
     {
@@ -113,6 +113,17 @@ impl Collections {
                     collector.rescue(rescue.index, rescue.id);
                 }
             }
+        }
+    }
+
+    /// A grant on this object ended: where a draft of it was being read, the reading goes on at its own first leaf.
+    pub(crate) fn draft_ended(&mut self, id: Puid)
+        ensures ended { AreRescued self.old.collector self.new.collector [] (id ∷ []) }
+        ensures called { self.new.called ≡ self.old.called }
+        ensures finished { self.new.finished ≡ self.old.finished }
+    {
+        if let Some(collector) = &mut self.collector {
+            collector.draft_ended(id);
         }
     }
 }
@@ -127,6 +138,17 @@ impl<D: Disk> Core<D> {
             Request::CreateFile { index, .. }
             | Request::CreateIndex { index, .. }
             | Request::Retain { index, .. } => self.goes_to(who, *index),
+            _ => None,
+        }
+    }
+
+    /// The object whose grant a request of a session ends, if it ends one.
+    pub(crate) fn closes(&self, who: Session, request: &Request) -> Option<Puid>
+        ensures { (s : State) → ServesIs D.Disk self.now s → (reply : asked.Reply)
+            → spec.ended_of result reply ≡ spec.ended_by s who request.now reply }
+    {
+        match request {
+            Request::Close { grant, .. } => self.goes_to(who, Ref::Through(*grant)),
             _ => None,
         }
     }

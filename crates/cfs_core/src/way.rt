@@ -1,7 +1,9 @@
 //! How a request goes to what it names.
-ghost use Rattle.std.specs.Prelude.{◌≡◌, ◌≢◌, ◌<◌, ◌&&◌, ℕ, [], false, IfErr, IfOk, None, Some, if◌then◌else◌, is_some};
+ghost use Rattle.std.specs.Prelude.{◌≡◌, ◌≢◌, ◌<◌, ◌&&◌, ℕ, [], false, IfErr, IfOk, None, Some, if◌then◌else◌, is_none};
+ghost use Rattle.std.specs.Prelude.{is_some};
 ghost use Rattle.cfs_base.specs.declared.identifier.Puid.{Puid};
 ghost use Rattle.cfs_core.specs.Calls.{Tries};
+ghost use Rattle.cfs_core.specs.Drafts.{HasNoneOf};
 ghost use Rattle.cfs_core.specs.Looks.{ReachesAll};
 ghost use Rattle.cfs_core.specs.StandsFor.{ServesIs, drafts_of_handles};
 ghost use Rattle.cfs_core.specs.Ways.{Arrives, GoesBy, is_gone, reads_by, unfit_of};
@@ -31,9 +33,10 @@ pub struct Way {
 }
 
 impl<D: Disk> Core<D> {
-    /// The index that a request of a session goes to, or its refusal on the way there. The index's root block is one of
-    /// the disk's, and not block 0; nor is that of the object that is named besides.
+    /// The index that a request of a session goes to, or its refusal on the way there. It has no draft. Its root block is
+    /// one of the disk's, and not block 0; nor is that of the object that is named besides.
     pub(crate) fn index_at(&self, who: Session, way: Way) -> Result<Puid, Reply>
+        requires bare { (s : State) → ServesIs D.Disk self.now s → HasNoneOf AnIndex (draft_of s who way.to) }
         ensures refused { IfErr result (λ reply. (request : Request) → GoesBy request AnIndex way
             → Tries D.Disk self.now self.now who request (Ok reply)) }
         ensures reached { IfOk result (λ id. (request : Request) → GoesBy request AnIndex way
@@ -42,6 +45,7 @@ impl<D: Disk> Core<D> {
         ensures some { IfOk result (λ id. id.block ≢ 0) }
         ensures also { IfOk result (λ id. (also : Puid) → way.also ≡ Some also → also.block ≢ 0) }
     {
+        self.shuts(who, way);
         match self.object_at(who, way, Wanted::AnIndex) {
             Ok((id, _)) => Ok(id),
             Err(reply) => Err(reply),
@@ -51,7 +55,7 @@ impl<D: Disk> Core<D> {
     /// The file that a request of a session goes to, and its kind, or its refusal on the way there. It has no draft.
     /// Its root block is one of the disk's, and not block 0.
     pub(crate) fn file_at(&self, who: Session, way: Way) -> Result<(Puid, FileKind), Reply>
-        requires bare { (s : State) → ServesIs D.Disk self.now s → draft_of s who way.to ≡ None }
+        requires bare { (s : State) → ServesIs D.Disk self.now s → HasNoneOf AFile (draft_of s who way.to) }
         ensures refused { IfErr result (λ reply. (request : Request) → GoesBy request AFile way
             → Tries D.Disk self.now self.now who request (Ok reply)) }
         ensures reached { IfOk result (λ two. (request : Request) → GoesBy request AFile way
@@ -130,7 +134,7 @@ impl<D: Disk> Core<D> {
     }
 
     /// Whether an object that is named besides isn't there.
-    fn lacks(&self, also: Option<Puid>) -> bool
+    pub(crate) fn lacks(&self, also: Option<Puid>) -> bool
         ensures gone { (s : State) → ServesIs D.Disk self.now s → result ≡ is_gone s also }
         ensures some { result ≡ false → (id : Puid) → also ≡ Some id → id.block ≢ 0 }
     {
@@ -174,6 +178,13 @@ impl<D: Disk> Core<D> {
             Ref::Through(_) => false,
         }
     }
+}
+
+/// Whether what is there is wanted.
+pub(crate) fn is_fit(wants: Wanted, kind: Option<Kind>) -> bool
+    ensures { result ≡ is_none (unfit_of wants kind) }
+{
+    wanted_kind(wants, kind).is_ok()
 }
 
 /// The kind of what is there, or the refusal of a request that wants something else.

@@ -3,11 +3,13 @@ ghost use Rattle.std.specs.Prelude.{◌≡◌, ◌≢◌, ◌<◌, false, true, 
 ghost use Rattle.cfs_base.specs.Run.{Tells};
 ghost use Rattle.cfs_base.specs.declared.refusal.Refused.TheVariants as refusals;
 ghost use Rattle.cfs_core.specs.Calls.{Tries};
+ghost use Rattle.cfs_core.specs.Drafts.{HasNoneOf};
 ghost use Rattle.cfs_core.specs.Looks.{IsCalm};
 ghost use Rattle.cfs_core.specs.StandsFor.{ServesIs};
 ghost use Rattle.normal_files.specs.Standing.{IsRootAt};
 ghost use Rattle.ufs_model.specs.State.{State, draft_of};
 ghost use Rattle.ufs_model.specs.declared.asked.Request.TheVariants as asks;
+ghost use Rattle.ufs_model.specs.declared.asked.Wanted.TheVariants.{AFile};
 ghost use Rattle.ufs_model.specs.declared.object.Object.TheVariants as objects;
 
 use crate::changing::done;
@@ -19,7 +21,7 @@ use block_tree::Root;
 use cfs_base::{BlockNo, Disk, Refused, Session};
 use std::alloc::Global;
 use ufs_model::laws::are_bytes;
-use ufs_model::{MOST_BYTES, RESERVE, Ref, Reply};
+use ufs_model::{MOST_BYTES, RESERVE, Ref, Reply, Wanted};
 
 /// The root of the file at a block: that which was read, or, where parts of a commit were made since, that which is
 /// there now.
@@ -51,7 +53,7 @@ impl<D: Disk> Core<D> {
     ) -> Result<Reply, Refused>
         ensures { Tries D.Disk self.old self.new who (asks.Write to offset bytes.now) result }
     {
-        match self.drafted(who, to) {
+        match self.drafted(who, to, Wanted::AFile) {
             Some(grant) => self.write_draft(who, grant, offset, bytes),
             None => self.write_object(alloc, who, to, offset, bytes),
         }
@@ -66,7 +68,7 @@ impl<D: Disk> Core<D> {
         offset: u64,
         bytes: &[u8],
     ) -> Result<Reply, Refused>
-        requires bare { (s : State) → ServesIs D.Disk self.old s → draft_of s who to ≡ None }
+        requires bare { (s : State) → ServesIs D.Disk self.old s → HasNoneOf AFile (draft_of s who to) }
         ensures { Tries D.Disk self.old self.new who (asks.Write to offset bytes.now) result }
     {
         are_bytes(bytes);
@@ -115,7 +117,7 @@ impl<D: Disk> Core<D> {
     ) -> Result<Reply, Refused>
         ensures { Tries D.Disk self.old self.new who (asks.Resize to size) result }
     {
-        match self.drafted(who, to) {
+        match self.drafted(who, to, Wanted::AFile) {
             Some(grant) => self.resize_draft(who, grant, size),
             None => self.resize_object(alloc, who, to, size),
         }
@@ -129,7 +131,7 @@ impl<D: Disk> Core<D> {
         to: Ref,
         size: u64,
     ) -> Result<Reply, Refused>
-        requires bare { (s : State) → ServesIs D.Disk self.old s → draft_of s who to ≡ None }
+        requires bare { (s : State) → ServesIs D.Disk self.old s → HasNoneOf AFile (draft_of s who to) }
         ensures { Tries D.Disk self.old self.new who (asks.Resize to size) result }
     {
         let changes = true;

@@ -14,7 +14,6 @@ pub use Rattle.cfs_core.proofs.Serving.{fits, honest, pending, serves_now, store
 pub use Rattle.cfs_core.specs.Asked.{Happens, IsShortContent, stopped_by}
 pub use Rattle.cfs_core.specs.Calls.{ByOutcome, ByRefusal, ByWant, IsOwed, Owes}
 pub use Rattle.cfs_core.specs.Collect.{CollectsStep, HappensOrRests, IsNextOf, IsCollectStep, IsUnchanged, event_of}
-pub use Rattle.cfs_core.specs.Damage.{asks_delete}
 pub use Rattle.cfs_core.specs.Kernel.{Kernel, marks_in, collection_runs, sweeps_in}
 pub use Rattle.cfs_core.specs.Opened.{IsOpenedCore}
 pub use Rattle.cfs_core.specs.Rescues.{AreRescued}
@@ -103,7 +102,7 @@ pub use Rattle.ufs_model.specs.Identifier.{is_among}
 pub use Rattle.ufs_model.specs.Limits.{reserve}
 pub use Rattle.ufs_model.specs.Names.{Names, no_names}
 pub use Rattle.ufs_model.specs.Need.{need_of}
-pub use Rattle.ufs_model.specs.Next.{allowed_if, answered, by_outcome, goes_through, is_full, is_outcome, next}
+pub use Rattle.ufs_model.specs.Next.{allowed_if, answered, by_outcome, goes_through, is_direct_delete, is_full, is_outcome, next}
 pub use Rattle.ufs_model.specs.Object.{blocks_of, new_file, new_index}
 pub use Rattle.ufs_model.specs.Outcome.{block_named, created, outcome_of}
 pub use Rattle.ufs_model.specs.Plain.{IsPlainReply}

@@ -292,7 +292,7 @@ module _ {D : Type 0} (g : Ghosts D) (old new : Kernel D) (result : Result Step 
       as_before step same finished both = (finished, both.1 ∙ sym both.0)
 
       unchanged : IsUnchanged g old new → AsBefore (tally_of g old) (tally_of g new)
-      unchanged same = (same.finished, rescued_runs old.collections.collector new.collections.collector [] same.collector)
+      unchanged same = (same.finished, rescued_runs old.collections.collector new.collections.collector [] [] same.collector)
 
       counts : (r : Result Step CollectFault) → result ≡ r → MayCount (event_by r) (tally_of g old) (tally_of g new)
       counts (Ok steps.Idle) same = let both = (rw same at did.goes).runs_by in (ap (λ (x : Collections). x.finished) (rw same at did.counted), both.1 ∙ sym both.0)

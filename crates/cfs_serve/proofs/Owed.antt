@@ -1,8 +1,8 @@
 -- A reply that is owed is exact.
 use Rattle.std.proofs.Common.{◌≡◌, ◌⊎◌, inl, inr, ℕ, ◌+◌, ◌<◌, ◌≤◌, Bool, true, false, ◌&&◌, Option, List, [], ◌∷◌, Some, None, refl, sym, ap, ◌∙◌, subst, arith, length, ◌||◌, is_some}
-use Rattle.cfs_serve.proofs.Cited.{AreRescued, ByOutcome, ByRefusal, ByWant, Collecting, Collections, FitsRoom, FitsLine, Ghosts, Happens, Image, IsAsked, IsExact, IsOwed, IsPlainReply, IsRoom, IsShortContent, Kernel, Need, Owes, SessionPasses, Reply, Request, Rescue, Rose, ServesIs, Stands, StandsFor, State, Stop, StopsAmong, Tallies, TellsEvent, allowed_if, answered, append-nil, by_outcome, cases_lt, end_in, free_to_come, goes_through, is_calm, asks_delete, is_full, is_none, is_outcome, is_running, sweeps_now, lost_blocks, marks_in, need_of, option_and_then, option_to_list, outcome_of, outcome_plain, refusal_of, reserve, collection_runs, stopped_by, sweeps_in, tally_of, tells_disk, tells_outcome}
+use Rattle.cfs_serve.proofs.Cited.{AreRescued, ByOutcome, ByRefusal, ByWant, Collecting, FitsRoom, FitsLine, Ghosts, Happens, Image, IsAsked, IsExact, IsOwed, IsPlainReply, IsRoom, IsShortContent, Kernel, Need, Owes, Puid, SessionPasses, Reply, Request, Rescue, Rose, ServesIs, Stands, StandsFor, State, Stop, StopsAmong, Tallies, TellsEvent, allowed_if, answered, append-nil, by_outcome, cases_lt, end_in, free_to_come, goes_through, is_calm, is_direct_delete, is_full, is_none, is_outcome, is_running, sweeps_now, lost_blocks, marks_in, need_of, option_and_then, option_to_list, outcome_of, outcome_plain, refusal_of, reserve, collection_runs, stopped_by, sweeps_in, tally_of, tells_disk, tells_outcome}
 use Rattle.cfs_core.specs.Asked.{Asks}
-use Rattle.cfs_core.specs.Left.{events_ahead, steps_ahead}
+use Rattle.cfs_core.specs.Left.{AddsNone, steps_ahead}
 use Rattle.ufs_model.specs.declared.asked.Event.TheVariants as events
 use Rattle.ufs_model.specs.declared.asked.Reply.TheVariants as replies
 use Rattle.cfs_serve.proofs.Journals.{some_same}
@@ -62,7 +62,7 @@ module _ (seed : ℕ) (s : State) (who : ℕ) (request : Request) (image : Image
       free_of reply = 0
   owed_full need none (ByOutcome allowed done) = absurd (plain_not_full need (outcome_of seed s who request done.block).0 (sym done.reply_is) (plain allowed done.block))
 
-  owed_done : (reply : Reply) → tells_outcome reply ≡ true → refusal_of s who request ≡ None → asks_delete request ≡ false → IsOwed seed s who request image free reply
+  owed_done : (reply : Reply) → tells_outcome reply ≡ true → refusal_of s who request ≡ None → is_direct_delete request ≡ false → IsOwed seed s who request image free reply
       → need_of s who request + reserve ≤ free
   owed_done reply told none kept (ByRefusal is) = absurd (cc (none, is))
   owed_done reply told none kept (ByWant allowed short is) = absurd (not_full (rw is at told))
@@ -107,12 +107,12 @@ pub no_some : {A : Type 0} (o : Option A) → is_some o ≡ false → o ≡ None
 no_some None is = refl
 no_some (Some x) is = absurd (cc is)
 
--- rescues leave a collection running, or not
-pub rescued_runs : (a b : Option Collecting) (more : List Rescue) → AreRescued a b more → collection_runs b ≡ collection_runs a
-rescued_runs None None more is = refl
-rescued_runs (Some k) (Some l) more is = ap (λ p. marks_in p || sweeps_in p) is.phase
-rescued_runs None (Some l) more is = absurd is
-rescued_runs (Some k) None more is = absurd is
+-- rescues and drafts that end leave a collection running, or not
+pub rescued_runs : (a b : Option Collecting) (more : List Rescue) (over : List Puid) → AreRescued a b more over → collection_runs b ≡ collection_runs a
+rescued_runs None None more over is = refl
+rescued_runs (Some k) (Some l) more over is = ap (λ p. marks_in p || sweeps_in p) is.phase
+rescued_runs None (Some l) more over is = absurd is
+rescued_runs (Some k) None more over is = absurd is
 
 module _ {D : Type 0} (g : Ghosts D) (old new : Kernel D) (who : ℕ) (request : Request) (reply : Reply) (asks : Asks g old new who request reply) where
   pub asked : (s : State) → StandsFor g old s → IsAsked (λ t. StandsFor g new t) old.words.seed s who request reply
@@ -237,12 +237,11 @@ left_tallies g old new who stopped s here = record {
       subst (λ (u : State). lost_blocks (end_in g new) u.graph ≤ lost_blocks (end_in g old) s.graph) (some_same here.after t (sym here.step ∙ step)) (here.lost (no_some new.stop runs));
 }
 
-pub left_passes : {D : Type 0} (g : Ghosts D) (old new : Kernel D) → new.collections ≡ old.collections → g.blocks new.disk ≡ g.blocks old.disk → g.moment old.disk ≤ g.moment new.disk
+pub left_passes : {D : Type 0} (g : Ghosts D) (old new : Kernel D) → new.collections.finished ≡ old.collections.finished → AddsNone (g.blocks old.disk) old.collections new.collections → g.blocks new.disk ≡ g.blocks old.disk → g.moment old.disk ≤ g.moment new.disk
     → SessionPasses (λ (k : Kernel D). g.moment k.disk) (tally_of g) old new
-left_passes g old new same size later = record {
+left_passes g old new finished waits size later = record {
   later = later;
-  counts = (ap (λ (c : Collections). c.finished) same, ap (λ (c : Collections). collection_runs c.collector) same);
-  steps = subst (λ n. steps_ahead n new.collections ≤ steps_ahead (g.blocks old.disk) old.collections + 1) (sym size)
-      (subst (λ (c : Collections). steps_ahead (g.blocks old.disk) c ≤ steps_ahead (g.blocks old.disk) old.collections + 1) (sym same) (omega arith));
-  events = subst (λ (c : Collections). events_ahead c ≤ events_ahead old.collections) (sym same) (omega arith);
+  counts = (finished, waits.running);
+  steps = subst (λ n. steps_ahead n new.collections ≤ steps_ahead (g.blocks old.disk) old.collections + 1) (sym size) (omega (arith, waits.no_more));
+  events = omega (arith, waits.events);
 }

@@ -5,7 +5,6 @@ use Rattle.std.specs.Option.{option_map_or}
 use Rattle.cfs_base.specs.Outside.{Rose}
 use Rattle.cfs_base.specs.declared.disk.Disk.{Ghosts}
 use Rattle.cfs_base.specs.declared.refusal.Need.{Need}
-use Rattle.cfs_core.specs.Damage.{asks_delete}
 use Rattle.cfs_core.specs.Collect.{event_of}
 use Rattle.cfs_core.specs.Kernel.{Kernel, collection_runs}
 use Rattle.cfs_core.specs.Left.{events_ahead, steps_ahead}
@@ -23,7 +22,7 @@ use Rattle.ufs_model.specs.declared.asked.Request.{Request}
 use Rattle.ufs_model.specs.Graph.{Graph}
 use Rattle.ufs_model.specs.Limits.{reserve}
 use Rattle.ufs_model.specs.Need.{need_of}
-use Rattle.ufs_model.specs.Next.{next}
+use Rattle.ufs_model.specs.Next.{is_direct_delete, next}
 use Rattle.ufs_model.specs.Run.{replay}
 use Rattle.ufs_model.specs.State.{State}
 use Rattle.vol_image.specs.Sound.{graph_blocks}
@@ -48,11 +47,11 @@ pub record FitsRoom (cylinders lost : ℕ) (s : State) (free : ℕ) : Type 0 whe
   pub least : room ≤ free + lost
   pub all : sweeps_now s.collection ≡ false → free ≡ room
 
--- A Full names what is Free. A request that was done, other than a delete, left four blocks of the room beside its
--- need.
+-- A Full names what is Free. A request that was done, other than a delete that goes through no grant, left four blocks
+-- of the room beside its need.
 pub record IsExact (cylinders lost : ℕ) (s : State) (who : ℕ) (request : Request) (reply : Reply) : Type 0 where
   pub full : (need : Need) → reply ≡ replies.Full need → FitsRoom cylinders lost s need.free
-  pub done : tells_outcome reply ≡ true → asks_delete request ≡ false → (free : ℕ) → IsRoom cylinders s free
+  pub done : tells_outcome reply ≡ true → is_direct_delete request ≡ false → (free : ℕ) → IsRoom cylinders s free
       → need_of s who request + reserve ≤ free
 
 abbrev pub IsExactEvent : (cylinders lost : ℕ) → State → Event → Type 0

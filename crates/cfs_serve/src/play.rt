@@ -137,7 +137,7 @@ fn report_on(
 /// add one, and one in which nothing is left to do.
 fn count_steps(collections: u32, each: u64, turns: u64) -> u64
     requires most { collections ≤ 1000 }
-    requires small { each < 70368744177664 }
+    requires small { each < 140737488355328 }
     requires few { turns < 4294967295 }
     ensures is { result ≡ collections * each + turns + 1 }
     ensures small { result < 4611686018427387904 }

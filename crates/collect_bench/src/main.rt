@@ -146,7 +146,9 @@ impl Volume {
             return Some(());
         }
         if self.collector.has_grey() {
-            self.collector.scan(&mut self.disk, &self.directory).ok()?;
+            self.collector
+                .scan(&mut self.disk, &self.directory, None)
+                .ok()?;
             self.collector.reserve().ok()?;
             self.collector
                 .rescue(None, id_of(steps.wrapping_mul(77_773) % self.kept.max(1)));

@@ -1,2 +1,3 @@
 mod Words
 mod Counts
+mod Cursors

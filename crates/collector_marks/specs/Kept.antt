@@ -1,5 +1,7 @@
 -- What marks and rescues keep.
-use Rattle.std.specs.Prelude.{ℕ, Bool, false, List, get_or, length, sum_by}
+use Rattle.std.specs.Prelude.{ℕ, Bool, false, List, [], ◌∷◌, get_or, if◌then◌else◌, length, sum_by, Option, Some, None}
+use Rattle.cfs_base.specs.declared.identifier.Puid.{Puid}
+use Rattle.ufs_model.specs.Identifier.{same_puid}
 use Rattle.ufs_model.specs.Need.{one_if}
 use Rattle.marking.specs.declared.memory.Grey.{Grey}
 use Rattle.marking.specs.declared.memory.Rescue.{Rescue}
@@ -16,6 +18,11 @@ colours_of m = record { marked = λ block. get_or m.marks block false; grey = m.
 
 abbrev pub blocks_marked : Marked → ℕ
 blocks_marked m = length m.marks
+
+-- where an index stands first, counted from the end of a list; None where it isn't grey
+abbrev pub place_among : List Grey → Puid → Option ℕ
+place_among [] i = None
+place_among (e ∷ es) i = if same_puid i e.id then Some (length es) else place_among es i
 
 -- how many objects are marked
 abbrev pub count_marked : List Bool → ℕ

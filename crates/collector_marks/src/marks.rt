@@ -1,7 +1,7 @@
 //! Marked objects, and grey indices.
-ghost use Rattle.std.specs.Prelude.{◌≡◌, ◌<◌, IfOk, IfSome, Some, None};
-ghost use Rattle.collector_marks.specs.Kept.{blocks_marked, colours_of};
-ghost use Rattle.marking.specs.Colours.{first_grey, is_index, moved, none_marked, shaded};
+ghost use Rattle.std.specs.Prelude.{◌≡◌, ◌<◌, reverse, IfOk, IfSome, Some, None};
+ghost use Rattle.collector_marks.specs.Kept.{blocks_marked, colours_of, place_among};
+ghost use Rattle.marking.specs.Colours.{cursor_of, first_grey, is_index, moved, none_marked, shaded, with_cursor};
 
 use crate::bits::Bits;
 use cfs_base::{Kind, NoMemory, Puid};
@@ -42,6 +42,19 @@ fn is_index(kind: Kind) -> bool
         Kind::Index => true,
         Kind::Normal | Kind::Special => false,
     }
+}
+
+/// Where the last entry of this index stands; None where there is none.
+fn place_in(grey: &[Grey], id: Puid) -> Option<usize>
+    ensures { result ≡ place_among (reverse grey.now) id }
+{
+    let mut place = None;
+    for at in 0..grey.len() {
+        if id == grey[at].id {
+            place = Some(at);
+        }
+    }
+    place
 }
 
 impl Marks {
@@ -118,5 +131,26 @@ impl Marks {
         ensures blocks { blocks_marked self.new ≡ blocks_marked self.old }
     {
         let _ = self.grey.pop();
+    }
+
+    /// Where the reading of this index is; None exactly where it isn't grey. Goes over all grey indices.
+    pub fn cursor_of(&self, id: Puid) -> Option<u32>
+        ensures { result ≡ cursor_of (colours_of self.now).grey id }
+    {
+        let Some(place) = place_in(self.grey.as_slice(), id) else {
+            return None;
+        };
+        Some(self.grey[place].cursor)
+    }
+
+    /// Moves the cursor of this index; nothing where it isn't grey. Goes over all grey indices. Takes no memory.
+    pub fn set_cursor(&mut self, id: Puid, cursor: u32)
+        ensures moved { colours_of self.new ≡ with_cursor id cursor (colours_of self.old) }
+        ensures blocks { blocks_marked self.new ≡ blocks_marked self.old }
+    {
+        let Some(place) = place_in(self.grey.as_slice(), id) else {
+            return;
+        };
+        self.grey[place].cursor = cursor;
     }
 }

@@ -1,10 +1,16 @@
 -- A leaf of an index as the disk has it, and as the model has it.
 use Rattle.std.proofs.Common.{◌≡◌, ◌≢◌, inl, inr, ℕ, zero, suc, ◌+◌, ◌*◌, ◌/◌, ◌<◌, ◌≤◌, List, [], ◌∷◌, ◌++◌, length, take, drop, get_or, replicate, refl, sym, ◌∙◌, ap, subst, arith, Bool, true, false, Option, Some, None, is_some, map}
-use Rattle.collector_steps.proofs.Words.{AreBlocks, Colours, Ghosts, Graph, HasNoDeadEnd, Held, HeldStep, Holds, IfSome, Image, Index, IsDamaged, IsScanTrouble, IsStep, IsStepped, IsTree, Kind, LeadsPast, NoRoot, NoneHeld, Object, PastDisk, Puid, Tells, Trouble, all_shaded, block_at, cases_lt, count_is, cursor_after, file_bytes, filter-rises, filter_map, find_least, find_none, find_on, has_number, held, held_at, held_in, ids_from, in_filter, in_numbers, is_committed, leaf_block, leaf_content, leaf_ids, leaf_in, leaves_in, levels_of, moved, next_cursor, next_held, numbers-rise, numbers_rise, object_at, object_with, part_at, path_to, range_with_len, read, read_by_root, scanned, sight, slot_in, stepped, take_at, the_index, to_filter, to_numbers, tree_in, tree_of, leaf_limit}
+use Rattle.collector_steps.proofs.Words.{AreBlocks, Ghosts, Graph, HasNoDeadEnd, Held, HeldStep, Holds, IfSome, Image, Index, IsDamaged, IsScanTrouble, IsStep, IsStepped, IsTree, Kind, LeadsPast, NoRoot, NoneHeld, Object, PastDisk, Puid, Tells, Trouble, block_at, cases_lt, count_is, file_bytes, filter-rises, filter_map, find_least, find_none, find_on, has_number, held, held_at, held_in, ids_from, in_filter, in_numbers, is_committed, leaf_block, leaf_content, leaf_ids, leaf_in, leaf_limit, leaves_in, levels_of, next_held, numbers-rise, numbers_rise, object_at, object_with, part_at, path_to, range_with_len, read_by_root, root_spelling, sight, slot_in, take_at, the_index, to_filter, to_numbers, tree_in, tree_of}
+use Rattle.std.specs.Prelude.{if◌then◌else◌}
 use Rattle.cfs_base.specs.declared.kind.Kind.TheVariants as kinds
 use Rattle.cfs_base.specs.declared.refusal.Trouble.TheVariants as trouble
 use Rattle.block_tree.specs.declared.root.Root as roots
+use Rattle.block_tree.specs.Step.{SomeHeld}
+use Rattle.block_tree.specs.Tree.{leaf_count}
 use Rattle.ufs_model.specs.declared.object.Object.TheVariants as objects
+use Rattle.marking.specs.Leaves.{own_part}
+use Rattle.marking.specs.Steps.{if_held, after_draft, draft_step, own_step}
+use Rattle.collector_steps.specs.Scan.{HoldsAny, PastDraft, after_drafted, after_own, ids_read}
 use Rattle.collector_steps.proofs.Slots.{ids_of_leaf}
 
 -- ---- what is held at a pointer
@@ -107,43 +113,71 @@ module _ (image : Image) (blocks : AreBlocks image) (owner : ℕ) (content : Lis
       ap (λ (xs : List ℕ). get_or xs k 0) bytes ∙ tree.filled l k (held image b) here less (omega (arith, past, sizes.1)) ∙ tree.spelled.good.1.fill index_is.kind)
       ∙ ap (λ (xs : List ℕ). ids_from xs 0) bytes
 
-  -- where the reading goes on
-  follows_is : (cursor : ℕ) (s : HeldStep) → IsStep image content cursor s → cursor_after s.held.leaf i ≡ next_cursor s
-  follows_is cursor s is = at s.follows refl
-    where
-      at : (more : Bool) → s.follows ≡ more → cursor_after s.held.leaf i ≡ next_cursor s
-      at true more =
-          let next = is.follows more in
-          let some : is_some (next_held (s.held.leaf + 1) i) ≡ true = some_next (next_held (s.held.leaf + 1) i) refl next.leaf next.on (in_held next.leaf next.held) in
-          rw (some, more) refl
-      at false more =
-          let none : next_held (s.held.leaf + 1) i ≡ None = none_next (s.held.leaf + 1) (λ leaf on there.
-          quiet (s.held.leaf + 1) leaf_limit leaf (subst (NoneHeld image content (s.held.leaf + 1)) (count_is content) (is.last more)) on (of_held leaf there).1 there) in
-          rw (none, more) refl
+  -- some leaf from one on is held on the disk where one is in the model
+  held_is : (from to : ℕ) (more : Bool) → (more ≡ true → SomeHeld image content from) → (more ≡ false → NoneHeld image content from (leaf_count content)) → if_held i from to ≡ (if more then Some to else None)
+  held_is from to true some none =
+      let next = some refl in
+      let there : is_some (next_held from i) ≡ true = some_next (next_held from i) refl next.leaf next.on (in_held next.leaf next.held) in
+      rw there refl
+  held_is from to false some none =
+      let gone : next_held from i ≡ None = none_next from (λ leaf on there. quiet from leaf_limit leaf (subst (NoneHeld image content from) (count_is content) (none refl)) on (of_held leaf there).1 there) in
+      rw gone refl
 
-  -- a step on the disk is one of the model
-  pub stepped_is : (directory : List (Puid × Kind)) (cursor : ℕ) (c : Colours) (step : Option HeldStep) (bytes : List ℕ) → IsStepped image content cursor step
-      → IfSome step (λ s. bytes ≡ block_at image s.held.block) → stepped directory step (ids_from bytes 0) c ≡ scanned directory i cursor c
-  stepped_is directory cursor c None bytes none told =
-      let gone : next_held cursor i ≡ None = none_next cursor (λ leaf on there. quiet cursor leaf_limit leaf (subst (NoneHeld image content cursor) (count_is content) none) on (of_held leaf there).1 there) in
-      ap (λ (next : Option ℕ). read directory i next c) (sym gone)
-  stepped_is directory cursor c (Some s) bytes is told =
+  -- the same of all its leaves
+  pub holds_is : (any : Bool) → HoldsAny image content any → if_held i 0 own_part ≡ (if any then Some own_part else None)
+  holds_is true some = held_is 0 own_part true (λ yes. some) (λ no. cc)
+  holds_is false none = held_is 0 own_part false (λ no. cc) (λ yes. none)
+
+  -- where the first held leaf is that of a step
+  step_at : (cursor : ℕ) (s : HeldStep) → IsStep image content cursor s → next_held cursor i ≡ Some s.held.leaf
+  step_at cursor s is =
       let some : leaf_block image content s.held.leaf ≢ 0 = λ gone. is.is_held (sym is.block ∙ gone) in
-      let here : next_held cursor i ≡ Some s.held.leaf = first_next cursor s.held.leaf is.on (in_held s.held.leaf some) (λ leaf on below there. quiet cursor s.held.leaf leaf is.before on below there) in
-      let content_is : bytes ≡ block_at image (leaf_block image content s.held.leaf) = told ∙ ap (block_at image) (sym is.block) in
-      let ids : ids_from bytes 0 ≡ leaf_ids i s.held.leaf = ap (λ (xs : List ℕ). ids_from xs 0) content_is ∙ sym (ids_are s.held.leaf some) in
-      ap (λ (next : Option ℕ). all_shaded directory (ids_from bytes 0) (moved next c)) (sym (follows_is cursor s is))
-      ∙ ap (λ (xs : List Puid). all_shaded directory xs (moved (cursor_after s.held.leaf i) c)) ids
-      ∙ ap (λ (next : Option ℕ). read directory i next c) (sym here)
+      first_next cursor s.held.leaf is.on (in_held s.held.leaf some) (λ leaf on below there. quiet cursor s.held.leaf leaf is.before on below there)
+
+  no_step : (cursor : ℕ) → IsStepped image content cursor None → next_held cursor i ≡ None
+  no_step cursor none = none_next cursor (λ leaf on there. quiet cursor leaf_limit leaf (subst (NoneHeld image content cursor) (count_is content) none) on (of_held leaf there).1 there)
+
+  -- the bytes that were read are those of its slots
+  read_is : (cursor : ℕ) (s : HeldStep) (bytes : List ℕ) → IsStep image content cursor s → bytes ≡ block_at image s.held.block → ids_from bytes 0 ≡ leaf_ids i s.held.leaf
+  read_is cursor s bytes is told =
+      let some : leaf_block image content s.held.leaf ≢ 0 = λ gone. is.is_held (sym is.block ∙ gone) in
+      ap (λ (xs : List ℕ). ids_from xs 0) (told ∙ ap (block_at image) (sym is.block)) ∙ sym (ids_are s.held.leaf some)
+
+  -- a step in an index's own part is one of the model
+  pub own_step_is : (cursor : ℕ) (step : Option HeldStep) (bytes : List ℕ) → IsStepped image content cursor step → IfSome step (λ s. bytes ≡ block_at image s.held.block)
+      → (ids_read step bytes, after_own step) ≡ own_step i (next_held cursor i)
+  own_step_is cursor None bytes none told = ap (own_step i) (sym (no_step cursor none))
+  own_step_is cursor (Some s) bytes is told =
+      ap (λ (ids : List Puid). (ids, if s.follows then Some (own_part + (s.held.leaf + 1)) else None)) (read_is cursor s bytes is told)
+      ∙ ap (λ (next : Option ℕ). (leaf_ids i s.held.leaf, next)) (sym (held_is (s.held.leaf + 1) (own_part + (s.held.leaf + 1)) s.follows is.follows is.last))
+      ∙ ap (own_step i) (sym (step_at cursor s is))
+
+  -- and so is one in the part of a draft, which this index is, of the index j
+  pub draft_step_is : (j : Index) (any : Bool) → if_held j 0 own_part ≡ (if any then Some own_part else None) → (cursor : ℕ) (step : Option HeldStep) (bytes : List ℕ) → IsStepped image content cursor step
+      → IfSome step (λ s. bytes ≡ block_at image s.held.block) → (ids_read step bytes, after_drafted any step) ≡ draft_step i j (next_held cursor i)
+  draft_step_is j any starts cursor None bytes none told =
+      ap (λ (next : Option ℕ). ([], next)) (sym starts) ∙ ap (draft_step i j) (sym (no_step cursor none))
+  draft_step_is j any starts cursor (Some s) bytes is told =
+      ap (λ (ids : List Puid). (ids, if s.follows then Some (s.held.leaf + 1) else (if any then Some own_part else None))) (read_is cursor s bytes is told)
+      ∙ ap (λ (next : Option ℕ). (leaf_ids i s.held.leaf, next)) (goes_on s.follows refl)
+      ∙ ap (draft_step i j) (sym (step_at cursor s is))
+    where
+      goes_on : (more : Bool) → s.follows ≡ more → (if more then Some (s.held.leaf + 1) else (if any then Some own_part else None)) ≡ after_draft i j s.held.leaf
+      goes_on true more =
+          let next = is.follows more in
+          let there : is_some (next_held (s.held.leaf + 1) i) ≡ true = some_next (next_held (s.held.leaf + 1) i) refl next.leaf next.on (in_held next.leaf next.held) in
+          rw there refl
+      goes_on false more =
+          let gone : next_held (s.held.leaf + 1) i ≡ None = none_next (s.held.leaf + 1) (λ leaf on there.
+          quiet (s.held.leaf + 1) leaf_limit leaf (subst (NoneHeld image content (s.held.leaf + 1)) (count_is content) (is.last more)) on (of_held leaf there).1 there) in
+          rw gone (sym starts)
 
   -- no pointer of it leads past the disk
-  pub none_past : (r block : ℕ) → content ≡ block_at image r → ¬ LeadsPast image (length image) r block
-  none_past r block is past =
-      let stands = past.past.0 in
-      let here = subst (λ (root : List ℕ). tree_of image root (past.path ++ past.k ∷ []) ≢ 0) (sym is) stands in
+  pub none_past : (r block : ℕ) → ¬ LeadsPast image (length image) content r block
+  none_past r block past =
       let b = tree_of image content (past.path ++ past.k ∷ []) in
-      let below = tree.on_disk (past.path ++ past.k ∷ []) (held image b) (held_some image b here) in
-      absurd (omega (arith, below, subst (λ (root : List ℕ). length image ≤ tree_of image root (past.path ++ past.k ∷ [])) (sym is) past.past.1))
+      let below = tree.on_disk (past.path ++ past.k ∷ []) (held image b) (held_some image b past.past.0) in
+      absurd (omega (arith, below, past.past.1))
 
 -- ---- an index of a graph that the disk holds
 
@@ -155,10 +189,15 @@ tree_of_index image g holds id i at no_bit =
     let reads = holds.objects id (objects.Index i) at in
     (reads.source, subst (λ (content : List ℕ). IsTree (length image) id.block (tree_in image content) reads.source (objects.Index i)) (read_by_root image id.block (block_at image id.block) no_bit refl) reads.tree)
 
--- it isn't damaged
-pub sound_index : {D : Type 0} (g : Ghosts D) (old new : D) (r : ℕ) (root : roots.Root) (i : Index) (t : Trouble) → Tells g old → AreBlocks (g.content old) → length (g.content old) ≡ g.blocks old
-    → IsTree (length (g.content old)) r (tree_in (g.content old) (block_at (g.content old) r)) root (objects.Index i) → IsScanTrouble g old new r t → ¬ IsDamaged t
-sound_index g old new r root i (trouble.Disk tried) tells blocks size tree is = λ h. h
-sound_index g old new r root i (trouble.Damaged damage) tells blocks size tree (NoRoot code block none) = λ h. none tells root tree.spelled
-sound_index g old new r root i (trouble.Damaged damage) tells blocks size tree (PastDisk code past) =
-    λ h. none_past (g.content old) blocks r (block_at (g.content old) r) root i tree r damage.block refl (subst (λ (n : ℕ). LeadsPast (g.content old) n r damage.block) (sym size) (past tells))
+-- neither it nor its draft is damaged
+pub sound_index : {D : Type 0} (g : Ghosts D) (old new : D) (r : ℕ) (root : roots.Root) (i : Index) (draft : Option roots.Root) (t : Trouble) → Tells g old → AreBlocks (g.content old) → length (g.content old) ≡ g.blocks old
+    → IsTree (length (g.content old)) r (tree_in (g.content old) (block_at (g.content old) r)) root (objects.Index i)
+    → ((d : roots.Root) → draft ≡ Some d → (j : Index) × IsTree (length (g.content old)) r (tree_in (g.content old) (root_spelling d)) d (objects.Index j))
+    → IsScanTrouble g old new draft r t → ¬ IsDamaged t
+sound_index g old new r root i draft (trouble.Disk tried) tells blocks size tree drafted is = λ h. h
+sound_index g old new r root i draft (trouble.Damaged damage) tells blocks size tree drafted (NoRoot code block none) = λ h. none tells root tree.spelled
+sound_index g old new r root i draft (trouble.Damaged damage) tells blocks size tree drafted (PastDisk code past) =
+    λ h. none_past (g.content old) blocks r (block_at (g.content old) r) root i tree r damage.block (subst (λ (n : ℕ). LeadsPast (g.content old) n (block_at (g.content old) r) r damage.block) (sym size) (past tells))
+sound_index g old new r root i draft (trouble.Damaged damage) tells blocks size tree drafted (PastDraft d is code past) =
+    let its = drafted d is in
+    λ h. none_past (g.content old) blocks r (root_spelling d) d its.0 its.1 r damage.block (subst (λ (n : ℕ). LeadsPast (g.content old) n (root_spelling d) r damage.block) (sym size) (past tells))

@@ -1,10 +1,11 @@
 -- How much a collection has left: no step adds to it, and each takes from it.
 use Rattle.std.proofs.Common.{◌≡◌, ℕ, zero, suc, ◌+◌, ◌-◌, ◌*◌, ◌/◌, ◌<◌, ◌≤◌, ◌==◌, ◌||◌, nat_lt, Bool, true, false, cond, List, [], ◌∷◌, length, Option, Some, None, refl, sym, ap, ◌∙◌, subst, arith, inl, inr}
-use Rattle.collector_steps.proofs.Words.{Collecting, Colours, Grey, HeldStep, IfSome, IsPhaseOf, Kind, Listing, Pass, Phase, Puid, Rescue, all_shaded, cases_lt, colours_in, cylinders_of, first_grey, first_is, ids_from, is_listing, directory_kind, left_in, most_steps, moved, next_cursor, next_phase, nat_tests, none_marked, reads_left, reads_of, rescued, shaded, shaded_in, stepped, steps_left, sum_by, sum_by-cons, unmarked_below, volume_of, waiting_in}
-use Rattle.marking.specs.Colours.{is_index, shaded_as}
+use Rattle.collector_steps.proofs.Words.{Collecting, Colours, Grey, IfSome, IsPhaseOf, Kind, Listing, Pass, Phase, Puid, Rescue, all_shaded, cases_lt, colours_in, first_grey, first_is, is_listing, directory_kind, left_in, most_steps, moved, nat_tests, next_phase, none_marked, read, reads_left, reads_of, rescued, same_Some, same_puid, shaded, shaded_in, steps_left, sum_by, sum_by-cons, unmarked_below, volume_of, waiting_in}
+use Rattle.std.proofs.lemmas.Bool.{ltb-true}
+use Rattle.marking.specs.Colours.{cursor_of, draft_over, ended_from, is_index, moved_at, shaded_as, with_cursor}
+use Rattle.marking.specs.Leaves.{own_part}
 use Rattle.marking.specs.Steps.{is_live}
 use Rattle.collector_steps.specs.declared.phase.Phase.TheVariants as phases
-use Rattle.collector_steps.specs.declared.sweep.Pass.TheVariants as passes
 use Rattle.collector_steps.proofs.Shaded.{kind_below}
 
 -- ---- marks
@@ -47,11 +48,11 @@ none_below (suc n) = let before = none_below n in omega (arith, before)
 
 module _ (blocks : ℕ) where
   -- the first grey index is read on, or to its end
-  with_first : (c : Colours) (e : Grey) (rest : List Grey) → c.grey ≡ e ∷ rest → reads_left blocks c ≡ 15361 * unmarked_below blocks c.marked + (reads_of e + sum_by reads_of rest)
+  with_first : (c : Colours) (e : Grey) (rest : List Grey) → c.grey ≡ e ∷ rest → reads_left blocks c ≡ 30721 * unmarked_below blocks c.marked + (reads_of e + sum_by reads_of rest)
   unfolding reads_left
-  with_first c e rest is = ap (λ es. 15361 * unmarked_below blocks c.marked + sum_by reads_of es) is ∙ ap (λ n. 15361 * unmarked_below blocks c.marked + n) (sum_by-cons reads_of e rest)
+  with_first c e rest is = ap (λ es. 30721 * unmarked_below blocks c.marked + sum_by reads_of es) is ∙ ap (λ n. 30721 * unmarked_below blocks c.marked + n) (sum_by-cons reads_of e rest)
 
-  moved_on : (c : Colours) (e : Grey) (rest : List Grey) → c.grey ≡ e ∷ rest → (next : Option ℕ) → IfSome next (λ n. (e.cursor < n) × (n ≤ 15360)) → reads_left blocks (moved next c) < reads_left blocks c
+  moved_on : (c : Colours) (e : Grey) (rest : List Grey) → c.grey ≡ e ∷ rest → (next : Option ℕ) → IfSome next (λ n. (e.cursor < n) × (n ≤ 30720)) → reads_left blocks (moved next c) < reads_left blocks c
   unfolding reads_left
   moved_on c e rest is None less =
       let before = with_first c e rest is in
@@ -64,7 +65,7 @@ module _ (blocks : ℕ) where
       let now = sum_by-cons reads_of f rest in
       rw after (omega (arith, before, now, less.0, less.1))
 
-  pub none_left : (c : Colours) → c.marked ≡ none_marked.marked → c.grey ≡ [] → reads_left blocks c ≤ 15361 * blocks
+  pub none_left : (c : Colours) → c.marked ≡ none_marked.marked → c.grey ≡ [] → reads_left blocks c ≤ 30721 * blocks
   unfolding reads_left
   none_left c marked grey = rw (marked, grey) (let few = none_below blocks in omega (arith, few))
 
@@ -80,7 +81,7 @@ module _ (blocks : ℕ) where
       at true is = omega arith
       at false is =
           let less = one_less id.block c.marked blocks inside is in
-          elim (is_index kind) as (λ i. 15361 * unmarked_below blocks (λ block. (block == id.block) || c.marked block) + sum_by reads_of (cond i (record { id = id; cursor = 0 } ∷ c.grey) c.grey) ≤ 15361 * unmarked_below blocks c.marked + sum_by reads_of c.grey) [
+          elim (is_index kind) as (λ i. 30721 * unmarked_below blocks (λ block. (block == id.block) || c.marked block) + sum_by reads_of (cond i (record { id = id; cursor = 0 } ∷ c.grey) c.grey) ≤ 30721 * unmarked_below blocks c.marked + sum_by reads_of c.grey) [
             | true ↦ (let one = sum_by-cons reads_of (record { id = id; cursor = 0 }) c.grey in omega (arith, one, less))
             | false ↦ omega (arith, less)
           ]
@@ -103,24 +104,36 @@ module _ (blocks : ℕ) where
     pub rescued_less : (r : Rescue) (c : Colours) → reads_left blocks (rescued directory.named r c) ≤ reads_left blocks c
     rescued_less r c = elim (is_live r.index c) as (λ b. reads_left blocks (cond b (shaded_in directory.named r.id c) c) ≤ reads_left blocks c) [ true ↦ one_shaded r.id c | false ↦ omega arith ]
 
-    -- the first grey index goes on past a leaf that isn't below its cursor, or it ends
-    pub stepped_less : (c : Colours) (e : Grey) (step : Option HeldStep) (ids : List Puid) → first_grey c ≡ Some e → IfSome step (λ s. (e.cursor ≤ s.held.leaf) × (s.held.leaf < 15360))
-        → reads_left blocks (stepped directory.named step ids c) < reads_left blocks c
-    stepped_less c e step ids first on = by step on
-      where
-        all : (rest : List Grey) × (c.grey ≡ e ∷ rest)
-        all = first_is c e first
+    -- the first grey index goes on at a later place, or it ends
+    pub read_less : (c : Colours) (e : Grey) (ids : List Puid) (next : Option ℕ) → first_grey c ≡ Some e → IfSome next (λ n. (e.cursor < n) × (n ≤ 30720))
+        → reads_left blocks (read directory.named (ids, next) c) < reads_left blocks c
+    read_less c e ids next first on =
+        let all = first_is c e first in
+        let shades = all_less ids (moved next c) in
+        let moves = moved_on c e all.0 all.1 next on in
+        omega (arith, shades, moves)
 
-        by : (step : Option HeldStep) → IfSome step (λ s. (e.cursor ≤ s.held.leaf) × (s.held.leaf < 15360)) → reads_left blocks (stepped directory.named step ids c) < reads_left blocks c
-        by None on = moved_on c e all.0 all.1 None tt
-        by (Some s) on =
-            let shades = all_less ids (moved (next_cursor s) c) in
-            let moves : reads_left blocks (moved (next_cursor s) c) < reads_left blocks c =
-            elim s.follows as (λ b. reads_left blocks (moved (cond b (Some (s.held.leaf + 1)) None) c) < reads_left blocks c) [
-              | true ↦ moved_on c e all.0 all.1 (Some (s.held.leaf + 1)) (omega (arith, on.0), omega (arith, on.1))
-              | false ↦ moved_on c e all.0 all.1 None tt
-            ] in
-            omega (arith, shades, moves)
+-- ---- a draft ends
+
+-- a cursor goes on to a later place
+reads_moved : (i : Puid) (to : ℕ) (es : List Grey) (cursor : ℕ) → cursor_of es i ≡ Some cursor → cursor ≤ to → sum_by reads_of (moved_at i to es) ≤ sum_by reads_of es
+reads_moved i to [] cursor is le = cc
+reads_moved i to (e ∷ es) cursor is le = elim (same_puid i e.id) as (λ b. cond b (Some e.cursor) (cursor_of es i) ≡ Some cursor
+    → sum_by reads_of (cond b (record { id = e.id; cursor = to } ∷ es) (e ∷ moved_at i to es)) ≤ sum_by reads_of (e ∷ es)) [
+      | true ↦ λ here. (let same = same_Some e.cursor cursor here in omega (arith, same, sum_by-cons reads_of e es, sum_by-cons reads_of (record { id = e.id; cursor = to }) es, le))
+      | false ↦ λ later. (let rest = reads_moved i to es cursor later le in omega (arith, rest, sum_by-cons reads_of e es, sum_by-cons reads_of e (moved_at i to es)))
+    ] is
+
+pub ended_less : (blocks : ℕ) (i : Puid) (c : Colours) → reads_left blocks (draft_over i c) ≤ reads_left blocks c
+unfolding reads_left
+ended_less blocks i c = at (cursor_of c.grey i) refl
+  where
+    at : (o : Option ℕ) → cursor_of c.grey i ≡ o → reads_left blocks (ended_from o i c) ≤ reads_left blocks c
+    at None is = omega arith
+    at (Some cursor) is = elim (nat_lt cursor own_part) as (λ b. nat_lt cursor own_part ≡ b → reads_left blocks (cond b (with_cursor i own_part c) c) ≤ reads_left blocks c) [
+      | true ↦ λ less. (let before = ltb-true cursor own_part less in let fewer = reads_moved i own_part c.grey cursor is (omega (arith, before)) in omega (arith, fewer))
+      | false ↦ λ past. omega arith
+    ] refl
 
 -- ---- the steps
 
@@ -135,6 +148,20 @@ module _ (k l : Collecting) (volume : volume_of l ≡ volume_of k) where
       let after = marking_left l (phase ∙ marks) in
       let same : reads_left (volume_of l) (colours_in l) ≡ reads_left (volume_of k) (colours_in l) = ap (λ n. reads_left n (colours_in l)) volume in
       omega (arith, before, after, same, less, volume)
+
+  -- a draft ended
+  pub ends_less : (i : Puid) → l.phase ≡ k.phase → colours_in l ≡ draft_over i (colours_in k) → waiting_in l ≡ waiting_in k → steps_left l ≤ steps_left k
+  ends_less i phase colours waits = subst (λ p. left_in p l ≤ steps_left k) (sym phase) (at k.phase)
+    where
+      at : (p : Phase) → left_in p l ≤ left_in p k
+      at phases.Idle = omega arith
+      at phases.Marking =
+          let less = ended_less (volume_of k) i (colours_in k) in
+          let now : reads_left (volume_of l) (colours_in l) ≡ reads_left (volume_of k) (draft_over i (colours_in k)) = ap (λ n. reads_left n (colours_in l)) volume ∙ ap (reads_left (volume_of k)) colours in
+          omega (arith, less, now, ap length waits, volume)
+      at (phases.Inner c) = omega (arith, volume)
+      at (phases.Roots c) = omega (arith, volume)
+      at phases.Swept = omega arith
 
   -- a rescue was taken
   pub takes_less : (directory : Listing) → is_listing directory ≡ true → directory.room ≤ volume_of k → k.phase ≡ phases.Marking → l.phase ≡ k.phase → ¬ (waiting_in k ≡ [])

@@ -3,6 +3,8 @@ pub mod Shaded
 pub mod Slots
 pub mod Damage
 pub mod Indices
+pub mod Found
+pub mod Places
 pub mod Kept
 pub mod Lefts
 pub mod Directories

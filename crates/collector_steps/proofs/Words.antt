@@ -28,7 +28,7 @@ pub use Rattle.collector_marks.specs.Kept.{blocks_marked, colours_of}
 pub use Rattle.collector_steps.specs.Collecting.{Collecting, Collects, IsCollecting, AreStepsWithin, Serves, colours_in, volume_of, waiting_in}
 pub use Rattle.collector_steps.specs.Left.{cylinders_of, left_in, most_steps, reads_of, steps_left}
 unfoldable pub use Rattle.collector_steps.specs.Left.{reads_left, unmarked_below}
-pub use Rattle.collector_steps.specs.Scan.{IsDamaged, IsLeafScanTrouble, IsScanTrouble, LeadsPast, NoRoot, PastDisk, next_cursor, stepped, trouble_of}
+pub use Rattle.collector_steps.specs.Scan.{IsDamaged, IsLeafScanTrouble, IsScanTrouble, LeadsPast, NoRoot, PastDisk, trouble_of}
 unfoldable pub use Rattle.collector_steps.specs.Scan.{ids_from}
 pub use Rattle.collector_steps.specs.Steady.{IsPhaseReady}
 pub use Rattle.collector_steps.specs.Sweep.{IsSweptOf, MayBegin, NoInner, NoStray, goes, is_of_pass, swept, swept_map}
@@ -52,14 +52,14 @@ pub use Rattle.cyl_map.specs.declared.state.BlockState.TheVariants.{Allocated, F
 pub use Rattle.marking.proofs.Asked.{allowed}
 pub use Rattle.marking.proofs.Condemned.{condemned_may_vanish}
 pub use Rattle.marking.proofs.Leaves.{index_there}
-pub use Rattle.marking.proofs.Paces.{pace_begin, pace_end, pace_scan, pace_take, scan_raises}
+pub use Rattle.marking.proofs.Paces.{pace_begin, pace_end, pace_ended, pace_scan, pace_take, scan_is}
 pub use Rattle.marking.proofs.Steps.{begin_keeps, begun, find_least, find_none, find_on, first_is, first_marked, scan_keeps, take_keeps}
 pub use Rattle.marking.proofs.Wells.{well}
 pub use Rattle.marking.specs.Colours.{Colours, all_shaded, first_grey, moved, none_marked, shaded, shaded_in}
 pub use Rattle.marking.specs.Leaves.{leaf_ids}
 pub use Rattle.marking.specs.Marking.{IsGrey, IsMarking}
 pub use Rattle.marking.specs.Pace.{IsPaced}
-pub use Rattle.marking.specs.Steps.{IsDirectoryOf, cursor_after, next_held, read, rescued, scanned, unmarked}
+pub use Rattle.marking.specs.Steps.{IsDirectoryOf, next_held, read, rescued, scanned, unmarked}
 pub use Rattle.marking.specs.declared.memory.Grey.{Grey}
 pub use Rattle.marking.specs.declared.memory.Rescue.{Rescue}
 pub use Rattle.puid_space.specs.Directory.{Listing, blocks_rise, has_root_in, is_listing, kept_by, directory_kind, taken_by}
@@ -75,7 +75,7 @@ pub use Rattle.std.proofs.lemmas.Option.{get_or_from_slice_get, same_Some}
 pub use Rattle.std.proofs.lemmas.Result.{err_from_is_err_and}
 pub use Rattle.std.specs.List.{cons_option, filter_map, flat_map, list_all, range_with_len, sum_by}
 pub use Rattle.std.specs.Map.{keys_of}
-pub use Rattle.std.specs.Prelude.{IfSome, IsSome, IsTrue, filter, option_map, option_to_list, slice_get}
+pub use Rattle.std.specs.Prelude.{IfSome, IsFalse, IsSome, IsTrue, filter, option_map, option_to_list, slice_get}
 pub use Rattle.ufs_model.proofs.Reached.{same_puid_is}
 pub use Rattle.ufs_model.proofs.Rising.{filter-rises, in_filter, in_numbers, numbers-rise, to_filter, to_numbers}
 pub use Rattle.ufs_model.specs.Graph.{Graph, has_block, ids_of, object_at, without}

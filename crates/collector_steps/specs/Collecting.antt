@@ -57,15 +57,15 @@ pub record Serves {D : Type 0} (g : Ghosts D) (disk : D) (directory : List (Puid
 
 -- ---- between any two calls
 
--- At most so many steps were made beside one for each rescue and each block, as long as rescues were counted.
+-- At most so many steps were made beside two for each rescue and each block, as long as rescues were counted.
 abbrev pub AreStepsWithin : Collecting → ℕ → Type 0
-AreStepsWithin k more = k.added < 2 ^ 64 - 1 → k.steps ≤ volume_of k + k.added + more
+AreStepsWithin k more = k.added < 2 ^ 64 - 1 → k.steps ≤ 2 * volume_of k + 2 * k.added + more
 
 -- By phase: what holds of the marks, or how far the sweep is; and how many steps were made.
 abbrev pub IsCollecting : Phase → Image → State → Collecting → Type 0
 IsCollecting phases.Idle image s k = Unit {0}
 IsCollecting phases.Marking image s k = IsMarking s (colours_in k) (waiting_in k)
-    × IsPaced s.graph (colours_in k) (waiting_in k) k.steps k.added
+    × IsPaced s (colours_in k) (waiting_in k) (volume_of k) k.steps k.added
 IsCollecting (phases.Inner cylinder) image s k = NoInner image s.graph cylinder × AreStepsWithin k (2 + cylinder)
 IsCollecting (phases.Roots cylinder) image s k =
     NoInner image s.graph (volume_of k / 64)

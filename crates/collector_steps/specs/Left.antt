@@ -9,9 +9,10 @@ use Rattle.collector_steps.specs.Collecting.{Collecting, colours_in, volume_of, 
 
 -- ---- reading
 
--- A grey index is read in one step for each leaf from its cursor on, and one more: no index has more than 15,360.
+-- A grey index is read in one step for each place from its cursor on, and one more: no index has more than 15,360
+-- leaves, and no draft of one.
 abbrev pub reads_of : Grey → ℕ
-reads_of e = 1 + (15360 - e.cursor)
+reads_of e = 1 + (30720 - e.cursor)
 
 -- the blocks below this one that are not marked
 unfoldable pub unmarked_below : ℕ → (ℕ → Bool) → ℕ
@@ -20,7 +21,7 @@ unmarked_below (suc n) marked = unmarked_below n marked + (if marked n then 0 el
 
 -- each of them may be shaded once, as an index of which no leaf was read
 unfoldable pub reads_left : (blocks : ℕ) → Colours → ℕ
-reads_left blocks c = 15361 * unmarked_below blocks c.marked + sum_by reads_of c.grey
+reads_left blocks c = 30721 * unmarked_below blocks c.marked + sum_by reads_of c.grey
 
 -- ---- the steps of a collection
 
@@ -44,7 +45,7 @@ steps_left k = left_in k.phase k
 
 -- a collection that begins on so many blocks makes no more than these, and one for each rescue
 abbrev pub most_steps : (blocks : ℕ) → ℕ
-most_steps blocks = 15361 * blocks + 2 * (blocks / 64) + 5
+most_steps blocks = 30721 * blocks + 2 * (blocks / 64) + 5
 
 -- ---- its events
 

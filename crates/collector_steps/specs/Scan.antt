@@ -1,6 +1,6 @@
 -- A leaf of an index as its bytes, a step of the scan, and why one is refused.
-use Rattle.std.specs.Prelude.{◌≡◌, ℕ, ◌+◌, ◌-◌, ◌≤◌, List, [], ◌∷◌, ◌++◌, ◌/◌, get_or, map, false, if◌then◌else◌}
-use Rattle.std.specs.Prelude.{Option, Some, None}
+use Rattle.std.specs.Prelude.{◌≡◌, ℕ, ◌+◌, ◌-◌, ◌≤◌, List, [], ◌∷◌, ◌++◌, ◌/◌, Bool, map, false, if◌then◌else◌}
+use Rattle.std.specs.Prelude.{Option, Some, None, IfSome, length, true}
 use Rattle.std.specs.List.{filter_map, range_with_len}
 use Rattle.cfs_base.specs.Calls.{HasStopped}
 use Rattle.cfs_base.specs.Codes.{no_root, past_disk}
@@ -8,20 +8,27 @@ use Rattle.cfs_base.specs.Disk.{Image, block_at}
 use Rattle.cfs_base.specs.Run.{Tells}
 use Rattle.cfs_base.specs.declared.disk.Disk.{Ghosts}
 use Rattle.cfs_base.specs.declared.identifier.Puid.{Puid}
-use Rattle.cfs_base.specs.declared.kind.Kind.{Kind}
 use Rattle.cfs_base.specs.declared.refusal.Damage.{Damage}
 use Rattle.cfs_base.specs.declared.refusal.Trouble.{Trouble}
 use Rattle.cfs_base.specs.declared.refusal.Trouble.TheVariants as trouble
-use Rattle.block_tree.specs.Pointers.{leaf_pointers}
+use Rattle.block_tree.specs.Pointers.{leaf_pointers, node_pointers}
 use Rattle.block_tree.specs.declared.root.Root.{Root}
 use Rattle.block_tree.specs.declared.step.HeldStep.{HeldStep}
 use Rattle.block_tree.specs.declared.fault.TreeFault.{TreeFault}
 use Rattle.block_tree.specs.declared.fault.TreeFault.TheVariants as faults
 use Rattle.block_tree.specs.Reads.{IsPast}
 use Rattle.block_tree.specs.Root.{IsRootBlock}
-use Rattle.block_tree.specs.Tree.{tree_of}
 use Rattle.vol_image.specs.Reading.{slot_in}
-use Rattle.marking.specs.Colours.{Colours, all_shaded, moved}
+use Rattle.block_tree.specs.Root.{root_spelling}
+use Rattle.block_tree.specs.Step.{IsStepped, NoneHeld, SomeHeld}
+use Rattle.block_tree.specs.Tree.{leaf_count, pointer, tree_of}
+use Rattle.collector_steps.specs.declared.scan.Found.{Found}
+use Rattle.marking.specs.Leaves.{own_part}
+use Rattle.ufs_model.specs.State.{State, draft_at}
+use Rattle.ufs_model.specs.declared.object.Index.{Index}
+use Rattle.ufs_model.specs.declared.object.Object.TheVariants as objects
+use Rattle.vol_image.specs.Reading.{IsTree}
+use Rattle.vol_image.specs.Seen.{tree_in}
 
 -- ---- a leaf that was read
 
@@ -29,52 +36,97 @@ use Rattle.marking.specs.Colours.{Colours, all_shaded, moved}
 unfoldable pub ids_from : List ℕ → ℕ → List Puid
 ids_from bytes slot = filter_map (λ held. held) (map (slot_in bytes) (range_with_len slot (64 - slot)))
 
--- where the reading goes on after a step
-abbrev pub next_cursor : HeldStep → Option ℕ
-next_cursor step = if step.follows then Some (step.held.leaf + 1) else None
+-- what a step finds, where a leaf with these bytes was read
+abbrev pub ids_read : Option HeldStep → List ℕ → List Puid
+ids_read None bytes = []
+ids_read (Some step) bytes = ids_from bytes 0
 
--- the first grey index moves on past a leaf with these identifiers, and each is shaded; or it has no further leaf
-abbrev pub stepped : List (Puid × Kind) → Option HeldStep → List Puid → Colours → Colours
-stepped directory None ids c = moved None c
-stepped directory (Some step) ids c = all_shaded directory ids (moved (next_cursor step) c)
+-- the place where the reading goes on after a step of an index's own tree
+abbrev pub after_own : Option HeldStep → Option ℕ
+after_own None = None
+after_own (Some step) = if step.follows then Some (own_part + (step.held.leaf + 1)) else None
+
+-- the next leaf of a tree after a step, where one follows
+abbrev pub following : Option HeldStep → Option ℕ
+following None = None
+following (Some step) = if step.follows then Some (step.held.leaf + 1) else None
+
+-- the place after a step of its draft's tree, where its own holds a leaf, or none
+abbrev pub after_drafted : (any : Bool) → Option HeldStep → Option ℕ
+after_drafted any None = if any then Some own_part else None
+after_drafted any (Some step) =
+    if step.follows then Some (step.held.leaf + 1) else (if any then Some own_part else None)
+
+-- ---- a step
+
+-- some leaf of the tree with this root is held, or none
+abbrev pub HoldsAny : Image → List ℕ → Bool → Type 0
+HoldsAny image root true = SomeHeld image root 0
+HoldsAny image root false = NoneHeld image root 0 (leaf_count root)
+
+-- what was found from a leaf on in the tree with this root, and read; where the reading goes on is told by the step
+pub record IsFoundIn (image : Image) (root : List ℕ) (from : ℕ) (bytes : List ℕ)
+    (after : Option HeldStep → Option ℕ) (found : Found) : Type 0 where
+  pub step : IsStepped image root from found.step
+  pub content : IfSome found.step (λ s. bytes ≡ block_at image s.held.block)
+  pub next : found.next ≡ after found.step
+
+-- the state has this draft of the index, whose tree has this root on the disk; or it has none
+abbrev pub IsDraftRoot : Image → State → Puid → Option Root → Option Index → Type 0
+IsDraftRoot image s id None None = draft_at s.grants id ≡ None
+IsDraftRoot image s id (Some root) (Some d) = (draft_at s.grants id ≡ Some (objects.Index d))
+    × IsTree (length image) id.block (tree_in image (root_spelling root)) root (objects.Index d)
+IsDraftRoot image s id root d = ⊥
 
 -- ---- why it is refused
 
--- the block with the pointer that is the last of a path
-abbrev pub pointer_holder : Image → ℕ → List ℕ → ℕ
-pointer_holder image r [] = r
-pointer_holder image r (k ∷ path) = tree_of image (block_at image r) (k ∷ path)
+-- the block with the pointer that is the last of a path, in the tree with this root, which is that of block r or of its
+-- draft
+abbrev pub pointer_holder : Image → (root : List ℕ) → ℕ → List ℕ → ℕ
+pointer_holder image root r [] = r
+pointer_holder image root r (k ∷ path) = tree_of image root (k ∷ path)
 
--- a pointer in this block of the tree of a root block leads past the disk
-pub record LeadsPast (image : Image) (size r block : ℕ) : Type 0 where
+-- a pointer in this block of that tree leads past the disk
+pub record LeadsPast (image : Image) (size : ℕ) (root : List ℕ) (r block : ℕ) : Type 0 where
   pub path : List ℕ
   pub k : ℕ
-  pub at : block ≡ pointer_holder image r path
-  pub past : IsPast size (tree_of image (block_at image r) (path ++ k ∷ []))
+  pub at : block ≡ pointer_holder image root r path
+  pub past : IsPast size (tree_of image root (path ++ k ∷ []))
 
--- the root block is none, or a pointer of its tree leads past the disk
-pub data IsIndexDamage {D : Type 0} (g : Ghosts D) (old : D) (r : ℕ) (damage : Damage) : Type 0 where
+-- the root block is none, or a pointer of its tree or of its draft's leads past the disk
+pub data IsIndexDamage {D : Type 0} (g : Ghosts D) (old : D) (draft : Option Root) (r : ℕ) (damage : Damage) : Type 0 where
   NoRoot : damage.code ≡ no_root → damage.block ≡ r
-      → (Tells g old → (root : Root) → ¬ IsRootBlock (block_at (g.content old) r) root) → IsIndexDamage g old r damage
-  PastDisk : damage.code ≡ past_disk → (Tells g old → LeadsPast (g.content old) (g.blocks old) r damage.block)
-      → IsIndexDamage g old r damage
+      → (Tells g old → (root : Root) → ¬ IsRootBlock (block_at (g.content old) r) root)
+      → IsIndexDamage g old draft r damage
+  PastDisk : damage.code ≡ past_disk
+      → (Tells g old → LeadsPast (g.content old) (g.blocks old) (block_at (g.content old) r) r damage.block)
+      → IsIndexDamage g old draft r damage
+  PastDraft : (root : Root) → draft ≡ Some root → damage.code ≡ past_disk
+      → (Tells g old → LeadsPast (g.content old) (g.blocks old) (root_spelling root) r damage.block)
+      → IsIndexDamage g old draft r damage
 
 -- a failed device call is told as it is, and a pointer past the disk by the block that has it
 abbrev pub trouble_of : ℕ → TreeFault → Trouble
 trouble_of block faults.Disk = trouble.Disk false
 trouble_of block (faults.BadPointer past) = trouble.Damaged (record { block = block; code = past_disk })
 
--- a device call failed, or the leaf's pointer leads past the disk, in a node to which one of these pointers leads
-abbrev pub IsLeafScanTrouble : {D : Type 0} → Ghosts D → D → D → List ℕ → HeldStep → Trouble → Type 0
-IsLeafScanTrouble g old new nodes step (trouble.Disk tried) = HasStopped g tried old new
-IsLeafScanTrouble g old new nodes step (trouble.Damaged damage) =
-    (damage.code ≡ past_disk) × (damage.block ≡ get_or nodes (step.held.leaf / leaf_pointers.count) 0)
+-- a device call failed, or the leaf's pointer leads past the disk, in a node to which the root with these bytes leads
+abbrev pub IsLeafScanTrouble : {D : Type 0} → Ghosts D → D → D → (root : List ℕ) → HeldStep → Trouble → Type 0
+IsLeafScanTrouble g old new root step (trouble.Disk tried) = HasStopped g tried old new
+IsLeafScanTrouble g old new root step (trouble.Damaged damage) =
+    (damage.code ≡ past_disk) × (damage.block ≡ pointer node_pointers root (step.held.leaf / leaf_pointers.count))
     × (g.blocks old ≤ step.held.block)
 
--- a device call failed, or the index with this root block is damaged
-abbrev pub IsScanTrouble : {D : Type 0} → Ghosts D → D → D → ℕ → Trouble → Type 0
-IsScanTrouble g old new r (trouble.Disk tried) = HasStopped g tried old new
-IsScanTrouble g old new r (trouble.Damaged damage) = IsIndexDamage g old r damage
+-- a device call failed, or a pointer of the tree with this root leads past the disk
+abbrev pub IsTreeTrouble : {D : Type 0} → Ghosts D → D → D → (root : List ℕ) → ℕ → Trouble → Type 0
+IsTreeTrouble g old new root r (trouble.Disk tried) = HasStopped g tried old new
+IsTreeTrouble g old new root r (trouble.Damaged damage) =
+    (damage.code ≡ past_disk) × (Tells g old → LeadsPast (g.content old) (g.blocks old) root r damage.block)
+
+-- a device call failed, or the index with this root block is damaged, or its draft
+abbrev pub IsScanTrouble : {D : Type 0} → Ghosts D → D → D → (draft : Option Root) → ℕ → Trouble → Type 0
+IsScanTrouble g old new draft r (trouble.Disk tried) = HasStopped g tried old new
+IsScanTrouble g old new draft r (trouble.Damaged damage) = IsIndexDamage g old draft r damage
 
 abbrev pub IsDamaged : Trouble → Type 0
 IsDamaged (trouble.Disk tried) = ⊥

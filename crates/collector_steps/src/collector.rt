@@ -1,23 +1,26 @@
 //! The collector: how a collection begins, takes rescues, condemns and ends.
 ghost use Rattle.std.specs.Prelude.{◌≡◌, ℕ, ◌+◌, ◌-◌, ◌*◌, ◌/◌, ◌^◌, ◌<◌, ◌≤◌, List, [], ◌∷◌, ◌++◌, length, OnOk};
-ghost use Rattle.std.specs.Prelude.{OnErr, IfOk, IsTrue, ◌↔◌, Some};
+ghost use Rattle.std.specs.Prelude.{OnErr, IfOk, IsTrue, ◌↔◌, None, Some};
 ghost use Rattle.cfs_base.specs.Disk.{Image};
 ghost use Rattle.cfs_base.specs.Outside.{count_after};
 ghost use Rattle.cfs_base.specs.declared.identifier.Puid.{Puid};
 ghost use Rattle.collector_steps.specs.Collecting.{Collects, IsAsBefore, colours_in, volume_of, waiting_in};
 ghost use Rattle.collector_steps.specs.Left.{most_steps, steps_left};
-ghost use Rattle.marking.specs.Colours.{all_shaded, none_marked};
+ghost use Rattle.marking.specs.Colours.{all_shaded, draft_over, first_grey, none_marked};
+ghost use Rattle.std.specs.Option.{option_map};
+ghost use Rattle.marking.specs.Pace.{unread};
 ghost use Rattle.marking.specs.Steps.{rescued};
 ghost use Rattle.marking.specs.declared.memory.Rescue as memory;
 ghost use Rattle.puid_space.specs.Kinds.{kinds_of};
 ghost use Rattle.ufs_model.specs.Identifier.{is_among};
 ghost use Rattle.ufs_model.specs.Next.{next};
 ghost use Rattle.ufs_model.specs.Reach.{starts_now};
-ghost use Rattle.ufs_model.specs.State.{State};
+ghost use Rattle.ufs_model.specs.State.{State, draft_at};
 ghost use Rattle.ufs_model.specs.WellFormed.{IsState};
 ghost use Rattle.ufs_model.specs.declared.asked.Event.TheVariants as events;
 
 use crate::phase::Phase;
+use crate::scan::OWN_PART;
 use crate::shading::{shade_all, shade_rescued};
 use cfs_base::{NoMemory, Puid};
 use collector_marks::{Marks, Rescue, Rescues};
@@ -93,9 +96,10 @@ impl Collector {
         // Whatever disk it is, so many steps come to its end, if nothing is rescued.
         ensures left { OnOk result (steps_left self.new < most_steps (volume_of self.new)) }
         ensures same { OnErr result (IsAsBefore self.old self.new) }
+        // The leaves of the objects and their drafts are no more than the blocks.
         ensures keeps { (seed : ℕ) (s t : State) (image : Image) → IsState s → directory.now.named ≡ kinds_of s.graph
             → ((x : Puid) → is_among x roots.now ≡ is_among x (starts_now s)) → next seed s events.Began ≡ Some t
-            → OnOk result (Collects image t self.new) }
+            → unread t none_marked ≤ volume_of self.old → OnOk result (Collects image t self.new) }
     {
         kinds_follow_the_graph();
         let _room = directory.room();
@@ -165,7 +169,7 @@ impl Collector {
         ensures waiting { waiting_in self.new ≡ waiting_in self.old }
         ensures less { steps_left self.new < steps_left self.old }
         ensures bounded { (s : State) (image : Image) → Collects image s self.old → self.old.added < 2 ^ 64 - 1
-            → self.new.steps ≤ volume_of self.old + self.old.added + 2 * (volume_of self.old / 64) + 3 }
+            → self.new.steps ≤ 2 * volume_of self.old + 2 * self.old.added + 2 * (volume_of self.old / 64) + 3 }
     {
         self.phase = Phase::Idle;
         self.steps = self.steps.saturating_add(1);
@@ -190,5 +194,36 @@ impl Collector {
         ensures { IsTrue result ↔ ¬ (self.now.marks.grey ≡ []) }
     {
         self.marks.next_grey().is_some()
+    }
+
+    /// The first grey index; None exactly where none is grey.
+    pub fn next_index(&self) -> Option<Puid>
+        ensures { result ≡ option_map (λ e. e.id) (first_grey (colours_in self.now)) }
+    {
+        let first = self.marks.next_grey()?;
+        Some(first.id)
+    }
+
+    /// The draft of this index ended: where it was being read, the reading goes on at the index's own first leaf.
+    /// Goes over all grey indices. Takes no memory.
+    pub fn draft_ended(&mut self, id: Puid)
+        ensures ended { colours_in self.new ≡ draft_over id (colours_in self.old) }
+        ensures waiting { self.new.rescues ≡ self.old.rescues }
+        ensures phase { self.new.phase ≡ self.old.phase }
+        ensures steps { self.new.steps ≡ self.old.steps }
+        ensures added { self.new.added ≡ self.old.added }
+        ensures volume { volume_of self.new ≡ volume_of self.old }
+        // Whatever disk it is, no step more is left.
+        ensures left { steps_left self.new ≤ steps_left self.old }
+        ensures keeps { (s : State) (image : Image) → draft_at s.grants id ≡ None → Collects image s self.old
+            → Collects image s self.new }
+    {
+        let Some(cursor) = self.marks.cursor_of(id) else {
+            return;
+        };
+        if cursor >= OWN_PART {
+            return;
+        }
+        self.marks.set_cursor(id, OWN_PART);
     }
 }

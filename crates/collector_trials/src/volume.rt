@@ -218,7 +218,9 @@ impl Volume {
             return Some(Made::Marked);
         }
         if self.collector.has_grey() {
-            self.collector.scan(&mut self.disk, &self.directory).ok()?;
+            self.collector
+                .scan(&mut self.disk, &self.directory, None)
+                .ok()?;
             return Some(Made::Marked);
         }
         let taken = self.collector.condemn(&mut self.directory);

@@ -36,7 +36,7 @@ need_is i slot inside = slot_need_is i.view slot inside
 pub put_done : {D : Type 0} {g : Ghosts D} {d0 d1 : D} {k0 k1 : Kept} {was now : Drafting} (i : IndexView g d0 k0 was) (slot : ℕ) (what : Option Puid) (put : Option Swap) → DraftBecomes g i.view.graph i.view.ds i.view.id (filled_draft i.index slot what i.view.draft) d0 d1 k1 now
     → (is_some put ≡ true → AreClaimed (leaf_claims was.at was.leaves was.nodes (slot / 64)) (g.content d0) (g.content d1)) → (put ≡ None → what ≡ None) → (put ≡ None → (now ≡ was) × (k1 ≡ k0) × OnlyReads g 2 d0 d1)
     → SameBeside (slot / 64) (tree_in (g.content d0) (root_spelling was.root)) (tree_in (g.content d1) (root_spelling now.root)) → PutsInDraft i slot what d1 k1 now
-put_done i slot what None becomes claims empty spared beside = record { becomes = becomes; order = inl (empty refl, (spared refl).2.content); beside = beside }
+put_done i slot what None becomes claims empty spared beside = record { becomes = becomes; order = inl (empty refl, (spared refl).2.content, (spared refl).0); beside = beside }
 put_done i slot what (Some swap) becomes claims empty spared beside = record { becomes = becomes; order = inr (claims refl); beside = beside }
 
 module _ {D : Type 0} (g : Ghosts D) (slot floor : ℕ) (d0 d1 : D) (k0 k1 : Kept) (was now : Drafting) where

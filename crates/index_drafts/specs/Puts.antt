@@ -42,7 +42,7 @@ pub record PutsInDraft {D : Type 0} {g : Ghosts D} {old : D} {before : Kept} {wa
   pub becomes : DraftBecomes g i.view.graph i.view.ds i.view.id (filled_draft i.index slot what i.view.draft) old new
       after
       now
-  pub order : ((what ≡ None) × (g.content new ≡ g.content old))
+  pub order : ((what ≡ None) × (g.content new ≡ g.content old) × (now ≡ was))
       ⊎ AreClaimed (leaf_claims was.at was.leaves was.nodes (slot / 64)) (g.content old) (g.content new)
   pub beside : SameBeside (slot / 64) (tree_in (g.content old) (root_spelling was.root))
       (tree_in (g.content new) (root_spelling now.root))

@@ -8,6 +8,34 @@ ghost use Rattle.special_files.specs.View.{GoesHolding};
 use crate::draft::IndexDraft;
 use cfs_base::{Disk, Puid, Refused};
 use cyl_alloc::Space;
+use special_files::Draft;
+
+/// Makes a slot of a draft, which is an index's, hold this, or nothing. `Full` exactly where fewer blocks are Free than
+/// it takes and the floor: one for the slot's leaf where that isn't fresh, and one for the leaf's node where that isn't;
+/// nothing was done then. `Damaged` names a map block, with code 2, which is none or has no Free block, with code 12, or
+/// a node or the root block, with code 4, where a pointer leads past the disk. Takes no memory.
+pub fn put_in<D: Disk>(
+    draft: &mut Draft,
+    disk: &mut D,
+    space: &mut Space,
+    slot: u64,
+    what: Option<Puid>,
+    floor: u32,
+) -> Result<(), Refused>
+    requires on_disk { draft.old.at < D.blocks disk.old }
+    requires size { D.blocks disk.old ≡ 64 * length space.old.free }
+    requires within { 8 * slot + 8 ≤ draft.old.root.size }
+    requires slot { IsSlot what }
+    ensures puts { (i : IndexView D.Disk disk.old space.old draft.old) → GoesHolding D.Disk i.view.graph
+        (PutsInDraft i slot what disk.new space.new draft.new) disk.old disk.new result }
+    ensures need { (i : IndexView D.Disk disk.old space.old draft.old)
+        → draft_takes draft.old (slot / 64) ≡ slot_need slot i.view.draft }
+    ensures call { PutCall D.Disk slot floor disk.old disk.new space.old space.new draft.old draft.new result }
+{
+    space.has_room(draft.slot_takes(slot), floor)?;
+    draft.fill(disk, space, slot, what)?;
+    Ok(())
+}
 
 impl IndexDraft {
     /// Makes a slot hold this, or nothing.
@@ -29,9 +57,7 @@ impl IndexDraft {
             → draft_takes self.old (slot / 64) ≡ slot_need slot i.view.draft }
         ensures call { PutCall D.Disk slot floor disk.old disk.new space.old space.new self.old self.new result }
     {
-        space.has_room(self.draft.slot_takes(slot), floor)?;
-        self.draft.fill(disk, space, slot, what)?;
-        Ok(())
+        put_in(&mut self.draft, disk, space, slot, what, floor)
     }
 
     /// Puts an identifier of an object that the disk holds into a slot, whatever stood there. `Full` exactly where

@@ -22,6 +22,7 @@ use cfs_base::{BlockNo, Disk, Kind, Place, Puid, Refused};
 use cyl_alloc::Space;
 use index_ops::{bare_root, least, write_root};
 use intentions::barrier;
+use special_files::Draft;
 
 /// Makes the least-numbered Free block the root of a new object: it is Allocated and written, and then both outlast a
 /// crash. Until then the block is nobody's, as recovery sees it.
@@ -48,6 +49,49 @@ fn make_at<D: Disk>(
     write_root(disk, block, root)?;
     barrier(disk)?;
     Ok(())
+}
+
+/// Makes an object, and puts its identifier into a slot of a draft, which is an index's, whatever stood there. The object is there at once, with
+/// the least-numbered Free block as its root, and an abort of the draft leaves it there. A file is of size 0; an
+/// index has 8 bytes a slot, one slot or more, and the fill byte 0. `Full` exactly where fewer blocks are Free than
+/// 1 more than `put_in` takes, and the floor; nothing was done then. `Damaged` as in `put_in`, and it names block
+/// 0, with code 2, where that map is Free by what it says itself. Refused once the object is there it answers
+/// `Disk` that had tried: the object may be there then, and its identifier in no slot. Takes no memory.
+pub fn create_in<D: Disk>(
+    draft: &mut Draft,
+    disk: &mut D,
+    space: &mut Space,
+    slot: u64,
+    kind: Kind,
+    fill: u8,
+    size: u64,
+    word: u32,
+    floor: u32,
+) -> Result<Puid, Refused>
+    requires on_disk { draft.old.at < D.blocks disk.old }
+    requires size { D.blocks disk.old ≡ 64 * length space.old.free }
+    requires within { 8 * slot + 8 ≤ draft.old.root.size }
+    requires made { MayBeMade kind fill size }
+    ensures creates { (i : IndexView D.Disk disk.old space.old draft.old)
+        → spec.CreateEnds i slot (made_of kind fill size) word disk.new space.new draft.new result }
+    ensures need { (i : IndexView D.Disk disk.old space.old draft.old)
+        → draft_takes draft.old (slot / 64) ≡ slot_need slot i.view.draft }
+    ensures call { spec.CreateCall D.Disk slot floor disk.old disk.new space.old space.new draft.old draft.new
+        result }
+{
+    space.has_room(1 + draft.slot_takes(slot), floor)?;
+    let root = bare_root(kind, fill, size, word);
+    let block = least(disk, space)?;
+    make_at(disk, space, block, &root)?;
+    let made = Puid {
+        block: block.0,
+        word,
+    };
+    match draft.fill(disk, space, slot, Some(made)) {
+        Ok(_) => {}
+        Err(error) => return Err(error.after_try()),
+    }
+    Ok(made)
 }
 
 impl IndexDraft {
@@ -79,18 +123,16 @@ impl IndexDraft {
         ensures call { spec.CreateCall D.Disk slot floor disk.old disk.new space.old space.new self.old self.new
             result }
     {
-        space.has_room(1 + self.draft.slot_takes(slot), floor)?;
-        let root = bare_root(kind, fill, size, word);
-        let block = least(disk, space)?;
-        make_at(disk, space, block, &root)?;
-        let made = Puid {
-            block: block.0,
+        create_in(
+            &mut self.draft,
+            disk,
+            space,
+            slot,
+            kind,
+            fill,
+            size,
             word,
-        };
-        match self.draft.fill(disk, space, slot, Some(made)) {
-            Ok(_) => {}
-            Err(error) => return Err(error.after_try()),
-        }
-        Ok(made)
+            floor,
+        )
     }
 }

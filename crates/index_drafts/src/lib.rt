@@ -7,4 +7,6 @@ mod changing;
 mod creating;
 mod draft;
 
+pub use changing::put_in;
+pub use creating::create_in;
 pub use draft::IndexDraft;

@@ -1,6 +1,7 @@
 -- What may happen between two steps keeps what holds of a collection that marks.
 use Rattle.std.proofs.Common.{◌≡◌, ◌⊎◌, inl, inr, arith, List, [], ◌∷◌, ◌++◌, refl, sym, ◌∙◌, subst, true, Option, Some, None}
-use Rattle.marking.proofs.Words.{Changes, Colours, IsColoured, IsLeft, IsMarked, IsMarking, IsWaiting, OwesNothing, Puid, Rescue, State, Waits, is_index_there, is_remembered, is_there, object_at}
+use Rattle.marking.proofs.Words.{Changes, Colours, Grey, IsColoured, IsLeft, IsMarked, IsMarking, IsToRead, IsWaiting, OwesNothing, Puid, Rescue, State, Waits, is_index_there, is_remembered, is_there, object_at}
+use Rattle.std.proofs.Common.{ℕ, ◌≤◌, length-append}
 use Rattle.cfs_base.specs.declared.kind.Kind.TheVariants as kinds
 use Rattle.marking.proofs.Leaves.{kind_there, there_kind}
 use Rattle.marking.proofs.Reaches.{reach_more}
@@ -20,6 +21,12 @@ waits_either [] vs index x h = inr h
 waits_either (w ∷ ws) vs index x (inl here) = inl (inl here)
 waits_either (w ∷ ws) vs index x (inr later) = elim (waits_either ws vs index x later) [ inl a ↦ inl (inr a) | inr b ↦ inr b ]
 
+-- what is to be read at a place is so at each that comes later
+pub read_later : (grey : List Grey) (from : Option Puid) (place later : ℕ) → place ≤ later → IsToRead grey from place → IsToRead grey from later
+read_later [] from place later le h = h
+read_later (e ∷ es) from place later le (inl here) = inl (here.0, omega (arith, here.1, le))
+read_later (e ∷ es) from place later le (inr rest) = inr (read_later es from place later le rest)
+
 module _ (s t : State) (more : List Rescue) (change : Changes s t more) where
   pub there_still : (x : Puid) → is_there s.graph x ≡ true → is_there t.graph x ≡ true
   there_still x h = let kind = there_kind (object_at s.graph x) h in kind_there (object_at t.graph x) kind.0 (change.kinds x kind.0 kind.1)
@@ -38,10 +45,10 @@ module _ (s t : State) (more : List Rescue) (change : Changes s t more) where
     change_coloured : IsColoured t OwesNothing c (waiting ++ more)
     change_coloured = record {
       covered = λ from leaf x found live. elim (change.found from leaf x found) [
-        | inl old ↦ elim (is.covered from leaf x old live) [
+        | inl old ↦ elim (is.covered from old.before x old.there live) [
           | inl (IsMarked m) ↦ inl (IsMarked m)
           | inl (IsWaiting w) ↦ inl (IsWaiting (waits_first waiting more from x w))
-          | inl (IsLeft l) ↦ inl (IsLeft l)
+          | inl (IsLeft l) ↦ inl (IsLeft (read_later c.grey from old.before leaf old.earlier l))
           | inr none ↦ inr none
         ]
         | inr new ↦ inl (IsWaiting (waits_then waiting more from x new))
@@ -51,7 +58,7 @@ module _ (s t : State) (more : List Rescue) (change : Changes s t more) where
       once = is.once;
       rescues = rescued;
       stands = λ from leaf x found. elim (change.found from leaf x found) [
-        | inl old ↦ change.memory from x (is.stands from leaf x old)
+        | inl old ↦ change.memory from x (is.stands from old.before x old.there)
         | inr new ↦ (change.rescues from x new).0
       ];
     }
@@ -68,7 +75,10 @@ changes_then s t u more yet one two = record {
   root = two.root ∙ one.root;
   kinds = λ x kind h. two.kinds x kind (one.kinds x kind h);
   found = λ from leaf x h. elim (two.found from leaf x h) [
-    | inl mid ↦ elim (one.found from leaf x mid) [ inl old ↦ inl old | inr new ↦ inr (waits_first more yet from x new) ]
+    | inl mid ↦ elim (one.found from mid.before x mid.there) [
+      | inl old ↦ inl (record { before = old.before; earlier = omega (arith, old.earlier, mid.earlier); there = old.there })
+      | inr new ↦ inr (waits_first more yet from x new)
+    ]
     | inr new ↦ inr (waits_then more yet from x new)
   ];
   rescues = λ index x h. elim (waits_either more yet index x h) [
@@ -77,4 +87,5 @@ changes_then s t u more yet one two = record {
   ];
   memory = λ index x h. two.memory index x (one.memory index x h);
   leaves = λ c. omega (arith, one.leaves c, two.leaves c);
+  unread = λ c. omega (arith, one.unread c, two.unread c, length-append more yet);
 }

@@ -1,10 +1,15 @@
 -- Where nothing is grey and no rescue waits, exactly the objects that aren't marked may vanish.
 use Rattle.std.proofs.Common.{◌≡◌, ◌⊎◌, inl, inr, ℕ, List, [], ◌∷◌, refl, sym, ◌∙◌, ap, subst, Bool, true, false, cond, not, Option, Some, None}
-use Rattle.marking.proofs.Words.{Along, Collection, Colours, Grey, IsKept, IsLeft, IsMarked, IsMarking, IsToRead, IsWaiting, MayVanish, Puid, Rescue, Start, State, filter, has_pair, ids_of, is_among, is_found, is_live, is_marking, is_there, is_there-ids, or_cases, or_left, or_right, pair_from_index, pairs_of, rises-filter, same_puid, same_puid_is, there_from, unmarked}
+use Rattle.marking.proofs.Words.{Along, Collection, Colours, Grey, IsKept, IsLeft, IsMarked, IsMarking, IsToRead, IsWaiting, MayVanish, Puid, Rescue, Start, State, draft_at, filter, graph_pairs, has_pair, ids_of, is_among, is_found, is_live, is_marking, is_there, is_there-ids, list_any-append, object_at, or_cases, or_left, or_right, own_part, pairs_of, rises-filter, same_puid, same_puid_is, unmarked}
+use Rattle.std.proofs.Common.{◌+◌, ◌&&◌}
 use Rattle.ufs_model.specs.declared.collection.Collection.TheVariants as collections
 use Rattle.marking.proofs.Wells.{IsWell}
+use Rattle.ufs_model.specs.State.{draft_pairs}
+use Rattle.marking.proofs.Wells.{found_kind, draft_inside}
+use Rattle.marking.proofs.Places.{at_own, draft_stands}
+use Rattle.cfs_base.specs.declared.kind.Kind.TheVariants as kinds
 use Rattle.marking.proofs.Reaches.{WasReached}
-use Rattle.marking.proofs.Leaves.{pair_leaf}
+use Rattle.marking.proofs.Leaves.{pair_leaf, refers_leaf, kind_there}
 
 -- ---- of a list goes what fails a test, and no more
 
@@ -70,8 +75,18 @@ module _ (s : State) (well : IsWell s) (c : Colours) (none : c.grey ≡ []) (is 
     | inr owed ↦ absurd owed
   ]
 
+  -- a pair that stands now is found somewhere
+  pair_found : (i x : Puid) → has_pair (pairs_of s) i x ≡ true → (place : ℕ) × (is_found s (Some i) place x ≡ true)
+  pair_found i x at = elim (or_cases _ _ (sym (list_any-append (λ (e : Puid × Puid). same_puid i e.0 && same_puid x e.1) (graph_pairs s.graph) (draft_pairs s.grants)) ∙ at)) [
+    | inl own ↦ let leaf = pair_leaf s.graph well.ordered i x own in (own_part + leaf.0, at_own (draft_at s.grants i) (object_at s.graph i) leaf.0 x leaf.1)
+    | inr drafted ↦
+        let leaf = refers_leaf (draft_at s.grants i) x (well.pairs i x drafted) in
+        let stands = draft_stands (draft_at s.grants i) (object_at s.graph i) leaf.0 x (draft_inside s well i x leaf.0 leaf.1) leaf.1 in
+        (stands.place, stands.there)
+  ]
+
   along : (i x : Puid) → has_pair (pairs_of s) i x ≡ true → M i ≡ true → M x ≡ true
-  along i x at m = let leaf = pair_leaf s.graph well.ordered i x at in found_marked (Some i) leaf.0 x leaf.1 m
+  along i x at m = let place = pair_found i x at in found_marked (Some i) place.0 x place.1 m
 
   kept_marked : (x : Puid) → IsKept s x → M x ≡ true
   kept_marked x (Start at) = found_marked None 0 x at refl
@@ -91,8 +106,8 @@ module _ (s : State) (well : IsWell s) (c : Colours) (none : c.grey ≡ []) (is 
     there = λ x at. is_there-ids s.graph x ∙ (gone_fails M x (ids_of s.graph) at).0;
     none_kept = λ x kept. stays M x (ids_of s.graph) (kept_marked x kept);
     none_referred = λ i x at left.
-        let from = pair_from_index s.graph i x well.ordered at in
-        elim (goes_or_stays M i (ids_of s.graph) (sym (is_there-ids s.graph i) ∙ there_from s.graph i from.0 from.1)) [
+        let place = pair_found i x at in
+        elim (goes_or_stays M i (ids_of s.graph) (sym (is_there-ids s.graph i) ∙ kind_there (object_at s.graph i) kinds.Index (found_kind s well i place.0 x place.1))) [
           | inl goes ↦ cc
           | inr m ↦ stays M x (ids_of s.graph) (along i x at m)
         ];

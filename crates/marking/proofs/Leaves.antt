@@ -21,7 +21,7 @@ there_kind None h = cc
 there_kind (Some (objects.File f)) h = (_, refl)
 there_kind (Some (objects.Index i)) h = (kinds.Index, refl)
 
-no_file : (k : FileKind) → Some (file_kind k) ≡ Some kinds.Index → ⊥
+pub no_file : (k : FileKind) → Some (file_kind k) ≡ Some kinds.Index → ⊥
 no_file file_kinds.Normal h = cc
 no_file file_kinds.Special h = cc
 
@@ -73,10 +73,11 @@ leaf_refers (Some (objects.Index index)) leaf x h = whole x (64 * leaf) index.sl
 pub leaf_pair : (g : Graph) → rises (ids_of g) ≡ true → (i x : Puid) (leaf : ℕ) → in_leaf (object_at g i) leaf x ≡ true → has_pair (graph_pairs g) i x ≡ true
 leaf_pair g up i x leaf h = has_pair-refers g up i x ∙ leaf_refers (object_at g i) leaf x h
 
+-- what an object refers to stands in a leaf of it
+pub refers_leaf : (here : Option Object) (x : Puid) → refers here x ≡ true → (leaf : ℕ) × (in_leaf here leaf x ≡ true)
+refers_leaf None x h = cc
+refers_leaf (Some (objects.File f)) x h = cc
+refers_leaf (Some (objects.Index index)) x h = find_leaf (length index.slots) index.slots x (omega arith) h
+
 pub pair_leaf : (g : Graph) → rises (ids_of g) ≡ true → (i x : Puid) → has_pair (graph_pairs g) i x ≡ true → (leaf : ℕ) × (in_leaf (object_at g i) leaf x ≡ true)
-pair_leaf g up i x h = at (object_at g i) (sym (has_pair-refers g up i x) ∙ h)
-  where
-    at : (here : Option Object) → refers here x ≡ true → (leaf : ℕ) × (in_leaf here leaf x ≡ true)
-    at None h = cc
-    at (Some (objects.File f)) h = cc
-    at (Some (objects.Index index)) h = find_leaf (length index.slots) index.slots x (omega arith) h
+pair_leaf g up i x h = refers_leaf (object_at g i) x (sym (has_pair-refers g up i x) ∙ h)

@@ -1,5 +1,8 @@
 pub mod Leaves
+pub mod Places
+pub mod Sums
 pub mod Wells
+pub mod Unread
 pub mod Shades
 pub mod Reaches
 pub mod Steps
@@ -7,5 +10,8 @@ pub mod Condemned
 pub mod Changed
 pub mod Paces
 pub mod Replaced
+pub mod Puts
+pub mod Sorts
 pub mod Asked
 mod Words
+pub mod Ended

@@ -1,27 +1,20 @@
 -- Each scan raises the number of leaves read, no other step lowers it, and it is at most the number of blocks.
 use Rattle.std.proofs.Common.{◌≡◌, ◌⊎◌, inl, inr, ℕ, ◌+◌, ◌<◌, ◌≤◌, ◌==◌, List, [], ◌∷◌, ◌++◌, ◌-◌, ◌^◌, length, length-append, count_by, refl, sym, ◌∙◌, ap, subst, arith, Bool, true, false, cond, Option, Some, None}
-use Rattle.marking.proofs.Words.{AreOnce, Colours, Graph, Grey, Index, IsGrey, IsPaced, Kind, Object, Puid, Rescue, all_shaded, blocks_of, count_after, cursor_after, cursor_of, eqb-true, first_grey, has_number, is_at, is_index, is_live, is_some, kind_among, leaf_ids, lookup, moved, moved_first, nat_lt, nat_tests, next_held, object_at, or_cases, parents, puid_cmp, read, read_in, read_of, read_so_far, rescued, same_Some, same_puid, same_puid_is, same_puid_itself, scanned, shaded_as, shaded_in, sum_by, sum_by-cons}
+use Rattle.marking.proofs.Words.{AreOnce, Colours, Graph, Grey, Index, IsDraftIndex, IsGrey, IsPaced, Kind, Object, Puid, Rescue, State, all_shaded, blocks_of, count_after, added_with, cursor_of, draft_at, draft_step, draft_over, ended_from, eqb-true, first_grey, has_number, ids_of, if_held, is_among, is_at, is_index, is_live, is_some, is_there, is_there-ids, kind_among, lookup, moved, moved_at, moved_first, nat_le, nat_lt, nat_tests, next_held, none_marked, object_at, or_cases, own_part, own_step, parents, puid_cmp, read_in, read_of, read_so_far, rescued, same_Some, same_puid, same_puid_is, same_puid_itself, scanned, shaded_as, shaded_in, step_of, sum_by, sum_by-cons, unread, unread_at, unread_of, with_cursor}
+use Rattle.std.proofs.Common.{◌*◌}
+use Rattle.std.specs.Prelude.{option_map}
+use Rattle.std.proofs.lemmas.Bool.{lt-ltb, ltb-true, cases_Bool}
 use Rattle.ufs_model.specs.declared.object.Object.TheVariants as objects
+use Rattle.marking.proofs.Sums.{IsIn, sum_more, sum_raised, sum_lowered, count_all}
+use Rattle.marking.specs.Pace.{drafted_leaves, reading_at}
 use Rattle.marking.proofs.Shades.{coloured, colour_more}
 use Rattle.marking.proofs.Steps.{find_on, first_is}
 
--- ---- sums
+-- ---- what is found is in the list
 
-abbrev IsIn : {X : Type 0} → X → List X → Type 0
-IsIn x [] = ⊥
-IsIn x (y ∷ ys) = (y ≡ x) ⊎ IsIn x ys
-
-module _ {X : Type 0} (f h : X → ℕ) (le : (x : X) → f x ≤ h x) where
-  pub sum_more : (xs : List X) → sum_by f xs ≤ sum_by h xs
-  sum_more [] = omega arith
-  sum_more (x ∷ xs) = omega (arith, le x, sum_more xs, sum_by-cons f x xs, sum_by-cons h x xs)
-
-  sum_raised : (x : X) → f x + 1 ≤ h x → (xs : List X) → IsIn x xs → sum_by f xs + 1 ≤ sum_by h xs
-  sum_raised x raised [] at = absurd at
-  sum_raised x raised (y ∷ ys) (inl here) =
-      let now : f y + 1 ≤ h y = subst (λ (z : X). f z + 1 ≤ h z) (sym here) raised in
-      omega (arith, now, sum_more ys, sum_by-cons f y ys, sum_by-cons h y ys)
-  sum_raised x raised (y ∷ ys) (inr later) = omega (arith, le y, sum_raised x raised ys later, sum_by-cons f y ys, sum_by-cons h y ys)
+id_in : (x : Puid) (ids : List Puid) → is_among x ids ≡ true → IsIn x ids
+id_in x [] h = cc
+id_in x (y ∷ ys) h = elim (or_cases (same_puid x y) (is_among x ys) h) [ inl here ↦ inl (sym (same_puid_is x y here)) | inr later ↦ inr (id_in x ys later) ]
 
 found_in : (k : Puid) (o : Object) (es : List (Puid × Object)) → lookup (is_at (puid_cmp k)) es ≡ Some o → IsIn (k, o) es
 found_in k o [] h = cc
@@ -36,7 +29,7 @@ number_in n (m ∷ ms) h = elim (or_cases (m == n) (has_number n ms) h) [ inl he
 
 -- ---- counts of leaves
 
-below_less : (a b : ℕ) → a ≤ b → (m : ℕ) → cond (nat_lt m a) 1 0 ≤ cond (nat_lt m b) 1 0
+pub below_less : (a b : ℕ) → a ≤ b → (m : ℕ) → cond (nat_lt m a) 1 0 ≤ cond (nat_lt m b) 1 0
 below_less a b le m = grind (arith, nat_tests)
 
 below_raised : (a b leaf : ℕ) → a ≤ leaf → leaf < b → cond (nat_lt leaf a) 1 0 + 1 ≤ cond (nat_lt leaf b) 1 0
@@ -45,12 +38,8 @@ below_raised a b leaf on less = grind (arith, nat_tests)
 at_most_one : (a m : ℕ) → cond (nat_lt m a) 1 0 ≤ 1
 at_most_one a m = grind (arith, nat_tests)
 
-count_all : (ns : List ℕ) → sum_by (λ n. 1) ns ≡ length ns
-count_all [] = refl
-count_all (n ∷ ns) = sum_by-cons (λ n. 1) n ns ∙ omega (arith, count_all ns)
-
-below_most : (a : ℕ) (ns : List ℕ) → count_by (λ n. nat_lt n a) ns ≤ length ns
-below_most a ns = omega (arith, sum_more (λ n. cond (nat_lt n a) 1 0) (λ n. 1) (at_most_one a) ns, count_all ns)
+below_most : (a : ℕ) (ns : List ℕ) → count_by (λ n. nat_lt (own_part + n) a) ns ≤ length ns
+below_most a ns = omega (arith, sum_more (λ n. cond (nat_lt (own_part + n) a) 1 0) (λ n. 1) (λ n. at_most_one a (own_part + n)) ns, count_all ns)
 
 -- ---- at most the blocks
 
@@ -151,48 +140,275 @@ module _ (marked : ℕ → Bool) (e : Grey) (rest : List Grey) (once : AreOnce (
   move_raises g at next le raised =
       sum_raised (read_in before) (read_in (moved next before)) (each next le) (e.id, objects.Index i) (omega (arith, its_read next, was_read, raised)) g.objects (found_in e.id (objects.Index i) g.objects at)
 
-  raises : (g : Graph) → object_at g e.id ≡ Some (objects.Index i) → (directory : List (Puid × Kind)) (o : Option ℕ) → next_held e.cursor i ≡ o → read_so_far g before + 1 ≤ read_so_far g (read directory i o before)
-  raises g at directory None none = move_raises g at None (λ held. read_few (Some e.cursor) held) (omega (arith, below_most e.cursor i.held))
-  raises g at directory (Some leaf) next =
-      let here = find_on e.cursor leaf i.held next in
-      let up : read_so_far g before + 1 ≤ read_so_far g (moved (cursor_after leaf i) before) = moves (next_held (leaf + 1) i) here.0 here.1 in
-      omega (arith, up, keeps_read g (moved (cursor_after leaf i) before) _ (all_keep directory (leaf_ids i leaf) (moved (cursor_after leaf i) before)))
+  -- it goes on from a place that comes later
+  reads_on : (next : ℕ) → e.cursor ≤ next → (held : List ℕ) → read_of (Some e.cursor) held ≤ read_of (Some next) held
+  reads_on next le = sum_more (λ n. cond (nat_lt (own_part + n) e.cursor) 1 0) (λ n. cond (nat_lt (own_part + n) next) 1 0) (λ n. below_less e.cursor next le (own_part + n))
+
+  -- a leaf of the index itself was read, or none is left
+  own_raises : (g : Graph) → object_at g e.id ≡ Some (objects.Index i) → (o : Option ℕ) → next_held (e.cursor - own_part) i ≡ o → read_so_far g before + 1 ≤ read_so_far g (moved (own_step i o).1 before)
+  own_raises g at None none = move_raises g at None (λ held. read_few (Some e.cursor) held) (omega (arith, below_most e.cursor i.held))
+  own_raises g at (Some leaf) next =
+      let here = find_on (e.cursor - own_part) leaf i.held next in
+      moves (next_held (leaf + 1) i) (omega (arith, here.0)) here.1
     where
-      moves : (o : Option ℕ) → e.cursor ≤ leaf → has_number leaf i.held ≡ true → read_so_far g before + 1 ≤ read_so_far g (moved (cond (is_some o) (Some (leaf + 1)) None) before)
+      moves : (o : Option ℕ) → e.cursor ≤ own_part + leaf → has_number leaf i.held ≡ true → read_so_far g before + 1 ≤ read_so_far g (moved (cond (is_some o) (Some (own_part + (leaf + 1))) None) before)
       moves None on held = move_raises g at None (λ h. read_few (Some e.cursor) h) (omega (arith, below_most e.cursor i.held))
       moves (Some n) on held =
-          move_raises g at (Some (leaf + 1)) (sum_more (λ n. cond (nat_lt n e.cursor) 1 0) (λ n. cond (nat_lt n (leaf + 1)) 1 0) (below_less e.cursor (leaf + 1) (omega (arith, on))))
-          (sum_raised (λ n. cond (nat_lt n e.cursor) 1 0) (λ n. cond (nat_lt n (leaf + 1)) 1 0) (below_less e.cursor (leaf + 1) (omega (arith, on))) leaf (below_raised e.cursor (leaf + 1) leaf on (omega arith)) i.held (number_in leaf i.held held))
+          move_raises g at (Some (own_part + (leaf + 1))) (reads_on (own_part + (leaf + 1)) (omega (arith, on)))
+          (sum_raised (λ n. cond (nat_lt (own_part + n) e.cursor) 1 0) (λ n. cond (nat_lt (own_part + n) (own_part + (leaf + 1))) 1 0) (λ n. below_less e.cursor (own_part + (leaf + 1)) (omega (arith, on)) (own_part + n)) leaf
+          (below_raised e.cursor (own_part + (leaf + 1)) (own_part + leaf) on (omega arith)) i.held (number_in leaf i.held held))
 
-pub scan_raises : (g : Graph) (c : Colours) (e : Grey) (i : Index) (directory : List (Puid × Kind)) → first_grey c ≡ Some e → AreOnce c.grey → c.marked e.id.block ≡ true → object_at g e.id ≡ Some (objects.Index i)
-    → read_so_far g c + 1 ≤ read_so_far g (scanned directory i e.cursor c)
-scan_raises g c e i directory first once marked at =
+  -- no step lowers what was read of the indices themselves
+  move_keeps : (g : Graph) (next : Option ℕ) → ((held : List ℕ) → read_of (Some e.cursor) held ≤ read_of next held) → read_so_far g before ≤ read_so_far g (moved next before)
+  move_keeps g next le = sum_more (read_in before) (read_in (moved next before)) (each next le) g.objects
+
+  -- ---- what is left of drafts
+
+  reading_now : (next : Option ℕ) → reading_at (moved next before) e.id ≡ next
+  reading_now next = rw is_marked (cursor_now next)
+
+  reading_was : reading_at before e.id ≡ Some e.cursor
+  reading_was = rw (is_marked, same_puid_itself e.id) refl
+
+  reading_else : (next : Option ℕ) (id : Puid) → same_puid id e.id ≡ false → reading_at (moved next before) id ≡ reading_at before id
+  reading_else next id other = ap (λ (o : Option ℕ). cond (marked id.block) o (Some 0)) (cursor_else next id other)
+
+  move_lowers : (s : State) (next : Option ℕ) (n : ℕ) → is_there s.graph e.id ≡ true
+      → ((b : Bool) (held : List ℕ) → unread_of b next held ≤ unread_of b (Some e.cursor) held)
+      → unread_of (is_some (draft_at s.grants e.id)) next (drafted_leaves (draft_at s.grants e.id) (object_at s.graph e.id)) + n
+      ≤ unread_of (is_some (draft_at s.grants e.id)) (Some e.cursor) (drafted_leaves (draft_at s.grants e.id) (object_at s.graph e.id)) → unread s (moved next before) + n ≤ unread s before
+  move_lowers s next n there le low =
+      sum_lowered (unread_at s (moved next before)) (unread_at s before) each_id e.id n (rw (reading_now next, reading_was) low) (ids_of s.graph) (id_in e.id (ids_of s.graph) (sym (is_there-ids s.graph e.id) ∙ there))
+    where
+      each_id : (id : Puid) → unread_at s (moved next before) id ≤ unread_at s before id
+      each_id id = elim (same_puid id e.id) as (λ t. same_puid id e.id ≡ t → unread_at s (moved next before) id ≤ unread_at s before id) [
+        | true ↦ λ is. rw (same_puid_is id e.id is, reading_now next, reading_was) (le (is_some (draft_at s.grants e.id)) (drafted_leaves (draft_at s.grants e.id) (object_at s.graph e.id)))
+        | false ↦ λ is. rw (reading_else next id is) (omega arith)
+      ] refl
+
+-- ---- how much is left of a draft
+
+-- it falls as a cursor moves on
+unread_later : (a b : ℕ) → a ≤ b → (has : Bool) (held : List ℕ) → unread_of has (Some b) held ≤ unread_of has (Some a) held
+unread_later a b le has held = elim (cases_Bool (nat_lt b own_part)) [
+  | inl in_draft ↦ let less : nat_lt a own_part ≡ true = lt-ltb a own_part (let low = ltb-true b own_part in_draft in omega (arith, le, low)) in
+      let few = sum_more (λ leaf. cond (nat_le b leaf) 1 0) (λ leaf. cond (nat_le a leaf) 1 0) (λ leaf. grind (arith, nat_tests)) held in
+      rw (in_draft, less) (omega (arith, few))
+  | inr past ↦ rw past (omega arith)
+]
+
+unread_end : (a : ℕ) (has : Bool) (held : List ℕ) → unread_of has None held ≤ unread_of has (Some a) held
+unread_end a has held = omega arith
+
+-- in an index's own part it is 0
+pub unread_past : (a b : ℕ) → own_part ≤ b → (has : Bool) (held : List ℕ) → unread_of has (Some b) held ≤ unread_of has (Some a) held
+unread_past a b le has held = let past : nat_lt b own_part ≡ false = grind (arith, nat_tests) in rw past (omega arith)
+
+unread_if_held : (j : Index) (from a b : ℕ) → own_part ≤ b → (has : Bool) (held : List ℕ) → unread_of has (if_held j from b) held ≤ unread_of has (Some a) held
+unread_if_held j from a b le has held = elim (next_held from j) as (λ o. unread_of has (cond (is_some o) (Some b) None) held ≤ unread_of has (Some a) held) [ None ↦ omega arith | Some n ↦ unread_past a b le has held ]
+
+-- past a leaf that is held there is less
+unread_passed : (cursor leaf b : ℕ) (held : List ℕ) → cursor < own_part → cursor ≤ leaf → leaf < b → has_number leaf held ≡ true → unread_of true (Some b) held + 1 ≤ unread_of true (Some cursor) held
+unread_passed cursor leaf b held inside on less at = rw (lt-ltb cursor own_part inside) (elim (nat_lt b own_part) as (λ t. cond t (count_by (λ l. nat_le b l) held + 1) 0 + 1 ≤ count_by (λ l. nat_le cursor l) held + 1) [
+  | true ↦
+      let raised = sum_raised (λ l. cond (nat_le b l) 1 0) (λ l. cond (nat_le cursor l) 1 0) (λ l. grind (arith, nat_tests)) leaf (below_passed cursor leaf b on less) held (number_in leaf held at) in
+      omega (arith, raised)
+  | false ↦ omega arith
+])
+  where
+    below_passed : (cursor leaf b : ℕ) → cursor ≤ leaf → leaf < b → cond (nat_le b leaf) 1 0 + 1 ≤ cond (nat_le cursor leaf) 1 0
+    below_passed cursor leaf b on less = grind (arith, nat_tests)
+
+unread_ends : (cursor : ℕ) (held : List ℕ) → cursor < own_part → (o : Option ℕ) → ((b : ℕ) → o ≡ Some b → own_part ≤ b) → unread_of true o held + 1 ≤ unread_of true (Some cursor) held
+unread_ends cursor held inside None past = rw (lt-ltb cursor own_part inside) (omega arith)
+unread_ends cursor held inside (Some b) past = let le = past b refl in let none : nat_lt b own_part ≡ false = grind (arith, nat_tests) in rw (lt-ltb cursor own_part inside, none) (omega arith)
+
+if_held_is : (j : Index) (from to b : ℕ) → if_held j from to ≡ Some b → b ≡ to
+if_held_is j from to b h = elim (next_held from j) as (λ o. cond (is_some o) (Some to) None ≡ Some b → b ≡ to) [ None ↦ λ no. cc | Some n ↦ λ is. sym (same_Some to b is) ] h
+
+-- a step in the draft's part leaves less of it
+draft_lowers : (d j : Index) (cursor : ℕ) → cursor < own_part → unread_of true (draft_step d j (next_held cursor d)).1 d.held + 1 ≤ unread_of true (Some cursor) d.held
+draft_lowers d j cursor inside = elim (next_held cursor d) as (λ o. next_held cursor d ≡ o → unread_of true (draft_step d j o).1 d.held + 1 ≤ unread_of true (Some cursor) d.held) [
+  | None ↦ λ none. unread_ends cursor d.held inside (if_held j 0 own_part) (λ b is. omega (arith, if_held_is j 0 own_part b is))
+  | Some leaf ↦ λ next.
+      let here = find_on cursor leaf d.held next in
+      elim (next_held (leaf + 1) d) as (λ o. unread_of true (cond (is_some o) (Some (leaf + 1)) (if_held j 0 own_part)) d.held + 1 ≤ unread_of true (Some cursor) d.held) [
+        | None ↦ unread_ends cursor d.held inside (if_held j 0 own_part) (λ b is. omega (arith, if_held_is j 0 own_part b is))
+        | Some n ↦ unread_passed cursor leaf (leaf + 1) d.held inside here.0 (omega arith) here.1
+      ]
+] refl
+
+-- and moves on
+draft_moves : (d j : Index) (cursor : ℕ) → cursor < own_part → (P : Option ℕ → Type 0) → P None → ((b : ℕ) → cursor ≤ b → P (Some b)) → P (draft_step d j (next_held cursor d)).1
+draft_moves d j cursor inside P none some = elim (next_held cursor d) as (λ o. next_held cursor d ≡ o → P (draft_step d j o).1) [
+  | None ↦ λ is. own
+  | Some leaf ↦ λ next.
+      let here = find_on cursor leaf d.held next in
+      elim (next_held (leaf + 1) d) as (λ o. P (cond (is_some o) (Some (leaf + 1)) (if_held j 0 own_part))) [ None ↦ own | Some n ↦ some (leaf + 1) (omega (arith, here.0)) ]
+] refl
+  where
+    own : P (if_held j 0 own_part)
+    own = elim (next_held 0 j) as (λ o. P (cond (is_some o) (Some own_part) None)) [ None ↦ none | Some n ↦ some own_part (omega (arith, inside)) ]
+
+-- each scan reads a leaf of an index itself or ends it, or leaves less of a draft
+pub record Scanned (s : State) (c d : Colours) : Type 0 where
+  pub reads : read_so_far s.graph c ≤ read_so_far s.graph d
+  pub left : unread s d ≤ unread s c
+  pub more : (read_so_far s.graph c + 1 ≤ read_so_far s.graph d) ⊎ (unread s d + 1 ≤ unread s c)
+
+module _ (s : State) (marked : ℕ → Bool) (e : Grey) (rest : List Grey) (once : AreOnce (e ∷ rest)) (is_marked : marked e.id.block ≡ true) (i : Index) (at : object_at s.graph e.id ≡ Some (objects.Index i)) where
+  own_scans : Scanned s (record { marked = marked; grey = e ∷ rest }) (moved (own_step i (next_held (e.cursor - own_part) i)).1 (record { marked = marked; grey = e ∷ rest }))
+  own_scans = record { reads = omega (arith, raised); left = omega (arith, lowered); more = inl raised }
+    where
+      raised : read_so_far s.graph (record { marked = marked; grey = e ∷ rest }) + 1 ≤ read_so_far s.graph (moved (own_step i (next_held (e.cursor - own_part) i)).1 (record { marked = marked; grey = e ∷ rest }))
+      raised = own_raises marked e rest once is_marked i s.graph at (next_held (e.cursor - own_part) i) refl
+
+      step : (b : Bool) (held : List ℕ) → unread_of b (own_step i (next_held (e.cursor - own_part) i)).1 held ≤ unread_of b (Some e.cursor) held
+      step b held = elim (next_held (e.cursor - own_part) i) as (λ o. unread_of b (own_step i o).1 held ≤ unread_of b (Some e.cursor) held) [ None ↦ omega arith | Some leaf ↦ unread_if_held i (leaf + 1) e.cursor (own_part + (leaf + 1)) (omega arith) b held ]
+
+      lowered : unread s (moved (own_step i (next_held (e.cursor - own_part) i)).1 (record { marked = marked; grey = e ∷ rest })) + 0 ≤ unread s (record { marked = marked; grey = e ∷ rest })
+      lowered = move_lowers marked e rest once is_marked i s (own_step i (next_held (e.cursor - own_part) i)).1 0 (ap is_some at) step
+          (let less = step (is_some (draft_at s.grants e.id)) (drafted_leaves (draft_at s.grants e.id) (object_at s.graph e.id)) in omega (arith, less))
+
+  draft_scans : (d : Index) → draft_at s.grants e.id ≡ Some (objects.Index d) → e.cursor < own_part
+      → Scanned s (record { marked = marked; grey = e ∷ rest }) (moved (draft_step d i (next_held e.cursor d)).1 (record { marked = marked; grey = e ∷ rest }))
+  draft_scans d is inside = record {
+    reads = draft_moves d i e.cursor inside (λ o. read_so_far s.graph (record { marked = marked; grey = e ∷ rest }) ≤ read_so_far s.graph (moved o (record { marked = marked; grey = e ∷ rest })))
+        (move_keeps marked e rest once is_marked i s.graph None (λ held. read_few (Some e.cursor) held))
+        (λ b le. move_keeps marked e rest once is_marked i s.graph (Some b) (reads_on marked e rest once is_marked i b le));
+    left = omega (arith, lowered);
+    more = inr lowered;
+  }
+    where
+      lowered : unread s (moved (draft_step d i (next_held e.cursor d)).1 (record { marked = marked; grey = e ∷ rest })) + 1 ≤ unread s (record { marked = marked; grey = e ∷ rest })
+      lowered = move_lowers marked e rest once is_marked i s (draft_step d i (next_held e.cursor d)).1 1 (ap is_some at)
+          (draft_moves d i e.cursor inside (λ o. (b : Bool) (held : List ℕ) → unread_of b o held ≤ unread_of b (Some e.cursor) held) (unread_end e.cursor) (λ b le. unread_later e.cursor b le))
+          (rw is (draft_lowers d i e.cursor inside))
+
+-- shading leaves both
+unread_most : (has : Bool) (k : Option ℕ) (held : List ℕ) → unread_of has k held ≤ unread_of has (Some 0) held
+unread_most has None held = omega arith
+unread_most has (Some b) held = unread_later 0 b (omega arith) has held
+
+keeps_unread : (s : State) (c d : Colours) → Keeps c d → unread s d ≤ unread s c
+keeps_unread s c d keeps = sum_more (unread_at s d) (unread_at s c) each (ids_of s.graph)
+  where
+    each : (id : Puid) → unread_at s d id ≤ unread_at s c id
+    each id = elim (c.marked id.block) as (λ t. c.marked id.block ≡ t → unread_at s d id ≤ unread_of (is_some (draft_at s.grants id)) (cond t (cursor_of c.grey id) (Some 0)) (drafted_leaves (draft_at s.grants id) (object_at s.graph id))) [
+      | true ↦ λ m. rw (keeps.marks id.block m, keeps.cursors id m) (omega arith)
+      | false ↦ λ m. unread_most (is_some (draft_at s.grants id)) (reading_at d id) (drafted_leaves (draft_at s.grants id) (object_at s.graph id))
+    ] refl
+
+then_shaded : (s : State) (c d : Colours) (directory : List (Puid × Kind)) (ids : List Puid) → Scanned s c d → Scanned s c (all_shaded directory ids d)
+then_shaded s c d directory ids is =
+    let keeps = all_keep directory ids d in
+    let reads = keeps_read s.graph d (all_shaded directory ids d) keeps in
+    let left = keeps_unread s d (all_shaded directory ids d) keeps in
+    record { reads = omega (arith, is.reads, reads); left = omega (arith, is.left, left); more = elim is.more [ inl r ↦ inl (omega (arith, r, reads)) | inr l ↦ inr (omega (arith, l, left)) ] }
+
+scan_at : (s : State) (marked : ℕ → Bool) (e : Grey) (rest : List Grey) → AreOnce (e ∷ rest) → marked e.id.block ≡ true → (i : Index) → object_at s.graph e.id ≡ Some (objects.Index i) → (draft : Option Index) → IsDraftIndex (draft_at s.grants e.id) draft
+    → Scanned s (record { marked = marked; grey = e ∷ rest }) (moved (step_of draft i e.cursor).1 (record { marked = marked; grey = e ∷ rest }))
+scan_at s marked e rest once m i at None none = own_scans s marked e rest once m i at
+scan_at s marked e rest once m i at (Some d) is = elim (nat_lt e.cursor own_part) as (λ t. nat_lt e.cursor own_part ≡ t
+    → Scanned s (record { marked = marked; grey = e ∷ rest }) (moved (cond t (draft_step d i (next_held e.cursor d)) (own_step i (next_held (e.cursor - own_part) i))).1 (record { marked = marked; grey = e ∷ rest }))) [
+      | true ↦ λ less. draft_scans s marked e rest once m i at d is (ltb-true e.cursor own_part less)
+      | false ↦ λ past. own_scans s marked e rest once m i at
+    ] refl
+
+pub scan_is : (s : State) (c : Colours) (e : Grey) (i : Index) (draft : Option Index) (directory : List (Puid × Kind)) → first_grey c ≡ Some e → AreOnce c.grey → c.marked e.id.block ≡ true → object_at s.graph e.id ≡ Some (objects.Index i)
+    → IsDraftIndex (draft_at s.grants e.id) draft → Scanned s c (scanned directory draft i e.cursor c)
+scan_is s c e i draft directory first once marked at is =
     let f = first_is c e first in
-    subst (λ (grey : List Grey). read_so_far g (record c { grey = grey }) + 1 ≤ read_so_far g (scanned directory i e.cursor (record c { grey = grey }))) (sym f.1)
-    (raises c.marked e f.0 (subst AreOnce f.1 once) marked i g at directory (next_held e.cursor i) refl)
+    subst (λ (grey : List Grey). Scanned s (record c { grey = grey }) (scanned directory draft i e.cursor (record c { grey = grey }))) (sym f.1)
+    (then_shaded s _ _ directory (step_of draft i e.cursor).0 (scan_at s c.marked e f.0 (subst AreOnce f.1 once) marked i at draft is))
+
+-- ---- a draft ends
+
+cursor_there : (i : Puid) (to : ℕ) (grey : List Grey) → cursor_of (moved_at i to grey) i ≡ option_map (λ cursor. to) (cursor_of grey i)
+cursor_there i to [] = refl
+cursor_there i to (e ∷ es) = elim (same_puid i e.id) as (λ t. same_puid i e.id ≡ t
+    → cursor_of (cond t (record e { cursor = to } ∷ es) (e ∷ moved_at i to es)) i ≡ option_map (λ cursor. to) (cond t (Some e.cursor) (cursor_of es i))) [
+      | true ↦ λ is. rw is refl
+      | false ↦ λ is. rw is (cursor_there i to es)
+    ] refl
+
+cursor_elsewhere : (i id : Puid) (to : ℕ) → same_puid i id ≡ false → (grey : List Grey) → cursor_of (moved_at i to grey) id ≡ cursor_of grey id
+cursor_elsewhere i id to other [] = refl
+cursor_elsewhere i id to other (e ∷ es) = elim (same_puid i e.id) as (λ t. same_puid i e.id ≡ t → cursor_of (cond t (record e { cursor = to } ∷ es) (e ∷ moved_at i to es)) id ≡ cursor_of (e ∷ es) id) [
+  | true ↦ λ here. elim (same_puid id e.id) as (λ t. same_puid id e.id ≡ t → cond t (Some to) (cursor_of es id) ≡ cond t (Some e.cursor) (cursor_of es id)) [
+    | true ↦ λ is. let same : same_puid i id ≡ true = ap (same_puid i) (same_puid_is id e.id is) ∙ here in cc
+    | false ↦ λ is. refl
+  ] refl
+  | false ↦ λ apart. ap (cond (same_puid id e.id) (Some e.cursor)) (cursor_elsewhere i id to other es)
+] refl
+
+-- the cursor of an index stands in its draft's part, and is put past it
+module _ (s : State) (c : Colours) (i : Puid) (cursor : ℕ) (is : cursor_of c.grey i ≡ Some cursor) (inside : cursor < own_part) where
+  now_at : (id : Puid) (P : Option ℕ → Option ℕ → Type 0) → ((o : Option ℕ) → P o o) → P (Some cursor) (Some own_part) → P (cursor_of c.grey id) (cursor_of (with_cursor i own_part c).grey id)
+  now_at id P same new = elim (same_puid i id) as (λ t. same_puid i id ≡ t → P (cursor_of c.grey id) (cursor_of (with_cursor i own_part c).grey id)) [
+    | true ↦ λ here. subst (λ (k : Puid). P (cursor_of c.grey k) (cursor_of (with_cursor i own_part c).grey k)) (same_puid_is i id here) (rw (cursor_there i own_part c.grey, is) new)
+    | false ↦ λ other. rw (cursor_elsewhere i id own_part other c.grey) (same (cursor_of c.grey id))
+  ] refl
+
+  reads : (e : Puid × Object) → read_in c e ≤ read_in (with_cursor i own_part c) e
+  reads (id, objects.File f) = omega arith
+  reads (id, objects.Index j) = elim (c.marked id.block) as (λ t. cond t (read_of (cursor_of c.grey id) j.held) 0 ≤ cond t (read_of (cursor_of (with_cursor i own_part c).grey id) j.held) 0) [
+    | true ↦ now_at id (λ a b. read_of a j.held ≤ read_of b j.held) (λ o. omega arith)
+        (sum_more (λ n. cond (nat_lt (own_part + n) cursor) 1 0) (λ n. cond (nat_lt (own_part + n) own_part) 1 0) (λ n. below_less cursor own_part (omega (arith, inside)) (own_part + n)) j.held)
+    | false ↦ omega arith
+  ]
+
+  left : (id : Puid) → unread_at s (with_cursor i own_part c) id ≤ unread_at s c id
+  left id =
+      let has = is_some (draft_at s.grants id) in
+      let held = drafted_leaves (draft_at s.grants id) (object_at s.graph id) in
+      elim (c.marked id.block) as (λ t. unread_of has (cond t (cursor_of (with_cursor i own_part c).grey id) (Some 0)) held ≤ unread_of has (cond t (cursor_of c.grey id) (Some 0)) held) [
+        | true ↦ now_at id (λ a b. unread_of has b held ≤ unread_of has a held) (λ o. omega arith) (unread_past cursor own_part (omega arith) has held)
+        | false ↦ omega arith
+      ]
+
+  paced : (waiting : List Rescue) (volume steps added : ℕ) → IsPaced s c waiting volume steps added → IsPaced s (with_cursor i own_part c) waiting volume steps added
+  paced waiting volume steps added pace less = omega (arith, pace less, sum_more (read_in c) (read_in (with_cursor i own_part c)) reads s.graph.objects, sum_more (unread_at s (with_cursor i own_part c)) (unread_at s c) left (ids_of s.graph))
+
+pub pace_ended : (s : State) (c : Colours) (i : Puid) (waiting : List Rescue) (volume steps added : ℕ) → IsPaced s c waiting volume steps added → IsPaced s (draft_over i c) waiting volume steps added
+pace_ended s c i waiting volume steps added pace = at (cursor_of c.grey i) refl
+  where
+    at : (o : Option ℕ) → cursor_of c.grey i ≡ o → IsPaced s (ended_from o i c) waiting volume steps added
+    at None is = pace
+    at (Some cursor) is = elim (nat_lt cursor own_part) as (λ b. nat_lt cursor own_part ≡ b → IsPaced s (cond b (with_cursor i own_part c) c) waiting volume steps added) [ true ↦ λ less. paced s c i cursor is (ltb-true cursor own_part less) waiting volume steps added pace | false ↦ λ past. pace ] refl
 
 -- ---- the steps
 
-counted : (n : ℕ) → count_after n ≤ n + 1
-counted n = omega arith
+count_up : (n : ℕ) → count_after n ≤ n + 1
+count_up n = omega arith
 
-pub pace_begin : (g : Graph) (c : Colours) → IsPaced g c [] 1 0
-pace_begin g c less = omega arith
-
-pub pace_take : (g : Graph) (c : Colours) (directory : List (Puid × Kind)) (r : Rescue) (rest : List Rescue) (steps added : ℕ) → IsPaced g c (r ∷ rest) steps added → IsPaced g (rescued directory r c) rest (count_after steps) added
-pace_take g c directory r rest steps added pace less = omega (arith, pace less, counted steps, keeps_read g c (rescued directory r c) (rescued_keeps directory r c))
-
-pub pace_scan : (g : Graph) (c d : Colours) (waiting : List Rescue) (steps added : ℕ) → read_so_far g c + 1 ≤ read_so_far g d → IsPaced g c waiting steps added → IsPaced g d waiting (count_after steps) added
-pace_scan g c d waiting steps added more pace less = omega (arith, pace less, counted steps, more)
-
-pub pace_rescue : (g : Graph) (c : Colours) (waiting : List Rescue) (r : Rescue) (steps added : ℕ) → IsPaced g c waiting steps added → IsPaced g c (waiting ++ r ∷ []) steps (count_after added)
-pace_rescue g c waiting r steps added pace less = omega (arith, pace (omega (arith, less)), length-append waiting (r ∷ []), few added less)
+counted_is : (more : List Rescue) (n : ℕ) → added_with more n < 2 ^ 64 - 1 → added_with more n ≡ n + length more
+counted_is [] n less = omega arith
+counted_is (r ∷ rs) n less = let rest = counted_is rs (count_after n) less in let one = few n (omega (arith, less, rest)) in rest ∙ omega (arith, one)
   where
     few : (a : ℕ) → count_after a < 2 ^ 64 - 1 → count_after a ≡ a + 1
     few a h = omega (arith, h)
 
-pub pace_change : (g h : Graph) (c : Colours) (waiting : List Rescue) (steps added : ℕ) → read_so_far g c ≤ read_so_far h c → IsPaced g c waiting steps added → IsPaced h c waiting steps added
-pace_change g h c waiting steps added more pace less = omega (arith, pace less, more)
+pub pace_begin : (s : State) (c : Colours) (volume : ℕ) → unread s none_marked ≤ volume → IsPaced s c [] volume 1 0
+pace_begin s c volume few less =
+    let most = sum_more (unread_at s c) (unread_at s none_marked) (λ id. unread_most (is_some (draft_at s.grants id)) (reading_at c id) (drafted_leaves (draft_at s.grants id) (object_at s.graph id))) (ids_of s.graph) in
+    omega (arith, few, most)
 
-pub pace_end : (g : Graph) (c : Colours) (steps added blocks : ℕ) → IsPaced g c [] steps added → added < 2 ^ 64 - 1 → sum_by (λ e. blocks_of e.1) g.objects ≤ blocks → steps ≤ 1 + added + blocks
-pace_end g c steps added blocks pace less few = omega (arith, pace less, few, read_at_most g c)
+pub pace_take : (s : State) (c : Colours) (directory : List (Puid × Kind)) (r : Rescue) (rest : List Rescue) (volume steps added : ℕ) → IsPaced s c (r ∷ rest) volume steps added → IsPaced s (rescued directory r c) rest volume (count_after steps) added
+pace_take s c directory r rest volume steps added pace less =
+    omega (arith, pace less, count_up steps, keeps_read s.graph c (rescued directory r c) (rescued_keeps directory r c), keeps_unread s c (rescued directory r c) (rescued_keeps directory r c))
+
+pub pace_scan : (s : State) (c d : Colours) (waiting : List Rescue) (volume steps added : ℕ) → Scanned s c d → IsPaced s c waiting volume steps added → IsPaced s d waiting volume (count_after steps) added
+pace_scan s c d waiting volume steps added is pace less = elim is.more [
+  | inl reads ↦ omega (arith, pace less, count_up steps, reads, is.left)
+  | inr left ↦ omega (arith, pace less, count_up steps, left, is.reads)
+]
+
+pub pace_change : (s t : State) (c : Colours) (more waiting : List Rescue) (volume steps added : ℕ) → read_so_far s.graph c ≤ read_so_far t.graph c → unread t c ≤ unread s c + length more
+    → IsPaced s c waiting volume steps added → IsPaced t c (waiting ++ more) volume steps (added_with more added)
+pace_change s t c more waiting volume steps added reads left pace less =
+    let sum = counted_is more added less in
+    omega (arith, pace (omega (arith, less, sum)), reads, left, sum, length-append waiting more)
+
+pub pace_end : (s : State) (c : Colours) (volume steps added : ℕ) → IsPaced s c [] volume steps added → added < 2 ^ 64 - 1 → sum_by (λ e. blocks_of e.1) s.graph.objects ≤ volume → steps ≤ 1 + 2 * added + 2 * volume
+pace_end s c volume steps added pace less few = omega (arith, pace less, few, read_at_most s.graph c)

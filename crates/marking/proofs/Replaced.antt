@@ -1,7 +1,10 @@
 -- One object of the graph is replaced by one of its kind, or an object is made, or what is open changes.
 use Rattle.std.proofs.Common.{◌≡◌, ◌⊎◌, inl, inr, ℕ, zero, suc, ◌*◌, ◌≤◌, ◌==◌, List, [], ◌∷◌, take, drop, set, length, refl, sym, ◌∙◌, ap, subst, arith, true, false, cond, ◌||◌, Option, Some, None}
-use Rattle.marking.proofs.Words.{Changes, Colours, Equal, Graph, Greater, Index, Kind, Less, Object, Puid, Rescue, State, Waits, cursor_of, filled, filter_map, in_leaf, insert_entry, is_among, is_at, is_eq, is_found, is_index_there, is_remembered, joined_has, joined_has_new, joined_within, kind_at, kind_standing, leaf_of_slot, lookup, match_ordering, nat_lt, object_at, object_at-with_object, open_ids, or_cases, or_left, or_right, puid_cmp, read_in, read_of, read_so_far, same_puid, same_puid_is, same_puid_itself, starts_now, sum_by, sum_by-cons, with_number, with_object}
+use Rattle.marking.proofs.Words.{Changes, Colours, Equal, Graph, Greater, Index, IsFoundBy, Kind, Less, Object, Puid, Rescue, State, Waits, at_place, cursor_of, draft_at, filled, filter_map, has_number, in_leaf, insert_entry, is_among, is_at, is_eq, is_found, is_index_there, is_remembered, joined_has, joined_has_new, joined_within, kind_at, kind_standing, leaf_of_slot, lookup, match_ordering, nat_lt, numbers_rise, object_at, object_at-with_object, open_ids, or_cases, or_left, or_right, own_part, puid_cmp, read_in, read_of, read_so_far, same_puid, same_puid_is, same_puid_itself, starts_now, sum_by, sum_by-cons, unread, with_number, with_object}
+use Rattle.std.proofs.Common.{◌+◌, Bool}
 use Rattle.ufs_model.specs.declared.object.Object.TheVariants as objects
+use Rattle.marking.proofs.Places.{InDraft, InOwn, stands_at, at_own, at_draft}
+use Rattle.marking.proofs.Sums.{within_sum, with_sum, count_all}
 
 -- ---- a slot that is filled
 
@@ -46,18 +49,6 @@ fill_adds i slot what x leaf h = elim (drop_set (64 * leaf) i.slots slot what) [
   ]
 ]
 
--- one leaf more is held
-with_sum : (f : ℕ → ℕ) (n : ℕ) (ms : List ℕ) → sum_by f ms ≤ sum_by f (with_number n ms)
-with_sum f n [] = omega arith
-with_sum f n (m ∷ ms) =
-    elim (n == m) as (λ t. sum_by f (m ∷ ms) ≤ sum_by f (cond t (m ∷ ms) (cond (nat_lt n m) (n ∷ m ∷ ms) (m ∷ with_number n ms)))) [
-      | true ↦ omega arith
-      | false ↦ elim (nat_lt n m) as (λ t. sum_by f (m ∷ ms) ≤ sum_by f (cond t (n ∷ m ∷ ms) (m ∷ with_number n ms))) [
-        | true ↦ omega (arith, sum_by-cons f n (m ∷ ms))
-        | false ↦ omega (arith, sum_by-cons f m ms, sum_by-cons f m (with_number n ms), with_sum f n ms)
-      ]
-    ]
-
 with_length : (n : ℕ) (ms : List ℕ) → length ms ≤ length (with_number n ms)
 with_length n [] = omega arith
 with_length n (m ∷ ms) =
@@ -72,11 +63,21 @@ with_length n (m ∷ ms) =
 read_more : (k : Option ℕ) (slot : ℕ) (what : Option Puid) (i : Index) → read_of k i.held ≤ read_of k (filled i slot what).held
 read_more k slot None i = omega arith
 read_more None slot (Some x) i = let more = with_length (leaf_of_slot slot) i.held in omega (arith, more)
-read_more (Some cursor) slot (Some x) i = with_sum (λ leaf. cond (nat_lt leaf cursor) 1 0) (leaf_of_slot slot) i.held
+read_more (Some cursor) slot (Some x) i = with_sum (λ leaf. cond (nat_lt (own_part + leaf) cursor) 1 0) (leaf_of_slot slot) i.held
 
 pub fill_reads : (c : Colours) (k : Puid) (i : Index) (slot : ℕ) (what : Option Puid) → read_in c (k, objects.Index i) ≤ read_in c (k, objects.Index (filled i slot what))
 fill_reads c k i slot what =
     elim (c.marked k.block) as (λ t. cond t (read_of (cursor_of c.grey k) i.held) 0 ≤ cond t (read_of (cursor_of c.grey k) (filled i slot what).held) 0) [ true ↦ read_more (cursor_of c.grey k) slot what i | false ↦ omega arith ]
+
+-- an index that holds more has no fewer leaves read
+pub read_within : (c : Colours) (k : Puid) (i d : Index) → numbers_rise i.held ≡ true → numbers_rise d.held ≡ true → ((n : ℕ) → has_number n i.held ≡ true → has_number n d.held ≡ true)
+    → read_in c (k, objects.Index i) ≤ read_in c (k, objects.Index d)
+read_within c k i d up rise all =
+    elim (c.marked k.block) as (λ t. cond t (read_of (cursor_of c.grey k) i.held) 0 ≤ cond t (read_of (cursor_of c.grey k) d.held) 0) [ true ↦ at (cursor_of c.grey k) | false ↦ omega arith ]
+  where
+    at : (o : Option ℕ) → read_of o i.held ≤ read_of o d.held
+    at None = let few = within_sum (λ n. 1) i.held d.held up rise all in omega (arith, few, count_all i.held, count_all d.held)
+    at (Some cursor) = within_sum (λ leaf. cond (nat_lt (own_part + leaf) cursor) 1 0) i.held d.held up rise all
 
 -- ---- one entry of the graph more, or another
 
@@ -114,48 +115,82 @@ starts_change s t more root opened x h = elim (starts_cases t x h) [
 
 -- ---- the changes
 
+-- where it is found now it is found
+pub now : (s : State) (from : Option Puid) (place : ℕ) (x : Puid) → is_found s from place x ≡ true → IsFoundBy s from place x
+now s from place x h = record { before = place; earlier = omega arith; there = h }
+
 module _ (s t : State) (more : List Rescue)
     (rescues : (index : Option Puid) (x : Puid) → Waits more index x → (is_remembered t.collection index x ≡ true) × (is_index_there t.graph index ≡ true))
     (memory : (index : Option Puid) (x : Puid) → is_remembered s.collection index x ≡ true → is_remembered t.collection index x ≡ true)
     (opened : (x : Puid) → is_among x (open_ids t) ≡ true → (is_among x (open_ids s) ≡ true) ⊎ Waits more None x) where
-  -- the graph stays
-  pub same_graph : t.graph ≡ s.graph → Changes s t more
-  same_graph is = record {
+  -- the graph stays, and what a draft has now it had, or it has its rescue
+  pub same_graph : ((c : Colours) → unread t c ≤ unread s c + length more) → t.graph ≡ s.graph
+      → ((i : Puid) (leaf : ℕ) (x : Puid) → in_leaf (draft_at t.grants i) leaf x ≡ true → in_leaf (object_at s.graph i) leaf x ≡ false → (in_leaf (draft_at s.grants i) leaf x ≡ true) ⊎ Waits more (Some i) x)
+      → Changes s t more
+  same_graph left is drafts = record {
     root = ap (λ (g : Graph). g.root) is;
     kinds = λ x kind h. ap (λ (g : Graph). kind_at g x) is ∙ h;
-    found = λ from leaf x h. found from leaf x h;
+    found = λ from place x h. found from place x h;
     rescues = rescues;
     memory = memory;
     leaves = λ c. subst (λ (g : Graph). read_so_far s.graph c ≤ read_so_far g c) (sym is) (omega arith);
+    unread = left;
   }
     where
-      found : (from : Option Puid) (leaf : ℕ) (x : Puid) → is_found t from leaf x ≡ true → (is_found s from leaf x ≡ true) ⊎ Waits more from x
-      found None leaf x h = starts_change s t more (ap (λ (g : Graph). g.root) is) opened x h
-      found (Some i) leaf x h = inl (subst (λ (g : Graph). in_leaf (object_at g i) leaf x ≡ true) is h)
+      found : (from : Option Puid) (place : ℕ) (x : Puid) → is_found t from place x ≡ true → IsFoundBy s from place x ⊎ Waits more from x
+      found None place x h = elim (starts_change s t more (ap (λ (g : Graph). g.root) is) opened x h) [ inl was ↦ inl (now s None place x was) | inr new ↦ inr new ]
+      found (Some i) place x h = elim (stands_at (draft_at t.grants i) (object_at t.graph i) place x h) [
+        | InDraft less at none ↦
+            let none' : in_leaf (object_at s.graph i) place x ≡ false = subst (λ (g : Graph). in_leaf (object_at g i) place x ≡ false) is none in
+            elim (drafts i place x at none') [
+              | inl was ↦ inl (now s (Some i) place x (at_draft (draft_at s.grants i) (object_at s.graph i) place x less was none'))
+              | inr new ↦ inr new
+            ]
+        | InOwn leaf same at ↦ inl (now s (Some i) place x (subst (λ (p : ℕ). at_place (draft_at s.grants i) (object_at s.graph i) p x ≡ true) (sym same)
+            (at_own (draft_at s.grants i) (object_at s.graph i) leaf x (subst (λ (g : Graph). in_leaf (object_at g i) leaf x ≡ true) is at))))
+      ]
 
-  -- an object becomes one of its kind, or is made; what it refers to now stood there, or has its rescue
-  pub with_one : (k : Puid) (o : Object) → t.graph ≡ with_object s.graph k o
+  -- An object becomes one of its kind, or is made; what it refers to now stood there or in its draft, or has its rescue. It
+  -- has no draft of which more is found, and those of others stay.
+  pub with_one : ((c : Colours) → unread t c ≤ unread s c + length more) → (k : Puid) (o : Object) → t.graph ≡ with_object s.graph k o
       → ((old : Object) → object_at s.graph k ≡ Some old → (kind_standing (Some o) ≡ kind_standing (Some old)) × ((c : Colours) → read_in c (k, old) ≤ read_in c (k, o)))
-      → ((leaf : ℕ) (x : Puid) → in_leaf (Some o) leaf x ≡ true → (in_leaf (object_at s.graph k) leaf x ≡ true) ⊎ Waits more (Some k) x) → Changes s t more
-  with_one k o is old_is adds = record {
+      → ((leaf : ℕ) (x : Puid) → in_leaf (Some o) leaf x ≡ true → IsFoundBy s (Some k) (own_part + leaf) x ⊎ Waits more (Some k) x)
+      → ((i : Puid) (leaf : ℕ) (x : Puid) → in_leaf (draft_at t.grants i) leaf x ≡ true → in_leaf (cond (same_puid i k) (Some o) (object_at s.graph i)) leaf x ≡ false
+      → (same_puid i k ≡ false) × (in_leaf (draft_at s.grants i) leaf x ≡ true))
+      → Changes s t more
+  with_one left k o is old_is adds drafts = record {
     root = ap (λ (g : Graph). g.root) is;
     kinds = λ x kind h. ap (λ (g : Graph). kind_at g x) is ∙ ap kind_standing (object_at-with_object s.graph k o x) ∙ elim (same_puid x k) as (λ b. same_puid x k ≡ b → kind_standing (cond b (Some o) (object_at s.graph x)) ≡ Some kind) [
       | true ↦ λ same. at_k (object_at s.graph k) refl kind (subst (λ (y : Puid). kind_at s.graph y ≡ Some kind) (same_puid_is x k same) h)
       | false ↦ λ other. h
     ] refl;
-    found = λ from leaf x h. found from leaf x h;
+    found = λ from place x h. found from place x h;
     rescues = rescues;
     memory = memory;
     leaves = λ c. subst (λ (g : Graph). read_so_far s.graph c ≤ read_so_far g c) (sym is) (entry_reads (read_in c) k o s.graph.objects (λ old at. (old_is old at).1 c));
+    unread = left;
   }
     where
       at_k : (here : Option Object) → object_at s.graph k ≡ here → (kind : Kind) → kind_standing here ≡ Some kind → kind_standing (Some o) ≡ Some kind
       at_k None here kind h = cc
       at_k (Some old) here kind h = (old_is old here).0 ∙ h
 
-      found : (from : Option Puid) (leaf : ℕ) (x : Puid) → is_found t from leaf x ≡ true → (is_found s from leaf x ≡ true) ⊎ Waits more from x
-      found None leaf x h = starts_change s t more (ap (λ (g : Graph). g.root) is) opened x h
-      found (Some i) leaf x h = elim (same_puid i k) as (λ b. same_puid i k ≡ b → in_leaf (cond b (Some o) (object_at s.graph i)) leaf x ≡ true → (in_leaf (object_at s.graph i) leaf x ≡ true) ⊎ Waits more (Some i) x) [
-        | true ↦ λ same now. subst (λ (j : Puid). (in_leaf (object_at s.graph j) leaf x ≡ true) ⊎ Waits more (Some j) x) (sym (same_puid_is i k same)) (adds leaf x now)
-        | false ↦ λ other now. inl now
-      ] refl (ap (λ (here : Option Object). in_leaf here leaf x) (sym (object_at-with_object s.graph k o i)) ∙ ap (λ (g : Graph). in_leaf (object_at g i) leaf x) (sym is) ∙ h)
+      now_there : (i : Puid) → object_at t.graph i ≡ cond (same_puid i k) (Some o) (object_at s.graph i)
+      now_there i = ap (λ (g : Graph). object_at g i) is ∙ object_at-with_object s.graph k o i
+
+      own : (i : Puid) (leaf : ℕ) (x : Puid) → in_leaf (cond (same_puid i k) (Some o) (object_at s.graph i)) leaf x ≡ true → IsFoundBy s (Some i) (own_part + leaf) x ⊎ Waits more (Some i) x
+      own i leaf x h = elim (same_puid i k) as (λ b. same_puid i k ≡ b → in_leaf (cond b (Some o) (object_at s.graph i)) leaf x ≡ true → IsFoundBy s (Some i) (own_part + leaf) x ⊎ Waits more (Some i) x) [
+        | true ↦ λ same at. subst (λ (j : Puid). IsFoundBy s (Some j) (own_part + leaf) x ⊎ Waits more (Some j) x) (sym (same_puid_is i k same)) (adds leaf x at)
+        | false ↦ λ other at. inl (now s (Some i) (own_part + leaf) x (at_own (draft_at s.grants i) (object_at s.graph i) leaf x at))
+      ] refl h
+
+      found : (from : Option Puid) (place : ℕ) (x : Puid) → is_found t from place x ≡ true → IsFoundBy s from place x ⊎ Waits more from x
+      found None place x h = elim (starts_change s t more (ap (λ (g : Graph). g.root) is) opened x h) [ inl was ↦ inl (now s None place x was) | inr new ↦ inr new ]
+      found (Some i) place x h = elim (stands_at (draft_at t.grants i) (object_at t.graph i) place x h) [
+        | InDraft less at none ↦
+            let none' : in_leaf (cond (same_puid i k) (Some o) (object_at s.graph i)) place x ≡ false = ap (λ (here : Option Object). in_leaf here place x) (sym (now_there i)) ∙ none in
+            let two = drafts i place x at none' in
+            let none'' : in_leaf (object_at s.graph i) place x ≡ false = subst (λ (b : Bool). in_leaf (cond b (Some o) (object_at s.graph i)) place x ≡ false) two.0 none' in
+            inl (now s (Some i) place x (at_draft (draft_at s.grants i) (object_at s.graph i) place x less two.1 none''))
+        | InOwn leaf same at ↦ subst (λ (p : ℕ). IsFoundBy s (Some i) p x ⊎ Waits more (Some i) x) (sym same) (own i leaf x (ap (λ (here : Option Object). in_leaf here leaf x) (sym (now_there i)) ∙ at))
+      ]

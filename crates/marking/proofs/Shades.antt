@@ -3,8 +3,9 @@ use Rattle.std.proofs.Common.{◌≡◌, ◌⊎◌, inl, inr, ℕ, ◌==◌, Lis
 use Rattle.marking.proofs.Words.{IsDirectoryOf, AreOnce, Colours, IsColoured, IsCovered, IsGrey, IsLeft, IsMarked, IsToRead, IsWaiting, Kind, Owed, Puid, Rescue, State, all_shaded, eq-eqb, eqb-true, is_among, is_found, is_index, is_live, is_there, kind_at, kind_among, object_at, or_cases, or_left, or_right, same_Some, same_puid, same_puid_is, same_puid_itself, shaded, shaded_as, shaded_in}
 use Rattle.cfs_base.specs.declared.kind.Kind.TheVariants as kinds
 use Rattle.marking.proofs.Wells.{IsWell}
+use Rattle.marking.proofs.Wells.{found_kind}
 use Rattle.marking.proofs.Reaches.{WasReached}
-use Rattle.marking.proofs.Leaves.{leaf_kind, kind_there, there_kind}
+use Rattle.marking.proofs.Leaves.{kind_there, there_kind}
 
 -- ---- colours that only grow
 
@@ -76,7 +77,7 @@ module _ (s : State) (well : IsWell s) (owed : Owed) (waiting : List Rescue) whe
       -- an index that is grey now is to be read from its first leaf on
       from_first : (i : Puid) (leaf : ℕ) (x : Puid) → is_found s (Some i) leaf x ≡ true → i.block ≡ id.block → IsToRead (coloured id kind c).grey (Some i) leaf
       from_first i leaf x found same =
-          let i_kind : kind_at s.graph i ≡ Some kinds.Index = leaf_kind (object_at s.graph i) leaf x found in
+          let i_kind : kind_at s.graph i ≡ Some kinds.Index = found_kind s well i leaf x found in
           let one : id ≡ i = well.alone id i there (kind_there (object_at s.graph i) kinds.Index i_kind) (sym same) in
           let index : kind ≡ kinds.Index = same_Some _ _ (sym kind_is ∙ ap (kind_at s.graph) one ∙ i_kind) in
           subst (λ (k : Kind). IsToRead (coloured id k c).grey (Some i) leaf) (sym index) (inl (ap Some one, omega arith))

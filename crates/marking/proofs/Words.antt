@@ -5,12 +5,12 @@ pub use Rattle.cfs_base.specs.declared.identifier.Tuid.{Tuid}
 pub use Rattle.cfs_base.specs.declared.kind.FileKind.{FileKind}
 pub use Rattle.cfs_base.specs.declared.kind.Kind.{Kind}
 pub use Rattle.cfs_base.specs.declared.kind.Mode.{Mode}
-pub use Rattle.marking.specs.Colours.{Colours, all_shaded, first_grey, is_index, kind_among, moved, moved_first, none_marked, shaded, shaded_as, shaded_in}
-pub use Rattle.marking.specs.Leaves.{file_kind, in_leaf, is_found, kind_at, kind_standing, leaf_ids}
+pub use Rattle.marking.specs.Colours.{Colours, all_shaded, cursor_of, draft_over, ended_from, first_grey, is_index, kind_among, moved, moved_at, moved_first, none_marked, shaded, shaded_as, shaded_in, with_cursor}
+pub use Rattle.marking.specs.Leaves.{at_place, file_kind, in_leaf, is_found, kind_at, kind_standing, leaf_ids, own_part}
 pub use Rattle.marking.specs.Marking.{AreOnce, IsColoured, IsCovered, IsGrey, IsLeft, IsMarked, IsMarking, IsToRead, IsWaiting, OwesNothing, Owed, Waits, is_index_there, is_remembered}
-pub use Rattle.marking.specs.Meanwhile.{Changes, is_carried_out, rescues_of}
-pub use Rattle.marking.specs.Pace.{IsPaced, cursor_of, read_in, read_of, read_so_far}
-pub use Rattle.marking.specs.Steps.{IsDirectoryOf, cursor_after, is_live, next_held, read, rescued, scanned, unmarked}
+pub use Rattle.marking.specs.Meanwhile.{Changes, IsFoundBy, is_carried_out, rescues_of}
+pub use Rattle.marking.specs.Pace.{IsPaced, added_with, index_leaves, read_in, read_of, read_so_far, unread, unread_at, unread_of}
+pub use Rattle.marking.specs.Steps.{IsDirectoryOf, IsDraftIndex, after_draft, draft_step, if_held, is_live, next_held, own_step, read, rescued, scanned, step_of, unmarked}
 pub use Rattle.marking.specs.declared.memory.Grey.{Grey}
 pub use Rattle.marking.specs.declared.memory.Rescue.{Rescue}
 pub use Rattle.std.proofs.lemmas.Bool.{and_from, and_parts, cases_eq, eq-eqb, eqb-true, le-leb, leb-true, or_cases, or_left, or_right}
@@ -39,7 +39,7 @@ pub use Rattle.ufs_model.specs.Object.{blocks_of, changed_object, each_from, fil
 pub use Rattle.ufs_model.specs.Outcome.{block_named, changed, creates, outcome_of, with_edge, with_start}
 pub use Rattle.ufs_model.specs.Reach.{Along, IsKept, IsReached, Start, starts_now}
 pub use Rattle.ufs_model.specs.Refusal.{conditions, first_of, has_no_grant, has_no_object, refusal_of}
-pub use Rattle.ufs_model.specs.State.{State, after_leave, changed_draft, draft_of, grant_of, is_grant, named, open_ids, pairs_of, put, seen, stopped_at}
+pub use Rattle.ufs_model.specs.State.{State, after_leave, changed_draft, draft_at, draft_of, grant_of, is_grant, named, open_ids, pairs_of, put, seen, stopped_at}
 pub use Rattle.ufs_model.specs.Vanish.{MayVanish, edges, is_marking, starts}
 pub use Rattle.ufs_model.specs.WellFormed.{IsState, is_grant_in, is_open_so, same_kind}
 unfoldable pub use Rattle.ufs_model.specs.Word.{word}

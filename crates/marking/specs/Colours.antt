@@ -1,13 +1,14 @@
 -- What is marked and what is grey, and how shading changes it.
 use Rattle.std.specs.Prelude.{ℕ, Bool, true, false, ◌||◌, ◌==◌, if◌then◌else◌, List, [], ◌∷◌, Option, Some, None}
-use Rattle.std.specs.Prelude.{slice_get}
+use Rattle.std.specs.Prelude.{nat_lt, slice_get}
 use Rattle.std.specs.BTreeMap.{is_at}
 use Rattle.std.specs.Map.{lookup}
 use Rattle.cfs_base.specs.declared.identifier.Puid.{Puid}
 use Rattle.cfs_base.specs.declared.kind.Kind.{Kind}
 use Rattle.cfs_base.specs.declared.kind.Kind.TheVariants.{Normal, Special, Index}
-use Rattle.ufs_model.specs.Identifier.{puid_cmp}
+use Rattle.ufs_model.specs.Identifier.{puid_cmp, same_puid}
 use Rattle.marking.specs.declared.memory.Grey.{Grey}
+use Rattle.marking.specs.Leaves.{own_part}
 
 pub record Colours : Type 0 where
   -- whether the object with this root block is marked
@@ -62,3 +63,26 @@ moved_first (Some cursor) (e ∷ es) = record { id = e.id; cursor = cursor } ∷
 
 abbrev pub moved : Option ℕ → Colours → Colours
 moved next c = record c { grey = moved_first next c.grey }
+
+-- where the reading of an index is, None where it isn't grey
+abbrev pub cursor_of : List Grey → Puid → Option ℕ
+cursor_of [] i = None
+cursor_of (e ∷ es) i = if same_puid i e.id then Some e.cursor else cursor_of es i
+
+-- it moves there, wherever in the list the index stands first
+abbrev pub moved_at : Puid → ℕ → List Grey → List Grey
+moved_at i cursor [] = []
+moved_at i cursor (e ∷ es) = if same_puid i e.id then record e { cursor = cursor } ∷ es else e ∷ moved_at i cursor es
+
+abbrev pub with_cursor : Puid → ℕ → Colours → Colours
+with_cursor i cursor c = record c { grey = moved_at i cursor c.grey }
+
+-- ---- a draft ends
+
+-- where it was being read, the reading goes on at the index's own first leaf
+abbrev pub ended_from : Option ℕ → Puid → Colours → Colours
+ended_from None i c = c
+ended_from (Some cursor) i c = if nat_lt cursor own_part then with_cursor i own_part c else c
+
+abbrev pub draft_over : Puid → Colours → Colours
+draft_over i c = ended_from (cursor_of c.grey i) i c

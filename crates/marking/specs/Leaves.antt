@@ -1,5 +1,7 @@
--- Where an object is found: in a leaf of an index, or, beside all indices, among the root and what is open.
-use Rattle.std.specs.Prelude.{ℕ, ◌*◌, Bool, false, List, take, drop, Option, Some, None}
+-- Where an object is found: in a leaf of an index or of its draft; or, beside all indices, among the root and what is
+-- open.
+use Rattle.std.specs.Prelude.{ℕ, ◌*◌, ◌-◌, Bool, false, not, ◌&&◌, nat_lt, if◌then◌else◌, List, take, drop, Option}
+use Rattle.std.specs.Prelude.{Some, None}
 use Rattle.std.specs.List.{filter_map}
 use Rattle.cfs_base.specs.declared.identifier.Puid.{Puid}
 use Rattle.cfs_base.specs.declared.kind.Kind.{Kind}
@@ -12,7 +14,7 @@ use Rattle.ufs_model.specs.declared.object.Object.TheVariants as objects
 use Rattle.ufs_model.specs.declared.object.Index.{Index}
 use Rattle.ufs_model.specs.Identifier.{is_among}
 use Rattle.ufs_model.specs.Graph.{Graph, object_at}
-use Rattle.ufs_model.specs.State.{State}
+use Rattle.ufs_model.specs.State.{State, draft_at}
 use Rattle.ufs_model.specs.Reach.{starts_now}
 
 -- the identifiers in the slots of one leaf
@@ -25,10 +27,22 @@ in_leaf None leaf x = false
 in_leaf (Some (objects.File f)) leaf x = false
 in_leaf (Some (objects.Index i)) leaf x = is_among x (leaf_ids i leaf)
 
--- x stands in this leaf of an index; or, with no index, x is the root or open
+-- Places are in the order in which an index is read. Those below this one are leaves of its draft; those from it on are
+-- its own leaves.
+abbrev pub own_part : ℕ
+own_part = 15360
+
+-- At a place of the draft is what that leaf of the draft has and the same leaf of the index has not; at one of the
+-- index itself what that leaf has.
+abbrev pub at_place : (draft own : Option Object) → ℕ → Puid → Bool
+at_place draft own place x =
+    if nat_lt place own_part then in_leaf draft place x && not (in_leaf own place x)
+    else in_leaf own (place - own_part) x
+
+-- x stands at this place of an index; or, with no index, x is the root or open
 abbrev pub is_found : State → Option Puid → ℕ → Puid → Bool
-is_found s None leaf x = is_among x (starts_now s)
-is_found s (Some i) leaf x = in_leaf (object_at s.graph i) leaf x
+is_found s None place x = is_among x (starts_now s)
+is_found s (Some i) place x = at_place (draft_at s.grants i) (object_at s.graph i) place x
 
 -- ---- kinds
 

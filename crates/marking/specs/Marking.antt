@@ -21,10 +21,10 @@ abbrev pub Waits : List Rescue → Option Puid → Puid → Type 0
 Waits [] index x = ⊥
 Waits (r ∷ rs) index x = ((r.index ≡ index) × (r.id ≡ x)) ⊎ Waits rs index x
 
--- this leaf of the index is still to be read
+-- this place of the index is still to be read
 abbrev pub IsToRead : List Grey → Option Puid → ℕ → Type 0
-IsToRead [] index leaf = ⊥
-IsToRead (e ∷ es) index leaf = ((Some e.id ≡ index) × (e.cursor ≤ leaf)) ⊎ IsToRead es index leaf
+IsToRead [] index place = ⊥
+IsToRead (e ∷ es) index place = ((Some e.id ≡ index) × (e.cursor ≤ place)) ⊎ IsToRead es index place
 
 abbrev pub IsGrey : List Grey → Puid → Type 0
 IsGrey [] i = ⊥

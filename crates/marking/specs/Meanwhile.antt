@@ -1,5 +1,6 @@
 -- What may happen between two steps of a collection that marks.
-use Rattle.std.specs.Prelude.{◌≡◌, ◌⊎◌, ℕ, ◌≤◌, Bool, true, false, if◌then◌else◌, List, [], ◌∷◌, Option, Some, None}
+use Rattle.std.specs.Prelude.{◌≡◌, ◌⊎◌, ℕ, ◌+◌, ◌≤◌, length, Bool, true, false, if◌then◌else◌, List, [], ◌∷◌, Option}
+use Rattle.std.specs.Prelude.{Some, None}
 use Rattle.cfs_base.specs.declared.identifier.Puid.{Puid}
 use Rattle.cfs_base.specs.declared.kind.Kind.{Kind}
 use Rattle.ufs_model.specs.declared.asked.Request.{Request}
@@ -11,22 +12,29 @@ use Rattle.marking.specs.declared.memory.Rescue.{Rescue}
 use Rattle.marking.specs.Leaves.{is_found, kind_at}
 use Rattle.marking.specs.Colours.{Colours}
 use Rattle.marking.specs.Marking.{Waits, is_remembered, is_index_there}
-use Rattle.marking.specs.Pace.{read_so_far}
+use Rattle.marking.specs.Pace.{read_so_far, unread}
 
 -- ---- any change
+
+-- it is found at this place of the index, or at one that is read earlier: a draft becomes the index
+pub record IsFoundBy (s : State) (from : Option Puid) (place : ℕ) (x : Puid) : Type 0 where
+  pub before : ℕ
+  pub earlier : before ≤ place
+  pub there : is_found s from before x ≡ true
 
 -- While marks stay, a state may change so that each object that is found somewhere anew has one of these rescues, which
 -- are remembered; what is there stays, of its kind, and an index keeps its leaves.
 pub record Changes (s t : State) (more : List Rescue) : Type 0 where
   pub root : t.graph.root ≡ s.graph.root
   pub kinds : (x : Puid) (kind : Kind) → kind_at s.graph x ≡ Some kind → kind_at t.graph x ≡ Some kind
-  pub found : (from : Option Puid) (leaf : ℕ) (x : Puid) → is_found t from leaf x ≡ true
-      → (is_found s from leaf x ≡ true) ⊎ Waits more from x
+  pub found : (from : Option Puid) (place : ℕ) (x : Puid) → is_found t from place x ≡ true
+      → IsFoundBy s from place x ⊎ Waits more from x
   pub rescues : (index : Option Puid) (x : Puid) → Waits more index x
       → (is_remembered t.collection index x ≡ true) × (is_index_there t.graph index ≡ true)
   pub memory : (index : Option Puid) (x : Puid) → is_remembered s.collection index x ≡ true
       → is_remembered t.collection index x ≡ true
   pub leaves : (c : Colours) → read_so_far s.graph c ≤ read_so_far t.graph c
+  pub unread : (c : Colours) → unread t c ≤ unread s c + length more
 
 -- ---- what is asked
 

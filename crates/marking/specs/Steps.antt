@@ -1,12 +1,15 @@
 -- The steps of a collection that marks, on its colours.
 use Rattle.std.specs.Prelude.{◌≡◌, ℕ, ◌+◌, Bool, true, nat_le, is_some, if◌then◌else◌, List, filter, find, not, Option}
 use Rattle.std.specs.Prelude.{Some, None}
+use Rattle.std.specs.Prelude.{◌-◌, nat_lt, []}
 use Rattle.cfs_base.specs.declared.identifier.Puid.{Puid}
 use Rattle.cfs_base.specs.declared.kind.Kind.{Kind}
+use Rattle.ufs_model.specs.declared.object.Object.{Object}
+use Rattle.ufs_model.specs.declared.object.Object.TheVariants as objects
 use Rattle.ufs_model.specs.declared.object.Index.{Index}
 use Rattle.ufs_model.specs.Graph.{Graph}
 use Rattle.marking.specs.declared.memory.Rescue.{Rescue}
-use Rattle.marking.specs.Leaves.{leaf_ids, kind_at}
+use Rattle.marking.specs.Leaves.{leaf_ids, kind_at, own_part}
 use Rattle.marking.specs.Colours.{Colours, kind_among, shaded_in, all_shaded, moved}
 
 -- the directory has the graph's identifiers, with their kinds
@@ -29,18 +32,41 @@ rescued directory r c = if is_live r.index c then shaded_in directory r.id c els
 abbrev pub next_held : ℕ → Index → Option ℕ
 next_held from i = find (nat_le from) i.held
 
--- where the reading goes on after a leaf, if another follows
-abbrev pub cursor_after : ℕ → Index → Option ℕ
-cursor_after leaf i = if is_some (next_held (leaf + 1) i) then Some (leaf + 1) else None
+-- a place, if the index has a held leaf from one on
+abbrev pub if_held : Index → (from place : ℕ) → Option ℕ
+if_held i from place = if is_some (next_held from i) then Some place else None
 
--- each object in the leaf is shaded; where no leaf follows the index is grey no more
-abbrev pub read : List (Puid × Kind) → Index → Option ℕ → Colours → Colours
-read directory i None c = moved None c
-read directory i (Some leaf) c = all_shaded directory (leaf_ids i leaf) (moved (cursor_after leaf i) c)
+-- after a leaf of the draft comes its next, and after its last the first of the index itself
+abbrev pub after_draft : (draft i : Index) → ℕ → Option ℕ
+after_draft draft i leaf = if is_some (next_held (leaf + 1) draft) then Some (leaf + 1) else if_held i 0 own_part
 
--- the first grey index, which is this one, is read on from a leaf
-abbrev pub scanned : List (Puid × Kind) → Index → ℕ → Colours → Colours
-scanned directory i cursor c = read directory i (next_held cursor i) c
+-- the objects that a step finds, and the place where the next goes on, if one follows
+abbrev pub draft_step : (draft i : Index) → Option ℕ → List Puid × Option ℕ
+draft_step draft i None = ([], if_held i 0 own_part)
+draft_step draft i (Some leaf) = (leaf_ids draft leaf, after_draft draft i leaf)
+
+abbrev pub own_step : Index → Option ℕ → List Puid × Option ℕ
+own_step i None = ([], None)
+own_step i (Some leaf) = (leaf_ids i leaf, if_held i (leaf + 1) (own_part + (leaf + 1)))
+
+-- the draft of an index, where it has one
+abbrev pub IsDraftIndex : Option Object → Option Index → Type 0
+IsDraftIndex o None = o ≡ None
+IsDraftIndex o (Some d) = o ≡ Some (objects.Index d)
+
+abbrev pub step_of : Option Index → Index → ℕ → List Puid × Option ℕ
+step_of None i cursor = own_step i (next_held (cursor - own_part) i)
+step_of (Some draft) i cursor =
+    if nat_lt cursor own_part then draft_step draft i (next_held cursor draft)
+    else own_step i (next_held (cursor - own_part) i)
+
+-- The first grey index, which is this one with this draft, is read on from a place: each object in the leaf is shaded.
+-- Where no leaf follows it is grey no more.
+abbrev pub read : List (Puid × Kind) → List Puid × Option ℕ → Colours → Colours
+read directory step c = all_shaded directory step.0 (moved step.1 c)
+
+abbrev pub scanned : List (Puid × Kind) → Option Index → Index → ℕ → Colours → Colours
+scanned directory draft i cursor c = read directory (step_of draft i cursor) c
 
 -- ---- what isn't marked goes
 

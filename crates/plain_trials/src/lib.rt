@@ -8,6 +8,8 @@ mod containers;
 #[cfg(test)]
 mod disks;
 #[cfg(test)]
+mod drawn;
+#[cfg(test)]
 mod run;
 #[cfg(test)]
 mod spellings;

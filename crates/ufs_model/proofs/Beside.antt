@@ -1,16 +1,16 @@
 -- What a request does leaves the stop as it is, and the collection but for what it is to remember.
-use Rattle.std.proofs.Common.{◌≡◌, ℕ, ◌+◌, ◌≤◌, refl, sym, ap, ◌∙◌, subst, arith, Bool, true, false, cond, Some, None, Option, ◌&&◌, ◌||◌, not}
-use Rattle.ufs_model.proofs.Words.{Change, Collection, Direct, Draft, Edge, Fill, Grant, Graph, IsState, Object, Overwrite, Puid, Ref, Reply, Request, SetSize, Start, State, Through, Tuid, allowed_if, answered, beside, block_named, by_outcome, changed, changed_draft, created, creates, draws, goes_through, grant_of, has_block, is_done, is_free_root, is_none, is_outcome, is_refusal, is_running, is_some, named, nat_lt, option_and_then, outcome_of, parts_of, put, put_draft, put_object, refusal_of, refuses, same_reply, seen, seen_by, target, with_edge, with_object, with_seen, word, ◌==◌}
+use Rattle.std.proofs.Common.{◌≡◌, ℕ, ◌+◌, ◌≤◌, refl, ap, ◌∙◌, arith, Bool, true, false, Some, None, Option, ◌&&◌, ◌||◌, not}
+use Rattle.ufs_model.proofs.Words.{Change, Collection, Direct, Draft, Edge, Fill, Grant, Graph, IsState, Object, Overwrite, Puid, Ref, Reply, Request, SetSize, State, Through, Tuid, allowed_if, answered, beside, block_named, by_outcome, changed, changed_draft, created, creates, draws, goes_through, grant_of, has_block, is_done, is_free_root, is_none, is_outcome, is_refusal, is_running, is_some, named, option_and_then, outcome_of, put, put_draft, put_object, refusal_of, refuses, seen, seen_by, target, with_edge, with_object, with_seen, word, ◌==◌}
 use Rattle.std.specs.Option.{option_map}
 use Rattle.ufs_model.specs.declared.asked.Request.TheVariants as asks
 use Rattle.ufs_model.specs.declared.asked.Reply.TheVariants as replies
 use Rattle.ufs_model.specs.declared.collection.Collection.TheVariants as collections
 
 pub beside_state : (t : State) (st : Option ℕ) (c : Collection) → IsState t → IsState (beside t st c)
-beside_state t st c h = record { graph = h.graph; grants = h.grants; rising = h.rising; drawn = h.drawn }
+beside_state t st c h = record { graph = h.graph; grants = h.grants; closed = h.closed; alone = h.alone; rising = h.rising; drawn = h.drawn }
 
 pub state_beside : (t : State) (st : Option ℕ) (c : Collection) → IsState (beside t st c) → IsState t
-state_beside t st c h = record { graph = h.graph; grants = h.grants; rising = h.rising; drawn = h.drawn }
+state_beside t st c h = record { graph = h.graph; grants = h.grants; closed = h.closed; alone = h.alone; rising = h.rising; drawn = h.drawn }
 
 abbrev put_through : ℕ → Tuid → Draft → State → Option Grant → State
 put_through who u d s o = elim (option_and_then (λ (g : Grant). g.draft) o) [

@@ -192,7 +192,7 @@ or_none : (s : Bool) → (s || false) ≡ s
 or_none true = refl
 or_none false = refl
 
-pairs_of_one : (i x j : Puid) (ids : List Puid) → has_pair (map (λ y. (j, y)) ids) i x ≡ (same_puid i j && is_among x ids)
+pub pairs_of_one : (i x j : Puid) (ids : List Puid) → has_pair (map (λ y. (j, y)) ids) i x ≡ (same_puid i j && is_among x ids)
 pairs_of_one i x j [] = and_none (same_puid i j)
 pairs_of_one i x j (y ∷ ys) = ap (λ r. (same_puid i j && same_puid x y) || r) (pairs_of_one i x j ys) ∙ and_either (same_puid i j) (same_puid x y) (is_among x ys)
 

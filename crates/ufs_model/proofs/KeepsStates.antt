@@ -1,15 +1,25 @@
 -- What may happen keeps a state well-formed.
 use Rattle.std.proofs.Common.{◌≡◌, ℕ, zero, suc, ◌+◌, List, [], ◌∷◌, length, refl, ◌∙◌, ap, subst, arith, Bool, true, false, not, ◌&&◌, ◌||◌, Some, None, Option, map}
 use Rattle.ufs_model.proofs.Words.{All, Event, Fill, Grant, Graph, IsGraph, IsInside, IsSpeakable, IsState, Object, Overwrite, Puid, Reply, Request, SetSize, State, after_leave, allowed_if, and_from, and_parts, answered, block_named, by_outcome, changed, conditions, creates, goes_nowhere, goes_through, has_no_grant, has_no_object, has_no_slot, is_among, is_beyond, is_free_root, is_grant_in, is_none, is_open_so, is_out_of_range, is_outcome, is_range, is_running, is_there, leb-false, leb-true, list_all, ltb-false, may_vanish, named, nat_le, nat_lt, new_file, new_index, next, not-false, opening, option_and_then, or_left, or_right, outcome_of, pairs_of, referred, refusal_of, replay_from, retains_nothing, same_puid, same_reply, seen, starts_now, stopped_at, stores_bytes, target, the_file, the_index, with_edge, without, ◌==◌}
+use Rattle.std.specs.Prelude.{is_some}
+use Rattle.cfs_base.specs.declared.kind.Mode.{Mode}
+use Rattle.ufs_model.specs.declared.asked.Ref.TheVariants.{Direct}
+use Rattle.cfs_base.specs.declared.kind.Mode.TheVariants as modes
 use Rattle.ufs_model.specs.declared.asked.Request.TheVariants as asks
 use Rattle.ufs_model.specs.declared.asked.Reply.TheVariants as replies
 use Rattle.ufs_model.specs.declared.asked.Event.TheVariants as events
 use Rattle.ufs_model.specs.declared.collection.Collection.TheVariants as collections
 use Rattle.ufs_model.specs.declared.object.Object.TheVariants as objects
 use Rattle.ufs_model.proofs.Reached.{same_puid_itself}
+use Rattle.ufs_model.specs.Graph.{has_pair, graph_pairs}
+use Rattle.ufs_model.specs.State.{draft_pairs}
+use Rattle.ufs_model.specs.Refusal.{is_changing, opens_for_writing, is_locked, meets_a_grant, is_reading}
+use Rattle.ufs_model.proofs.Reached.{each_pair, all_pairs}
+use Rattle.std.proofs.lemmas.List.Folds.{list_any-append}
+use Rattle.ufs_model.proofs.Drafts.{draft_open}
 use Rattle.ufs_model.proofs.Objects.{new_file_whole, new_index_whole}
 use Rattle.ufs_model.proofs.WellGraphs.{taken_keeps}
-use Rattle.ufs_model.proofs.WellStates.{beside, Goes, goes, changed_keeps, created_keeps, granted_keeps, closed_keeps, leave_keeps}
+use Rattle.ufs_model.proofs.WellStates.{beside, Goes, goes, HasNoOther, has_no_other, changed_keeps, created_keeps, granted_keeps, closed_keeps, leave_keeps}
 use Rattle.ufs_model.proofs.Vanishing.{may_vanish_meant, root_kept, open_kept, kept_stays}
 use Rattle.ufs_model.proofs.Legal.{none_holds}
 
@@ -34,9 +44,15 @@ inside_size (objects.Index i) size h = tt
 -- ---- the outcome
 
 module _ (s : State) (who : ℕ) (request : Request) (h : IsState s) (none : refusal_of s who request ≡ None) where
+  pub unlocked : is_locked s who request ≡ false
+  unlocked = none_holds (conditions s who request) 5 (is_locked s who request, replies.Locked) none refl
+
   pub to : Goes s who (target request)
   to = goes s who (target request) h (none_holds (conditions s who request) 0 (has_no_grant s who request, replies.NoGrant) none refl)
       (or_none (goes_nowhere s (target request)) (retains_nothing s request) (none_holds (conditions s who request) 1 (has_no_object s request, replies.NoObject) none refl)).0
+
+  pub alone : HasNoOther s who (target request)
+  alone = has_no_other s who (target request) (is_changing request || opens_for_writing request) h unlocked
 
   known : retains_nothing s request ≡ false
   known = (or_none (goes_nowhere s (target request)) (retains_nothing s request) (none_holds (conditions s who request) 1 (has_no_object s request, replies.NoObject) none refl)).1
@@ -51,12 +67,12 @@ pub outcome_keeps : (seed : ℕ) (s : State) (who : ℕ) (request : Request) (b 
     → (creates request ≡ true → is_free_root s.graph b ≡ true) → IsState (outcome_of seed s who request b).1
 outcome_keeps seed s who (asks.CreateFile kind fill index slot) b h small none free =
     let r = asks.CreateFile kind fill index slot in
-    created_keeps seed s who index slot (objects.File (new_file kind fill)) b h (to s who r h none) (inside_slot (seen s who index).object slot None (in_slots s who r h none))
+    created_keeps seed s who index slot (objects.File (new_file kind fill)) b h (to s who r h none) (alone s who r h none) (inside_slot (seen s who index).object slot None (in_slots s who r h none))
     (new_file_whole kind fill small) (λ x. refl) (free refl)
 outcome_keeps seed s who (asks.CreateIndex slots index slot) b h small none free =
     let r = asks.CreateIndex slots index slot in
     let range = or_none (slots == 0) (nat_lt 983040 slots) (in_range s who r h none) in
-    created_keeps seed s who index slot (objects.Index (new_index slots)) b h (to s who r h none) (inside_slot (seen s who index).object slot None (in_slots s who r h none))
+    created_keeps seed s who index slot (objects.Index (new_index slots)) b h (to s who r h none) (alone s who r h none) (inside_slot (seen s who index).object slot None (in_slots s who r h none))
     (new_index_whole slots range.0 (ltb-false 983040 slots range.1)) (none_referred slots) (free refl)
   where
     none_referred : (n : ℕ) (x : Puid) → is_among x (referred (objects.Index (new_index n))) ≡ false
@@ -65,26 +81,30 @@ outcome_keeps seed s who (asks.CreateIndex slots index slot) b h small none free
 outcome_keeps seed s who (asks.Retain index slot id) b h small none free =
     let r = asks.Retain index slot id in
     let c = Fill slot (Some id) in
-    let one = changed_keeps s who index c h (to s who r h none) (inside_slot (seen s who index).object slot (Some id) (in_slots s who r h none)) tt (not-false (is_there s.graph id) (known s who r h none)) in
+    let one = changed_keeps s who index c h (to s who r h none) (alone s who r h none) (inside_slot (seen s who index).object slot (Some id) (in_slots s who r h none)) tt (not-false (is_there s.graph id) (known s who r h none)) in
     beside (changed s who index c) (changed s who index c).stopped (with_edge (named s who index) id s.collection) one
 outcome_keeps seed s who (asks.Retrieve index slot) b h small none free = h
 outcome_keeps seed s who (asks.Delete index slot) b h small none free =
     let r = asks.Delete index slot in
-    changed_keeps s who index (Fill slot None) h (to s who r h none) (inside_slot (seen s who index).object slot None (in_slots s who r h none)) tt tt
+    changed_keeps s who index (Fill slot None) h (to s who r h none) (alone s who r h none) (inside_slot (seen s who index).object slot None (in_slots s who r h none)) tt tt
 outcome_keeps seed s who (asks.Slots index) b h small none free = h
 outcome_keeps seed s who (asks.OpenFor id mode) b h small none free =
     let r = asks.OpenFor id mode in
     let there = (or_none (goes_nowhere s (target r)) (retains_nothing s r) (none_holds (conditions s who r) 1 (has_no_object s r, replies.NoObject) none refl)).0 in
-    granted_keeps seed s who id mode h (not-false (is_there s.graph id) there)
+    granted_keeps seed s who id mode h (not-false (is_there s.graph id) there) (by_mode mode (unlocked s who r h none))
+  where
+    by_mode : (m : Mode) → is_locked s who (asks.OpenFor id m) ≡ false → meets_a_grant s (not (is_reading m)) (Direct id) ≡ false
+    by_mode modes.Reading free = free
+    by_mode modes.Writing free = free
 outcome_keeps seed s who (asks.Close grant commit) b h small none free = closed_keeps s who grant commit h
 outcome_keeps seed s who (asks.Read file offset count) b h small none free = h
 outcome_keeps seed s who (asks.Write file offset bytes) b h small none free =
     let r = asks.Write file offset bytes in
-    changed_keeps s who file (Overwrite offset bytes) h (to s who r h none) (inside_range (seen s who file).object offset bytes (in_range s who r h none)) small tt
+    changed_keeps s who file (Overwrite offset bytes) h (to s who r h none) (alone s who r h none) (inside_range (seen s who file).object offset bytes (in_range s who r h none)) small tt
 outcome_keeps seed s who (asks.Size file) b h small none free = h
 outcome_keeps seed s who (asks.Resize file size) b h small none free =
     let r = asks.Resize file size in
-    changed_keeps s who file (SetSize size) h (to s who r h none) (inside_size (seen s who file).object size (in_range s who r h none)) tt tt
+    changed_keeps s who file (SetSize size) h (to s who r h none) (alone s who r h none) (inside_size (seen s who file).object size (in_range s who r h none)) tt tt
 
 -- ---- an answer
 
@@ -142,14 +162,27 @@ module _ (seed : ℕ) (s t : State) (who : ℕ) (request : Request) (h : IsState
 
 vanished : (s : State) (ids : List Puid) → IsState s → may_vanish s ids ≡ true → IsState (record s { graph = without s.graph ids; collection = collections.Sweeping })
 vanished s ids h test =
-    let may = may_vanish_meant s ids h.graph test in
+    let may = may_vanish_meant s ids h test in
     record {
-      graph = taken_keeps s.graph ids h.graph (may.none_kept s.graph.root (root_kept s)) may.none_referred;
+      graph = taken_keeps s.graph ids h.graph (may.none_kept s.graph.root (root_kept s)) (λ i x own. may.none_referred i x (or_left_pair i x own));
       grants = open_still s.grants (λ x at. may.none_kept x (open_kept s x at)) h.grants;
+      closed = all_pairs (λ _. is_there (without s.graph ids)) (draft_pairs s.grants) (λ i x pair.
+          let stays = may.none_referred i x (or_right_pair i x pair) (may.none_kept i (open_kept s i (draft_open s.grants i x pair))) in
+          ap is_some (kept_stays s.graph ids x stays) ∙ each_pair (λ _. is_there s.graph) (draft_pairs s.grants) i x h.closed pair);
+      alone = h.alone;
       rising = h.rising;
       drawn = h.drawn;
     }
   where
+    both : (i x : Puid) → has_pair (pairs_of s) i x ≡ (has_pair (graph_pairs s.graph) i x || has_pair (draft_pairs s.grants) i x)
+    both i x = list_any-append (λ (e : Puid × Puid). same_puid i e.0 && same_puid x e.1) (graph_pairs s.graph) (draft_pairs s.grants)
+
+    or_left_pair : (i x : Puid) → has_pair (graph_pairs s.graph) i x ≡ true → has_pair (pairs_of s) i x ≡ true
+    or_left_pair i x h = both i x ∙ or_left _ (has_pair (draft_pairs s.grants) i x) h
+
+    or_right_pair : (i x : Puid) → has_pair (draft_pairs s.grants) i x ≡ true → has_pair (pairs_of s) i x ≡ true
+    or_right_pair i x h = both i x ∙ or_right (has_pair (graph_pairs s.graph) i x) _ h
+
     open_still : (gs : List Grant) → ((x : Puid) → is_among x (map (λ (g : Grant). g.id) gs) ≡ true → is_among x ids ≡ false) → list_all (is_grant_in s.graph) gs ≡ true → list_all (is_grant_in (without s.graph ids)) gs ≡ true
     open_still [] stays all = refl
     open_still (g ∷ gs) stays all =
@@ -182,4 +215,4 @@ run_keeps seed s t (event ∷ events) h all e =
     ] refl e
 
 pub opening_state : (g : Graph) → IsGraph g → IsState (opening g)
-opening_state g h = record { graph = h; grants = refl; rising = refl; drawn = refl }
+opening_state g h = record { graph = h; grants = refl; closed = refl; alone = refl; rising = refl; drawn = refl }

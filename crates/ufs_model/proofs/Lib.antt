@@ -2,6 +2,7 @@ mod Worked
 mod Runs
 mod Refusals
 mod Vanishes
+mod DraftsWorked
 mod Needs
 mod Scripts
 pub mod NumberLists
@@ -16,6 +17,7 @@ pub mod Rising
 pub mod Objects
 pub mod WellGraphs
 pub mod Grants
+pub mod Drafts
 pub mod WellStates
 pub mod Vanishing
 pub mod KeepsStates

@@ -1,5 +1,5 @@
 -- A change that is within an object keeps it well-formed, and of its kind.
-use Rattle.std.proofs.Common.{◌≡◌, ℕ, ◌+◌, ◌-◌, ◌*◌, ◌/◌, ◌<◌, ◌≤◌, List, ◌++◌, length, take, drop, replicate, set, refl, ◌∙◌, ap, arith, true, false, not, ◌||◌, Some, None, Option, ◌⊎◌, inl, inr, length-append, length-set}
+use Rattle.std.proofs.Common.{◌≡◌, ℕ, ◌+◌, ◌-◌, ◌*◌, ◌/◌, ◌<◌, ◌≤◌, List, ◌++◌, length, take, drop, replicate, set, refl, ◌∙◌, ap, arith, true, false, not, ◌||◌, Some, None, Option, inl, inr, length-append, length-set}
 use Rattle.ufs_model.proofs.Words.{Change, File, FileKind, Fill, Index, IsInside, Object, Overwrite, Puid, SetSize, and_from, and_parts, byte_may_stand, cases_lt, changed_object, each_from, eq-eqb, filled, has_number, is_none, is_object, le-leb, leaves_in, length-replicate, length-take, length-take-le, list_all, lt-ltb, nat_le, nat_lt, new_file, new_index, numbers_rise, or_cases, or_left, or_right, resized, slot_may_stand, touched, written, ◌==◌}
 use Rattle.std.proofs.lemmas.List.{length-drop}
 use Rattle.ufs_model.specs.declared.object.Object.TheVariants as objects

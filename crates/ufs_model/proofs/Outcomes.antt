@@ -1,33 +1,12 @@
 -- What an outcome leaves of a state, and what it answers.
-use Rattle.std.proofs.Common.{List, ◌≡◌, ℕ, ◌+◌, ◌<◌, ◌≤◌, length, refl, sym, ap, ◌∙◌, subst, length-drop, Bool, true, false, ◌&&◌, Some, None, Option, arith}
-use Rattle.ufs_model.proofs.Words.{AnIndex, Collection, Draft, Fill, Grant, Graph, IsLeastFreeRoot, IsPlainReply, IsState, Object, Puid, Ref, Request, State, Through, Tuid, and_parts, changed_draft, closed, committed, conditions, created, creates, draft_of, draws, file_seen, grant_of, has_block, index_seen, is_free_root, is_open_so, is_range, is_unwanted_file, leb-true, length-take, most_at_once, named, names_file, nat_le, nat_lt, nat_tests, not-false, object_at, object_of, option_and_then, outcome_of, put, refusal_of, seen, slot_of, slot_reply, target, wanted, with_edge, with_object, with_start, word, ◌==◌}
+use Rattle.std.proofs.Common.{List, ◌≡◌, ℕ, ◌+◌, ◌<◌, ◌≤◌, length, refl, sym, ◌∙◌, subst, length-drop, Bool, true, false, ◌&&◌, Some, None, Option, arith}
+use Rattle.ufs_model.proofs.Words.{Collection, Draft, Fill, Grant, Graph, IsLeastFreeRoot, IsPlainReply, IsState, Object, Puid, Ref, Request, State, Tuid, and_parts, changed_draft, closed, committed, created, creates, draws, file_seen, grant_of, has_block, index_seen, is_free_root, is_range, leb-true, length-take, most_at_once, named, nat_le, nat_lt, nat_tests, not-false, outcome_of, put, refusal_of, seen, slot_of, slot_reply, with_edge, with_object, with_start, word, ◌==◌}
 use Rattle.ufs_model.specs.declared.asked.Request.TheVariants as asks
-use Rattle.ufs_model.specs.declared.asked.Reply.TheVariants as replies
 use Rattle.ufs_model.specs.declared.collection.Collection.TheVariants as collections
-use Rattle.ufs_model.specs.declared.object.Object.TheVariants as objects
 use Rattle.ufs_model.proofs.KeepsStates.{in_range, to}
-use Rattle.ufs_model.proofs.Legal.{least_is_free, none_holds}
+use Rattle.ufs_model.proofs.Legal.{least_is_free}
 use Rattle.ufs_model.proofs.RootBlocks.{has_block-new, has_block-still}
-use Rattle.ufs_model.proofs.WellStates.{Goes, ToObject, ToDraft, goes_still, grant_found, put_draft-at, put_object-at}
-
--- ---- an index has no draft
-
-not_a_file : (o : Option Object) (d : Draft) → is_open_so o (Some d) ≡ true → is_unwanted_file AnIndex o ≡ false → None ≡ Some d
-not_a_file None d so index = cc
-not_a_file (Some (objects.File f)) d so index = cc
-not_a_file (Some (objects.Index i)) d so index = cc
-
-draft_none : (s : State) (who : ℕ) (ref : Ref) → IsState s → Goes s who ref → is_unwanted_file AnIndex (object_of s who ref) ≡ false → draft_of s who ref ≡ None
-draft_none s who ref h (ToObject id o name none at) index = none
-draft_none s who ref h (ToDraft t g d found has) index =
-    let so : is_open_so (object_at s.graph g.id) (Some d) ≡ true = subst (λ o. is_open_so (object_at s.graph g.id) o ≡ true) has (grant_found s who t g h found).1 in
-    let goes_to : object_of s who (Through t) ≡ object_at s.graph g.id = ap (λ o. option_and_then (object_at s.graph) (option_and_then (λ (x : Grant). Some x.id) o)) found in
-    ap (λ o. option_and_then (λ (x : Grant). x.draft) o) found ∙ has ∙ sym (not_a_file (object_at s.graph g.id) d so (subst (λ o. is_unwanted_file AnIndex o ≡ false) goes_to index))
-
-pub no_draft : (s : State) (who : ℕ) (request : Request) → IsState s → refusal_of s who request ≡ None → wanted request ≡ AnIndex → draft_of s who (target request) ≡ None
-no_draft s who request h none wants =
-    let test = none_holds (conditions s who request) 2 (names_file s who request, replies.NotIndex) none refl in
-    draft_none s who (target request) h (to s who request h none) (subst (λ w. is_unwanted_file w (object_of s who (target request)) ≡ false) wants test)
+use Rattle.ufs_model.proofs.WellStates.{Goes, ToObject, ToDraft, goes_still, put_draft-at, put_object-at}
 
 -- ---- what a request leaves
 

@@ -134,9 +134,6 @@ not_index_before_read_only = refl
 not_file_before_read_only : refused (asks.Resize (Through on_index) 0) ≡ Some replies.NotFile
 not_file_before_read_only = refl
 
-not_file_before_locked : refused (asks.OpenFor index modes.Writing) ≡ Some replies.NotFile
-not_file_before_locked = refl
-
 read_only_before_slot : refused (asks.Retain (Through on_index) 4 root) ≡ Some replies.ReadOnly
 read_only_before_slot = refl
 

@@ -1,6 +1,6 @@
 -- What a collection remembers, one after the other.
-use Rattle.std.proofs.Common.{◌≡◌, ℕ, length, take, drop, arith, List, Bool, true, false, cond, ◌||◌, [], ◌∷◌, ◌++◌, reverse, refl, sym, ap, ◌∙◌, Some, map}
-use Rattle.ufs_model.proofs.Words.{Collection, Edge, Object, Progress, Puid, Seen, Start, after_seen, append-nil, collection_of, drop_all, edges_from, flat_map, is_among, is_idle, is_marking, is_sweeping, joined, length-reverse, map-append, referred, reverse-append, same_puid, take_all, with_seen}
+use Rattle.std.proofs.Common.{◌≡◌, append_assoc, ℕ, length, take, drop, arith, List, Bool, true, false, cond, ◌||◌, [], ◌∷◌, ◌++◌, reverse, refl, sym, ap, ◌∙◌, Some, None, Option, map}
+use Rattle.ufs_model.proofs.Words.{Collection, Draft, Edge, Grant, Progress, Puid, Seen, Start, State, after_seen, append-nil, collection_of, draft_pairs, drafted, drop_all, edges_from, edges_of, flat_map, graph_pairs, is_among, is_idle, is_marking, is_sweeping, joined, length-reverse, map-append, pairs_of, referred, reverse-append, same_puid, take_all, with_seen}
 use Rattle.ufs_model.specs.declared.collection.Collection.TheVariants as collections
 use Rattle.ufs_model.proofs.Spreading.{one_more}
 use Rattle.ufs_model.specs.declared.progress.Progress.TheVariants as progress
@@ -46,31 +46,45 @@ sweeping_is progress.Idle = refl
 sweeping_is (progress.Marking seen) = (still_marking [] [] seen.items).2
 sweeping_is progress.Sweeping = refl
 
-abbrev as_edge : Puid × Puid → Seen
-as_edge e = Edge e.0 e.1
-
-edges_after : (es : List (Puid × Puid)) → after_seen (collections.Marking [] []) (reverse (map as_edge es)) ≡ collections.Marking es []
+edges_after : (es : List (Puid × Puid)) → after_seen (collections.Marking [] []) (reverse (edges_of es)) ≡ collections.Marking es []
 edges_after [] = refl
 edges_after (e ∷ es) =
-    ap (after_seen (collections.Marking [] [])) (reverse-append (as_edge e ∷ []) (map as_edge es))
-    ∙ one_after (collections.Marking [] []) (reverse (map as_edge es)) (as_edge e)
-    ∙ ap (with_seen (Some (as_edge e))) (edges_after es)
+    ap (after_seen (collections.Marking [] [])) (reverse-append (Edge e.0 e.1 ∷ []) (edges_of es))
+    ∙ one_after (collections.Marking [] []) (reverse (edges_of es)) (Edge e.0 e.1)
+    ∙ ap (with_seen (Some (Edge e.0 e.1))) (edges_after es)
 
-each_edge : (i : Puid) (xs : List Puid) → map as_edge (map (λ x. (i, x)) xs) ≡ map (λ x. Edge i x) xs
+each_edge : (i : Puid) (xs : List Puid) → edges_of (map (λ x. (i, x)) xs) ≡ map (λ x. Edge i x) xs
 each_edge i [] = refl
 each_edge i (x ∷ xs) = ap (λ l. Edge i x ∷ l) (each_edge i xs)
 
-entries_are : (es : List (Puid × Object)) → flat_map (λ e. edges_from e.0 e.1) es ≡ map as_edge (flat_map (λ e. map (λ x. (e.0, x)) (referred e.1)) es)
-entries_are [] = refl
-entries_are (e ∷ es) =
-    ap (λ rest. edges_from e.0 e.1 ++ rest) (entries_are es)
-    ∙ ap (λ l. l ++ map as_edge (flat_map (λ (d : Puid × Object). map (λ x. (d.0, x)) (referred d.1)) es)) (sym (each_edge e.0 (referred e.1)))
-    ∙ sym (map-append as_edge (map (λ x. (e.0, x)) (referred e.1)) (flat_map (λ (d : Puid × Object). map (λ x. (d.0, x)) (referred d.1)) es))
+pub drafted_none : (g : Grant) → g.draft ≡ None → drafted g ≡ []
+drafted_none g is = ap (λ (o : Option Draft). elim o as (λ (x : Option Draft). List Puid) [ None ↦ [] | Some d ↦ referred d.object ]) is
 
--- the entries, the last first, come to the pairs of the graph
-pub entries_after : (es : List (Puid × Object)) → after_seen (collections.Marking [] []) (reverse (flat_map (λ e. edges_from e.0 e.1) es))
-    ≡ collections.Marking (flat_map (λ e. map (λ x. (e.0, x)) (referred e.1)) es) []
-entries_after es = ap (λ l. after_seen (collections.Marking [] []) (reverse l)) (entries_are es) ∙ edges_after _
+pub drafted_some : (g : Grant) (d : Draft) → g.draft ≡ Some d → drafted g ≡ referred d.object
+drafted_some g d is = ap (λ (o : Option Draft). elim o as (λ (x : Option Draft). List Puid) [ None ↦ [] | Some d ↦ referred d.object ]) is
+
+-- one more draft was seen
+pub seen_one : (g : Grant) (rest : List Grant) (old new all : List Seen) → old ++ edges_of (draft_pairs (g ∷ rest)) ≡ all → new ≡ old ++ map (λ x. Edge g.id x) (drafted g) → new ++ edges_of (draft_pairs rest) ≡ all
+seen_one g rest old new all h is =
+    let here : edges_of (draft_pairs (g ∷ rest)) ≡ map (λ x. Edge g.id x) (drafted g) ++ edges_of (draft_pairs rest) =
+    map-append (λ d. Edge d.0 d.1) (map (λ x. (g.id, x)) (drafted g)) (draft_pairs rest) ∙ ap (λ l. l ++ edges_of (draft_pairs rest)) (each_edge g.id (drafted g)) in
+    ap (λ l. l ++ edges_of (draft_pairs rest)) is ∙ append_assoc old (map (λ x. Edge g.id x) (drafted g)) (edges_of (draft_pairs rest)) ∙ ap (λ l. old ++ l) (sym here) ∙ h
+
+-- the entries of each, as the edges of all pairs
+pub entries_are : {A : Type 0} (id : A → Puid) (refs : A → List Puid) (es : List A) → flat_map (λ e. map (λ x. Edge (id e) x) (refs e)) es ≡ edges_of (flat_map (λ e. map (λ x. (id e, x)) (refs e)) es)
+entries_are id refs [] = refl
+entries_are id refs (e ∷ es) =
+    let pairs = flat_map (λ d. map (λ x. (id d, x)) (refs d)) es in
+    ap (λ rest. map (λ x. Edge (id e) x) (refs e) ++ rest) (entries_are id refs es)
+    ∙ ap (λ l. l ++ edges_of pairs) (sym (each_edge (id e) (refs e)))
+    ∙ sym (map-append (λ d. Edge d.0 d.1) (map (λ x. (id e, x)) (refs e)) pairs)
+
+-- the entries of the objects and of the drafts, the last first, come to the pairs
+pub entries_after : (s : State) → after_seen (collections.Marking [] []) (reverse (flat_map (λ e. edges_from e.0 e.1) s.graph.objects ++ edges_of (draft_pairs s.grants))) ≡ collections.Marking (pairs_of s) []
+entries_after s =
+    ap (λ l. after_seen (collections.Marking [] []) (reverse (l ++ edges_of (draft_pairs s.grants)))) (entries_are (λ e. e.0) (λ e. referred e.1) s.graph.objects)
+    ∙ ap (λ l. after_seen (collections.Marking [] []) (reverse l)) (sym (map-append (λ d. Edge d.0 d.1) (graph_pairs s.graph) (draft_pairs s.grants)))
+    ∙ edges_after (pairs_of s)
 
 -- ---- a collection that begins
 

@@ -1,6 +1,6 @@
 -- Identifiers that rise, each above the one before it.
-use Rattle.std.proofs.Common.{◌≡◌, List, [], ◌∷◌, refl, sym, ap, ◌∙◌, Bool, true, false, ◌&&◌, inl, inr}
-use Rattle.ufs_model.proofs.Words.{Equal, Greater, Less, Ordering, Puid, cases_Bool, ids_rise, is_lt, list_all, puid_cmp, rise_from, rises}
+use Rattle.std.proofs.Common.{◌≡◌, List, [], ◌∷◌, refl, ap, ◌∙◌, Bool, true, false, ◌&&◌}
+use Rattle.ufs_model.proofs.Words.{Equal, Greater, Less, Ordering, Puid, ids_rise, is_lt, list_all, puid_cmp, rise_from, rises}
 use Rattle.ufs_model.proofs.Entries.{puid_total}
 use Rattle.ufs_model.proofs.Tests.{all_weaker}
 

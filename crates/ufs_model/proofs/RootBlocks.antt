@@ -1,5 +1,5 @@
 -- Root blocks, and the part of a graph that has one.
-use Rattle.std.proofs.Common.{◌≡◌, ℕ, ◌+◌, ◌<◌, ◌≤◌, List, [], ◌∷◌, refl, sym, ◌∙◌, inl, inr, ⊎_elim, ◌⊎◌, true, false, Bool, cond, ◌||◌, arith, Some}
+use Rattle.std.proofs.Common.{◌≡◌, ℕ, ◌+◌, List, [], ◌∷◌, refl, sym, ◌∙◌, inl, inr, ⊎_elim, ◌⊎◌, true, false, Bool, cond, ◌||◌, arith, Some}
 use Rattle.ufs_model.proofs.Words.{Equal, Excluded, Greater, Included, Less, Object, Puid, entries_between, has_block, insert_entry, is_at, is_eq, lookup, match_ordering, nat_tests, puid_cmp, range_contains, ◌==◌}
 use Rattle.ufs_model.proofs.Entries.{lookup-insert_entry, lookup-insert_same, other-blocks}
 

@@ -1,6 +1,6 @@
 -- A change of one grant's draft or of one object is the change of what the reference shows.
 use Rattle.std.proofs.Common.{◌≡◌, ℕ, ◌+◌, List, ◌∙◌, ap, sym, subst, set, refl, Bool, Some, None, Option, false, true, cond, slice_get, not}
-use Rattle.ufs_model.proofs.Words.{Change, Draft, Fill, Grant, Graph, IsDraftPlace, IsInside, IsState, Object, Puid, Ref, Reply, State, Through, Tuid, changed, changed_draft, changed_object, closed, committed, created, draft_of, filter, grant_of, has_no_such_grant, insert_entry, is_grant, is_none, named, none-some, object_at, position, puid_cmp, put, remove, same_Some, seen, with_draft, with_edge, with_object, word}
+use Rattle.ufs_model.proofs.Words.{Change, Draft, Fill, Grant, Graph, IsDraftPlace, IsInside, IsState, Object, Puid, Ref, Reply, State, Through, Tuid, changed, changed_draft, changed_object, closed, committed, created, draft_of, filter, grant_of, has_no_such_grant, insert_entry, is_grant, is_none, named, none-some, object_at, position, puid_cmp, put, remove, same_Some, seen, with_draft, with_edge, with_new_in_draft, with_object, word}
 use Rattle.ufs_model.specs.declared.asked.Reply.TheVariants as replies
 use Rattle.ufs_model.specs.declared.object.Object.TheVariants as objects
 use Rattle.ufs_model.proofs.Grants.{found_at, with_draft-set, without_place}
@@ -34,15 +34,22 @@ module _ (s : State) (who : ℕ) (c : Change) where
       ∙ ap (λ (d : Draft). record s { graph = with_object s.graph id (changed_object c d.object) }) (sym sees)
       ∙ sym (put_object-at s who ref id (changed_draft c (seen s who ref)) names none)
 
+-- a slot of an object is one for whatever is put there
+filling : (slot : ℕ) (id : Puid) (o : Object) → IsInside (Fill slot None) o → IsInside (Fill slot (Some id)) o
+filling slot id (objects.Index i) h = h
+filling slot id (objects.File f) h = h
+
+-- with the new object's identifier
+abbrev created_at : State → ℕ → Ref → ℕ → Puid → ℕ → Object → Reply × State
+created_at s who ref slot x seed o =
+    let with_new : State = record s { graph = with_object s.graph x o; drawn = s.drawn + 1 } in
+    (replies.Id x, record (put with_new who ref (changed_draft (Fill slot (Some x)) (seen s who ref))) { collection = with_edge (named s who ref) x s.collection })
+
 module _ (s : State) (who : ℕ) (ref : Ref) (into : Puid) (slot : ℕ) (id : Puid) (found : Object) (none : draft_of s who ref ≡ None) (names : named s who ref ≡ Some into)
     (at : object_at s.graph into ≡ Some found) where
   -- the slot is one of the object's
   pub slot_inside : IsInside (Fill slot None) (seen s who ref).object → IsInside (Fill slot (Some id)) found
-  slot_inside inside = filling found (subst (λ (d : Draft). IsInside (Fill slot None) d.object) (seen_object s who ref into found names none at) inside)
-    where
-      filling : (o : Object) → IsInside (Fill slot None) o → IsInside (Fill slot (Some id)) o
-      filling (objects.Index i) h = h
-      filling (objects.File f) h = h
+  slot_inside inside = filling slot id found (subst (λ (d : Draft). IsInside (Fill slot None) d.object) (seen_object s who ref into found names none at) inside)
 
   -- a new object and its identifier in the slot
   pub created_state : (seed b : ℕ) (o : Object) (first then : List (Puid × Object)) → id ≡ record { block = b; word = word seed (s.drawn + 1) }
@@ -53,14 +60,40 @@ module _ (s : State) (who : ℕ) (ref : Ref) (into : Puid) (slot : ℕ) (id : Pu
       let d = changed_draft (Fill slot (Some id)) (seen s who ref) in
       let made : d.object ≡ changed_object (Fill slot (Some id)) found = ap (λ (x : Draft). changed_object (Fill slot (Some id)) x.object) (seen_object s who ref into found names none at) in
       let entries = ap (insert_entry puid_cmp (insert_entry puid_cmp s.graph.objects id o) into) made ∙ ap (λ es. insert_entry puid_cmp es into (changed_object (Fill slot (Some id)) found)) (sym one) ∙ sym two in
-      ap (λ (x : Puid). created_at x seed o) (sym is)
+      ap (λ (x : Puid). created_at s who ref slot x seed o) (sym is)
       ∙ ap (λ (t : State). (replies.Id id, record t { collection = with_edge (named s who ref) id s.collection })) (put_object-at new who ref into d names none)
       ∙ ap (λ es. (replies.Id id, record s { graph = record s.graph { objects = es }; drawn = s.drawn + 1; collection = with_edge (named s who ref) id s.collection })) entries
-    where
-      created_at : Puid → ℕ → Object → Reply × State
-      created_at x seed o =
-          let with_new : State = record s { graph = with_object s.graph x o; drawn = s.drawn + 1 } in
-          (replies.Id x, record (put with_new who ref (changed_draft (Fill slot (Some x)) (seen s who ref))) { collection = with_edge (named s who ref) x s.collection })
+
+-- ---- a new object by a draft
+
+module _ (s : State) (who : ℕ) (ref : Ref) (at slot : ℕ) (id : Puid) (place : IsDraftPlace s who ref at) where
+  it_stands : (g : Grant) → slice_get s.grants at ≡ Some g → place.grant ≡ g
+  it_stands g stands = same_Some _ _ (sym place.stands ∙ stands)
+
+  its_draft : (g : Grant) (d : Draft) → slice_get s.grants at ≡ Some g → g.draft ≡ Some d → place.draft ≡ d
+  its_draft g d stands has = same_Some _ _ (sym place.has ∙ ap (λ (x : Grant). x.draft) (it_stands g stands) ∙ has)
+
+  -- the slot is one of the draft's
+  pub draft_inside : IsInside (Fill slot None) (seen s who ref).object → (g : Grant) (d : Draft) → slice_get s.grants at ≡ Some g → g.draft ≡ Some d → IsInside (Fill slot (Some id)) d.object
+  draft_inside inside g d stands has =
+      let sees : seen s who ref ≡ d = ap (seen s who) place.through ∙ seen_draft s who place.t place.grant place.draft place.found place.has ∙ its_draft g d stands has in
+      filling slot id d.object (subst (λ (x : Draft). IsInside (Fill slot None) x.object) sees inside)
+
+  pub created_in_draft : IsState s → (seed b : ℕ) (o : Object) (new : State) → id ≡ record { block = b; word = word seed (s.drawn + 1) }
+      → ((g : Grant) (d : Draft) → slice_get s.grants at ≡ Some g → g.draft ≡ Some d → new ≡ with_new_in_draft s at g d slot id o)
+      → created seed s who ref slot o b ≡ (replies.Id id, record new { drawn = s.drawn + 1; collection = with_edge (named s who ref) id s.collection })
+  created_in_draft h seed b o new is made =
+      let more : State = record s { graph = with_object s.graph id o; drawn = s.drawn + 1 } in
+      let it = grant_found s who place.t place.grant h place.found in
+      let sees = seen_draft s who place.t place.grant place.draft place.found place.has in
+      let filled = changed_draft (Fill slot (Some id)) (seen s who (Through place.t)) in
+      let gone = with_draft-set who place.t (changed_draft (Fill slot (Some id)) place.draft) s.grants at place.grant h.rising place.stands it.0 in
+      ap (λ (x : Puid). created_at s who ref slot x seed o) (sym is)
+      ∙ ap (λ r. (replies.Id id, record (put more who r (changed_draft (Fill slot (Some id)) (seen s who r))) { collection = with_edge (named s who ref) id s.collection })) place.through
+      ∙ ap (λ (t : State). (replies.Id id, record t { collection = with_edge (named s who ref) id s.collection })) (put_draft-at more who place.t place.grant place.draft filled place.found place.has)
+      ∙ ap (λ (d : Draft). (replies.Id id, record more { grants = with_draft who place.t (changed_draft (Fill slot (Some id)) d) s.grants; collection = with_edge (named s who ref) id s.collection })) sees
+      ∙ ap (λ gs. (replies.Id id, record more { grants = gs; collection = with_edge (named s who ref) id s.collection })) gone
+      ∙ ap (λ (t : State). (replies.Id id, record t { drawn = s.drawn + 1; collection = with_edge (named s who ref) id s.collection })) (sym (made place.grant place.draft place.stands place.has))
 
 -- ---- the end of a grant
 

@@ -1,6 +1,6 @@
 -- Sets of identifiers, and going through what was seen until nothing more is reached.
-use Rattle.std.proofs.Common.{◌≡◌, ℕ, zero, suc, ◌+◌, ◌<◌, ◌≤◌, ◌↔◌, List, [], ◌∷◌, ◌++◌, length, take, get_or, refl, sym, ap, ◌∙◌, subst, arith, Bool, true, false, cond, not, ◌&&◌, ◌||◌, Some, None, inl, inr, map}
-use Rattle.ufs_model.proofs.Words.{Along, Edge, IsReached, IsReachedBy, IsSpread, Puid, Seen, Start, after_seen, and_from, and_parts, both_ways, cases_Bool, cases_lt, edges, seen_end, eq_by_cmp, has_pair, is_among, is_eq, leads_to, leads_within, list_all, list_all-append, list_any_more, nat_tests, not-true, or_cases, or_left, or_right, same_puid, starts}
+use Rattle.std.proofs.Common.{◌≡◌, ℕ, zero, suc, ◌<◌, List, [], ◌∷◌, ◌++◌, length, get_or, refl, sym, ap, ◌∙◌, arith, Bool, true, false, cond, not, ◌&&◌, ◌||◌, Some, None, inl, inr, map}
+use Rattle.ufs_model.proofs.Words.{Along, Edge, IsReached, IsReachedBy, IsSpread, Puid, Seen, Start, after_seen, and_from, and_parts, both_ways, cases_Bool, cases_lt, edges, seen_end, has_pair, is_among, leads_to, leads_within, list_all, list_all-append, not-true, or_cases, or_left, or_right, same_puid, starts}
 use Rattle.ufs_model.specs.declared.collection.Collection.TheVariants as collections
 use Rattle.ufs_model.specs.Reach as reach
 use Rattle.ufs_model.proofs.Reached.{IsClosed, Within, among_itself, none_new, outside, same_puid_is, same_puid_itself}

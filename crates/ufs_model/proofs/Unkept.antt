@@ -1,6 +1,6 @@
 -- What may vanish, as it is tested: where no index that stays refers to one of these, none is kept exactly where none is a start.
-use Rattle.std.proofs.Common.{◌≡◌, ℕ, List, [], ◌∷◌, length, refl, sym, ap, subst, ◌∙◌, Bool, true, false, cond, not, Option, ◌&&◌, ◌||◌, ◌↔◌, Some, None, inl, inr, map}
-use Rattle.ufs_model.proofs.Words.{Collection, Grant, IsReachedBy, IsState, Object, Puid, Seen, State, after_seen, allowed_if, and_from, and_parts, are_no_starts, are_there, beside, both_ways, cases_Bool, edges, filter, filter_map, flat_map, has_all_cut_off, has_no_kept, has_pair, ids_of, is_among, is_cut_off, is_marking, is_running, is_there, joined, kept, leaves_no_reference, list_all, list_all-append, list_all-map, list_any, may_vanish, not-true, open_ids, option_map_or, or_cases, or_left, or_right, pairs_of, reached, reached_since, referred, starts, starts_now, without}
+use Rattle.std.proofs.Common.{◌≡◌, ℕ, List, [], ◌∷◌, length, refl, sym, ap, subst, ◌∙◌, Bool, true, false, not, Option, ◌&&◌, ◌||◌, ◌↔◌, Some, None, inl, inr, map}
+use Rattle.ufs_model.proofs.Words.{Collection, Grant, IsReachedBy, IsState, Object, Puid, Seen, State, after_seen, allowed_if, and_from, and_parts, are_no_starts, are_there, beside, both_ways, draft_pairs, drafted, edges, filter, filter_map, flat_map, graph_pairs, has_all_cut_off, has_no_kept, ids_of, is_among, is_cut_off, is_marking, is_running, is_there, kept, leaves_no_reference, list_all, list_all-append, list_all-map, list_any, may_vanish, not-true, open_ids, option_map_or, or_cases, pairs_of, reached_since, referred, starts, starts_now, without}
 use Rattle.ufs_model.proofs.Graphs.{is_there-ids}
 use Rattle.ufs_model.specs.declared.collection.Collection.TheVariants as collections
 use Rattle.ufs_model.specs.declared.asked.Event.TheVariants as events
@@ -73,19 +73,23 @@ module _ (q : Puid → Bool) where
   abbrev pub apart_from : Puid × Puid → Bool
   apart_from d = q d.0 || not (q d.1)
 
-  abbrev pub to_none : Puid × Object → Bool
-  to_none e = q e.0 || not (list_any q (referred e.1))
+  -- each that is not among these leads to none of them, by what it refers to and by the pairs
+  pub each_pair_of : {A : Type 0} (id : A → Puid) (refs : A → List Puid) (xs : List A)
+      → list_all (λ a. q (id a) || not (list_any q (refs a))) xs ≡ list_all apart_from (flat_map (λ a. map (λ x. (id a, x)) (refs a)) xs)
+  each_pair_of id refs [] = refl
+  each_pair_of id refs (a ∷ xs) =
+      let to_none : Bool = q (id a) || not (list_any q (refs a)) in
+      let rest = flat_map (λ b. map (λ x. (id b, x)) (refs b)) xs in
+      let here : list_all apart_from (map (λ x. (id a, x)) (refs a)) ≡ to_none = list_all-map apart_from (λ x. (id a, x)) (refs a) ∙ one_index (q (id a)) (refs a) in
+      ap (λ b. to_none && b) (each_pair_of id refs xs) ∙ ap (λ b. b && list_all apart_from rest) (sym here) ∙ sym (list_all-append apart_from (map (λ x. (id a, x)) (refs a)) rest)
 
-  abbrev pub pairs_in : List (Puid × Object) → List (Puid × Puid)
-  pairs_in es = flat_map (λ e. map (λ x. (e.0, x)) (referred e.1)) es
-
-  pub each_index : (es : List (Puid × Object)) → list_all to_none es ≡ list_all apart_from (pairs_in es)
-  each_index [] = refl
-  each_index (e ∷ es) =
-      let here : list_all apart_from (map (λ x. (e.0, x)) (referred e.1)) ≡ to_none e = list_all-map apart_from (λ x. (e.0, x)) (referred e.1) ∙ one_index (q e.0) (referred e.1) in
-      ap (λ b. to_none e && b) (each_index es)
-      ∙ ap (λ b. b && list_all apart_from (pairs_in es)) (sym here)
-      ∙ sym (list_all-append apart_from (map (λ x. (e.0, x)) (referred e.1)) (pairs_in es))
+  -- the objects and the drafts together
+  pub each_index : (s : State) → (list_all (λ e. q e.0 || not (list_any q (referred e.1))) s.graph.objects && list_all (λ g. q g.id || not (list_any q (drafted g))) s.grants)
+      ≡ list_all apart_from (pairs_of s)
+  each_index s =
+      ap (λ b. b && list_all (λ (g : Grant). q g.id || not (list_any q (drafted g))) s.grants) (each_pair_of (λ e. e.0) (λ e. referred e.1) s.graph.objects)
+      ∙ ap (λ b. list_all apart_from (graph_pairs s.graph) && b) (each_pair_of (λ g. g.id) drafted s.grants)
+      ∙ sym (list_all-append apart_from (graph_pairs s.graph) (draft_pairs s.grants))
 
 same_test : (a b : Bool) → (a ≡ true → b ≡ true) → (b ≡ true → a ≡ true) → a ≡ b
 same_test true b f g = sym (f refl)

@@ -1,37 +1,51 @@
 -- What is done to a well-formed state leaves one.
 use Rattle.std.proofs.Common.{◌≡◌, inl, inr, ℕ, zero, suc, ◌+◌, List, [], ◌∷◌, set, refl, sym, ◌∙◌, ap, subst, arith, Bool, true, false, cond, not, ◌&&◌, Some, None, Option}
 use Rattle.ufs_model.proofs.Words.{Change, Collection, Direct, Draft, File, FileKind, Fill, Grant, Graph, IsInside, IsState, Mode, Object, Overwrite, Puid, Ref, SetSize, State, Through, Tuid, after_leave, and_from, and_parts, both_ways, changed, changed_draft, changed_object, closed, committed, created, draft_of, draws_of, eq-eqb, eqb-true, filter, filter_map, first_draft, goes_nowhere, grant_of, granted, has_block, has_no_such_grant, is_among, is_draft_of, is_free_root, is_grant, is_grant_in, is_none, is_object, is_open_so, is_some, is_there, list_all, list_all-append, named, nat_le, nat_tests, not-false, not-true, numbers_rise, object_at, option_and_then, or_cases, or_left, or_right, put, referred, same_kind, same_puid, seen, takes_draft, with_draft, with_edge, with_object, word, ◌==◌}
+use Rattle.std.proofs.Common.{◌++◌, length, ◌||◌}
+use Rattle.std.specs.List.{list_any}
 use Rattle.cfs_base.specs.declared.kind.FileKind.TheVariants as kinds
 use Rattle.cfs_base.specs.declared.kind.Mode.TheVariants as modes
+use Rattle.ufs_model.specs.declared.object.Index.{Index}
+use Rattle.std.proofs.lemmas.Option.{same_Some}
+use Rattle.std.proofs.lemmas.Bool.{cases_Bool}
 use Rattle.ufs_model.specs.declared.object.Object.TheVariants as objects
+use Rattle.ufs_model.specs.Numbers.{has_number}
+use Rattle.ufs_model.specs.Object.{filled, leaf_of_slot}
+use Rattle.ufs_model.specs.State.{draft_at, draft_pairs, object_in}
+use Rattle.ufs_model.specs.Refusal.{meets_a_grant, is_reading}
+use Rattle.ufs_model.specs.WellFormed.{may_share, are_granted}
 use Rattle.ufs_model.proofs.Tests.{all_filter, all_found, all_weaker}
-use Rattle.ufs_model.proofs.Reached.{same_puid_is, same_puid_itself}
+use Rattle.ufs_model.proofs.Reached.{same_puid_is, same_puid_itself, each_pair}
+use Rattle.ufs_model.proofs.Rising.{here, later, with_others}
+use Rattle.ufs_model.proofs.Drafts.{its_draft, no_other, fewer_drafts, draft_put, draft_pair, granted_alone, granted_put, granted_filter, granted_push, not_open, not_written, replaced_grants, pairs_closed_by}
 use Rattle.ufs_model.proofs.Graphs.{object_at-with_object, object_there, refers}
 use Rattle.ufs_model.proofs.RootBlocks.{found_still}
 use Rattle.ufs_model.proofs.Objects.{IsAlike, IsOfBytes, changed_alike, changed_whole}
-use Rattle.ufs_model.proofs.WellGraphs.{graph_refers, object_whole, replaced_keeps, added_keeps}
+use Rattle.ufs_model.proofs.WellGraphs.{graph_refers, object_whole, replaced_keeps, added_keeps, still_there}
 use Rattle.ufs_model.proofs.Grants.{with_draft-all, with_draft-draws, draws-filter, rise-filter, drawn-push, rise-grant}
 
 -- a state is well-formed whatever else is remembered
 pub beside : (s : State) (moment : Option ℕ) (c : Collection) → IsState s → IsState (record s { stopped = moment; collection = c })
-beside s moment c h = record { graph = h.graph; grants = h.grants; rising = h.rising; drawn = h.drawn }
+beside s moment c h = record { graph = h.graph; grants = h.grants; closed = h.closed; alone = h.alone; rising = h.rising; drawn = h.drawn }
 
 -- ---- drafts
 
--- a draft of an object is one of any other of the same kind
-still_draft : (o new d : Object) → IsAlike o new → is_draft_of o d ≡ true → is_draft_of new d ≡ true
-still_draft (objects.File f) (objects.File n) (objects.File d) alike h = rw (alike.0, alike.1) h
-still_draft (objects.File f) (objects.File n) (objects.Index i) alike h = h
-still_draft (objects.File f) (objects.Index i) d alike h = elim alike [ ]
-still_draft (objects.Index i) new d alike h = cc
-
-still_open : (o new : Object) (d : Option Draft) → IsAlike o new → is_open_so (Some o) d ≡ true → is_open_so (Some new) d ≡ true
-still_open o new None alike h = refl
-still_open o new (Some d) alike h = still_draft o new d.object alike h
+-- a leaf that is held stays so
+held_still : (d : Index) (slot : ℕ) (what : Option Puid) (leaf : ℕ) → has_number leaf d.held ≡ true → has_number leaf (filled d slot what).held ≡ true
+held_still d slot None leaf h = h
+held_still d slot (Some x) leaf h = with_others leaf (leaf_of_slot slot) d.held h
 
 -- a draft that is changed is one still
 changed_draft-of : (o d : Object) (c : Change) → IsInside c d → IsOfBytes c → is_draft_of o d ≡ true → is_draft_of o (changed_object c d) ≡ true
-changed_draft-of (objects.Index i) d c inside small h = cc
+changed_draft-of (objects.Index i) (objects.File d) c inside small h = cc
+changed_draft-of (objects.Index i) (objects.Index d) (Fill slot what) inside small h =
+    let last = and_parts _ (is_object (objects.Index d)) h in
+    let first = and_parts (length d.slots == length i.slots) (list_all (λ leaf. has_number leaf d.held) i.held) last.0 in
+    and_from _ _ (and_from _ _ (ap (λ (n : ℕ). n == length i.slots) (changed_alike (Fill slot what) (objects.Index d)) ∙ first.0)
+    (all_weaker (λ leaf. has_number leaf d.held) (λ leaf. has_number leaf (filled d slot what).held) i.held (λ leaf. held_still d slot what leaf) first.1))
+    (changed_whole (Fill slot what) (objects.Index d) inside small last.1)
+changed_draft-of (objects.Index i) (objects.Index d) (Overwrite offset bytes) inside small h = h
+changed_draft-of (objects.Index i) (objects.Index d) (SetSize size) inside small h = h
 changed_draft-of (objects.File f) (objects.Index i) c inside small h = cc
 changed_draft-of (objects.File f) (objects.File d) (Fill slot what) inside small h = h
 changed_draft-of (objects.File f) (objects.File d) (Overwrite offset bytes) inside small h =
@@ -53,13 +67,26 @@ kind_is kinds.Normal kinds.Special h = cc
 kind_is kinds.Special kinds.Normal h = cc
 kind_is kinds.Special kinds.Special h = refl
 
-draft_alike : (o d : Object) → is_draft_of o d ≡ true → IsAlike o d × (is_object d ≡ true) × ((x : Puid) → is_among x (referred d) ≡ false)
+all_among : (P : ℕ → Bool) (ns : List ℕ) → ((n : ℕ) → has_number n ns ≡ true → P n ≡ true) → list_all P ns ≡ true
+all_among P [] each = refl
+all_among P (n ∷ ns) each = and_from (P n) (list_all P ns) (each n (here n ns)) (all_among P ns (λ m h. each m (later m n ns h)))
+
+-- an object is a draft of itself
+self_draft : (o : Object) → is_object o ≡ true → is_draft_of o o ≡ true
+self_draft (objects.File f) whole = file_draft f whole
+self_draft (objects.Index i) whole = and_from _ _ (and_from _ _ (eq-eqb (length i.slots) (length i.slots) refl) (all_among (λ leaf. has_number leaf i.held) i.held (λ n h. h))) whole
+
+draft_alike : (o d : Object) → is_draft_of o d ≡ true → IsAlike o d × (is_object d ≡ true)
 draft_alike (objects.File f) (objects.File d) h =
     let last = and_parts _ (is_object (objects.File d)) h in
     let first = and_parts (same_kind d.kind f.kind) (d.fill == f.fill) last.0 in
-    ((kind_is d.kind f.kind first.0, eqb-true d.fill f.fill first.1), last.1, λ x. refl)
+    ((kind_is d.kind f.kind first.0, eqb-true d.fill f.fill first.1), last.1)
+draft_alike (objects.Index i) (objects.Index d) h =
+    let last = and_parts _ (is_object (objects.Index d)) h in
+    let first = and_parts (length d.slots == length i.slots) (list_all (λ leaf. has_number leaf d.held) i.held) last.0 in
+    (eqb-true (length d.slots) (length i.slots) first.0, last.1)
 draft_alike (objects.File f) (objects.Index i) h = cc
-draft_alike (objects.Index i) d h = cc
+draft_alike (objects.Index i) (objects.File d) h = cc
 
 pub open_there : (o : Option Object) (d : Option Draft) → is_open_so o d ≡ true → (it : Object) × (o ≡ Some it)
 open_there None d h = cc
@@ -68,21 +95,15 @@ open_there (Some o) d h = (o, refl)
 -- ---- another object of its kind in its place
 
 pub replaced_state : (s : State) (id : Puid) (old new : Object) → IsState s → object_at s.graph id ≡ Some old → IsAlike old new → is_object new ≡ true
-    → ((x : Puid) → is_among x (referred new) ≡ true → is_there s.graph x ≡ true) → IsState (record s { graph = with_object s.graph id new })
-replaced_state s id old new h at alike whole refer = record {
+    → ((x : Puid) → is_among x (referred new) ≡ true → is_there s.graph x ≡ true) → ((d : Object) → draft_at s.grants id ≡ Some d → is_draft_of new d ≡ true) → IsState (record s { graph = with_object s.graph id new })
+replaced_state s id old new h at alike whole refer still = record {
   graph = replaced_keeps s.graph id new h.graph whole old at alike refer;
-  grants = all_weaker (is_grant_in s.graph) (is_grant_in (with_object s.graph id new)) s.grants still h.grants;
+  grants = replaced_grants s.graph id new s.grants (granted_alone s.grants h.alone) h.grants still;
+  closed = all_weaker (λ e. is_there s.graph e.1) (λ e. is_there (with_object s.graph id new) e.1) (draft_pairs s.grants) (λ e there. still_there s.graph id new e.1 there) h.closed;
+  alone = h.alone;
   rising = h.rising;
   drawn = h.drawn;
 }
-  where
-    still : (g : Grant) → is_grant_in s.graph g ≡ true → is_grant_in (with_object s.graph id new) g ≡ true
-    still g is =
-        ap (λ o. is_open_so o g.draft) (object_at-with_object s.graph id new g.id)
-        ∙ elim (same_puid g.id id) as (λ b. same_puid g.id id ≡ b → is_open_so (cond b (Some new) (object_at s.graph g.id)) g.draft ≡ true) [
-          | true ↦ λ same. still_open old new g.draft alike (sym (ap (λ o. is_open_so o g.draft) (ap (object_at s.graph) (same_puid_is g.id id same) ∙ at)) ∙ is)
-          | false ↦ λ other. is
-        ] refl
 
 -- ---- where a change goes
 
@@ -123,6 +144,22 @@ module _ (s : State) (who : ℕ) where
 
   pub put_draft-at : (t : Tuid) (g : Grant) (d new : Draft) → grant_of s who t ≡ Some g → g.draft ≡ Some d → put s who (Through t) new ≡ record s { grants = with_draft who t new s.grants }
   put_draft-at t g d new found has = rw (draft_found t g d found has, put) refl
+
+-- an object to which a reference goes, and not to its draft, has none
+abbrev pub HasNoOther : State → ℕ → Ref → Type 0
+HasNoOther s who ref = (id : Puid) → named s who ref ≡ Some id → draft_of s who ref ≡ None → draft_at s.grants id ≡ None
+
+pub has_no_other : (s : State) (who : ℕ) (ref : Ref) (changes : Bool) → IsState s → meets_a_grant s changes ref ≡ false → HasNoOther s who ref
+has_no_other s who (Direct x) changes h free id is none = let same : x ≡ id = same_Some x id is in subst (λ (k : Puid). draft_at s.grants k ≡ None) same (undrafted changes free)
+  where
+    undrafted : (changes : Bool) → meets_a_grant s changes (Direct x) ≡ false → draft_at s.grants x ≡ None
+    undrafted true free = not_open s.grants x free
+    undrafted false free = not_written s.grants x h.alone free
+has_no_other s who (Through t) changes h free id is none = at (grant_of s who t) refl
+  where
+    at : (o : Option Grant) → grant_of s who t ≡ o → draft_at s.grants id ≡ None
+    at None found = (let no : None ≡ Some id = rw found at is in cc)
+    at (Some g) found = subst (λ (k : Puid). draft_at s.grants k ≡ None) (same_Some g.id id (rw found at is)) (no_other (is_grant who t) g s.grants (granted_alone s.grants h.alone) found (rw found at none))
 
 -- ---- a change
 
@@ -166,16 +203,16 @@ changed_refers g (Overwrite offset bytes) (objects.Index i) known old = old
 changed_refers g (SetSize size) (objects.File f) known old = old
 changed_refers g (SetSize size) (objects.Index i) known old = old
 
-pub changed_keeps : (s : State) (who : ℕ) (ref : Ref) (c : Change) → IsState s → Goes s who ref → IsInside c (seen s who ref).object → IsOfBytes c → IsKnown s.graph c → IsState (changed s who ref c)
-changed_keeps s who ref c h (ToObject id o name none at) inside small known =
+pub changed_keeps : (s : State) (who : ℕ) (ref : Ref) (c : Change) → IsState s → Goes s who ref → HasNoOther s who ref → IsInside c (seen s who ref).object → IsOfBytes c → IsKnown s.graph c → IsState (changed s who ref c)
+changed_keeps s who ref c h (ToObject id o name none at) others inside small known =
     let sees = seen_object s who ref id o name none at in
     let inside' : IsInside c o = subst (λ (d : Draft). IsInside c d.object) sees inside in
     let is : changed s who ref c ≡ record s { graph = with_object s.graph id (changed_object c o) } =
     put_object-at s who ref id (changed_draft c (seen s who ref)) name none ∙ ap (λ (d : Draft). record s { graph = with_object s.graph id (changed_object c d.object) }) sees in
     subst IsState (sym is)
     (replaced_state s id o (changed_object c o) h at (changed_alike c o) (changed_whole c o inside' small (object_whole s.graph h.graph id o at))
-    (changed_refers s.graph c o known (λ x r. graph_refers s.graph h.graph id x (ap (λ there. refers there x) at ∙ r))))
-changed_keeps s who ref c h (ToDraft t g d found has) inside small known =
+    (changed_refers s.graph c o known (λ x r. graph_refers s.graph h.graph id x (ap (λ there. refers there x) at ∙ r))) (λ d is. (let no : None ≡ Some d = sym (others id name none) ∙ is in cc)))
+changed_keeps s who ref c h (ToDraft t g d found has) others inside small known =
     let sees = seen_draft s who t g d found has in
     let it = grant_found s who t g h found in
     let at = open_there (object_at s.graph g.id) g.draft it.1 in
@@ -186,9 +223,19 @@ changed_keeps s who ref c h (ToDraft t g d found has) inside small known =
     rw at.1 (changed_draft-of at.0 d.object c inside' small (sym (ap (λ o. is_open_so o (Some d)) at.1) ∙ had)) in
     let is : changed s who (Through t) c ≡ record s { grants = with_draft who t new s.grants } =
     put_draft-at s who t g d (changed_draft c (seen s who (Through t))) found has ∙ ap (λ (x : Draft). record s { grants = with_draft who t (changed_draft c x) s.grants }) sees in
+    let granted : are_granted (with_draft who t new s.grants) ≡ true = granted_put who t s.grants g d new h.alone h.rising found has in
+    let alone = granted_alone s.grants h.alone in
+    let was : (i x : Puid) → refers (draft_at s.grants i) x ≡ true → is_there s.graph x ≡ true = λ i x r. each_pair (λ _. is_there s.graph) (draft_pairs s.grants) i x h.closed (draft_pair s.grants i x r) in
+    let refer : (i x : Puid) → refers (draft_at (with_draft who t new s.grants) i) x ≡ true → is_there s.graph x ≡ true = λ i x r.
+    elim (same_puid i g.id) as (λ b. refers (cond b (Some new.object) (draft_at s.grants i)) x ≡ true → is_there s.graph x ≡ true) [
+      | true ↦ λ now. changed_refers s.graph c d.object known (λ y in_d. was g.id y (ap (λ o. refers o y) (its_draft (is_grant who t) g s.grants d alone found has) ∙ in_d)) x now
+      | false ↦ λ old. was i x old
+    ] (ap (λ o. refers o x) (sym (draft_put who t s.grants g d new i alone h.rising found has)) ∙ r) in
     subst IsState (sym is) (record {
       graph = h.graph;
       grants = with_draft-all who t new (is_grant_in s.graph) s.grants g h.rising found it.0 h.grants still;
+      closed = pairs_closed_by (is_there s.graph) (with_draft who t new s.grants) (granted_alone (with_draft who t new s.grants) granted) refer;
+      alone = granted;
       rising = ap numbers_rise (with_draft-draws who t new s.grants) ∙ h.rising;
       drawn = ap (list_all (λ draw. nat_le draw s.drawn)) (with_draft-draws who t new s.grants) ∙ h.drawn;
     })
@@ -210,6 +257,8 @@ module _ (s : State) (id : Puid) (o : Object) (free : is_free_root s.graph id.bl
     graph = added_keeps s.graph id o h.graph whole free (λ x r. absurd (both_ways (is_among x (referred o)) (bare x) r));
     grants = all_weaker (is_grant_in s.graph) (is_grant_in (with_object s.graph id o)) s.grants
         (λ g is. let at = open_there (object_at s.graph g.id) g.draft is in ap (λ old. is_open_so old g.draft) (kept_object g.id at.0 at.1 ∙ sym at.1) ∙ is) h.grants;
+    closed = all_weaker (λ e. is_there s.graph e.1) (λ e. is_there (with_object s.graph id o) e.1) (draft_pairs s.grants) (λ e there. still_there s.graph id o e.1 there) h.closed;
+    alone = h.alone;
     rising = h.rising;
     drawn = all_weaker (λ draw. nat_le draw s.drawn) (λ draw. nat_le draw (s.drawn + 1)) (draws_of s.grants) (λ draw le. grind (arith, nat_tests)) h.drawn;
   }
@@ -220,17 +269,21 @@ module _ (s : State) (id : Puid) (o : Object) (free : is_free_root s.graph id.bl
       (ToObject x old name none (kept_object x old at), seen_object s who ref x old name none at ∙ sym (seen_object more who ref x old name none (kept_object x old at)))
   goes_still who ref (ToDraft t g d found has) = (ToDraft t g d found has, seen_draft s who t g d found has ∙ sym (seen_draft more who t g d found has))
 
-pub created_keeps : (seed : ℕ) (s : State) (who : ℕ) (index : Ref) (slot : ℕ) (o : Object) (b : ℕ) → IsState s → Goes s who index → IsInside (Fill slot None) (seen s who index).object
+pub created_keeps : (seed : ℕ) (s : State) (who : ℕ) (index : Ref) (slot : ℕ) (o : Object) (b : ℕ) → IsState s → Goes s who index → HasNoOther s who index → IsInside (Fill slot None) (seen s who index).object
     → is_object o ≡ true → ((x : Puid) → is_among x (referred o) ≡ false) → is_free_root s.graph b ≡ true → IsState (created seed s who index slot o b).1
-created_keeps seed s who index slot o b h to inside whole bare free =
+created_keeps seed s who index slot o b h to others inside whole bare free =
     let id : Puid = record { block = b; word = word seed (s.drawn + 1) } in
     let c = Fill slot (Some id) in
     let still = goes_still s id o free who index to in
     let there : is_there (with_object s.graph id o) id ≡ true = ap is_some (object_at-with_object s.graph id o id ∙ ap (λ b. cond b (Some o) (object_at s.graph id)) (same_puid_itself id)) in
-    let one = changed_keeps (more s id o free) who index c (added_state s id o free h whole bare) still.0 (subst (λ (d : Draft). IsInside c d.object) still.1 (filling (seen s who index).object inside)) tt there in
+    let one = changed_keeps (more s id o free) who index c (added_state s id o free h whole bare) still.0 (still_others index others) (subst (λ (d : Draft). IsInside c d.object) still.1 (filling (seen s who index).object inside)) tt there in
     let filled : State = put (more s id o free) who index (changed_draft c (seen s who index)) in
     beside filled filled.stopped (with_edge (named s who index) id s.collection) (subst (λ d. IsState (put (more s id o free) who index (changed_draft c d))) (sym still.1) one)
   where
+    still_others : (r : Ref) → HasNoOther s who r → HasNoOther (more s (record { block = b; word = word seed (s.drawn + 1) }) o free) who r
+    still_others (Direct x) others = others
+    still_others (Through x) others = others
+
     filling : (seen : Object) → IsInside (Fill slot None) seen → IsInside (Fill slot (Some (record { block = b; word = word seed (s.drawn + 1) }))) seen
     filling (objects.Index i) h = h
     filling (objects.File f) h = h
@@ -239,19 +292,48 @@ created_keeps seed s who index slot o b h to inside whole bare free =
 
 whole_open : (o : Object) (mode : Mode) → is_object o ≡ true → is_open_so (Some o) (first_draft mode (Some o)) ≡ true
 whole_open o mode whole = elim (takes_draft mode (Some o)) as (λ b. takes_draft mode (Some o) ≡ b → is_open_so (Some o) (cond b (Some (record { object = o; fresh = [] })) None) ≡ true) [
-  | true ↦ λ takes. own o mode takes whole
+  | true ↦ λ takes. self_draft o whole
   | false ↦ λ takes. refl
 ] refl
-  where
-    own : (o : Object) (mode : Mode) → takes_draft mode (Some o) ≡ true → is_object o ≡ true → is_draft_of o o ≡ true
-    own (objects.File f) mode takes whole = file_draft f whole
-    own (objects.Index i) modes.Reading takes whole = cc
-    own (objects.Index i) modes.Writing takes whole = cc
 
-pub granted_keeps : (seed : ℕ) (s : State) (who : ℕ) (id : Puid) (mode : Mode) → IsState s → is_there s.graph id ≡ true → IsState (granted seed s who id mode).1
-granted_keeps seed s who id mode h there = record {
+-- a draft is for writing
+drafts_write : (o : Object) (mode : Mode) → (is_none (first_draft mode (Some o)) || not (is_reading mode)) ≡ true
+drafts_write o modes.Reading = refl
+drafts_write o modes.Writing = or_right (is_none (first_draft modes.Writing (Some o))) true refl
+
+-- who may be opened beside others shares with each
+all_share : (gs : List Grant) (g : Grant) (s : State) → s.grants ≡ gs → meets_a_grant s (not (is_reading g.mode)) (Direct g.id) ≡ false → list_all (λ h. may_share h g) gs ≡ true
+all_share gs g s is free = at g.mode refl (subst (λ (hs : List Grant). meets_a_grant (record s { grants = hs }) (not (is_reading g.mode)) (Direct g.id) ≡ false) is free)
+  where
+    writers : (hs : List Grant) → list_any (λ (h : Grant). same_puid g.id h.id) hs ≡ false → list_all (λ h. may_share h g) hs ≡ true
+    writers [] none = refl
+    writers (h ∷ hs) none = elim (cases_Bool (same_puid g.id h.id)) [
+      | inl on ↦ (let no : list_any (λ (k : Grant). same_puid g.id k.id) (h ∷ hs) ≡ true = or_left (same_puid g.id h.id) _ on in cc)
+      | inr other ↦ and_from (may_share h g) (list_all (λ k. may_share k g) hs) (or_left (not (same_puid g.id h.id)) (is_reading h.mode && is_reading g.mode) (ap not other)) (writers hs (rw other at none))
+    ]
+
+    readers : is_reading g.mode ≡ true → (hs : List Grant) → list_any (λ (h : Grant). same_puid g.id h.id && not (is_reading h.mode)) hs ≡ false → list_all (λ h. may_share h g) hs ≡ true
+    readers reads [] none = refl
+    readers reads (h ∷ hs) none = elim (cases_Bool (same_puid g.id h.id && not (is_reading h.mode))) [
+      | inl on ↦ (let no : list_any (λ (k : Grant). same_puid g.id k.id && not (is_reading k.mode)) (h ∷ hs) ≡ true = or_left (same_puid g.id h.id && not (is_reading h.mode)) _ on in cc)
+      | inr other ↦ and_from (may_share h g) (list_all (λ k. may_share k g) hs) (one (same_puid g.id h.id) (is_reading h.mode) other) (readers reads hs (rw other at none))
+    ]
+      where
+        one : (a b : Bool) → (a && not b) ≡ false → (not a || (b && is_reading g.mode)) ≡ true
+        one false b h = refl
+        one true true h = rw reads refl
+        one true false h = cc
+
+    at : (m : Mode) → g.mode ≡ m → meets_a_grant (record s { grants = gs }) (not (is_reading g.mode)) (Direct g.id) ≡ false → list_all (λ h. may_share h g) gs ≡ true
+    at modes.Reading reads none = readers (ap is_reading reads) gs (subst (λ (m : Mode). meets_a_grant (record s { grants = gs }) (not (is_reading m)) (Direct g.id) ≡ false) reads none)
+    at modes.Writing reads none = writers gs (subst (λ (m : Mode). meets_a_grant (record s { grants = gs }) (not (is_reading m)) (Direct g.id) ≡ false) reads none)
+
+pub granted_keeps : (seed : ℕ) (s : State) (who : ℕ) (id : Puid) (mode : Mode) → IsState s → is_there s.graph id ≡ true → meets_a_grant s (not (is_reading mode)) (Direct id) ≡ false → IsState (granted seed s who id mode).1
+granted_keeps seed s who id mode h there free = record {
   graph = h.graph;
   grants = list_all-append (is_grant_in s.graph) s.grants (grant ∷ []) ∙ and_from (list_all (is_grant_in s.graph) s.grants) (is_grant_in s.graph grant && true) h.grants (and_from (is_grant_in s.graph grant) true new refl);
+  closed = pairs_closed_by (is_there s.graph) (s.grants ++ grant ∷ []) (granted_alone (s.grants ++ grant ∷ []) granted) refer;
+  alone = granted;
   rising = rise-grant s.grants grant s.drawn refl h.drawn h.rising;
   drawn = drawn-push s.grants grant s.drawn refl h.drawn;
 }
@@ -259,17 +341,53 @@ granted_keeps seed s who id mode h there = record {
     grant : Grant
     grant = record { tuid = record { draw = s.drawn + 1; word = word seed (s.drawn + 1) }; session = who; id = id; mode = mode; draft = first_draft mode (object_at s.graph id) }
 
+    at : (o : Object) × (object_at s.graph id ≡ Some o)
+    at = object_there s.graph id there
+
     new : is_grant_in s.graph grant ≡ true
-    new = let at = object_there s.graph id there in rw at.1 (whole_open at.0 mode (object_whole s.graph h.graph id at.0 at.1))
+    new = rw at.1 (whole_open at.0 mode (object_whole s.graph h.graph id at.0 at.1))
+
+    granted : are_granted (s.grants ++ grant ∷ []) ≡ true
+    granted = granted_push s.grants grant h.alone (rw at.1 (drafts_write at.0 mode)) (all_share s.grants grant s refl free)
+
+    first_refers : (mode : Mode) (o : Option Object) (x : Puid) → refers (object_in (first_draft mode o)) x ≡ true → refers o x ≡ true
+    first_refers mode None x r = cc
+    first_refers mode (Some o) x r = elim (takes_draft mode (Some o)) as (λ b. refers (object_in (cond b (Some (record { object = o; fresh = [] })) None)) x ≡ true → refers (Some o) x ≡ true) [
+      | true ↦ λ now. now
+      | false ↦ λ now. cc
+    ] r
+
+    refer : (i x : Puid) → refers (draft_at (s.grants ++ grant ∷ []) i) x ≡ true → is_there s.graph x ≡ true
+    refer i x r = pushed s.grants (λ r. each_pair (λ _. is_there s.graph) (draft_pairs s.grants) i x h.closed (draft_pair s.grants i x r)) r
+      where
+        pushed : (gs : List Grant) → (refers (draft_at gs i) x ≡ true → is_there s.graph x ≡ true) → refers (draft_at (gs ++ grant ∷ []) i) x ≡ true → is_there s.graph x ≡ true
+        pushed [] was r = elim (same_puid i id && is_some grant.draft) as (λ b. refers (cond b (object_in grant.draft) None) x ≡ true → is_there s.graph x ≡ true) [
+          | true ↦ λ now. graph_refers s.graph h.graph id x (first_refers mode (object_at s.graph id) x now)
+          | false ↦ λ now. cc
+        ] r
+        pushed (y ∷ ys) was r = elim (same_puid i y.id && is_some y.draft) as (λ b. (refers (cond b (object_in y.draft) (draft_at ys i)) x ≡ true → is_there s.graph x ≡ true)
+            → refers (cond b (object_in y.draft) (draft_at (ys ++ grant ∷ []) i)) x ≡ true → is_there s.graph x ≡ true) [
+              | true ↦ λ old now. old now
+              | false ↦ λ old now. pushed ys old now
+            ] was r
 
 -- fewer grants
 fewer : (s : State) (M : Grant → Bool) → IsState s → IsState (record s { grants = filter M s.grants })
 fewer s M h = record {
   graph = h.graph;
   grants = all_filter (is_grant_in s.graph) M s.grants h.grants;
+  closed = pairs_closed_by (is_there s.graph) (filter M s.grants) (granted_alone (filter M s.grants) (granted_filter M s.grants h.alone)) refer;
+  alone = granted_filter M s.grants h.alone;
   rising = rise-filter M s.grants h.rising;
   drawn = draws-filter M (λ draw. nat_le draw s.drawn) s.grants h.drawn;
 }
+  where
+    refer : (i x : Puid) → refers (draft_at (filter M s.grants) i) x ≡ true → is_there s.graph x ≡ true
+    refer i x r = at (draft_at (filter M s.grants) i) refl r
+      where
+        at : (o : Option Object) → draft_at (filter M s.grants) i ≡ o → refers o x ≡ true → is_there s.graph x ≡ true
+        at None is r = cc
+        at (Some o) is r = each_pair (λ _. is_there s.graph) (draft_pairs s.grants) i x h.closed (draft_pair s.grants i x (ap (λ d. refers d x) (fewer_drafts M s.grants i o (granted_alone s.grants h.alone) is) ∙ r))
 
 pub leave_keeps : (s : State) (who : ℕ) → IsState s → IsState (after_leave s who)
 leave_keeps s who h = fewer s (λ g. not (g.session == who)) h
@@ -277,16 +395,18 @@ leave_keeps s who h = fewer s (λ g. not (g.session == who)) h
 committed_keeps : (s : State) (who : ℕ) (t : Tuid) → IsState s → IsState (record s { graph = committed (grant_of s who t) s.graph })
 committed_keeps s who t h = with_grant (grant_of s who t) refl
   where
-    with_draft' : (g : Grant) (d : Option Draft) → is_open_so (object_at s.graph g.id) d ≡ true → IsState (record s { graph = elim d [ None ↦ s.graph | Some x ↦ with_object s.graph g.id x.object ] })
-    with_draft' g None is = h
-    with_draft' g (Some d) is =
+    with_draft' : (g : Grant) (d : Option Draft) → grant_of s who t ≡ Some g → g.draft ≡ d → is_open_so (object_at s.graph g.id) d ≡ true → IsState (record s { graph = elim d [ None ↦ s.graph | Some x ↦ with_object s.graph g.id x.object ] })
+    with_draft' g None found has is = h
+    with_draft' g (Some d) found has is =
         let at = open_there (object_at s.graph g.id) (Some d) is in
-        let three = draft_alike at.0 d.object (sym (ap (λ o. is_open_so o (Some d)) at.1) ∙ is) in
-        replaced_state s g.id at.0 d.object h at.1 three.0 three.1 (λ x r. absurd (both_ways (is_among x (referred d.object)) (three.2 x) r))
+        let two = draft_alike at.0 d.object (sym (ap (λ o. is_open_so o (Some d)) at.1) ∙ is) in
+        let its = its_draft (is_grant who t) g s.grants d (granted_alone s.grants h.alone) found has in
+        replaced_state s g.id at.0 d.object h at.1 two.0 two.1 (λ x r. each_pair (λ _. is_there s.graph) (draft_pairs s.grants) g.id x h.closed (draft_pair s.grants g.id x (ap (λ o. refers o x) its ∙ r)))
+        (λ e other. let same : d.object ≡ e = same_Some d.object e (sym its ∙ other) in subst (λ (x : Object). is_draft_of d.object x ≡ true) same (self_draft d.object two.1))
 
     with_grant : (found : Option Grant) → grant_of s who t ≡ found → IsState (record s { graph = committed found s.graph })
     with_grant None is = h
-    with_grant (Some g) is = with_draft' g g.draft (grant_found s who t g h is).1
+    with_grant (Some g) is = with_draft' g g.draft is refl (grant_found s who t g h is).1
 
 pub closed_keeps : (s : State) (who : ℕ) (t : Tuid) (commit : Bool) → IsState s → IsState (closed s who t commit)
 closed_keeps s who t true h = fewer (record s { graph = committed (grant_of s who t) s.graph }) (λ g. not (is_grant who t g)) (committed_keeps s who t h)

@@ -61,6 +61,10 @@ seen_by to request reply = None
 abbrev pub edges_from : Puid → Object → List Seen
 edges_from id o = map (λ x. Edge id x) (referred o)
 
+-- each pair, seen as an edge
+abbrev pub edges_of : List (Puid × Puid) → List Seen
+edges_of pairs = map (λ e. Edge e.0 e.1) pairs
+
 -- what is reached from the starts among these through the edges among them
 abbrev pub IsReachedBy : List Seen → Puid → Type 0
 IsReachedBy seen x =

@@ -42,7 +42,7 @@ abbrev pub takes_draft : Mode → Option Object → Bool
 takes_draft modes.Reading o = false
 takes_draft modes.Writing None = false
 takes_draft modes.Writing (Some (objects.File f)) = elim f.kind [ kinds.Normal ↦ false | kinds.Special ↦ true ]
-takes_draft modes.Writing (Some (objects.Index i)) = false
+takes_draft modes.Writing (Some (objects.Index i)) = true
 
 abbrev pub need_of : State → ℕ → Request → ℕ
 need_of s who (asks.CreateFile kind fill index slot) = 1 + change_need s who index (Fill slot None)

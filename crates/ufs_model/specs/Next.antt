@@ -5,6 +5,7 @@ use Rattle.std.specs.Option.{option_map_or}
 use Rattle.std.specs.Str.{bytes_eq}
 use Rattle.cfs_base.specs.declared.refusal.Need.{Need}
 use Rattle.ufs_model.specs.Limits.{reserve}
+use Rattle.ufs_model.specs.declared.asked.Ref.TheVariants.{Direct}
 use Rattle.ufs_model.specs.declared.asked.Request.{Request}
 use Rattle.ufs_model.specs.declared.asked.Request.TheVariants as asks
 use Rattle.ufs_model.specs.declared.asked.Reply.{Reply}
@@ -71,14 +72,15 @@ is_outcome seed s who request reply =
     && (not (creates request) || is_free_root s.graph (block_named reply))
     && same_reply (outcome_of seed s who request (block_named reply)).0 reply
 
-abbrev pub is_delete : Request → Bool
-is_delete (asks.Delete index slot) = true
-is_delete request = false
+-- a delete that goes through no grant
+abbrev pub is_direct_delete : Request → Bool
+is_direct_delete (asks.Delete (Direct id) slot) = true
+is_direct_delete request = false
 
--- so few blocks are Free that the request would take of the last four, which a delete may
+-- so few blocks are Free that the request would take of the last four, which a direct delete may
 abbrev pub is_full : State → ℕ → Request → Need → Bool
 is_full s who request n =
-    goes_through s who request && not (is_delete request)
+    goes_through s who request && not (is_direct_delete request)
     && (n.need == need_of s who request) && nat_lt n.free (n.need + reserve)
 
 -- the state after an answer that is the outcome's

@@ -1,5 +1,5 @@
 -- What the slow server is to its callers, and how it answers.
-use Rattle.std.specs.Prelude.{◌≡◌, ℕ, ◌≤◌, Bool, true, false, length, slice_get, Option, Some, None}
+use Rattle.std.specs.Prelude.{◌≡◌, ℕ, ◌≤◌, Bool, true, false, length, set, slice_get, Option, Some, None}
 use Rattle.ufs_model.specs.Limits.{most_at_once}
 use Rattle.cfs_base.specs.declared.identifier.Tuid.{Tuid}
 use Rattle.ufs_model.specs.declared.asked.Ref.{Ref}
@@ -9,8 +9,11 @@ use Rattle.ufs_model.specs.declared.asked.Reply.{Reply}
 use Rattle.ufs_model.specs.declared.asked.Reply.TheVariants as replies
 use Rattle.ufs_model.specs.declared.object.Draft.{Draft}
 use Rattle.ufs_model.specs.declared.object.Grant.{Grant}
-use Rattle.ufs_model.specs.Graph.{IsLeastFreeRoot}
-use Rattle.ufs_model.specs.State.{State, grant_of}
+use Rattle.cfs_base.specs.declared.identifier.Puid.{Puid}
+use Rattle.ufs_model.specs.declared.object.Object.{Object}
+use Rattle.ufs_model.specs.Object.{Fill}
+use Rattle.ufs_model.specs.Graph.{IsLeastFreeRoot, with_object}
+use Rattle.ufs_model.specs.State.{State, changed_draft, grant_of}
 use Rattle.ufs_model.specs.Refusal.{refusal_of}
 use Rattle.ufs_model.specs.Outcome.{outcome_of, creates, block_named}
 
@@ -28,6 +31,13 @@ pub record IsDraftPlace (s : State) (who : ℕ) (ref : Ref) (at : ℕ) : Type 0 
   pub stands : slice_get s.grants at ≡ Some grant
   pub draft : Draft
   pub has : grant.draft ≡ Some draft
+
+-- the state with a new object, and its identifier in the slot of the draft of the grant at this place
+abbrev pub with_new_in_draft : State → (at : ℕ) → Grant → Draft → (slot : ℕ) → Puid → Object → State
+with_new_in_draft s at g d slot id o = record s {
+  graph = with_object s.graph id o;
+  grants = set s.grants at (record g { draft = Some (changed_draft (Fill slot (Some id)) d) });
+}
 
 -- the refusal, which changes nothing, or else the outcome
 abbrev pub refused_or : Option Reply → State → Reply × State → Reply × State

@@ -47,8 +47,7 @@ wanted (asks.Retain index slot id) = AnIndex
 wanted (asks.Retrieve index slot) = AnIndex
 wanted (asks.Delete index slot) = AnIndex
 wanted (asks.Slots index) = AnIndex
-wanted (asks.OpenFor id modes.Reading) = Either
-wanted (asks.OpenFor id modes.Writing) = AFile
+wanted (asks.OpenFor id mode) = Either
 wanted (asks.Close grant commit) = Either
 wanted (asks.Read file offset count) = AFile
 wanted (asks.Write file offset bytes) = AFile
@@ -125,7 +124,7 @@ is_unwanted_index Either o = false
 abbrev pub names_file : State → ℕ → Request → Bool
 names_file s who request = is_unwanted_file (wanted request) (object_of s who (target request))
 
--- a request on a file names an index, or an index is to be opened for writing
+-- a request on a file names an index
 abbrev pub names_index : State → ℕ → Request → Bool
 names_index s who request = is_unwanted_index (wanted request) (object_of s who (target request))
 

@@ -1,6 +1,7 @@
 -- What the server remembers, and what a reference of a session goes to.
-use Rattle.std.specs.Prelude.{ℕ, Bool, not, ◌&&◌, ◌==◌, is_none, if◌then◌else◌, List, [], map, filter, find, Option}
-use Rattle.std.specs.Prelude.{Some, None, option_and_then, unwrap_or}
+use Rattle.std.specs.Prelude.{ℕ, Bool, not, ◌&&◌, ◌==◌, is_none, is_some, if◌then◌else◌, List, [], ◌∷◌, ◌++◌, map}
+use Rattle.std.specs.Prelude.{filter, find, Option, Some, None, option_and_then, unwrap_or}
+use Rattle.std.specs.List.{flat_map}
 use Rattle.cfs_base.specs.declared.identifier.Puid.{Puid}
 use Rattle.cfs_base.specs.declared.identifier.Tuid.{Tuid}
 use Rattle.cfs_base.specs.declared.kind.FileKind.TheVariants as kinds
@@ -14,9 +15,9 @@ use Rattle.ufs_model.specs.declared.object.File.{File}
 use Rattle.ufs_model.specs.declared.object.Index.{Index}
 use Rattle.ufs_model.specs.declared.object.Draft.{Draft}
 use Rattle.ufs_model.specs.declared.object.Grant.{Grant}
-use Rattle.ufs_model.specs.Identifier.{same_tuid}
+use Rattle.ufs_model.specs.Identifier.{same_puid, same_tuid}
 use Rattle.ufs_model.specs.Object.{Change, changed_object, fresh_after, new_file, new_index}
-use Rattle.ufs_model.specs.Graph.{Graph, object_at, with_object, graph_pairs}
+use Rattle.ufs_model.specs.Graph.{Graph, object_at, with_object, graph_pairs, referred}
 
 pub record State : Type 0 where
   pub graph : Graph
@@ -37,9 +38,22 @@ is_running s = is_none s.stopped
 abbrev pub stopped_at : ℕ → State → State
 stopped_at moment s = record s { stopped = Some moment }
 
--- index i refers to x: each such pair that stands now
+-- the object that a draft has
+abbrev pub object_in : Option Draft → Option Object
+object_in None = None
+object_in (Some d) = Some d.object
+
+-- the identifiers in the slots of a grant's draft
+abbrev pub drafted : Grant → List Puid
+drafted g = elim g.draft [ None ↦ [] | Some d ↦ referred d.object ]
+
+-- each pair of an object that is open and what its draft refers to
+abbrev pub draft_pairs : List Grant → List (Puid × Puid)
+draft_pairs grants = flat_map (λ g. map (λ x. (g.id, x)) (drafted g)) grants
+
+-- index i refers to x, by a slot of its own or of its draft: each such pair that stands now
 abbrev pub pairs_of : State → List (Puid × Puid)
-pairs_of s = graph_pairs s.graph
+pairs_of s = graph_pairs s.graph ++ draft_pairs s.grants
 
 -- ---- grants
 
@@ -49,6 +63,11 @@ is_grant who t g = (g.session == who) && same_tuid g.tuid t
 -- the session's standing grant of that identifier
 abbrev pub grant_of : State → ℕ → Tuid → Option Grant
 grant_of s who t = find (is_grant who t) s.grants
+
+-- the draft of an object that is open for writing
+abbrev pub draft_at : List Grant → Puid → Option Object
+draft_at [] id = None
+draft_at (g ∷ gs) id = if same_puid id g.id && is_some g.draft then object_in g.draft else draft_at gs id
 
 -- the objects that are open
 abbrev pub open_ids : State → List Puid

@@ -1,6 +1,6 @@
 -- Well-formed states, and the events that keep them so.
-use Rattle.std.specs.Prelude.{◌≡◌, ℕ, Bool, true, false, ◌&&◌, ◌==◌, nat_lt, nat_le, IsTrue, List, map, Option, Some}
-use Rattle.std.specs.Prelude.{None}
+use Rattle.std.specs.Prelude.{◌≡◌, ℕ, Bool, true, false, not, ◌&&◌, ◌||◌, ◌==◌, nat_lt, nat_le, is_none, IsTrue}
+use Rattle.std.specs.Prelude.{List, [], ◌∷◌, length, map, Option, Some, None}
 use Rattle.std.specs.List.{list_all}
 use Rattle.cfs_base.specs.declared.kind.FileKind.{FileKind}
 use Rattle.cfs_base.specs.declared.kind.FileKind.TheVariants as kinds
@@ -12,10 +12,12 @@ use Rattle.ufs_model.specs.declared.object.Object.{Object}
 use Rattle.ufs_model.specs.declared.object.Object.TheVariants as objects
 use Rattle.ufs_model.specs.declared.object.Draft.{Draft}
 use Rattle.ufs_model.specs.declared.object.Grant.{Grant}
-use Rattle.ufs_model.specs.Numbers.{numbers_rise}
+use Rattle.ufs_model.specs.Numbers.{has_number, numbers_rise}
 use Rattle.ufs_model.specs.Object.{is_object}
-use Rattle.ufs_model.specs.Graph.{Graph, object_at, IsGraph}
-use Rattle.ufs_model.specs.State.{State}
+use Rattle.ufs_model.specs.Graph.{Graph, object_at, is_there, IsGraph}
+use Rattle.ufs_model.specs.Identifier.{same_puid}
+use Rattle.ufs_model.specs.Refusal.{is_reading}
+use Rattle.ufs_model.specs.State.{State, draft_pairs}
 
 -- ---- grants
 
@@ -25,12 +27,16 @@ same_kind kinds.Normal kinds.Special = false
 same_kind kinds.Special kinds.Normal = false
 same_kind kinds.Special kinds.Special = true
 
--- a file of the kind and fill byte of the file that it is to become
+-- A file of the kind and fill byte of the file that it is to become; or an index of as many slots, which holds what the
+-- other holds.
 abbrev pub is_draft_of : Object → Object → Bool
 is_draft_of (objects.File f) (objects.File d) =
     same_kind d.kind f.kind && (d.fill == f.fill) && is_object (objects.File d)
-is_draft_of (objects.File f) (objects.Index i) = false
-is_draft_of (objects.Index i) d = false
+is_draft_of (objects.Index i) (objects.Index d) =
+    (length d.slots == length i.slots) && list_all (λ leaf. has_number leaf d.held) i.held
+    && is_object (objects.Index d)
+is_draft_of (objects.File f) (objects.Index d) = false
+is_draft_of (objects.Index i) (objects.File d) = false
 
 -- the object is there, and the draft, where there is one, is of it
 abbrev pub is_open_so : Option Object → Option Draft → Bool
@@ -41,15 +47,25 @@ is_open_so (Some o) (Some d) = is_draft_of o d.object
 abbrev pub is_grant_in : Graph → Grant → Bool
 is_grant_in g grant = is_open_so (object_at g grant.id) grant.draft
 
+-- Two grants on one object are both for reading, and a draft is for writing: so who has one is alone.
+abbrev pub may_share : Grant → Grant → Bool
+may_share g h = not (same_puid h.id g.id) || (is_reading g.mode && is_reading h.mode)
+
+abbrev pub are_granted : List Grant → Bool
+are_granted [] = true
+are_granted (g ∷ gs) = (is_none g.draft || not (is_reading g.mode)) && list_all (may_share g) gs && are_granted gs
+
 abbrev pub draws_of : List Grant → List ℕ
 draws_of grants = map (λ g. g.tuid.draw) grants
 
 -- ---- states
 
--- a well-formed graph and grants in it, in the order in which they were drawn
+-- A well-formed graph and grants in it, in the order in which they were drawn; what a slot of a draft holds is there.
 pub record IsState (s : State) : Type 0 where
   pub graph : IsGraph s.graph
   pub grants : list_all (is_grant_in s.graph) s.grants ≡ true
+  pub closed : list_all (λ e. is_there s.graph e.1) (draft_pairs s.grants) ≡ true
+  pub alone : are_granted s.grants ≡ true
   pub rising : numbers_rise (draws_of s.grants) ≡ true
   pub drawn : list_all (λ draw. nat_le draw s.drawn) (draws_of s.grants) ≡ true
 

@@ -44,7 +44,7 @@ pub enum Request {
     Slots {
         index: Ref,
     },
-    /// Opens an object. A special file that is opened for writing gets a draft.
+    /// Opens an object. A special file or an index that is opened for writing gets a draft.
     OpenFor {
         id: Puid,
         mode: Mode,

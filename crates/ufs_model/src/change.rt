@@ -1,7 +1,7 @@
 //! A change of one object, made in memory.
 ghost use Rattle.std.specs.Prelude.{◌≡◌, ◌+◌, ◌<◌, IfOk, OnErr, OnOk, length, nat_le, unwrap_or};
-ghost use Rattle.ufs_model.specs.Object.{IsInside, changed_object, cut_leaf, held_leaves, leaves_in, resize_anew};
-ghost use Rattle.ufs_model.specs.Object.{size_of, touched, written_anew};
+ghost use Rattle.ufs_model.specs.Object.{IsInside, changed_object, cut_leaf, fresh_after, held_leaves};
+ghost use Rattle.ufs_model.specs.Object.{leaves_in, resize_anew, size_of, touched, written_anew};
 ghost use Rattle.ufs_model.specs.declared.change.Change.TheVariants as changes;
 ghost use Rattle.ufs_model.specs.declared.object.Object.TheVariants as objects;
 ghost use Rattle.ufs_model.specs.Numbers.{first_level, lacking, parents, shared, with_numbers};
@@ -210,6 +210,40 @@ impl File {
 }
 
 impl Draft {
+    /// The fresh blocks after a change, where these leaves will be held; nothing where they stay the same.
+    fn fresh_after(
+        &self,
+        alloc: Global,
+        change: &Change,
+        held: &Option<Numbers>,
+    ) -> Result<Levels, AllocError>
+        requires inside { IsInside change.now self.now.object }
+        requires held { unwrap_or held.now (held_leaves self.now.object)
+            ≡ held_leaves (changed_object change.now self.now.object) }
+        ensures { IfOk result (λ fresh. fresh ≡ fresh_after change.now self.now.object self.now.fresh) }
+    {
+        let leaves = match held {
+            Some(held) => held.copy(alloc)?,
+            None => self.object.held().copy(alloc)?,
+        };
+        self.object
+            .written_anew(alloc, change, &self.fresh)?
+            .merged(alloc, &self.fresh)?
+            .within(alloc, &Levels::above(alloc, leaves)?)
+    }
+
+    /// The draft that the change makes of it.
+    pub fn changed(&self, alloc: Global, change: &Change) -> Result<Draft, AllocError>
+        requires { IsInside change.now self.now.object }
+        ensures { IfOk result (λ draft. draft ≡ changed_draft change.now self.now) }
+    {
+        let held = self.object.held_after(alloc, change)?;
+        let fresh = self.fresh_after(alloc, change, &held)?;
+        let mut object = self.object.copy(alloc)?;
+        object.change(change, held)?;
+        Ok(Draft { object, fresh })
+    }
+
     /// Makes the change, and keeps count of the fresh blocks. On a failure all stays.
     pub fn change(&mut self, alloc: Global, change: &Change) -> Result<(), AllocError>
         requires { IsInside change.now self.old.object }
@@ -217,15 +251,7 @@ impl Draft {
         ensures err { OnErr result (self.new ≡ self.old) }
     {
         let held = self.object.held_after(alloc, change)?;
-        let leaves = match &held {
-            Some(held) => held.copy(alloc)?,
-            None => self.object.held().copy(alloc)?,
-        };
-        let fresh = self
-            .object
-            .written_anew(alloc, change, &self.fresh)?
-            .merged(alloc, &self.fresh)?
-            .within(alloc, &Levels::above(alloc, leaves)?)?;
+        let fresh = self.fresh_after(alloc, change, &held)?;
         self.object.change(change, held)?;
         self.fresh = fresh;
         Ok(())

@@ -7,7 +7,7 @@ ghost use Rattle.ufs_model.specs.Graph.{has_block};
 ghost use Rattle.ufs_model.specs.Identifier.{puid_cmp};
 ghost use Rattle.ufs_model.specs.Object.{IsInside, changed_object, held_leaves};
 ghost use Rattle.ufs_model.specs.Outcome.{changed, closed, created, first_draft, granted};
-ghost use Rattle.ufs_model.specs.Plain.{Server};
+ghost use Rattle.ufs_model.specs.Plain.{Server, with_new_in_draft};
 ghost use Rattle.ufs_model.specs.Refusal.{goes_nowhere, has_no_such_grant};
 ghost use Rattle.ufs_model.specs.State.{after_leave, changed_draft, draft_of, file_seen, seen};
 ghost use Rattle.ufs_model.specs.WellFormed.{IsState};
@@ -20,10 +20,11 @@ ghost use Rattle.ufs_model.specs.declared.object.Object.{Object};
 
 use crate::asked::Ref;
 use crate::change::Change;
+use crate::need::takes_draft;
 use crate::numbers::{Levels, Numbers};
-use crate::object::{Draft, File, Grant, Object};
+use crate::object::{Draft, Grant, Object};
 use crate::server::Server;
-use cfs_base::{Bytes, FileKind, Mode, NoMemory, Puid, Session, Tuid};
+use cfs_base::{Bytes, Mode, NoMemory, Puid, Session, Tuid};
 use std::alloc::{AllocError, Global};
 use std::collections::BTreeMap;
 
@@ -109,7 +110,6 @@ impl Server {
         requires state { IsState self.old.state }
         requires granted { has_no_such_grant self.old.state who index ≡ false }
         requires there { goes_nowhere self.old.state index ≡ false }
-        requires no_draft { draft_of self.old.state who index ≡ None }
         requires inside { IsInside (changes.Fill slot None) (seen self.old.state who index).object }
         requires free { has_block self.old.state.graph.objects block ≡ false }
         ensures ok { IfOk result (λ id. created self.old.seed self.old.state who index slot object block
@@ -121,6 +121,11 @@ impl Server {
             block,
             word: self.words.next(),
         };
+        if let Some(at) = self.draft_place(who, index) {
+            self.create_in_draft(alloc, at, slot, object, id)?;
+            self.words.draw();
+            return Ok(id);
+        }
         let Some(into) = self.named(who, index) else {
             return Err(NoMemory);
         };
@@ -134,7 +139,35 @@ impl Server {
         Ok(id)
     }
 
-    /// Opens an object: a special file that is opened for writing gets a draft. On a failure all stays.
+    /// Puts a new object into the graph, and its identifier into the slot of the draft at this place. On a failure
+    /// all stays.
+    fn create_in_draft(
+        &mut self,
+        alloc: Global,
+        at: usize,
+        slot: u64,
+        object: Object,
+        id: Puid,
+    ) -> Result<(), NoMemory>
+        requires { (g : Grant) (d : Draft) → slice_get self.old.state.grants at ≡ Some g → g.draft ≡ Some d
+            → IsInside (changes.Fill slot (Some id)) d.object }
+        ensures ok { OnOk result ((g : Grant) (d : Draft) → slice_get self.old.state.grants at ≡ Some g
+            → g.draft ≡ Some d → self.new ≡ record self.old {
+              state = with_new_in_draft self.old.state at g d slot id object;
+            }) }
+        ensures err { OnErr result (self.new ≡ self.old) }
+    {
+        let filled = Change::Fill {
+            slot,
+            what: Some(id),
+        };
+        let draft = draft_after(alloc, self.grants.as_slice(), at, &filled)?;
+        self.objects.insert(id, object)?;
+        put_draft(&mut self.grants, at, draft);
+        Ok(())
+    }
+
+    /// Opens an object: a special file or an index that is opened for writing gets a draft. On a failure all stays.
     pub fn open(
         &mut self,
         alloc: Global,
@@ -212,31 +245,47 @@ impl Server {
     }
 }
 
-impl File {
-    fn copy(&self, alloc: Global) -> Result<File, AllocError>
-        ensures { IfOk result (λ copy. copy ≡ self.now) }
-    {
-        Ok(File {
-            kind: self.kind,
-            fill: self.fill,
-            bytes: self.bytes.copy(alloc)?,
-            held: self.held.copy(alloc)?,
-        })
-    }
-}
-
 /// The draft that an object gets when it is opened so.
 fn first_draft(alloc: Global, object: &Object, mode: Mode) -> Result<Option<Draft>, AllocError>
     ensures { IfOk result (λ draft. draft ≡ first_draft mode (Some object.now)) }
 {
-    match object {
-        Object::File(file) if mode == Mode::Writing && file.kind == FileKind::Special => {
-            Ok(Some(Draft {
-                object: Object::File(file.copy(alloc)?),
-                fresh: Levels::empty(alloc),
-            }))
-        }
-        _ => Ok(None),
+    if !takes_draft(Some(object), mode) {
+        return Ok(None);
+    }
+    Ok(Some(Draft {
+        object: object.copy(alloc)?,
+        fresh: Levels::empty(alloc),
+    }))
+}
+
+/// What the draft of the grant at this place becomes by a change.
+fn draft_after(
+    alloc: Global,
+    grants: &[Grant],
+    at: usize,
+    change: &Change,
+) -> Result<Option<Draft>, AllocError>
+    requires { (g : Grant) (d : Draft) → slice_get grants.now at ≡ Some g → g.draft ≡ Some d
+        → IsInside change.now d.object }
+    ensures { IfOk result (λ after. (g : Grant) (d : Draft) → slice_get grants.now at ≡ Some g → g.draft ≡ Some d
+        → after ≡ Some (changed_draft change.now d)) }
+{
+    let Some(grant) = grants.get(at) else {
+        return Ok(None);
+    };
+    let Some(draft) = &grant.draft else {
+        return Ok(None);
+    };
+    Ok(Some(draft.changed(alloc, change)?))
+}
+
+/// The grant at this place gets this draft. Takes no memory.
+fn put_draft(grants: &mut Vec<Grant>, at: usize, draft: Option<Draft>)
+    ensures { (g : Grant) → slice_get grants.old.items at ≡ Some g
+        → grants.new.items ≡ set grants.old.items at (record g { draft = draft }) }
+{
+    if let Some(grant) = grants.get_mut(at) {
+        grant.draft = draft;
     }
 }
 

@@ -62,6 +62,13 @@ impl Follower {
         })
     }
 
+    /// How many words were drawn.
+    pub fn drawn(&self) -> u32
+        ensures { result ≡ self.now.state.drawn }
+    {
+        self.server.words.drawn()
+    }
+
     /// Follows one event, where it may happen; where it may not, says so and changes nothing.
     pub fn step(&mut self, alloc: Global, event: &Event) -> Result<bool, NoMemory>
         requires { self.old.state.drawn < 4294967295 }

@@ -88,16 +88,16 @@ pub fn outcomes_are_legal()
 pub fn reached_sets()
     ensures pairs { (pairs : List (Puid × Puid)) (starts : List Puid) (x : Puid)
         → (is_among x (reached (length pairs) pairs starts) ≡ true) ↔ IsReached pairs starts x }
-    ensures kept { (s : State) (x : Puid) → IsGraph s.graph → ((is_among x (kept s) ≡ true) ↔ IsKept s x) }
+    ensures kept { (s : State) (x : Puid) → IsState s → ((is_among x (kept s) ≡ true) ↔ IsKept s x) }
 {}
 
 /// A collection takes what was cut off throughout, and nothing that is kept.
 pub fn may_vanish_is()
-    ensures exact { (s : State) (ids : List Puid) → IsGraph s.graph → ((may_vanish s ids ≡ true) ↔ MayVanish s ids) }
-    ensures gone { (seed : ℕ) (s t : State) (ids : List Puid) (x : Puid) → IsGraph s.graph
+    ensures exact { (s : State) (ids : List Puid) → IsState s → ((may_vanish s ids ≡ true) ↔ MayVanish s ids) }
+    ensures gone { (seed : ℕ) (s t : State) (ids : List Puid) (x : Puid) → IsState s
         → next seed s (events.Vanish ids) ≡ Some t
         → IsCutOff s x → is_there t.graph x ≡ false }
-    ensures kept { (seed : ℕ) (s t : State) (ids : List Puid) (x : Puid) → IsGraph s.graph
+    ensures kept { (seed : ℕ) (s t : State) (ids : List Puid) (x : Puid) → IsState s
         → next seed s (events.Vanish ids) ≡ Some t
         → IsKept s x → object_at t.graph x ≡ object_at s.graph x }
 {}

@@ -2,7 +2,7 @@
 ghost use Rattle.std.specs.Prelude.{◌≡◌, ◌+◌, ◌<◌, ◌&&◌, ◌==◌, not, is_none, IfOk, None, nat_lt};
 ghost use Rattle.ufs_model.specs.Graph.{object_at};
 ghost use Rattle.ufs_model.specs.Limits.{reserve};
-ghost use Rattle.ufs_model.specs.Next.{is_delete};
+ghost use Rattle.ufs_model.specs.Next.{is_direct_delete};
 ghost use Rattle.ufs_model.specs.Need.{change_need, in_place_need, is_normal, need_of, takes_draft};
 ghost use Rattle.ufs_model.specs.Object.{IsInside, held_levels};
 ghost use Rattle.ufs_model.specs.Refusal.{refusal_of};
@@ -43,13 +43,27 @@ fn is_short(need: Need) -> bool
 }
 
 /// Whether an object that is opened so gets a draft.
-fn takes_draft(object: Option<&Object>, mode: Mode) -> bool
+pub(crate) fn takes_draft(object: Option<&Object>, mode: Mode) -> bool
     ensures { result ≡ takes_draft mode (option_copied object.entry) }
 {
     match object {
         Some(Object::File(file)) => mode == Mode::Writing && file.kind == FileKind::Special,
-        _ => false,
+        Some(Object::Index(_)) => mode == Mode::Writing,
+        None => false,
     }
+}
+
+/// Whether it is a delete that goes through no grant.
+fn is_direct_delete(request: &Request) -> bool
+    ensures { result ≡ is_direct_delete request.now }
+{
+    matches!(
+        request,
+        Request::Delete {
+            index: Ref::Direct(_),
+            ..
+        }
+    )
 }
 
 impl Server {
@@ -63,13 +77,13 @@ impl Server {
     ) -> Result<bool, NoMemory>
         requires { IsState self.now.state }
         ensures { IfOk result (λ full. full ≡ (is_none (refusal_of self.now.state who request.now)
-            && not (is_delete request.now)
+            && not (is_direct_delete request.now)
             && (need.need == need_of self.now.state who request.now) && nat_lt need.free (need.need + reserve))) }
     {
         if self.refusal(who, request).is_some() {
             return Ok(false);
         }
-        if let Request::Delete { .. } = request {
+        if is_direct_delete(request) {
             return Ok(false);
         }
         let needed = self.need(alloc, who, request)?;

@@ -36,6 +36,14 @@ impl Slots {
         self.slots.as_slice()
     }
 
+    pub fn copy(&self, alloc: Global) -> Result<Slots, AllocError>
+        ensures { IfOk result (λ copy. copy ≡ self.now) }
+    {
+        Ok(Slots {
+            slots: self.slots.as_slice().to_vec(alloc)?,
+        })
+    }
+
     /// Puts this into the slot.
     pub fn set(&mut self, slot: usize, what: Option<Puid>)
         requires { slot < length self.old }
@@ -139,4 +147,39 @@ pub struct Grant {
     pub id: Puid,
     pub mode: Mode,
     pub draft: Option<Draft>,
+}
+
+impl File {
+    pub fn copy(&self, alloc: Global) -> Result<File, AllocError>
+        ensures { IfOk result (λ copy. copy ≡ self.now) }
+    {
+        Ok(File {
+            kind: self.kind,
+            fill: self.fill,
+            bytes: self.bytes.copy(alloc)?,
+            held: self.held.copy(alloc)?,
+        })
+    }
+}
+
+impl Index {
+    pub fn copy(&self, alloc: Global) -> Result<Index, AllocError>
+        ensures { IfOk result (λ copy. copy ≡ self.now) }
+    {
+        Ok(Index {
+            slots: self.slots.copy(alloc)?,
+            held: self.held.copy(alloc)?,
+        })
+    }
+}
+
+impl Object {
+    pub fn copy(&self, alloc: Global) -> Result<Object, AllocError>
+        ensures { IfOk result (λ copy. copy ≡ self.now) }
+    {
+        match self {
+            Object::File(file) => Ok(Object::File(file.copy(alloc)?)),
+            Object::Index(index) => Ok(Object::Index(index.copy(alloc)?)),
+        }
+    }
 }

@@ -38,16 +38,8 @@ impl Request {
             | Request::Retrieve { .. }
             | Request::Delete { .. }
             | Request::Slots { .. } => Wanted::AnIndex,
-            Request::OpenFor {
-                mode: Mode::Reading,
-                ..
-            }
-            | Request::Close { .. } => Wanted::Either,
-            Request::OpenFor {
-                mode: Mode::Writing,
-                ..
-            }
-            | Request::Read { .. }
+            Request::OpenFor { .. } | Request::Close { .. } => Wanted::Either,
+            Request::Read { .. }
             | Request::Write { .. }
             | Request::Size { .. }
             | Request::Resize { .. } => Wanted::AFile,

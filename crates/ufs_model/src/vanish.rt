@@ -2,11 +2,11 @@
 ghost use Rattle.std.specs.Prelude.{◌≡◌, ◌&&◌, ◌||◌, ◌++◌, [], map, not, false, reverse, IfOk, OnOk};
 ghost use Rattle.std.specs.List.{list_all, list_any};
 ghost use Rattle.std.specs.Option.{option_map_or};
-ghost use Rattle.ufs_model.specs.Followed.{after_seen, edges_from};
+ghost use Rattle.ufs_model.specs.Followed.{after_seen, edges_from, edges_of};
 ghost use Rattle.ufs_model.specs.Graph.{ids_of, is_there, referred, without};
 ghost use Rattle.ufs_model.specs.Identifier.{ids_rise, is_among, rise_from, rises};
 ghost use Rattle.ufs_model.specs.Reach.{starts_now};
-ghost use Rattle.ufs_model.specs.State.{pairs_of};
+ghost use Rattle.ufs_model.specs.State.{draft_pairs, drafted, pairs_of};
 ghost use Rattle.ufs_model.specs.Vanish.{are_no_starts, are_there, has_no_kept, leaves_no_reference};
 ghost use Rattle.ufs_model.specs.declared.collection.Collection.TheVariants as collections;
 
@@ -85,6 +85,26 @@ fn refer_to_none(objects: &BTreeMap<Puid, Object>, ids: &BTreeSet<Puid>) -> bool
         .all(|(id, object)| ids.contains(id) || !refers_to(object, ids))
 }
 
+/// Whether the grant's draft refers to any of these, where it has one.
+fn drafts_one(grant: &Grant, ids: &BTreeSet<Puid>) -> bool
+    ensures { result ≡ list_any (λ x. is_among x ids.now.keys) (drafted grant.now) }
+{
+    match &grant.draft {
+        Some(draft) => refers_to(&draft.object, ids),
+        None => false,
+    }
+}
+
+/// Whether the draft of each object that is not among these refers to none of them.
+fn draft_none(grants: &[Grant], ids: &BTreeSet<Puid>) -> bool
+    ensures { result ≡ list_all (λ g. is_among g.id ids.now.keys
+        || not (list_any (λ x. is_among x ids.now.keys) (drafted g))) grants.now }
+{
+    grants
+        .iter()
+        .all(|grant| ids.contains(&grant.id) || !drafts_one(grant, ids))
+}
+
 /// Puts each identifier in the object's slots behind what was seen, as an edge from this index.
 fn see_slots(seen: &mut Vec<Seen>, id: Puid, object: &Object) -> Result<(), NoMemory>
     ensures { OnOk result (seen.new.items ≡ seen.old.items ++ edges_from id object.now) }
@@ -95,6 +115,18 @@ fn see_slots(seen: &mut Vec<Seen>, id: Puid, object: &Object) -> Result<(), NoMe
     'slots: for slot in index.slots.as_slice() {
         if let Some(to) = slot {
             seen.push(Seen::Edge(id, *to))?;
+        }
+    }
+    Ok(())
+}
+
+/// Puts each identifier in a draft's slots behind what was seen, as an edge from its index.
+fn see_drafts(seen: &mut Vec<Seen>, grants: &[Grant]) -> Result<(), NoMemory>
+    ensures { OnOk result (seen.new.items ≡ seen.old.items ++ edges_of (draft_pairs grants.now)) }
+{
+    'grants: for grant in grants {
+        if let Some(draft) = &grant.draft {
+            see_slots(seen, grant.id, &draft.object)?;
         }
     }
     Ok(())
@@ -151,7 +183,7 @@ impl Server {
     fn leaves_no_reference(&self, ids: &BTreeSet<Puid>) -> bool
         ensures { result ≡ leaves_no_reference self.now.state ids.now.keys }
     {
-        refer_to_none(&self.objects, ids)
+        refer_to_none(&self.objects, ids) && draft_none(self.grants.as_slice(), ids)
     }
 
     /// Whether all that is there is among the first or the second.
@@ -205,6 +237,7 @@ impl Server {
         for (id, object) in &self.objects {
             see_slots(&mut seen, *id, object)?;
         }
+        see_drafts(&mut seen, self.grants.as_slice())?;
         Ok(reversed(seen))
     }
 

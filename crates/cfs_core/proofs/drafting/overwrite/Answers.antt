@@ -15,7 +15,7 @@ returns g c =
     let few = few_leaves c.args.offset (length c.args.bytes.now) c.requires.most in
     record {
       alters = λ graph ds id d knows. record {
-        done = c.write.ensures.written graph ds id knows.object d knows.file knows.store knows.there knows.is_open knows.is_file;
+        done = c.write.ensures.written graph ds id knows.object d knows.of_it.0 knows.store knows.there knows.is_open knows.of_it.1;
         room = c.write.ensures.room ds id d knows.is_open;
         order = on_ok c.write.result (claims_all (claims_in_draft (Overwrite c.args.offset c.args.bytes.now) d c.args.draft.now) (id.block ∷ []) (g.D.Disk.content c.args.disk.now) (g.D.Disk.content c.write.new.disk)) (c.write.ensures.order graph ds id knows.object d knows.store knows.there knows.is_open);
         leaves = c.write.ensures.leaves graph ds id knows.object d knows.store knows.there knows.is_open;

@@ -12,11 +12,11 @@ returns g c =
     let stays = resized_stays c.args.size c.args.draft.now c.resize.new.self c.resize.result c.resize.ensures.stays in
     record {
       alters = λ graph ds id d knows. record {
-        done = c.resize.ensures.resized graph ds id knows.object d knows.file knows.store knows.there knows.is_open knows.is_file;
-        room = c.resize.ensures.room graph ds id knows.object d knows.file knows.store knows.there knows.is_open knows.is_file;
-        order = on_ok c.resize.result (claims_dropped id.block (claims_in_draft (SetSize c.args.size) d c.args.draft.now) (g.D.Disk.content c.args.disk.now) (g.D.Disk.content c.resize.new.disk)) (c.resize.ensures.order graph ds id knows.object d knows.file knows.store knows.there knows.is_open knows.is_file);
+        done = c.resize.ensures.resized graph ds id knows.object d knows.of_it.0 knows.store knows.there knows.is_open knows.of_it.1;
+        room = c.resize.ensures.room graph ds id knows.object d knows.of_it.0 knows.store knows.there knows.is_open knows.of_it.1;
+        order = on_ok c.resize.result (claims_dropped id.block (claims_in_draft (SetSize c.args.size) d c.args.draft.now) (g.D.Disk.content c.args.disk.now) (g.D.Disk.content c.resize.new.disk)) (c.resize.ensures.order graph ds id knows.object d knows.of_it.0 knows.store knows.there knows.is_open knows.of_it.1);
         leaves = c.resize.ensures.leaves graph ds id knows.object d knows.store knows.there knows.is_open;
-        full = c.resize.ensures.full graph ds id knows.object d knows.file knows.store knows.there knows.is_open knows.is_file;
+        full = c.resize.ensures.full graph ds id knows.object d knows.of_it.0 knows.store knows.there knows.is_open knows.of_it.1;
         sound = c.resize.ensures.sound graph ds id knows.object d knows.store knows.there knows.is_open;
       };
       untried = untried_so g.D.Disk (top_of c.args.draft.now) _ _ _ c.args.disk.now c.resize.new.disk c.args.space.now c.resize.new.space c.args.draft.now c.resize.new.self c.resize.result (omega arith) c.resize.ensures.ends c.resize.ensures.kept;

@@ -1,18 +1,10 @@
-use Rattle.std.proofs.Common.{◌≡◌, ◌<◌, ◌≤◌, ℕ, true, false, Option, Some, None, Err, length, refl, sym, ◌∙◌, ap, subst, arith, nat_le}
-use Rattle.cfs_core.proofs.Words.{Index, nat_tests, Puid, slot_of, slot_reply}
-use Rattle.ufs_model.specs.declared.asked.Reply.TheVariants as replies
+use Rattle.std.proofs.Common.{Some, None, Err, sym, ◌∙◌, subst, arith}
 use Rattle.ufs_model.specs.declared.object.Object.TheVariants as objects
-use Rattle.cfs_core.specs.Calls.{looked}
 use Rattle.cfs_core.specs.Looks.{IsCalm}
+use Rattle.cfs_core.proofs.Looked.{beyond, inside}
 use Rattle.cfs_core.proofs.Calm.{calm_root, calm_slot, knows_on}
 use Rattle.cfs_core.proofs.Rewritten.{sound_trouble}
 use Rattle.cfs_core.proofs.looking.look.Goals as goal
-
-beyond : (i : Index) (slot n : ℕ) → n ≡ length i.slots → n ≤ slot → replies.Slot ≡ looked i slot
-beyond i slot n is le = let past : nat_le (length i.slots) slot ≡ true = grind (arith, nat_tests) in rw past refl
-
-inside : (i : Index) (slot n : ℕ) (what : Option Puid) → n ≡ length i.slots → slot < n → what ≡ slot_of i slot → slot_reply what ≡ looked i slot
-inside i slot n what is less here = let below : nat_le (length i.slots) slot ≡ false = grind (arith, nat_tests) in rw below (ap slot_reply here)
 
 pub returns-then-slot-count-clause-exact : goal.returns-then-slot-count-clause-exact
 returns-then-slot-count-clause-exact g c = λ i knows.

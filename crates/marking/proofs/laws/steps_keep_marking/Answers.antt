@@ -13,4 +13,4 @@ pub returns-clause-take : goal.returns-clause-take
 returns-clause-take c s directory r rest colours state are is = take_keeps s (well s state) directory are r rest colours is
 
 pub returns-clause-scan : goal.returns-clause-scan
-returns-clause-scan c s directory waiting colours e i state are first at is = scan_keeps s (well s state) directory are waiting colours e i first at is
+returns-clause-scan c s directory waiting colours e i draft state are first at is_draft is = scan_keeps s (well s state) directory are waiting colours e i draft first at is_draft is

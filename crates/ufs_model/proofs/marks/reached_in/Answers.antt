@@ -1,4 +1,4 @@
-use Rattle.std.proofs.Common.{◌≡◌, subst, true, false, Bool}
+use Rattle.std.proofs.Common.{subst, Bool}
 use Rattle.ufs_model.proofs.Words.{IsSpread}
 use Rattle.ufs_model.proofs.Spreading.{fewer_outside, reached_among}
 use Rattle.ufs_model.proofs.marks.reached_in.Goals as goal

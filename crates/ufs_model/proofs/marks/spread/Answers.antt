@@ -1,4 +1,4 @@
-use Rattle.std.proofs.Common.{◌≡◌, ◌++◌, ◌∷◌, [], List, sym, ◌∙◌, ap, take, get_or, true, ◌+◌, add-one, refl}
+use Rattle.std.proofs.Common.{◌≡◌, ◌++◌, ◌∷◌, [], sym, ◌∙◌, ap, take, get_or, true, ◌+◌, add-one, refl}
 use Rattle.ufs_model.proofs.Words.{BTreeSet, Edge, Puid, Seen, is_among, take-suc}
 use Rattle.ufs_model.proofs.Spreading.{to_none, to_new, to_old, turned, was_in, was_out}
 use Rattle.ufs_model.proofs.marks.spread.Goals as goal

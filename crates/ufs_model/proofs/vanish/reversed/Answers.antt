@@ -1,4 +1,4 @@
-use Rattle.std.proofs.Common.{◌≡◌, ◌∙◌, List, length, take, drop, ◌++◌, [], reverse, ap, sym, ℕ}
+use Rattle.std.proofs.Common.{◌∙◌, reverse, ap}
 use Rattle.ufs_model.proofs.Remembered.{cut_back}
 use Rattle.ufs_model.proofs.vanish.reversed.Goals as goal
 

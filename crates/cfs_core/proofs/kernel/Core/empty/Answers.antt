@@ -1,5 +1,7 @@
-use Rattle.std.proofs.Common.{◌<◌, inl, None, Err, refl, sym, ◌∙◌, ap, subst, arith, sum}
+use Rattle.std.proofs.Common.{◌<◌, ◌≤◌, inl, None, Err, refl, sym, ◌∙◌, ap, subst, arith, sum}
 use Rattle.cfs_base.specs.declared.refusal.Damage.{Damage}
+use Rattle.cfs_base.specs.declared.refusal.Need.{Need}
+use Rattle.cfs_core.specs.Claimed.{claims_for_slot}
 use Rattle.cfs_core.specs.Damage.{FewLeft}
 use Rattle.cfs_core.proofs.Went.{went_so}
 use Rattle.cfs_base.specs.declared.refusal.Refused.TheVariants as refusals
@@ -7,16 +9,16 @@ use Rattle.ufs_model.specs.declared.asked.Request.TheVariants as asks
 use Rattle.cfs_core.specs.Calls.{TriesOn, TriesOnWith, done_or}
 use Rattle.cfs_core.specs.Finished.{since}
 use Rattle.cfs_core.specs.Kernel.{Kernel}
-use Rattle.cfs_core.proofs.Joined.{damaged_since, done_decides, done_never, tries_on_since, tries_on_unfinished}
-use Rattle.cfs_core.proofs.Putting.{tries_put, tries_want_on}
-use Rattle.cfs_core.proofs.Refusing.{delete_holds, delete_out}
+use Rattle.cfs_core.proofs.Joined.{damaged_since, full_since, done_decides, done_never, tries_on_since, tries_on_unfinished}
+use Rattle.cfs_core.proofs.Putting.{delete_short, not_short, tries_put, tries_want_on}
+use Rattle.cfs_core.proofs.Refusing.{delete_holds, delete_need, delete_out}
 use Rattle.cfs_core.proofs.kernel.Core.empty.Goals as goal
 
 pub returns-in-Err : goal.returns-in-Err
-returns-in-Err g c = λ to. tries_want_on g.D.Disk g.met.D.Disk.left_sized g.met.D.Disk.sized c.args.self.now c.args.index c.args.slot (asks.Delete to c.args.slot) c.in-Err.refused c.in-Err.ensures
+returns-in-Err g c = λ to is. tries_want_on g.D.Disk g.met.D.Disk.left_sized g.met.D.Disk.sized c.args.self.now c.args.index c.args.slot (asks.Delete to c.args.slot) c.in-Err.refused c.in-Err.ensures
 
 pub returns-in-Err-finish : goal.returns-in-Err-finish
-returns-in-Err-finish g c = λ to.
+returns-in-Err-finish g c = λ to is.
     let k : Kernel _ = record { disk = c.self.inside.disk; root = c.self.inside.root; directory = c.self.inside.directory; space = c.self.inside.space; words = c.self.inside.words; handles = c.self.inside.handles.handles; collections = c.self.inside.collections; stop = c.self.inside.stop } in
     let request = asks.Delete to c.args.slot in
     subst (λ x. TriesOn g.D.Disk x (record k { disk = c.finish.new.disk; space = c.finish.new.space }) c.args.index c.args.slot request (Err c.from.result)) c.self.view_is
@@ -24,7 +26,7 @@ returns-in-Err-finish g c = λ to.
 
 -- fewer are Free than four: such a core serves no state
 pub returns-then-free-lt3 : goal.returns-then-free-lt3
-returns-then-free-lt3 g c = λ to.
+returns-then-free-lt3 g c = λ to is.
     let G = g.D.Disk in
     let k : Kernel _ = record { disk = c.self.inside.disk; root = c.self.inside.root; directory = c.self.inside.directory; space = c.self.inside.space; words = c.self.inside.words; handles = c.self.inside.handles.handles; collections = c.self.inside.collections; stop = c.self.inside.stop } in
     let d1 = c.finish.new.disk in
@@ -34,15 +36,32 @@ returns-then-free-lt3 g c = λ to.
     let damage : Damage = record { block = 0; code = 11 } in
     let few : sum k1.free < 3 = omega (arith, c.if-free-lt3.true, c.free.ensures.sum) in
     let now : TriesOnWith G None mid mid c.args.index c.args.slot request (Err (refusals.Damaged damage)) = record {
-      ends = λ s who i serves none reach within goes. absurd (omega (arith, serves.four, few));
+      ends = λ s who i serves none reach shut within goes. absurd (omega (arith, serves.four, few));
       went = λ named. went_so G mid d1 k1 k.handles refl (omega arith) (omega arith) request (Err (refusals.Damaged damage)) tt (FewLeft refl refl (inl (refl, few)));
     } in
     let joined = tries_on_since G k d1 k1 c.in-Ok-finish.tried c.in-Ok-finish.ensures g.met.D.Disk.left_sized g.met.D.Disk.sized mid refl request (Err (refusals.Damaged damage)) tt (λ is. cc) c.args.index c.args.slot now in
     subst (λ x. TriesOn G x mid c.args.index c.args.slot request (Err (refusals.Damaged damage))) c.self.view_is
     (subst (λ e. TriesOn G k mid c.args.index c.args.slot request (Err e)) (damaged_since c.in-Ok-finish.tried damage) joined)
 
+-- a delete that goes through no grant finds enough here
+pub returns-in-Err-has_room : goal.returns-in-Err-has_room
+returns-in-Err-has_room g c = λ to is.
+    let G = g.D.Disk in
+    let k : Kernel _ = record { disk = c.self.inside.disk; root = c.self.inside.root; directory = c.self.inside.directory; space = c.self.inside.space; words = c.self.inside.words; handles = c.self.inside.handles.handles; collections = c.self.inside.collections; stop = c.self.inside.stop } in
+    let d1 = c.finish.new.disk in
+    let k1 = c.finish.new.space in
+    let mid : Kernel _ = record k { disk = d1; space = k1 } in
+    let request = asks.Delete to c.args.slot in
+    let full : Need = record { free = sum k1.free; need = 3 } in
+    let why = c.in-Err-has_room.ensures.full in
+    let enough : 3 ≤ sum k1.free = omega (arith, c.if-free-lt3.false, c.free.ensures.sum) in
+    let now : TriesOnWith G None mid mid c.args.index c.args.slot request (Err (refusals.Full full)) = delete_short G g.met.D.Disk.left_sized g.met.D.Disk.sized mid c.args.index to c.args.slot c.args.floor is why.1 enough in
+    let joined = tries_on_since G k d1 k1 c.in-Ok-finish.tried c.in-Ok-finish.ensures g.met.D.Disk.left_sized g.met.D.Disk.sized mid refl request (Err (refusals.Full full)) tt (λ is. cc) c.args.index c.args.slot now in
+    subst (λ x. TriesOn G x mid c.args.index c.args.slot request (Err c.in-Err-has_room.refused)) c.self.view_is
+    (subst (λ e. TriesOn G k mid c.args.index c.args.slot request (Err e)) (full_since c.in-Ok-finish.tried full ∙ sym why.0) joined)
+
 pub returns : goal.returns
-returns g c = λ to.
+returns g c = λ to is.
     let k : Kernel _ = record { disk = c.self.inside.disk; root = c.self.inside.root; directory = c.self.inside.directory; space = c.self.inside.space; words = c.self.inside.words; handles = c.self.inside.handles.handles; collections = c.self.inside.collections; stop = c.self.inside.stop } in
     let d1 = c.finish.new.disk in
     let k1 = c.finish.new.space in
@@ -56,7 +75,7 @@ returns g c = λ to.
     let now : TriesOnWith g.D.Disk None mid new c.args.index c.args.slot request (done_or ended) =
     tries_put g.D.Disk g.met.D.Disk.left_sized g.met.D.Disk.sized mid d2 k2 c.args.index c.args.slot None request refl refl refl ended puts
     (λ s who i serves r. (refl, delete_out k.words.seed s who to c.args.index i c.args.slot r))
-    (λ s who i serves r. ((λ short. let no = short.delete in cc), serves.four)) (λ s who. (refl, refl)) (λ s who i r goes none. delete_holds k.words.seed s who to c.args.index i c.args.slot r goes) in
+    (λ s who i serves r. (not_short s who to c.args.slot c.args.floor (sum k1.free) is c.in_default.ensures.room (delete_need k.words.seed s who to c.args.index i c.args.slot r), serves.four)) (λ s who i r. (rw (r.bare, claims_for_slot) refl, refl)) (λ s who i r goes none. delete_holds k.words.seed s who to c.args.index i c.args.slot r goes) in
     let joined = tries_on_since g.D.Disk k d1 k1 c.in-Ok-finish.tried c.in-Ok-finish.ensures g.met.D.Disk.left_sized g.met.D.Disk.sized new puts.calls.same.size request (done_or ended) (done_decides ended) (done_never ended (λ is. rw is at puts.refused)) c.args.index c.args.slot now in
     subst (λ x. TriesOn g.D.Disk x new c.args.index c.args.slot request c.since.result) c.self.view_is
     (subst (λ r. TriesOn g.D.Disk k new c.args.index c.args.slot request r) (sym (c.since.ensures ∙ ap (since c.in-Ok-finish.tried) c.done.ensures)) joined)

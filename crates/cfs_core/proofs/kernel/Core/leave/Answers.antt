@@ -1,9 +1,10 @@
-use Rattle.std.proofs.Common.{◌≡◌, Some, refl, sym, ◌∙◌, ap, subst, IsSome}
+use Rattle.std.proofs.Common.{◌≡◌, Some, sym, ◌∙◌, ap, subst}
 use Rattle.cfs_core.proofs.Words.{first_grant, session_grant-first, grants_of-fewer}
 use Rattle.ufs_model.specs.declared.asked.Event.TheVariants as events
 use Rattle.cfs_core.specs.Asked.{Happens, halted}
 use Rattle.cfs_core.specs.Kernel.{grants_in}
 use Rattle.cfs_core.specs.Leaving.{halt_of}
+use Rattle.cfs_core.proofs.Lefts.{adds_nothing}
 use Rattle.cfs_core.proofs.Leaving.{has_left, sheds_none, sheds_then}
 use Rattle.cfs_core.proofs.kernel.Core.leave.Goals as goal
 
@@ -21,7 +22,7 @@ loop-grant-smaller g c =
 pub drop_grant-requires : goal.drop_grant-requires
 drop_grant-requires g c =
     let first : first_grant (grants_in c.loop-grant.self.handles) c.args.who ≡ Some c.in-Some.grant = ap (λ x. first_grant (grants_in x.handles) c.args.who) (sym c.self-in-loop-grant.view_is) ∙ sym c.next_of.ensures ∙ c.in-Some.is in
-    record { found = subst (λ o. IsSome o) (sym (session_grant-first (grants_in c.loop-grant.self.handles) c.args.who c.in-Some.grant first)) refl }
+    record { found = session_grant-first (grants_in c.loop-grant.self.handles) c.args.who c.in-Some.grant first }
 
 pub returns-clause-event : goal.returns-clause-event
 returns-clause-event g c = λ s stands.
@@ -40,8 +41,19 @@ returns-clause-faults g c = c.loop-grant.invariant.faults
 pub returns-clause-later : goal.returns-clause-later
 returns-clause-later g c = c.loop-grant.invariant.later
 
-pub returns-clause-collections : goal.returns-clause-collections
-returns-clause-collections g c = c.loop-grant.invariant.collections
+pub returns-clause-ended : goal.returns-clause-ended
+returns-clause-ended g c = (c.loop-grant.invariant.over, c.loop-grant.invariant.ended)
+
+pub returns-clause-called : goal.returns-clause-called
+returns-clause-called g c = c.loop-grant.invariant.called
+
+pub returns-clause-finished : goal.returns-clause-finished
+returns-clause-finished g c = c.loop-grant.invariant.finished
+
+pub returns-clause-waits : goal.returns-clause-waits
+returns-clause-waits g c =
+    let sheds = c.loop-grant.invariant in
+    adds_nothing (g.D.Disk.blocks c.args.self.now.disk) c.args.self.now.collections c.loop-grant.self.collections sheds.over sheds.ended sheds.called sheds.finished
 
 pub returns-clause-sound : goal.returns-clause-sound
 returns-clause-sound g c = c.loop-grant.invariant.sound

@@ -1,24 +1,13 @@
-use Rattle.std.proofs.Common.{◌≡◌, ◌≢◌, inl, inr, ℕ, None, Ok, Err, refl, sym, ◌∙◌, ap, subst, Result, sum}
-use Rattle.cfs_core.proofs.Words.{blocks_of, cases_lt, Kind, object_kind, made_of, Puid, PutsObject, Refused, Reply}
-use Rattle.cfs_base.specs.declared.kind.Kind.TheVariants as kinds
+use Rattle.std.proofs.Common.{◌≡◌, ◌≢◌, inl, inr, None, Ok, Err, refl, sym, ◌∙◌, ap, subst, Result, sum}
+use Rattle.cfs_core.proofs.Words.{cases_lt, made_of, Puid, PutsObject, Refused, Reply}
 use Rattle.cfs_base.specs.declared.refusal.Refused.TheVariants as refusals
 use Rattle.cfs_core.specs.Kernel.{Kernel}
 use Rattle.cfs_core.specs.Calls.{TriesOn, TriesOnWith}
 use Rattle.cfs_core.specs.Makes.{NamesMade}
 use Rattle.cfs_core.proofs.Joined.{tries_on_since, tries_on_unfinished}
 use Rattle.cfs_core.proofs.Putting.{tries_want_on}
-use Rattle.cfs_core.proofs.Placed.{named_decides, tries_made, tries_short, tries_unmade, unmade_never}
+use Rattle.cfs_core.proofs.Placed.{kind_is, named_decides, one_block, tries_made, tries_short, tries_unmade, unmade_never}
 use Rattle.cfs_core.proofs.kernel.Core.make.Goals as goal
-
-kind_is : (kind : Kind) (fill size : ℕ) → object_kind (made_of kind fill size) ≡ kind
-kind_is kinds.Normal fill size = refl
-kind_is kinds.Special fill size = refl
-kind_is kinds.Index fill size = refl
-
-one_block : (kind : Kind) (fill size : ℕ) → blocks_of (made_of kind fill size) ≡ 1
-one_block kinds.Normal fill size = refl
-one_block kinds.Special fill size = refl
-one_block kinds.Index fill size = refl
 
 err_is : (r : Result Puid Refused) (e f : Refused) → r ≡ Err e → r ≡ Err f → f ≡ e
 err_is (Ok p) e f is same = cc

@@ -1,4 +1,4 @@
-use Rattle.std.proofs.Common.{◌≡◌, Some, sym, ◌∙◌, ◌||◌, ap, subst, arith, IfSome}
+use Rattle.std.proofs.Common.{◌≡◌, Some, refl, sym, ◌∙◌, ◌||◌, ap, subst, arith, IfSome}
 use Rattle.cfs_core.proofs.Words.{volume_of}
 use Rattle.cfs_core.specs.Collect.{TriesStep, phase_of}
 use Rattle.cfs_core.specs.Kernel.{Kernel, marks_in, sweeps_in}
@@ -24,4 +24,4 @@ pub returns : goal.returns
 returns g c =
     let k : Kernel _ = record { disk = c.self.inside.disk; root = c.self.inside.root; directory = c.self.inside.directory; space = c.self.inside.space; words = c.self.inside.words; handles = c.self.inside.handles.handles; collections = c.self.inside.collections; stop = c.self.inside.stop } in
     let new : Kernel _ = record k { disk = c.mark.new.disk; directory = c.mark.new.directory; collections = record k.collections { collector = Some c.mark.new.collector } } in
-    subst (λ x. TriesStep g.D.Disk x new c.mark.result) (ap (λ o. record k { collections = record k.collections { collector = o } }) (sym c.in-Some.is) ∙ c.self.view_is) ((c.mark.ensures k.space).tries k)
+    subst (λ x. TriesStep g.D.Disk x new c.mark.result) (ap (λ o. record k { collections = record k.collections { collector = o } }) (sym c.in-Some.is) ∙ c.self.view_is) ((c.mark.ensures k.space).tries k refl)

@@ -12,7 +12,7 @@ use Rattle.std.proofs.lemmas.Bool.{cases_Bool}
 use Rattle.cfs_core.specs.Opening.{Begins, reply_to_fault}
 use Rattle.cfs_core.proofs.Answering.{memory, reads_none, tries_refusal, tries_so}
 use Rattle.cfs_core.proofs.Granted.{drawn_push, not_drawn}
-use Rattle.cfs_core.proofs.Openings.{begun_ready, fault_told, fit_is, none_locked, none_told, open_gone, open_index, there_now, told_plain, tries_bare, tries_not, tries_open}
+use Rattle.cfs_core.proofs.Openings.{begun_ready, fault_told, none_locked, none_told, open_gone, there_now, told_plain, tries_bare, tries_not, tries_open}
 use Rattle.cfs_core.proofs.Joined.{ok_is, tries_since, tries_unfinished}
 use Rattle.cfs_core.proofs.Readied.{all_push}
 use Rattle.cfs_core.proofs.Serving.{there_is}
@@ -34,13 +34,6 @@ pub returns-in-None : goal.returns-in-None
 returns-in-None g c =
     tries_refusal g.D.Disk g.met.D.Disk.left_sized g.met.D.Disk.sized c.args.self.now c.args.who (asks.OpenFor c.args.id c.args.mode) replies.NoObject tt
     (λ s serves. open_gone s c.args.who c.args.id c.args.mode (there_is g.D.Disk c.args.self.now s serves c.args.id ∙ ap is_some (sym c.kind.ensures.kind ∙ c.in-None.is)))
-
-pub returns-then-is_unfit : goal.returns-then-is_unfit
-returns-then-is_unfit g c =
-    tries_refusal g.D.Disk g.met.D.Disk.left_sized g.met.D.Disk.sized c.args.self.now c.args.who (asks.OpenFor c.args.id c.args.mode) replies.NotFile tt
-    (λ s serves.
-    let listed = sym c.kind.ensures.kind ∙ c.in-Some.is in
-    open_index s c.args.who c.args.id (there_now g.D.Disk c.args.self.now s serves c.args.id c.in-Some.kind listed) c.args.mode (fit_is g.D.Disk c.args.self.now s serves c.args.id c.in-Some.kind listed c.args.mode ∙ sym c.is_unfit.ensures ∙ c.if-is_unfit.true))
 
 pub returns-in-Err : goal.returns-in-Err
 returns-in-Err g c =
@@ -65,7 +58,7 @@ returns-in-Some-fault g c =
     (tries_refusal g.D.Disk g.met.D.Disk.left_sized g.met.D.Disk.sized k c.args.who request (reply_to_fault c.in-Some-fault.fault) (told_plain c.in-Some-fault.fault)
     (λ s serves.
     let table = ap grants_in c.reserve.ensures.handles ∙ serves.front.grants in
-    fault_told s c.args.who c.args.id c.args.mode (there_now g.D.Disk k s serves c.args.id c.in-Some.kind listed) (fit_is g.D.Disk k s serves c.args.id c.in-Some.kind listed c.args.mode ∙ sym c.is_unfit.ensures ∙ c.if-is_unfit.false)
+    fault_told s c.args.who c.args.id c.args.mode (there_now g.D.Disk k s serves c.args.id c.in-Some.kind listed)
     (mode_against gs grant) (length (grants_of gs c.args.who))
     (ap (λ xs. is_some (mode_against xs grant)) table ∙ c.table_follows_the_model.ensures.locked s c.args.who grant)
     (ap (λ xs. nat_le MOST_GRANTS (length (grants_of xs c.args.who))) table ∙ c.table_follows_the_model.ensures.full s c.args.who c.args.id c.args.mode)
@@ -103,10 +96,9 @@ returns-in-Err-finish_if g c =
     λ s serves.
     let table = ap grants_in c.reserve.ensures.handles ∙ serves.front.grants in
     let there = there_now g.D.Disk k s serves c.args.id c.in-Some.kind listed in
-    let fit = fit_is g.D.Disk k s serves c.args.id c.in-Some.kind listed c.args.mode ∙ sym c.is_unfit.ensures ∙ c.if-is_unfit.false in
     let lock = ap (λ xs. is_some (mode_against xs grant)) table ∙ c.table_follows_the_model.ensures.locked s c.args.who grant in
     let many = ap (λ xs. nat_le MOST_GRANTS (length (grants_of xs c.args.who))) table ∙ c.table_follows_the_model.ensures.full s c.args.who c.args.id c.args.mode in
-    (none_told s c.args.who c.args.id c.args.mode there fit (mode_against gs grant) (length (grants_of gs c.args.who)) lock many none, none_locked s c.args.who c.args.id c.args.mode there fit (mode_against gs grant) (length (grants_of gs c.args.who)) lock many none) in
+    (none_told s c.args.who c.args.id c.args.mode there (mode_against gs grant) (length (grants_of gs c.args.who)) lock many none, none_locked s c.args.who c.args.id c.args.mode there (mode_against gs grant) (length (grants_of gs c.args.who)) lock many none) in
     let wants : c.gets_draft-wanted.result ≡ true = wanted_by c.gets_draft-wanted.result c.finish_if.result c.in-Err-finish_if.trouble c.in-Err-finish_if.is (λ no. (c.finish_if.ensures.idle no).0) in
     let new : Kernel _ = record k { disk = c.finish_if.new.disk; space = c.finish_if.new.space } in
     subst (λ x. Tries G x (record new { handles = c.reserve.new.self.handles }) c.args.who request (Err c.from-in-Err-finish_if.result)) c.self.view_is
@@ -133,18 +125,16 @@ returns-in-Err-first_draft g c =
     λ s serves.
     let table = ap grants_in c.reserve.ensures.handles ∙ serves.front.grants in
     let there = there_now g.D.Disk k s serves c.args.id c.in-Some.kind listed in
-    let fit = fit_is g.D.Disk k s serves c.args.id c.in-Some.kind listed c.args.mode ∙ sym c.is_unfit.ensures ∙ c.if-is_unfit.false in
     let lock = ap (λ xs. is_some (mode_against xs grant)) table ∙ c.table_follows_the_model.ensures.locked s c.args.who grant in
     let many = ap (λ xs. nat_le MOST_GRANTS (length (grants_of xs c.args.who))) table ∙ c.table_follows_the_model.ensures.full s c.args.who c.args.id c.args.mode in
-    (none_told s c.args.who c.args.id c.args.mode there fit (mode_against gs grant) (length (grants_of gs c.args.who)) lock many none, none_locked s c.args.who c.args.id c.args.mode there fit (mode_against gs grant) (length (grants_of gs c.args.who)) lock many none) in
+    (none_told s c.args.who c.args.id c.args.mode there (mode_against gs grant) (length (grants_of gs c.args.who)) lock many none, none_locked s c.args.who c.args.id c.args.mode there (mode_against gs grant) (length (grants_of gs c.args.who)) lock many none) in
     let goes : (s : State) → CoreServes g.D.Disk mid s → (refusal_of s c.args.who request ≡ None) × (is_locked s c.args.who request ≡ false) =
     λ s serves.
     let table = ap grants_in c.reserve.ensures.handles ∙ serves.front.grants in
     let there = there_now g.D.Disk mid s serves c.args.id c.in-Some.kind listed in
-    let fit = fit_is g.D.Disk mid s serves c.args.id c.in-Some.kind listed c.args.mode ∙ sym c.is_unfit.ensures ∙ c.if-is_unfit.false in
     let lock = ap (λ xs. is_some (mode_against xs grant)) table ∙ c.table_follows_the_model.ensures.locked s c.args.who grant in
     let many = ap (λ xs. nat_le MOST_GRANTS (length (grants_of xs c.args.who))) table ∙ c.table_follows_the_model.ensures.full s c.args.who c.args.id c.args.mode in
-    (none_told s c.args.who c.args.id c.args.mode there fit (mode_against gs grant) (length (grants_of gs c.args.who)) lock many none, none_locked s c.args.who c.args.id c.args.mode there fit (mode_against gs grant) (length (grants_of gs c.args.who)) lock many none) in
+    (none_told s c.args.who c.args.id c.args.mode there (mode_against gs grant) (length (grants_of gs c.args.who)) lock many none, none_locked s c.args.who c.args.id c.args.mode there (mode_against gs grant) (length (grants_of gs c.args.who)) lock many none) in
     let begins = subst (λ w. Begins G c.args.id.block w c.finish_if.new.disk c.first_draft.new.disk c.finish_if.new.space c.first_draft.new.space (Err c.in-Err-first_draft.refused)) (c.in-Ok.ensures.room ∙ c.gets_draft-wanted.ensures) (subst (λ r. Begins G c.args.id.block (is_some c.in-Ok.room) c.finish_if.new.disk c.first_draft.new.disk c.finish_if.new.space c.first_draft.new.space r) c.in-Err-first_draft.is c.first_draft.ensures.begins) in
     let wants : c.gets_draft-wanted.result ≡ true = drafted_by c.gets_draft-wanted.result c.first_draft.result c.in-Err-first_draft.refused c.in-Err-first_draft.is (λ no. (c.first_draft.ensures.bare (c.in-Ok.ensures.room ∙ no)).0) in
     let fin = subst (λ r. FinishesLeft G k.disk c.finish_if.new.disk k.space c.finish_if.new.space r) c.in-Ok-finish_if.is (c.finish_if.ensures.finished wants) in
@@ -191,18 +181,16 @@ returns g c =
     λ s serves.
     let table = ap grants_in c.reserve.ensures.handles ∙ serves.front.grants in
     let there = there_now g.D.Disk k s serves c.args.id c.in-Some.kind listed in
-    let fit = fit_is g.D.Disk k s serves c.args.id c.in-Some.kind listed c.args.mode ∙ sym c.is_unfit.ensures ∙ c.if-is_unfit.false in
     let lock = ap (λ xs. is_some (mode_against xs grant)) table ∙ c.table_follows_the_model.ensures.locked s c.args.who grant in
     let many = ap (λ xs. nat_le MOST_GRANTS (length (grants_of xs c.args.who))) table ∙ c.table_follows_the_model.ensures.full s c.args.who c.args.id c.args.mode in
-    (none_told s c.args.who c.args.id c.args.mode there fit (mode_against gs grant) (length (grants_of gs c.args.who)) lock many none, none_locked s c.args.who c.args.id c.args.mode there fit (mode_against gs grant) (length (grants_of gs c.args.who)) lock many none) in
+    (none_told s c.args.who c.args.id c.args.mode there (mode_against gs grant) (length (grants_of gs c.args.who)) lock many none, none_locked s c.args.who c.args.id c.args.mode there (mode_against gs grant) (length (grants_of gs c.args.who)) lock many none) in
     let goes : (s : State) → CoreServes g.D.Disk mid s → (refusal_of s c.args.who request ≡ None) × (is_locked s c.args.who request ≡ false) =
     λ s serves.
     let table = ap grants_in c.reserve.ensures.handles ∙ serves.front.grants in
     let there = there_now g.D.Disk mid s serves c.args.id c.in-Some.kind listed in
-    let fit = fit_is g.D.Disk mid s serves c.args.id c.in-Some.kind listed c.args.mode ∙ sym c.is_unfit.ensures ∙ c.if-is_unfit.false in
     let lock = ap (λ xs. is_some (mode_against xs grant)) table ∙ c.table_follows_the_model.ensures.locked s c.args.who grant in
     let many = ap (λ xs. nat_le MOST_GRANTS (length (grants_of xs c.args.who))) table ∙ c.table_follows_the_model.ensures.full s c.args.who c.args.id c.args.mode in
-    (none_told s c.args.who c.args.id c.args.mode there fit (mode_against gs grant) (length (grants_of gs c.args.who)) lock many none, none_locked s c.args.who c.args.id c.args.mode there fit (mode_against gs grant) (length (grants_of gs c.args.who)) lock many none) in
+    (none_told s c.args.who c.args.id c.args.mode there (mode_against gs grant) (length (grants_of gs c.args.who)) lock many none, none_locked s c.args.who c.args.id c.args.mode there (mode_against gs grant) (length (grants_of gs c.args.who)) lock many none) in
     let begins = subst (λ w. Begins G c.args.id.block w c.finish_if.new.disk c.first_draft.new.disk c.finish_if.new.space c.first_draft.new.space (Ok c.in-Ok-first_draft.draft)) (c.in-Ok.ensures.room ∙ c.gets_draft-wanted.ensures) (subst (λ r. Begins G c.args.id.block (is_some c.in-Ok.room) c.finish_if.new.disk c.first_draft.new.disk c.finish_if.new.space c.first_draft.new.space r) c.in-Ok-first_draft.is c.first_draft.ensures.begins) in
     let pushed = c.open.ensures ∙ ap (λ ss. ss ++ record { grant = grant; drafting = c.in-Ok-first_draft.draft } ∷ []) c.reserve.ensures.handles in
     let new : Kernel _ = record k { disk = c.first_draft.new.disk; space = c.first_draft.new.space; words = c.next.new.self; handles = k.handles ++ record { grant = grant; drafting = c.in-Ok-first_draft.draft } ∷ [] } in

@@ -1,4 +1,5 @@
 use Rattle.std.proofs.Common.{◌≡◌, ◌≢◌, inl, inr, None, Some, Err, refl, sym, ◌∙◌, ap, subst, arith, sum}
+use Rattle.cfs_core.specs.Claimed.{claims_for_slot}
 use Rattle.cfs_core.proofs.Words.{cases_lt}
 use Rattle.cfs_base.specs.declared.refusal.Refused.TheVariants as refusals
 use Rattle.ufs_model.specs.declared.asked.Request.TheVariants as asks
@@ -38,7 +39,7 @@ returns g c = λ to.
           (tries_full g.D.Disk g.met.D.Disk.left_sized g.met.D.Disk.sized mid d2 k2 full.1 full.2 c.args.index to c.args.slot c.args.id few)
       | inr enough ↦ tries_put g.D.Disk g.met.D.Disk.left_sized g.met.D.Disk.sized mid d2 k2 c.args.index c.args.slot (Some c.args.id) request refl refl refl ended (c.retain-ended.ensures.fills enough)
           (λ s who i serves r. (refl, retain_out k.words.seed s who to c.args.index i c.args.slot c.args.id r))
-          (λ s who i serves r. ((λ short. omega (arith, short.few, enough, retain_need k.words.seed s who to c.args.index i c.args.slot c.args.id r)), omega (arith, enough))) (λ s who. (refl, refl)) (λ s who i r goes none. let no : Some c.args.id ≡ None = none in cc)
+          (λ s who i serves r. ((λ short. omega (arith, short.few, enough, retain_need k.words.seed s who to c.args.index i c.args.slot c.args.id r)), omega (arith, enough))) (λ s who i r. (rw (r.bare, claims_for_slot) refl, refl)) (λ s who i r goes none. let no : Some c.args.id ≡ None = none in cc)
     ] in
     let size : g.D.Disk.blocks d2 ≡ g.D.Disk.blocks d1 = elim (cases_lt (sum k1.free) 7) [
       | inl few ↦ ap g.D.Disk.blocks (c.retain-ended.ensures.full few).1

@@ -26,10 +26,10 @@ pub invariant_of-self : goal.invariant_of-self
 invariant_of-self g c =
     let sweeps = ap (λ o. sweeps_blocks (phase_of o)) (sym c.in-Some.is) ∙ ap (λ x. sweeps_blocks (phase_of x.collections.collector)) c.self.view_is ∙ c.requires in
     sized_on g.D.Disk c.self.inside.disk c.sweep.new.disk c.self.inside.directory c.self.inside.directory c.self.inside.space c.sweep.new.space c.self.inside.handles.handles c.self.inside.words.drawn c.self.inside.collections
-    c.in-Some.collector c.sweep.new.collector c.sweep.result c.in-Some.is (goes_on c.in-Some.collector.phase sweeps) c.sweep.ensures c.self.invariant
+    c.in-Some.collector c.sweep.new.collector c.sweep.result c.in-Some.is (goes_on c.in-Some.collector.phase sweeps) (c.sweep.ensures c.self.inside.handles.handles) c.self.invariant
 
 pub returns : goal.returns
 returns g c =
     let k : Kernel _ = record { disk = c.self.inside.disk; root = c.self.inside.root; directory = c.self.inside.directory; space = c.self.inside.space; words = c.self.inside.words; handles = c.self.inside.handles.handles; collections = c.self.inside.collections; stop = c.self.inside.stop } in
     let new : Kernel _ = record k { disk = c.sweep.new.disk; space = c.sweep.new.space; collections = record k.collections { collector = Some c.sweep.new.collector } } in
-    subst (λ x. TriesStep g.D.Disk x new c.sweep.result) (ap (λ o. record k { collections = record k.collections { collector = o } }) (sym c.in-Some.is) ∙ c.self.view_is) (c.sweep.ensures.tries k)
+    subst (λ x. TriesStep g.D.Disk x new c.sweep.result) (ap (λ o. record k { collections = record k.collections { collector = o } }) (sym c.in-Some.is) ∙ c.self.view_is) ((c.sweep.ensures k.handles).tries k refl)

@@ -1,5 +1,5 @@
 use Rattle.std.proofs.Common.{◌≡◌, Some, Err, refl, sym, ◌∙◌, ap, subst, ◌+◌, ◌<◌, ◌≤◌, ℕ, length, arith, IsSome, option_copied}
-use Rattle.cfs_core.proofs.Words.{Drafting, session_grant, is_range, list_all, Overwrite, State, Through}
+use Rattle.cfs_core.proofs.Words.{AFile, Drafting, session_grant, is_range, list_all, Overwrite, State, Through}
 use Rattle.ufs_model.specs.declared.asked.Reply.TheVariants as replies
 use Rattle.ufs_model.specs.declared.asked.Request.TheVariants as asks
 use Rattle.cfs_core.specs.Calls.{Tries, done_or}
@@ -7,11 +7,11 @@ use Rattle.cfs_core.specs.Finished.{since}
 use Rattle.cfs_core.specs.StandsFor.{CoreServes, ServesIs}
 use Rattle.cfs_core.specs.Kernel.{Kernel, grants_in, is_drawn_by, is_ready}
 use Rattle.cfs_core.specs.Handles.{drafting_at, with_drafting}
-use Rattle.cfs_core.specs.Drafts.{ChangesDraft}
-use Rattle.cfs_core.proofs.Altered.{tries_altered}
+use Rattle.cfs_core.specs.Drafts.{ChangesDraft, IsDrafted}
+use Rattle.cfs_core.proofs.Altered.{file_alters, tries_altered}
 use Rattle.cfs_core.proofs.Ended.{IsHeld}
 use Rattle.cfs_core.proofs.Joined.{done_decides, done_never, tries_since, tries_unfinished}
-use Rattle.cfs_core.proofs.Reached.{size_is, write_goes, write_range}
+use Rattle.cfs_core.proofs.Reached.{files, size_is, write_goes, write_range}
 use Rattle.cfs_core.proofs.Answering.{tries_refusal}
 use Rattle.cfs_core.proofs.Calm.{range_parts}
 use Rattle.cfs_core.proofs.Rewritten.{same_draft}
@@ -19,6 +19,7 @@ use Rattle.cfs_core.proofs.Ending.{held_in}
 use Rattle.cfs_core.proofs.Filed.{write_changes}
 use Rattle.cfs_core.proofs.Readied.{drawn_put, for_ready, ready_at, ready_for, ready_put, sized_with}
 use Rattle.cfs_core.proofs.Handled.{if_some, some_if}
+use Rattle.cfs_core.proofs.Fitting.{filed}
 use Rattle.cfs_core.proofs.kernel.Core.write_draft.Goals as goal
 
 pub returns-then-not-is_range : goal.returns-then-not-is_range
@@ -28,8 +29,8 @@ returns-then-not-is_range g c =
     tries_refusal g.D.Disk g.met.D.Disk.left_sized g.met.D.Disk.sized k c.args.who (asks.Write (Through c.args.grant) c.args.offset c.args.bytes.now) replies.Range tt
     (λ s serves.
     let held = held_in g.D.Disk k c.args.who c.args.grant c.requires.drafting c.requires.has (subst (λ o. IsSome o) (sym c.requires.found) refl) (λ s. c.table_follows_the_model.ensures.found s c.args.who c.args.grant) s serves in
-    write_range g.D.Disk k s serves c.args.who c.args.grant c.requires.drafting held c.args.offset c.args.bytes.now
-    (ap (λ (n : ℕ). is_range n c.args.offset (length c.args.bytes.now)) (sym (size_is g.D.Disk k s serves c.args.who c.args.grant c.requires.drafting held) ∙ ap (λ (d : Drafting). d.root.size) (sym same) ∙ sym c.size-held.ensures) ∙ sym c.is_range.ensures ∙ c.if-not-is_range.true))
+    write_range g.D.Disk k s serves c.args.who c.args.grant c.requires.drafting held (filed g.D.Disk k c.args.who c.args.grant c.requires.drafting (λ s. c.table_follows_the_model.ensures.found s c.args.who c.args.grant) s serves held c.requires) c.args.offset c.args.bytes.now
+    (ap (λ (n : ℕ). is_range n c.args.offset (length c.args.bytes.now)) (sym (size_is g.D.Disk k s serves c.args.who c.args.grant c.requires.drafting held (filed g.D.Disk k c.args.who c.args.grant c.requires.drafting (λ s. c.table_follows_the_model.ensures.found s c.args.who c.args.grant) s serves held c.requires)) ∙ ap (λ (d : Drafting). d.root.size) (sym same) ∙ sym c.size-held.ensures) ∙ sym c.is_range.ensures ∙ c.if-not-is_range.true))
 
 pub write-ended-requires-clause-within : goal.write-ended-requires-clause-within
 write-ended-requires-clause-within g c =
@@ -45,10 +46,11 @@ returns-in-Err g c =
     let k : Kernel _ = record { disk = c.self.inside.disk; root = c.self.inside.root; directory = c.self.inside.directory; space = c.self.inside.space; words = c.self.inside.words; handles = c.self.inside.handles.handles; collections = c.self.inside.collections; stop = c.self.inside.stop } in
     let request = asks.Write (Through c.args.grant) c.args.offset c.args.bytes.now in
     let same : c.in-Some.draft.now ≡ c.requires.drafting = same_draft _ _ (sym (ap option_copied c.in-Some.is) ∙ c.draft.ensures ∙ (ap (λ x. drafting_at x.handles c.args.grant.draw) c.self.view_is ∙ c.requires.has)) in
+    let drafted : IsDrafted k AFile c.args.who c.args.grant = subst (λ x. IsDrafted x AFile c.args.who c.args.grant) (sym c.self.view_is) c.requires in
     let held : (s : State) → ServesIs G k s → IsHeld G k s c.args.who c.args.grant c.requires.drafting = held_in G k c.args.who c.args.grant c.requires.drafting (ap (λ x. drafting_at x.handles c.args.grant.draw) c.self.view_is ∙ c.requires.has) (subst (λ o. IsSome o) (sym (ap (λ x. session_grant (grants_in x.handles) c.args.who c.args.grant) c.self.view_is ∙ c.requires.found)) refl) (λ s. c.table_follows_the_model.ensures.found s c.args.who c.args.grant) in
     subst (λ x. Tries G x (record k { disk = c.finish.new.disk; space = c.finish.new.space }) c.args.who request (Err c.from.result)) c.self.view_is
     (tries_unfinished G g.met.D.Disk.left_sized g.met.D.Disk.sized k c.finish.new.disk c.finish.new.space c.in-Err.trouble c.in-Err.ensures request c.args.who c.from.result c.from.ensures
-    (λ s serves. write_goes G k s serves c.args.who c.args.grant c.requires.drafting (held s serves) c.args.offset c.args.bytes.now (ap (λ (n : ℕ). is_range n c.args.offset (length c.args.bytes.now)) (sym (size_is G k s serves c.args.who c.args.grant c.requires.drafting (held s serves)) ∙ ap (λ (d : Drafting). d.root.size) (sym same) ∙ sym c.size-held.ensures) ∙ sym c.is_range.ensures ∙ c.if-not-is_range.false)))
+    (λ s serves. write_goes G k s serves c.args.who c.args.grant c.requires.drafting (held s serves) (filed G k c.args.who c.args.grant c.requires.drafting (λ s. c.table_follows_the_model.ensures.found s c.args.who c.args.grant) s serves (held s serves) drafted) c.args.offset c.args.bytes.now (ap (λ (n : ℕ). is_range n c.args.offset (length c.args.bytes.now)) (sym (size_is G k s serves c.args.who c.args.grant c.requires.drafting (held s serves) (filed G k c.args.who c.args.grant c.requires.drafting (λ s. c.table_follows_the_model.ensures.found s c.args.who c.args.grant) s serves (held s serves) drafted)) ∙ ap (λ (d : Drafting). d.root.size) (sym same) ∙ sym c.size-held.ensures) ∙ sym c.is_range.ensures ∙ c.if-not-is_range.false)))
 
 pub invariant_of-self-2 : goal.invariant_of-self-2
 invariant_of-self-2 g c =
@@ -69,13 +71,17 @@ returns g c =
     let new : Kernel _ = record k { disk = c.write-ended.new.disk; space = c.write-ended.new.space; handles = with_drafting c.args.grant.draw (Some done.0) k.handles } in
     let ended = c.write-ended.result in
     let same : c.in-Some.draft.now ≡ c.requires.drafting = same_draft _ _ (sym (ap option_copied c.in-Some.is) ∙ c.draft.ensures ∙ (ap (λ x. drafting_at x.handles c.args.grant.draw) c.self.view_is ∙ c.requires.has)) in
+    let drafted : IsDrafted k AFile c.args.who c.args.grant = subst (λ x. IsDrafted x AFile c.args.who c.args.grant) (sym c.self.view_is) c.requires in
     let held : (s : State) → ServesIs G k s → IsHeld G k s c.args.who c.args.grant c.requires.drafting = held_in G k c.args.who c.args.grant c.requires.drafting (ap (λ x. drafting_at x.handles c.args.grant.draw) c.self.view_is ∙ c.requires.has) (subst (λ o. IsSome o) (sym (ap (λ x. session_grant (grants_in x.handles) c.args.who c.args.grant) c.self.view_is ∙ c.requires.found)) refl) (λ s. c.table_follows_the_model.ensures.found s c.args.who c.args.grant) in
+    let drafted_mid : IsDrafted mid AFile c.args.who c.args.grant = record { grant = drafted.grant; found = drafted.found; drafting = drafted.drafting; has = drafted.has; fit = drafted.fit } in
     let there : (s : State) → CoreServes G mid s → IsHeld G mid s c.args.who c.args.grant c.requires.drafting = held_in G mid c.args.who c.args.grant c.requires.drafting (ap (λ x. drafting_at x.handles c.args.grant.draw) c.self.view_is ∙ c.requires.has) (subst (λ o. IsSome o) (sym (ap (λ x. session_grant (grants_in x.handles) c.args.who c.args.grant) c.self.view_is ∙ c.requires.found)) refl) (λ s. c.table_follows_the_model.ensures.found s c.args.who c.args.grant) in
     let now = tries_altered G g.met.D.Disk.left_sized g.met.D.Disk.sized mid c.self.invariant.ready c.args.who c.args.grant c.requires.drafting (ap (λ x. drafting_at x.handles c.args.grant.draw) c.self.view_is ∙ c.requires.has) there
-    (Overwrite c.args.offset c.args.bytes.now) request (write_changes (Through c.args.grant) c.args.offset c.args.bytes.now c.are_bytes.ensures) refl (λ s serves. write_goes G mid s serves c.args.who c.args.grant c.requires.drafting (there s serves) c.args.offset c.args.bytes.now (ap (λ (n : ℕ). is_range n c.args.offset (length c.args.bytes.now)) (sym (size_is G mid s serves c.args.who c.args.grant c.requires.drafting (there s serves)) ∙ ap (λ (d : Drafting). d.root.size) (sym same) ∙ sym c.size-held.ensures) ∙ sym c.is_range.ensures ∙ c.if-not-is_range.false))
-    done.0 c.write-ended.new.disk c.write-ended.new.space ended done.2 in
+    (Overwrite c.args.offset c.args.bytes.now) request refl done.0 c.write-ended.new.disk c.write-ended.new.space ended done.2
+    (λ s serves. file_alters s c.args.who c.args.grant request (Overwrite c.args.offset c.args.bytes.now) (write_changes (Through c.args.grant) c.args.offset c.args.bytes.now c.are_bytes.ensures) refl)
+    (λ s serves. (files G mid s serves c.args.who c.args.grant c.requires.drafting (there s serves) (filed G mid c.args.who c.args.grant c.requires.drafting (λ s. c.table_follows_the_model.ensures.found s c.args.who c.args.grant) s serves (there s serves) drafted_mid)).1)
+    (λ s serves. write_goes G mid s serves c.args.who c.args.grant c.requires.drafting (there s serves) (filed G mid c.args.who c.args.grant c.requires.drafting (λ s. c.table_follows_the_model.ensures.found s c.args.who c.args.grant) s serves (there s serves) drafted_mid) c.args.offset c.args.bytes.now (ap (λ (n : ℕ). is_range n c.args.offset (length c.args.bytes.now)) (sym (size_is G mid s serves c.args.who c.args.grant c.requires.drafting (there s serves) (filed G mid c.args.who c.args.grant c.requires.drafting (λ s. c.table_follows_the_model.ensures.found s c.args.who c.args.grant) s serves (there s serves) drafted_mid)) ∙ ap (λ (d : Drafting). d.root.size) (sym same) ∙ sym c.size-held.ensures) ∙ sym c.is_range.ensures ∙ c.if-not-is_range.false)) in
     let joined = tries_since G k c.finish.new.disk c.finish.new.space c.in-Ok.tried c.in-Ok.ensures g.met.D.Disk.left_sized g.met.D.Disk.sized new done.2.calls.same.size request (done_or ended) (done_decides ended) (done_never ended (λ is. rw is at done.2.refused)) c.args.who
-    (λ s serves. write_goes G k s serves c.args.who c.args.grant c.requires.drafting (held s serves) c.args.offset c.args.bytes.now (ap (λ (n : ℕ). is_range n c.args.offset (length c.args.bytes.now)) (sym (size_is G k s serves c.args.who c.args.grant c.requires.drafting (held s serves)) ∙ ap (λ (d : Drafting). d.root.size) (sym same) ∙ sym c.size-held.ensures) ∙ sym c.is_range.ensures ∙ c.if-not-is_range.false)) now in
+    (λ s serves. write_goes G k s serves c.args.who c.args.grant c.requires.drafting (held s serves) (filed G k c.args.who c.args.grant c.requires.drafting (λ s. c.table_follows_the_model.ensures.found s c.args.who c.args.grant) s serves (held s serves) drafted) c.args.offset c.args.bytes.now (ap (λ (n : ℕ). is_range n c.args.offset (length c.args.bytes.now)) (sym (size_is G k s serves c.args.who c.args.grant c.requires.drafting (held s serves) (filed G k c.args.who c.args.grant c.requires.drafting (λ s. c.table_follows_the_model.ensures.found s c.args.who c.args.grant) s serves (held s serves) drafted)) ∙ ap (λ (d : Drafting). d.root.size) (sym same) ∙ sym c.size-held.ensures) ∙ sym c.is_range.ensures ∙ c.if-not-is_range.false)) now in
     subst (λ x. Tries G x (record k { disk = c.write-ended.new.disk; space = c.write-ended.new.space; handles = c.write-ended.new.self.handles }) c.args.who request c.since.result) c.self.view_is
     (subst (λ ss. Tries G k (record k { disk = c.write-ended.new.disk; space = c.write-ended.new.space; handles = ss }) c.args.who request c.since.result) (sym done.1)
     (subst (λ r. Tries G k new c.args.who request r) (sym (c.since.ensures ∙ ap (since c.in-Ok.tried) c.done.ensures)) joined))

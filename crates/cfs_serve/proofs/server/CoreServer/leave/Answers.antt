@@ -45,10 +45,10 @@ returns-in-Err-clause-undamaged g c = λ s stands before.
     undamaged g.D.Disk c.args.self.now c.leave-left.new.self s stands halts.0 halts.1 halts.2 c.leave-left.ensures.sound
 
 pub returns-in-Ok-clause-called : goal.returns-in-Ok-clause-called
-returns-in-Ok-clause-called g c = rw c.leave-left.ensures.collections refl
+returns-in-Ok-clause-called g c = rw c.leave-left.ensures.called refl
 
 pub returns-in-Err-clause-called : goal.returns-in-Err-clause-called
-returns-in-Err-clause-called g c = rw c.leave-left.ensures.collections refl
+returns-in-Err-clause-called g c = rw c.leave-left.ensures.called refl
 
 pub returns-in-Ok-clause-size : goal.returns-in-Ok-clause-size
 returns-in-Ok-clause-size g c = omega (arith, c.has_room.ensures.size, c.has_room-2.ensures.size, c.leave-left.ensures.size)
@@ -62,7 +62,7 @@ returns-in-Err-clause-halts g c = λ s stands some.
     raised g.D.Disk c.args.self.now c.leave-left.new.self s stands halts.0 halts.1 halts.2 halts.4 c.leave-left.ensures.sound
 
 pub returns-in-Ok-clause-passes : goal.returns-in-Ok-clause-passes
-returns-in-Ok-clause-passes g c = left_passes g.D.Disk c.args.self.now c.leave-left.new.self c.leave-left.ensures.collections c.leave-left.ensures.size c.leave-left.ensures.later
+returns-in-Ok-clause-passes g c = left_passes g.D.Disk c.args.self.now c.leave-left.new.self c.leave-left.ensures.finished c.leave-left.ensures.waits c.leave-left.ensures.size c.leave-left.ensures.later
 
 pub returns-in-Err-clause-passes : goal.returns-in-Err-clause-passes
-returns-in-Err-clause-passes g c = left_passes g.D.Disk c.args.self.now c.leave-left.new.self c.leave-left.ensures.collections c.leave-left.ensures.size c.leave-left.ensures.later
+returns-in-Err-clause-passes g c = left_passes g.D.Disk c.args.self.now c.leave-left.new.self c.leave-left.ensures.finished c.leave-left.ensures.waits c.leave-left.ensures.size c.leave-left.ensures.later

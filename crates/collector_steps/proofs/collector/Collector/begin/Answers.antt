@@ -6,12 +6,13 @@ use Rattle.collector_steps.proofs.Lefts.{begins_with}
 use Rattle.collector_steps.proofs.collector.Collector.begin.Goals as goal
 
 pub returns-clause-keeps : goal.returns-clause-keeps
-returns-clause-keeps c = λ seed s t image state named all began.
+returns-clause-keeps c = λ seed s t image state named all began few.
     let directory = c.args.directory.now.named in
     let roots = c.args.roots.now in
     let colours = all_shaded directory roots none_marked in
     let is = subst (λ (u : State). IsMarking u colours []) (allowed _ (begun s) t began).1 (begin_keeps s (well s state) directory (is_directory_of c.kinds_follow_the_graph.ensures.kind directory s.graph named) roots all) in
-    by_parts t _ colours _ [] _ 1 _ 0 (c.shade_all.ensures.shaded ∙ ap (all_shaded directory roots) c.clear.ensures.none) c.clear-2.ensures.none refl refl (is, pace_begin t.graph colours)
+    by_parts t _ colours _ [] _ (volume_of c.args.self.now) _ 1 _ 0 (c.shade_all.ensures.shaded ∙ ap (all_shaded directory roots) c.clear.ensures.none) c.clear-2.ensures.none
+    (c.shade_all.ensures.blocks ∙ c.clear.ensures.blocks ∙ ap volume_of c.self.view_is) refl refl (is, pace_begin t colours (volume_of c.args.self.now) few)
 
 pub returns-clause-left : goal.returns-clause-left
 returns-clause-left c =

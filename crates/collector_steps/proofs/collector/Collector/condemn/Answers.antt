@@ -27,9 +27,9 @@ pub returns-clause-ids : goal.returns-clause-ids
 returns-clause-ids c = taken c ∙ taken_unmarked (colours_in c.args.self.now) c.args.directory.now.named
 
 -- nothing waits
-marking : (c : goal.After-new-2) (s : State) (image : Image) → Collects image s c.args.self.now → IsMarking s (colours_in c.args.self.now) [] × IsPaced s.graph (colours_in c.args.self.now) [] c.args.self.now.steps c.args.self.now.added
+marking : (c : goal.After-new-2) (s : State) (image : Image) → Collects image s c.args.self.now → IsMarking s (colours_in c.args.self.now) [] × IsPaced s (colours_in c.args.self.now) [] (volume_of c.args.self.now) c.args.self.now.steps c.args.self.now.added
 marking c s image is =
-    subst (λ (ws : List Rescue). IsMarking s (colours_in c.args.self.now) ws × IsPaced s.graph (colours_in c.args.self.now) ws c.args.self.now.steps c.args.self.now.added) c.requires.taken
+    subst (λ (ws : List Rescue). IsMarking s (colours_in c.args.self.now) ws × IsPaced s (colours_in c.args.self.now) ws (volume_of c.args.self.now) c.args.self.now.steps c.args.self.now.added) c.requires.taken
     (of_marking image s c.args.self.now c.requires.phase is)
 
 pub returns-clause-legal : goal.returns-clause-legal
@@ -44,7 +44,7 @@ returns-clause-keeps c = λ seed s t a b named is fits gone.
       (λ n below. absurd (omega (arith, below))),
       λ less.
           let was = ap (λ (k : Collecting). k.added) c.self.view_is in
-          let end = pace_end s.graph (colours_in c.args.self.now) c.args.self.now.steps c.args.self.now.added (volume_of c.args.self.now) paced (omega (arith, less, was)) fits in
+          let end = pace_end s (colours_in c.args.self.now) (volume_of c.args.self.now) c.args.self.now.steps c.args.self.now.added paced (omega (arith, less, was)) fits in
           omega (arith, end, was, ap (λ (k : Collecting). k.steps) c.self.view_is, ap volume_of c.self.view_is, c.saturating_add-self-inside.ensures),
     )
 

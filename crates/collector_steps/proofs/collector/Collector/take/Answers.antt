@@ -21,11 +21,11 @@ returns-clause-keeps c = λ s image state named is.
     ap waiting_in (sym was) ∙ head_of c.self.inside.rescues.list c.in-Some.rescue (sym c.take.ensures.taken ∙ c.in-Some.is) in
     let marking = of_marking image s c.args.self.now c.requires.phase is in
     let taken = returns-clause-taken c c.in-Some.rescue (drop 1 c.self.inside.rescues.list) waits in
-    as_marking image s _ (rescued c.args.directory.now.named c.in-Some.rescue (colours_in c.args.self.now)) (drop 1 c.self.inside.rescues.list) (count_after c.args.self.now.steps) c.args.self.now.added
-    (ap (λ (k : Collecting). k.phase) was ∙ c.requires.phase) taken.1 taken.0 (c.saturating_add-self-inside.ensures ∙ ap (λ (k : Collecting). count_after k.steps) was) (ap (λ (k : Collecting). k.added) was)
-    (take_kept s state c.args.directory.now.named (is_directory_of c.kinds_follow_the_graph.ensures.kind c.args.directory.now.named s.graph named) (colours_in c.args.self.now) c.args.self.now.steps c.args.self.now.added c.in-Some.rescue (drop 1 c.self.inside.rescues.list)
+    as_marking image s _ (rescued c.args.directory.now.named c.in-Some.rescue (colours_in c.args.self.now)) (drop 1 c.self.inside.rescues.list) (volume_of c.args.self.now) (count_after c.args.self.now.steps) c.args.self.now.added
+    (ap (λ (k : Collecting). k.phase) was ∙ c.requires.phase) taken.1 taken.0 (c.shade_rescued.ensures.blocks ∙ ap volume_of was) (c.saturating_add-self-inside.ensures ∙ ap (λ (k : Collecting). count_after k.steps) was) (ap (λ (k : Collecting). k.added) was)
+    (take_kept s state c.args.directory.now.named (is_directory_of c.kinds_follow_the_graph.ensures.kind c.args.directory.now.named s.graph named) (colours_in c.args.self.now) (volume_of c.args.self.now) c.args.self.now.steps c.args.self.now.added c.in-Some.rescue (drop 1 c.self.inside.rescues.list)
     (subst (λ (ws : List Rescue). IsMarking s (colours_in c.args.self.now) ws) waits marking.0)
-    (subst (λ (ws : List Rescue). IsPaced s.graph (colours_in c.args.self.now) ws c.args.self.now.steps c.args.self.now.added) waits marking.1))
+    (subst (λ (ws : List Rescue). IsPaced s (colours_in c.args.self.now) ws (volume_of c.args.self.now) c.args.self.now.steps c.args.self.now.added) waits marking.1))
 
 pub returns-clause-less : goal.returns-clause-less
 returns-clause-less c =

@@ -1,5 +1,5 @@
-use Rattle.std.proofs.Common.{◌≡◌, ◌∙◌, ◌+◌, ◌≤◌, sym, ap, subst, refl, None, Some, true, false, arith}
-use Rattle.ufs_model.proofs.Words.{Collection, IsState, Reply, Server, State, answered, beside, block_named, collection_of, draws, is_outcome, named, outcome_of, seen_by, target, with_seen}
+use Rattle.std.proofs.Common.{◌≡◌, ◌∙◌, sym, ap, subst, refl, None, Some, true, arith}
+use Rattle.ufs_model.proofs.Words.{Collection, IsState, Reply, Server, State, answered, beside, block_named, collection_of, is_outcome, named, seen_by, target, with_seen}
 use Rattle.ufs_model.proofs.Beside.{at_most_one, free_block, none_some, outcome_made, outcome_none, outcome_parts, outcome_stopped, some_stops}
 use Rattle.ufs_model.proofs.KeepsStates.{outcome_keeps}
 use Rattle.ufs_model.proofs.Outcomes.{outcome_leaves}

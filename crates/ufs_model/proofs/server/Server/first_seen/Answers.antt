@@ -1,4 +1,4 @@
-use Rattle.std.proofs.Common.{◌≡◌, ◌∙◌, ◌∷◌, Vec, Global, sym, ap, subst, add-one, drop, get_or, ◌+◌, List}
+use Rattle.std.proofs.Common.{◌≡◌, ◌∙◌, ◌∷◌, Vec, Global, ap, subst, add-one, drop, get_or, ◌+◌, List}
 use Rattle.ufs_model.proofs.Words.{Puid, Seen, Server, drop-cons, is_among, open_ids, pairs_of}
 use Rattle.ufs_model.proofs.Spreading.{was_in, was_out}
 use Rattle.ufs_model.proofs.Remembered.{IsSeeing, seeing_first, seen_else, seen_then}

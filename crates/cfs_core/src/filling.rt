@@ -1,0 +1,281 @@
+//! Requests on an index through a grant with a draft.
+ghost use Rattle.std.specs.Prelude.{◌≡◌, ◌≢◌, ◌+◌, ◌*◌, ◌/◌, ◌<◌, ◌≤◌, ℕ, Some, false, nat_lt, IfSome, IsSome, length};
+ghost use Rattle.cfs_core.specs.Calls.{Tries};
+ghost use Rattle.cfs_core.specs.Drafts.{ChangesDraft, HasGrant, IsDrafted, LooksInDraft, MakesInDraft};
+ghost use Rattle.cfs_core.specs.Drafts.{TriesMakingWith, TriesThroughWith};
+ghost use Rattle.cfs_core.specs.Handles.{drafting_at};
+ghost use Rattle.cfs_core.specs.Makes.{IsMaking};
+ghost use Rattle.index_ops.specs.Creates.{MayBeMade, made_of};
+ghost use Rattle.leaf_changes.specs.Bytes.{IsSlot};
+ghost use Rattle.special_files.specs.Drafting.{Drafting};
+ghost use Rattle.ufs_model.specs.Next.{is_direct_delete};
+ghost use Rattle.ufs_model.specs.declared.asked.Ref.TheVariants as refs;
+ghost use Rattle.ufs_model.specs.declared.asked.Request as asked;
+ghost use Rattle.ufs_model.specs.declared.asked.Request.TheVariants as asks;
+ghost use Rattle.ufs_model.specs.declared.asked.Wanted.TheVariants.{AnIndex};
+ghost use Rattle.ufs_model.specs.declared.change.Change.TheVariants.{Fill};
+
+use crate::changing::{done, holds_something};
+use crate::creating::kind_of;
+use crate::finishing::{finish, refused_since, since};
+use crate::kernel::Core;
+use cfs_base::{Disk, FileKind, Kind, Puid, Refused, Session, Tuid};
+use cyl_alloc::Space;
+use index_drafts::{create_in, put_in};
+use open_table::table_follows_the_model;
+use special_files::Draft;
+use ufs_model::{MOST_SLOTS, RESERVE, Reply};
+
+/// How many slots the index has of which this is a draft.
+fn count(draft: &Draft) -> u64
+    ensures { result ≡ draft.now.root.size / 8 }
+{
+    draft.size() / 8
+}
+
+/// What a slot of a draft holds, as a reply: `Slot` where it has no such slot, `Empty` where it holds nothing.
+fn look_in<D: Disk>(disk: &mut D, draft: &Draft, slot: u64) -> Result<Reply, Refused>
+    requires { draft.now.at < D.blocks disk.old }
+    ensures { LooksInDraft D.Disk slot draft.now disk.old disk.new result }
+{
+    if slot >= count(draft) {
+        return Ok(Reply::Slot);
+    }
+    match draft.slot(disk, slot) {
+        Ok(Some(id)) => Ok(Reply::Id(id)),
+        Ok(None) => Ok(Reply::Empty),
+        Err(trouble) => Err(Refused::from(trouble)),
+    }
+}
+
+/// Makes a slot of a draft hold this, or nothing.
+pub(crate) fn put_slot<D: Disk>(
+    draft: &mut Draft,
+    disk: &mut D,
+    space: &mut Space,
+    slot: u64,
+    what: Option<Puid>,
+) -> Result<(), Refused>
+    requires on_disk { draft.old.at < D.blocks disk.old }
+    requires size { D.blocks disk.old ≡ 64 * length space.old.free }
+    requires within { 8 * slot + 8 ≤ draft.old.root.size }
+    requires slot { IsSlot what }
+    ensures { ChangesDraft D.Disk (Fill slot what) disk.old disk.new space.old space.new draft.old draft.new result }
+{
+    put_in(draft, disk, space, slot, what, RESERVE)
+}
+
+/// Makes an object, and puts its identifier into a slot of a draft.
+pub(crate) fn make_in<D: Disk>(
+    draft: &mut Draft,
+    disk: &mut D,
+    space: &mut Space,
+    slot: u64,
+    kind: Kind,
+    fill: u8,
+    size: u64,
+    word: u32,
+) -> Result<Puid, Refused>
+    requires on_disk { draft.old.at < D.blocks disk.old }
+    requires size { D.blocks disk.old ≡ 64 * length space.old.free }
+    requires within { 8 * slot + 8 ≤ draft.old.root.size }
+    requires made { MayBeMade kind fill size }
+    ensures { MakesInDraft D.Disk slot kind fill size word disk.old disk.new space.old space.new draft.old draft.new
+        result }
+{
+    create_in(draft, disk, space, slot, kind, fill, size, word, RESERVE)
+}
+
+impl<D: Disk> Core<D> {
+    /// Whether a draft has such a slot.
+    fn has_drafted(&self, grant: Tuid, slot: u64) -> bool
+        requires { IsSome (drafting_at self.now.handles grant.draw) }
+        ensures { (was : Drafting) → drafting_at self.now.handles grant.draw ≡ Some was
+            → result ≡ nat_lt slot (was.root.size / 8) }
+    {
+        match self.handles.draft(grant.draw) {
+            Some(draft) => slot < count(draft),
+            None => unreachable!(),
+        }
+    }
+
+    /// What a slot of a draft holds, as a reply.
+    fn look_drafted(&mut self, grant: Tuid, slot: u64) -> Result<Reply, Refused>
+        requires { IsSome (drafting_at self.old.handles grant.draw) }
+        ensures looks { (was : Drafting) → drafting_at self.old.handles grant.draw ≡ Some was
+            → LooksInDraft D.Disk slot was self.old.disk self.new.disk result }
+        ensures same { self.new ≡ record self.old { disk = self.new.disk } }
+    {
+        match self.handles.draft(grant.draw) {
+            Some(draft) => look_in(&mut self.disk, draft, slot),
+            None => unreachable!(),
+        }
+    }
+
+    /// The identifier in a slot of a draft.
+    pub(crate) fn retrieve_draft(
+        &mut self,
+        who: Session,
+        grant: Tuid,
+        slot: u64,
+    ) -> Result<Reply, Refused>
+        requires { IsDrafted self.old AnIndex who grant }
+        ensures { Tries D.Disk self.old self.new who (asks.Retrieve (refs.Through grant) slot) result }
+    {
+        table_follows_the_model();
+        let _session = who;
+        self.look_drafted(grant, slot)
+    }
+
+    /// The number of slots of a draft.
+    pub(crate) fn slots_of_draft(&self, who: Session, grant: Tuid) -> Reply
+        requires { IsDrafted self.now AnIndex who grant }
+        ensures { Tries D.Disk self.now self.now who (asks.Slots (refs.Through grant)) (Ok result) }
+    {
+        table_follows_the_model();
+        match self.handles.draft(grant.draw) {
+            Some(draft) => Reply::Number(count(draft)),
+            None => unreachable!(),
+        }
+    }
+
+    /// Puts an identifier of an object into a slot of a draft.
+    pub(crate) fn retain_draft(
+        &mut self,
+        who: Session,
+        grant: Tuid,
+        slot: u64,
+        id: Puid,
+    ) -> Result<Reply, Refused>
+        requires { IsDrafted self.old AnIndex who grant }
+        ensures { Tries D.Disk self.old self.new who (asks.Retain (refs.Through grant) slot id) result }
+    {
+        table_follows_the_model();
+        let _session = who;
+        if self.lacks(Some(id)) {
+            return Ok(Reply::NoObject);
+        }
+        if !self.has_drafted(grant, slot) {
+            return Ok(Reply::Slot);
+        }
+        self.put_drafted(grant, slot, Some(id))
+    }
+
+    /// Empties a slot of a draft.
+    pub(crate) fn delete_draft(
+        &mut self,
+        who: Session,
+        grant: Tuid,
+        slot: u64,
+    ) -> Result<Reply, Refused>
+        requires { IsDrafted self.old AnIndex who grant }
+        ensures { Tries D.Disk self.old self.new who (asks.Delete (refs.Through grant) slot) result }
+    {
+        table_follows_the_model();
+        let _session = who;
+        match self.look_drafted(grant, slot) {
+            Ok(reply) => {
+                if holds_something(&reply) {
+                    self.put_drafted(grant, slot, None)
+                } else {
+                    Ok(reply)
+                }
+            }
+            Err(refused) => Err(refused),
+        }
+    }
+
+    /// Makes a slot of a draft hold this, or nothing.
+    fn put_drafted(&mut self, grant: Tuid, slot: u64, what: Option<Puid>) -> Result<Reply, Refused>
+        requires has { IsSome (drafting_at self.old.handles grant.draw) }
+        requires within { IfSome (drafting_at self.old.handles grant.draw) (λ d. 8 * slot + 8 ≤ d.root.size) }
+        requires slot { IsSlot what }
+        ensures { (who : ℕ) (request : asked.Request) → HasGrant self.old who grant → is_direct_delete request ≡ false
+            → TriesThroughWith D.Disk self.old.space.left self.old self.new who grant (Fill slot what) request result }
+    {
+        let tried = match finish(&mut self.disk, &mut self.space) {
+            Ok(tried) => tried,
+            Err(trouble) => return Err(Refused::from(trouble)),
+        };
+        let ended = self
+            .handles
+            .put(grant.draw, &mut self.disk, &mut self.space, slot, what);
+        since(tried, done(ended))
+    }
+
+    /// Makes a file of no bytes in a draft.
+    pub(crate) fn create_file_drafted(
+        &mut self,
+        who: Session,
+        grant: Tuid,
+        kind: FileKind,
+        fill: u8,
+        slot: u64,
+    ) -> Result<Reply, Refused>
+        requires words { self.old.words.drawn < 4294967295 }
+        requires drafted { IsDrafted self.old AnIndex who grant }
+        ensures { Tries D.Disk self.old self.new who (asks.CreateFile kind fill (refs.Through grant) slot) result }
+    {
+        table_follows_the_model();
+        let _session = who;
+        if !self.has_drafted(grant, slot) {
+            return Ok(Reply::Slot);
+        }
+        self.make_drafted(grant, slot, kind_of(kind), fill, 0)
+    }
+
+    /// Makes an index of empty slots in a draft.
+    pub(crate) fn create_index_drafted(
+        &mut self,
+        who: Session,
+        grant: Tuid,
+        slots: u64,
+        slot: u64,
+    ) -> Result<Reply, Refused>
+        requires words { self.old.words.drawn < 4294967295 }
+        requires drafted { IsDrafted self.old AnIndex who grant }
+        ensures { Tries D.Disk self.old self.new who (asks.CreateIndex slots (refs.Through grant) slot) result }
+    {
+        table_follows_the_model();
+        let _session = who;
+        if !self.has_drafted(grant, slot) {
+            return Ok(Reply::Slot);
+        }
+        if slots == 0 || slots > MOST_SLOTS {
+            return Ok(Reply::Range);
+        }
+        self.make_drafted(grant, slot, Kind::Index, 0, 8 * slots)
+    }
+
+    /// Makes an object whose identifier is put into a slot that a draft has.
+    fn make_drafted(
+        &mut self,
+        grant: Tuid,
+        slot: u64,
+        kind: Kind,
+        fill: u8,
+        size: u64,
+    ) -> Result<Reply, Refused>
+        requires words { self.old.words.drawn < 4294967295 }
+        requires has { IsSome (drafting_at self.old.handles grant.draw) }
+        requires within { IfSome (drafting_at self.old.handles grant.draw) (λ d. 8 * slot + 8 ≤ d.root.size) }
+        requires made { MayBeMade kind fill size }
+        ensures { (who : ℕ) (request : asked.Request) → IsMaking request slot (made_of kind fill size)
+            → HasGrant self.old who grant
+            → TriesMakingWith D.Disk self.old.space.left self.old self.new who grant request result }
+    {
+        let word = self.words.ahead();
+        let tried = match finish(&mut self.disk, &mut self.space) {
+            Ok(tried) => tried,
+            Err(trouble) => return Err(Refused::from(trouble)),
+        };
+        let (disk, space) = (&mut self.disk, &mut self.space);
+        let ended = self
+            .handles
+            .create(grant.draw, disk, space, slot, kind, fill, size, word);
+        match ended {
+            Ok(id) => since(tried, self.name(id, kind)),
+            Err(refused) => Err(refused_since(tried, refused)),
+        }
+    }
+}
