@@ -111,6 +111,14 @@ module _ {M E : Type 0} (log_of : M → List E) where
           let mine : ticket ≡ k.served = ap (ticket_of {E = E}) (sym waits) ∙ (sym same ∙ found) in
           looks_here turns id me s k at (waits ∙ ap (λ t. stands.Waits t) mine) is k.home
 
+  -- a look that finds the ticket
+  pub looked : (old me new : Hand M E) (n ticket : ℕ) → me ≡ old → old.0.stand ≡ stands.Waits ticket → n ≡ ticket
+      → Looked log_of (n == ticket_of me.0.stand) me new → Looked log_of true old new
+  looked old me new n ticket same waits found told =
+      let mine : ticket_of me.0.stand ≡ ticket = ap (λ (x : Hand M E). ticket_of x.0.stand) same ∙ ap (ticket_of {E = E}) waits in
+      let is : (n == ticket_of me.0.stand) ≡ true = grind (arith, nat_tests) in
+      subst (λ (x : Hand M E). Looked log_of true x new) same (subst (λ b. Looked log_of b me new) is told)
+
   -- the log of the machine that is held is counted
   pub counts : (turns slots id : ℕ) (me : Hand M E) (own : List E) (m : M) (added : ℕ) → me.0.stand ≡ stands.Holds own → me.1 ≡ (0, Some m) ∷ [] → Grows own (log_of m) added → length (log_of m) < 2 ^ 64
       → Allows (IsServed log_of turns) slots id me 2 (λ n. (n + added) % 2 ^ 64) (Steps log_of count added me)

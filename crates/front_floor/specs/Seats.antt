@@ -1,8 +1,9 @@
 -- What seats know, the kinds of step that they make, and the rule that holds between any two steps.
 -- Word 0 counts the tickets that were drawn, word 1 those that were served, word 2 the entries of the log. Slot
--- 0 has the machine.
+-- 0 has the machine, in a box.
 use Rattle.std.specs.Prelude.{◌≡◌, ℕ, ◌+◌, ◌-◌, ◌<◌, ◌≤◌, ◌^◌, ◌==◌, ◌⊎◌, List, [], ◌∷◌, ◌++◌, length}
 use Rattle.std.specs.Prelude.{Option, Some, None, Bool, MatchBool, sum, All, if◌then◌else◌}
+use Rattle.std.specs.Global.{Box}
 use Rattle.std.specs.List.{sum_by}
 use mathlib.Core.Option as maybe
 use mathlib.Core.List.{IsPrefix}
@@ -69,6 +70,10 @@ module _ {E : Type 0} where
         stand = stands.Holds log;
         heard = record { seen = log; mine = v.heard.mine ++ places; known = length log };
       }
+
+-- the log of a machine in its box
+abbrev pub log_in : {M E : Type 0} → (M → List E) → Box M → List E
+log_in log_of boxed = log_of boxed.value
 
 -- the kinds of step
 pub data Kind : Type 0 where

@@ -15,7 +15,7 @@ use std::alloc::{AllocFailed, Global};
 use std::marker::Model;
 use std::sync::Wait;
 
-type Rows<M> = Table<Option<M>, View<<M as Logged>::Entry>, Vec<u64>, Ticketed<M>, Global>;
+type Rows<M> = Table<Option<Box<M>>, View<<M as Logged>::Entry>, Vec<u64>, Ticketed<M>, Global>;
 
 /// A machine that passes enter one at a time, in the order of their tickets. Contracts see a front as the identity
 /// of its table.
@@ -57,11 +57,17 @@ fn lay<M: Logged>(
     ensures machine { IfErr result (λ fault. fault.machine ≡ machine) }
 {
     let entries = machine.events();
+    let boxed = match Box::new(alloc, machine) {
+        Ok(boxed) => boxed,
+        Err(AllocFailed { value }) => return Err(FrontFault { machine: value }),
+    };
     let mut slots = Vec::new(alloc);
-    if let Err(AllocFailed { value }) = slots.push(Some(machine)) {
+    if let Err(AllocFailed { value }) = slots.push(Some(boxed)) {
         slots.destroy_empty();
         return match value {
-            Some(machine) => Err(FrontFault { machine }),
+            Some(boxed) => Err(FrontFault {
+                machine: Box::into_inner(boxed),
+            }),
             None => unreachable!(),
         };
     }
@@ -71,7 +77,9 @@ fn lay<M: Logged>(
             let slot = slots.pop();
             slots.destroy_empty();
             match slot {
-                Some(Some(machine)) => Err(FrontFault { machine }),
+                Some(Some(boxed)) => Err(FrontFault {
+                    machine: Box::into_inner(boxed),
+                }),
                 _ => unreachable!(),
             }
         }
@@ -116,7 +124,7 @@ fn finish<M: Logged>(rows: Rows<M>, keeper: Place<M>) -> M
     let slot = closed.take(0);
     closed.free();
     match slot {
-        Some(machine) => machine,
+        Some(boxed) => Box::into_inner(boxed),
         None => unreachable!(),
     }
 }

@@ -7,59 +7,60 @@ use std::marker::PhantomData;
 /// The rule. It is told the budgets when the table is made.
 pub struct Ticketed<M: Logged>(PhantomData<M>);
 
-/// The words and the slot of a front.
-pub type Words<M> = Shared<Option<M>, View<<M as Logged>::Entry>, Vec<u64>, Ticketed<M>>;
+/// The words and the slot of a front. The machine is in a box, so that a turn moves a pointer out of the slot and back,
+/// however large the machine is.
+pub type Words<M> = Shared<Option<Box<M>>, View<<M as Logged>::Entry>, Vec<u64>, Ticketed<M>>;
 
 /// What a thread makes steps with.
-pub type Place<M> = Seat<Option<M>, View<<M as Logged>::Entry>>;
+pub type Place<M> = Seat<Option<Box<M>>, View<<M as Logged>::Entry>>;
 
-impl<M: Logged> TableRule<Option<M>, View<M::Entry>, Vec<u64>> for Ticketed<M> {
+impl<M: Logged> TableRule<Option<Box<M>>, View<M::Entry>, Vec<u64>> for Ticketed<M> {
     ghost use Rattle.std.specs.Prelude.{sum, ◌^◌};
-    ghost use Rattle.front_floor.specs.Seats.{IsServed, idle};
+    ghost use Rattle.front_floor.specs.Seats.{IsServed, idle, log_in};
 
-    ghost holds = { λ budgets s. IsServed M.log (sum budgets.items) s };
+    ghost holds = { λ budgets s. IsServed (log_in M.log) (sum budgets.items) s };
 
     ghost first = { λ budgets. idle (2 ^ 32) 0 budgets.items };
 }
 
 pub struct Draw;
 
-impl<M: Logged> Play<Option<M>, View<M::Entry>> for Draw {
-    ghost use Rattle.front_floor.specs.Seats.{Steps, draw};
+impl<M: Logged> Play<Option<Box<M>>, View<M::Entry>> for Draw {
+    ghost use Rattle.front_floor.specs.Seats.{Steps, draw, log_in};
 
-    ghost then = { λ s v n w. Steps M.log draw s.first v n w };
+    ghost then = { λ s v n w. Steps (log_in M.log) draw s.first v n w };
 }
 
 pub struct Look;
 
-impl<M: Logged> Play<Option<M>, View<M::Entry>> for Look {
-    ghost use Rattle.front_floor.specs.Seats.{Steps, look};
+impl<M: Logged> Play<Option<Box<M>>, View<M::Entry>> for Look {
+    ghost use Rattle.front_floor.specs.Seats.{Steps, log_in, look};
 
-    ghost then = { λ s v n w. Steps M.log look s.first v n w };
+    ghost then = { λ s v n w. Steps (log_in M.log) look s.first v n w };
 }
 
 pub struct Count;
 
-impl<M: Logged> Play<Option<M>, View<M::Entry>> for Count {
-    ghost use Rattle.front_floor.specs.Seats.{Steps, count};
+impl<M: Logged> Play<Option<Box<M>>, View<M::Entry>> for Count {
+    ghost use Rattle.front_floor.specs.Seats.{Steps, count, log_in};
 
-    ghost then = { λ s v n w. Steps M.log count s.first v n w };
+    ghost then = { λ s v n w. Steps (log_in M.log) count s.first v n w };
 }
 
 pub struct PassOn;
 
-impl<M: Logged> Play<Option<M>, View<M::Entry>> for PassOn {
-    ghost use Rattle.front_floor.specs.Seats.{Steps, pass_on};
+impl<M: Logged> Play<Option<Box<M>>, View<M::Entry>> for PassOn {
+    ghost use Rattle.front_floor.specs.Seats.{Steps, log_in, pass_on};
 
-    ghost then = { λ s v n w. Steps M.log pass_on s.first v n w };
+    ghost then = { λ s v n w. Steps (log_in M.log) pass_on s.first v n w };
 }
 
 pub struct Tell;
 
-impl<M: Logged> Play<Option<M>, View<M::Entry>> for Tell {
-    ghost use Rattle.front_floor.specs.Seats.{Steps, tell};
+impl<M: Logged> Play<Option<Box<M>>, View<M::Entry>> for Tell {
+    ghost use Rattle.front_floor.specs.Seats.{Steps, log_in, tell};
 
-    ghost then = { λ s v n w. Steps M.log tell s.first v n w };
+    ghost then = { λ s v n w. Steps (log_in M.log) tell s.first v n w };
 }
 
 /// A pass is dealt.

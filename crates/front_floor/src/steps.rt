@@ -1,7 +1,7 @@
 //! The single steps that seats make, a function for each kind.
 ghost use Rattle.std.specs.Prelude.{◌≡◌, ℕ, ◌<◌, ◌^◌, [], ◌∷◌, length, Some, None, true};
 ghost use Rattle.front_floor.specs.Knows.{Grows};
-ghost use Rattle.front_floor.specs.Seats.{IsIdle, Looked, SitsAt, Steps};
+ghost use Rattle.front_floor.specs.Seats.{IsIdle, Looked, SitsAt, Steps, log_in};
 ghost use Rattle.front_floor.specs.Seats as kinds;
 ghost use Rattle.front_floor.specs.declared.view.Stand.TheVariants as stands;
 
@@ -16,7 +16,7 @@ pub fn deal<M: Logged>(words: &Words<M>, keeper: &mut Place<M>) -> Place<M>
     requires idle { IsIdle keeper.old.me }
     requires parts { 1 < keeper.old.me.0.parts }
     ensures table { (keeper.new.table_id ≡ keeper.old.table_id) × (result.table_id ≡ keeper.old.table_id) }
-    ensures step { Steps M.log kinds.deal 0 keeper.old.me 0 keeper.new.me }
+    ensures step { Steps (log_in M.log) kinds.deal 0 keeper.old.me 0 keeper.new.me }
     ensures dealt { result.me ≡ (kinds.dealt keeper.old.me.0, []) }
 {
     words.split_seat::<Deal>(keeper)
@@ -29,7 +29,7 @@ pub fn draw<M: Logged>(words: &Words<M>, seat: &mut Place<M>) -> u64
     requires left { 0 < seat.old.me.0.left }
     requires live { 0 < seat.old.me.0.parts }
     ensures table { seat.new.table_id ≡ seat.old.table_id }
-    ensures step { Steps M.log kinds.draw 1 seat.old.me result seat.new.me }
+    ensures step { Steps (log_in M.log) kinds.draw 1 seat.old.me result seat.new.me }
 {
     words.fetch_add::<Draw>(seat, 0, 1)
 }
@@ -39,7 +39,7 @@ pub fn wait_for_turn<M: Logged, R: Wait>(rt: &R, words: &Words<M>, seat: &mut Pl
     requires table { SitsAt words.now.table_id seat.old.table_id }
     requires waits { seat.old.me.0.stand ≡ stands.Waits ticket }
     ensures table { seat.new.table_id ≡ seat.old.table_id }
-    ensures here { Looked M.log true seat.old.me seat.new.me }
+    ensures here { Looked (log_in M.log) true seat.old.me seat.new.me }
 {
     for _ in rt.forever() {
         if words.load::<Look>(seat, 1) == ticket {
@@ -51,11 +51,11 @@ pub fn wait_for_turn<M: Logged, R: Wait>(rt: &R, words: &Words<M>, seat: &mut Pl
 }
 
 /// Takes the machine out of the slot.
-pub fn take<M: Logged>(words: &Words<M>, seat: &mut Place<M>) -> M
+pub fn take<M: Logged>(words: &Words<M>, seat: &mut Place<M>) -> Box<M>
     requires table { SitsAt words.now.table_id seat.old.table_id }
     requires has { (m : _) × (seat.old.me.1 ≡ (0, Some m) ∷ []) }
     ensures table { seat.new.table_id ≡ seat.old.table_id }
-    ensures step { Steps M.log kinds.take 0 seat.old.me 0 seat.new.me }
+    ensures step { Steps (log_in M.log) kinds.take 0 seat.old.me 0 seat.new.me }
     ensures taken { seat.old.me.1 ≡ (0, Some result) ∷ [] }
 {
     match words.exchange(seat, 0, None) {
@@ -65,11 +65,11 @@ pub fn take<M: Logged>(words: &Words<M>, seat: &mut Place<M>) -> M
 }
 
 /// Puts the machine back into the slot.
-pub fn give<M: Logged>(words: &Words<M>, seat: &mut Place<M>, machine: M)
+pub fn give<M: Logged>(words: &Words<M>, seat: &mut Place<M>, machine: Box<M>)
     requires table { SitsAt words.now.table_id seat.old.table_id }
     requires empty { seat.old.me.1 ≡ (0, None) ∷ [] }
     ensures table { seat.new.table_id ≡ seat.old.table_id }
-    ensures step { Steps M.log kinds.give 0 seat.old.me 0 seat.new.me }
+    ensures step { Steps (log_in M.log) kinds.give 0 seat.old.me 0 seat.new.me }
     ensures given { seat.new.me ≡ (seat.old.me.0, (0, Some machine) ∷ []) }
 {
     match words.exchange(seat, 0, Some(machine)) {
@@ -82,9 +82,9 @@ pub fn give<M: Logged>(words: &Words<M>, seat: &mut Place<M>, machine: M)
 pub fn count<M: Logged>(words: &Words<M>, seat: &mut Place<M>, added: u64) -> u64
     requires table { SitsAt words.now.table_id seat.old.table_id }
     requires grown { (own : _) × (m : _) × (seat.old.me.0.stand ≡ stands.Holds own)
-        × (seat.old.me.1 ≡ (0, Some m) ∷ []) × Grows own (M.log m) added × (length (M.log m) < 2 ^ 64) }
+        × (seat.old.me.1 ≡ (0, Some m) ∷ []) × Grows own (log_in M.log m) added × (length (log_in M.log m) < 2 ^ 64) }
     ensures table { seat.new.table_id ≡ seat.old.table_id }
-    ensures step { Steps M.log kinds.count added seat.old.me result seat.new.me }
+    ensures step { Steps (log_in M.log) kinds.count added seat.old.me result seat.new.me }
 {
     words.fetch_add::<Count>(seat, 2, added)
 }
@@ -92,10 +92,10 @@ pub fn count<M: Logged>(words: &Words<M>, seat: &mut Place<M>, added: u64) -> u6
 /// Lets the next ticket be served.
 pub fn pass_on<M: Logged>(words: &Words<M>, seat: &mut Place<M>) -> u64
     requires table { SitsAt words.now.table_id seat.old.table_id }
-    requires counted { (m : _) × (seat.old.me.0.stand ≡ stands.Holds (M.log m))
+    requires counted { (m : _) × (seat.old.me.0.stand ≡ stands.Holds (log_in M.log m))
         × (seat.old.me.1 ≡ (0, Some m) ∷ []) }
     ensures table { seat.new.table_id ≡ seat.old.table_id }
-    ensures step { Steps M.log kinds.pass_on 1 seat.old.me result seat.new.me }
+    ensures step { Steps (log_in M.log) kinds.pass_on 1 seat.old.me result seat.new.me }
 {
     words.fetch_add::<PassOn>(seat, 1, 1)
 }
@@ -105,7 +105,7 @@ pub fn tell<M: Logged>(words: &Words<M>, seat: &mut Place<M>) -> u64
     requires table { SitsAt words.now.table_id seat.old.table_id }
     requires idle { IsIdle seat.old.me }
     ensures table { seat.new.table_id ≡ seat.old.table_id }
-    ensures step { Steps M.log kinds.tell 0 seat.old.me result seat.new.me }
+    ensures step { Steps (log_in M.log) kinds.tell 0 seat.old.me result seat.new.me }
 {
     words.load::<Tell>(seat, 2)
 }
@@ -117,7 +117,7 @@ pub fn take_in<M: Logged>(words: &Words<M>, keeper: &mut Place<M>, pass: Place<M
     requires idle { IsIdle keeper.old.me }
     requires pass_idle { IsIdle pass.me }
     ensures table { keeper.new.table_id ≡ keeper.old.table_id }
-    ensures step { Steps M.log kinds.take_in 0 keeper.old.me 0 keeper.new.me }
+    ensures step { Steps (log_in M.log) kinds.take_in 0 keeper.old.me 0 keeper.new.me }
     ensures taken { keeper.new.me ≡ (kinds.taken_in keeper.old.me.0 pass.me.0, keeper.old.me.1) }
 {
     words.join_seat::<TakeIn>(keeper, pass);

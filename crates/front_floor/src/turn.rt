@@ -41,7 +41,7 @@ pub fn make_turn<M: Logged, R: Wait>(
     let ticket = draw(words, seat);
     wait_for_turn(rt, words, seat, ticket);
     let mut machine = take(words, seat);
-    let (done, added) = turn_counted(&mut machine, worker);
+    let (done, added) = turn_counted(&mut *machine, worker);
     give(words, seat, machine);
     let _known = count(words, seat, added);
     let _served = pass_on(words, seat);

@@ -1,4 +1,5 @@
 use Rattle.std.proofs.Common.{arith, sum}
+use Rattle.front_floor.specs.Seats.{log_in}
 use Rattle.front_floor.proofs.Deals.{joins}
 use Rattle.front_floor.proofs.steps.take_in.Goals as goal
 
@@ -12,5 +13,5 @@ join_seat-requires g c =
       c.requires.pass,
       c.requires.pass_idle.nothing,
       omega (arith, at.words),
-      joins g.M.Logged.log (sum words.key.items) keeper.id pass.id keeper.me.0 pass.me.0 c.requires.idle.stand c.requires.pass_idle.stand,
+      joins (log_in g.M.Logged.log) (sum words.key.items) keeper.id pass.id keeper.me.0 pass.me.0 c.requires.idle.stand c.requires.pass_idle.stand,
     )
