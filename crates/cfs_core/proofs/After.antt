@@ -6,16 +6,12 @@ use Rattle.cyl_alloc.specs.Left.{LeftCommit}
 use Rattle.intentions.specs.Left.{coming}
 use Rattle.ufs_model.specs.declared.asked.Reply.TheVariants as replies
 use Rattle.ufs_model.specs.declared.object.Object.TheVariants as objects
-use Rattle.cfs_base.specs.declared.identifier.Tuid.{Tuid}
-use Rattle.ufs_model.specs.declared.change.Change.{Change}
-use Rattle.cfs_core.specs.Drafts.{AltersSo, TriesThroughWith}
-use Rattle.cfs_core.specs.StandsFor.{drafts_of_handles}
-use Rattle.vol_owners.specs.Account.{drafts_of}
+use Rattle.cfs_core.specs.Drafts.{TriesWhere}
+use Rattle.cfs_core.specs.StandsFor.{drafts_of_handles, ServesWith, end_in, free_with}
 use Rattle.cfs_core.specs.Calls.{AddsNoStray, Answers, EndsSo, IsAsItWas, Owes, TriesWith, TriesOnWith}
 use Rattle.cfs_core.specs.Claimed.{TakesForRequest}
 use Rattle.cfs_core.specs.Kernel.{Kernel}
 use Rattle.cfs_core.specs.Looks.{ReachesAll}
-use Rattle.cfs_core.specs.StandsFor.{ServesWith, end_in, free_with}
 use Rattle.cfs_core.specs.Ways.{Reaches}
 use Rattle.cfs_core.proofs.Serving.{free_same, serves_is, serves_on}
 use Rattle.cfs_core.proofs.Went.{went_then}
@@ -62,7 +58,7 @@ module _ {D : Type 0} (g : Ghosts D) (n : ℕ) (old : Kernel D) (d : D) (new : K
     ends (Err refusals.Memory) is = answers replies.Memory is
 
   pub tries_then : {w : Option LeftCommit} (index : Puid) (slot : ℕ) (who : ℕ) (result : Result Reply Refused) → ReachesAll g objects.Index old who request index → TriesOnWith g w mid new index slot request result
-      → ((s : State) (i : Index) → ServesWith g old s w → Reaches s who request index (objects.Index i) → drafts_of (drafts_of_handles old.handles s.grants) index ≡ [] → (slot < length i.slots) × (refusal_of s who request ≡ None)) → TriesWith g w old new who request result
+      → ((s : State) (i : Index) → ServesWith g old s w → Reaches s who request index (objects.Index i) → (drafts_of_handles old.handles s.grants) index ≡ None → (slot < length i.slots) × (refusal_of s who request ≡ None)) → TriesWith g w old new who request result
   tries_then {w} index slot who result reaches tries goes = record {
     ends = λ s serves none.
         let i = reaches.0 s (serves_is g old s serves) in
@@ -71,9 +67,12 @@ module _ {D : Type 0} (g : Ghosts D) (n : ℕ) (old : Kernel D) (d : D) (new : K
     went = went_then g n old d new reads request result (tries.went reaches.1);
   }
 
-  pub through_then : {w : Option LeftCommit} (who : ℕ) (t : Tuid) (change : Change) (result : Result Reply Refused) → TriesThroughWith g w mid new who t change request result
-      → ((s : State) → ServesWith g old s w → AltersSo s who t change request) → TriesWith g w old new who request result
-  through_then {w} who t change result tries so = record {
+  pub where_then : {w : Option LeftCommit} (who : ℕ) (may : State → Type 0) (result : Result Reply Refused) → TriesWhere g w mid new who request may result → ((s : State) → ServesWith g old s w → may s) → TriesWith g w old new who request result
+  where_then {w} who may result tries so = record {
     ends = λ s serves none. ends w s who result (tries.ends s (serves_on g n old mid reads refl s serves) none (so s serves));
     went = went_then g n old d new reads request result tries.went;
   }
+
+-- where it always may
+pub tries_where : {D : Type 0} {g : Ghosts D} {w : Option LeftCommit} {old new : Kernel D} {who : ℕ} {request : Request} {may : State → Type 0} {result : Result Reply Refused} → TriesWhere g w old new who request may result → ((s : State) → ServesWith g old s w → may s) → TriesWith g w old new who request result
+tries_where tries so = record { ends = λ s serves none. tries.ends s serves none (so s serves); went = tries.went }

@@ -1,27 +1,27 @@
 -- A change through a grant with a draft: what it makes of the state.
-use Rattle.std.proofs.Common.{◌≡◌, ◌⊎◌, inl, inr, ℕ, zero, suc, ◌+◌, ◌<◌, ◌≤◌, List, [], ◌∷◌, ◌++◌, length, get_or, Bool, true, false, cond, not, Option, Some, None, Ok, Err, IsTrue, refl, sym, ◌∙◌, ap, subst, arith, Result, filter, map, option_and_then, option_to_list, sum}
-use Rattle.std.proofs.lemmas.Option.{same_Some}
-use Rattle.cfs_core.proofs.Words.{and_parts, DraftBecomes, blocks_taken, Change, change_need, changed, changed_draft, changed_object, Draft, draft_blocks, Drafting, Fill, filter-rises, first_level, fresh_of, Ghosts, Grant, grant_of, has_number, held_levels, here, Holds, Image, in_filter, in_with, is_grant, is_normal, ChangesOnly}
-use Rattle.cfs_core.proofs.Words.{Kept, later, Leaves, list_all, MapEntry, merged, missing, need_beside, need_of, next, next_keeps, next_levels, numbers-rise, numbers_rise, Object, of_draft, OnlyReads, Opened, opened_as, outcome_legal, Overwrite, Puid, put_draft-at, range_with_len, refusal_of, Refused, replaced, Reply, Request, same_puid}
-use Rattle.cfs_core.proofs.Words.{same_puid_itself, seen, seen_draft, SetSize, shadow_need, shared, State, sum_by, sum_by-cons, target, Through, Tuid, wider, with_draft, with_numbers, within, without_draft, written_anew}
+use Rattle.std.proofs.Common.{◌≡◌, ◌⊎◌, inl, inr, ℕ, zero, suc, ◌+◌, ◌<◌, ◌≤◌, List, [], ◌∷◌, ◌++◌, length, get_or, Bool, true, false, cond, not, Option, Some, None, Ok, Err, IsTrue, refl, sym, ◌∙◌, ap, subst, arith, Result, filter, map, option_to_list, sum}
+use Rattle.cfs_core.proofs.Words.{and_parts, blocks_taken, Change, change_need, changed, changed_draft, changed_object, Draft, Drafting, Fill, filter-rises, first_level, fresh_of, Ghosts, Grant, grant_of, has_number, held_levels, here, Holds, Image, in_filter, in_with, is_grant, is_normal, ChangesOnly, Drafts, with_opened, draft_blocks_if, taken_with}
+use Rattle.cfs_core.proofs.Words.{Kept, later, Leaves, list_all, MapEntry, merged, missing, need_beside, need_of, next, next_keeps, next_levels, numbers-rise, numbers_rise, Object, of_draft, OnlyReads, Opened, opened_as, outcome_legal, Overwrite, Puid, put_draft-at, range_with_len, refusal_of, Refused, Reply, Request, seen, seen_draft, SetSize, shadow_need, shared, State, sum_by, sum_by-cons, target, Through, Tuid, wider, with_draft, with_numbers, within, written_anew}
 use Rattle.cfs_base.specs.declared.refusal.Need as needs
 use Rattle.cfs_base.specs.declared.refusal.Refused.TheVariants as refusals
 use Rattle.special_files.specs.Drafting.{set_in}
 use Rattle.ufs_model.specs.declared.asked.Event.TheVariants as events
 use Rattle.ufs_model.specs.declared.asked.Reply.TheVariants as replies
 use Rattle.ufs_model.specs.declared.object.Object.TheVariants as objects
-use Rattle.cfs_core.specs.Calls.{Answers, ByOutcome, ByWant, EndsSo, IsInDoubt, TriesWith, Undone, done_or}
-use Rattle.cfs_core.specs.Drafts.{AltersDraft, ChangesDraft, IsAltering, IsChangeOf, KnowsDraft, TriesThroughWith}
+use Rattle.cfs_core.specs.Calls.{Answers, ByOutcome, ByWant, EndsSo, IsInDoubt, Undone, done_or}
+use Rattle.cfs_core.specs.Drafts.{AltersDraft, ChangesDraft, IsAltered, IsAltering, IsChangeOf, KnowsDraft, TriesThroughWith}
 use Rattle.cfs_core.specs.Kernel.{Kernel, Handle, is_ready}
 use Rattle.cfs_core.specs.Handles.{drafting_at, with_drafting}
 use Rattle.ufs_model.specs.declared.asked.Ref.{Ref}
 use Rattle.ufs_model.specs.Next.{is_direct_delete}
-use Rattle.ufs_model.specs.State.{draft_of}
+use Rattle.ufs_model.specs.State.{draft_of, file_seen}
 use Rattle.cfs_core.specs.StandsFor.{CoreServes, bare, drafts_of_handles, free_to_come}
 use Rattle.intentions.specs.Left.{StoreWith, coming, final_image}
 use Rattle.cfs_core.proofs.Answering.{disk_failed, full_still, owes}
 use Rattle.cfs_core.proofs.Drafted.{changed_drafts, changed_have, special, with_is}
-use Rattle.cfs_core.proofs.Ended.{IsHeld, alone_take, block, of_its_draft, open_in}
+use Rattle.cfs_core.proofs.Ended.{block, of_its_draft}
+use Rattle.cfs_core.proofs.Views.{IsHeld, draft_view, open_in, has_it}
+use Rattle.special_files.specs.View.{DraftView}
 use Rattle.cfs_core.proofs.Few.{few_more}
 use Rattle.cfs_core.proofs.Damages.{told_of_draft}
 use Rattle.cfs_core.proofs.Went.{went_done}
@@ -34,7 +34,6 @@ use Rattle.cfs_core.proofs.Moved.{HasStepped, IsStepped, four_left, makes_steppe
 use Rattle.cfs_core.specs.Claimed.{ClaimsInOrder, TakesForRequest, claims_for, claims_in_draft, is_beside, owners_of, claims_in_file, claims_through, root_reached}
 use Rattle.cfs_core.proofs.Claimed.{takes_alone}
 use Rattle.std.specs.Prelude.{◌&&◌, is_none}
-use Rattle.ufs_model.specs.State.{file_seen}
 use Rattle.std.specs.Option.{option_map_or}
 use Rattle.special_files.proofs.Refusals.{damage_as}
 use Rattle.special_files.specs.Committing.{FarRoots, draft_top}
@@ -96,13 +95,6 @@ fresh_few (ns ∷ anew) fresh held up =
 
 -- ---- one draft for another
 
-pub without_replaced : (e : Opened) (ds : List Opened) → without_draft e.id (replaced e ds) ≡ without_draft e.id ds
-without_replaced e [] = refl
-without_replaced e (f ∷ ds) = elim (same_puid f.id e.id) as (λ b. same_puid f.id e.id ≡ b → without_draft e.id (cond b e f ∷ replaced e ds) ≡ cond (not b) (f ∷ without_draft e.id ds) (without_draft e.id ds)) [
-  | true ↦ λ same. rw (same_puid_itself e.id) (without_replaced e ds)
-  | false ↦ λ other. rw other (ap (λ es. f ∷ es) (without_replaced e ds))
-] refl
-
 pub bare_with : (who : ℕ) (t : Tuid) (d : Draft) (grants : List Grant) → map bare (with_draft who t d grants) ≡ map bare grants
 bare_with who t d [] = refl
 bare_with who t d (x ∷ grants) = elim (is_grant who t x) as (λ b. bare (cond b (record x { draft = Some d }) x) ∷ map bare (with_draft who t d grants) ≡ bare x ∷ map bare grants) [
@@ -161,7 +153,7 @@ file_alters s who t request change is to = record {
 -- ---- a grant with a draft, as the core has it
 
 module _ {D : Type 0} (g : Ghosts D) (k : Kernel D) (s : State) (serves : CoreServes g k s) (who : ℕ) (t : Tuid) (was : Drafting) (held : IsHeld g k s who t was) where
-  abbrev ds : List Opened
+  abbrev ds : Drafts
   ds = drafts_of_handles k.handles s.grants
 
   abbrev id : Puid
@@ -187,19 +179,11 @@ module _ {D : Type 0} (g : Ghosts D) (k : Kernel D) (s : State) (serves : CoreSe
     abbrev after : State
     after = record s { grants = with_draft who t d s.grants; collection = is.memory }
 
-    -- the reference has the draft
-    has_it : draft_of s who (Through t) ≡ Some before
-    has_it = ap (option_and_then (λ (x : Grant). x.draft)) held.found ∙ held.draft_was
+    abbrev view : DraftView g k.disk k.space was
+    view = draft_view g k s serves who t was held
 
-    pub knows : KnowsDraft g change s.graph ds k.disk k.space id was before
-    knows = record {
-      store = serves.store;
-      object = held.object;
-      there = held.there;
-      is_open = open_in g k s serves who t was held;
-      shadow = (ready_for k.directory.room was (ready_at k.directory.room t.draw k.handles ready was held.at)).shadow;
-      of_it = of_it;
-    }
+    abbrev knows : KnowsDraft g change k.disk k.space was
+    knows = record { view = view; shadow = (ready_for k.directory.room was (ready_at k.directory.room t.draw k.handles ready was held.at)).shadow; of_it = of_it }
 
     not_normal : is_normal before.object ≡ false
     not_normal = special who t k.handles s.grants held.handle held.x held.place serves.drafts was before held.drafting held.draft_was
@@ -209,8 +193,7 @@ module _ {D : Type 0} (g : Ghosts D) (k : Kernel D) (s : State) (serves : CoreSe
 
     beside_is : need_beside change before was ≡ need_of s who request
     beside_is =
-        let shadow = (ready_for k.directory.room was (ready_at k.directory.room t.draw k.handles ready was held.at)).shadow in
-        omega (arith, none_needed was shadow.0 shadow.1, need_is)
+        omega (arith, none_needed was knows.shadow.0 knows.shadow.1, need_is)
 
     legal : k.stop ≡ None → next k.words.seed s (events.Ask who request replies.Done) ≡ Some after
     legal none = subst (λ (p : Reply × State). next k.words.seed s (events.Ask who request p.0) ≡ Some p.1) (is.outcome k.words.seed 0 held.x before held.found held.draft_was)
@@ -220,9 +203,9 @@ module _ {D : Type 0} (g : Ghosts D) (k : Kernel D) (s : State) (serves : CoreSe
     takes disk order =
         let here : held.x.id ≡ id = sym (ap (λ e. e.id) held.place.here) in
         let claims : claims_for k.handles s who request replies.Done ≡ claims_in_draft change before was =
-        is.claims k.handles replies.Done before has_it ∙ ap (λ o. option_map_or (claims_in_draft change before) o []) held.at in
+        is.claims k.handles replies.Done before (has_it held) ∙ ap (λ o. option_map_or (claims_in_draft change before) o []) held.at in
         let owners : owners_of s who request replies.Done ≡ id.block ∷ [] = rw (is.makes, is.to, held.found) (ap (λ (x : Puid). x.block ∷ []) here) in
-        takes_alone k.handles s who request replies.Done (g.content k.disk) (g.content disk) (is.alone before has_it) (subst (λ (cs : List MapEntry). ClaimsInOrder cs (owners_of s who request replies.Done) (g.content k.disk) (g.content disk)) (sym claims)
+        takes_alone k.handles s who request replies.Done (g.content k.disk) (g.content disk) (is.alone before (has_it held)) (subst (λ (cs : List MapEntry). ClaimsInOrder cs (owners_of s who request replies.Done) (g.content k.disk) (g.content disk)) (sym claims)
         (subst (λ (ns : List ℕ). ClaimsInOrder (claims_in_draft change before was) ns (g.content k.disk) (g.content disk)) (sym owners) order))
 
     module _ (now : Drafting) (disk : D) (space : Kept) where
@@ -230,10 +213,10 @@ module _ {D : Type 0} (g : Ghosts D) (k : Kernel D) (s : State) (serves : CoreSe
       new = record k { disk = disk; space = space; handles = with_drafting t.draw (Some now) k.handles }
 
       abbrev it : Opened
-      it = opened_as id now d
+      it = opened_as now d
 
-      abbrev es : List Opened
-      es = replaced it ds
+      abbrev es : Drafts
+      es = with_opened id it ds
 
       abbrev T : Option MapEntry → Bool
       T entry = of_draft id.block entry
@@ -251,7 +234,7 @@ module _ {D : Type 0} (g : Ghosts D) (k : Kernel D) (s : State) (serves : CoreSe
         table = grants_with t.draw (Some now) k.handles ∙ serves.front.grants ∙ sym (bare_with who t d s.grants);
       }
 
-      module _ (becomes : DraftBecomes g s.graph ds id d k.disk disk space now) (left_same : space.left ≡ k.space.left) (shadow : now.shadow ≡ was.shadow) (created : now.created ≡ was.created) (room : need_beside change before was + 4 ≤ sum k.space.free) where
+      module _ (done : IsAltered view change disk space now) (left_same : space.left ≡ k.space.left) (shadow : now.shadow ≡ was.shadow) (created : now.created ≡ was.created) where
         -- nothing is left, so the content is what is to come
         nothing : space.left ≡ None
         nothing = left_same ∙ serves.left
@@ -260,10 +243,10 @@ module _ {D : Type 0} (g : Ghosts D) (k : Kernel D) (s : State) (serves : CoreSe
         end_is = ap (coming (g.content disk)) nothing
 
         has : HasStepped g None k new s s.graph T es
-        has = record { store = subst (StoreWith g s.graph es disk space) (sym nothing) becomes.steps.store; only = subst (ChangesOnly T (g.content k.disk)) (sym end_is) becomes.steps.only; these = of_its_draft s.graph id (block g k s serves who t was held) }
+        has = record { store = subst (StoreWith g s.graph es disk space) (sym nothing) done.becomes.steps.store; only = subst (ChangesOnly T (g.content k.disk)) (sym end_is) done.becomes.steps.only; these = of_its_draft s.graph id (block g k s serves who t was held) }
 
         rising : list_all numbers_rise d.fresh ≡ true
-        rising = all_rise d.fresh (λ n. ap numbers_rise (becomes.is_open.fresh n) ∙ level n)
+        rising = all_rise d.fresh (λ n. ap numbers_rise (done.becomes.is_open.fresh n) ∙ level n)
           where
             level : (n : ℕ) → numbers_rise (get_or (fresh_of now) n []) ≡ true
             level zero = set_rises now.leaves
@@ -273,9 +256,8 @@ module _ {D : Type 0} (g : Ghosts D) (k : Kernel D) (s : State) (serves : CoreSe
         few : blocks_taken s.graph es ≤ blocks_taken s.graph ds + need_of s who request
         few = omega (
           arith,
-          alone_take id it es becomes.is_open.alone,
-          alone_take id (opened_as id was before) ds (open_in g k s serves who t was held).alone,
-          ap (sum_by draft_blocks) (without_replaced it ds),
+          taken_with s.graph ds id held.object (Some it) serves.store.ordered held.there,
+          ap draft_blocks_if (open_in g k s serves who t was held).alone,
           fresh_few (written_anew change before.object before.fresh) before.fresh (held_levels (changed_object change before.object)) rising,
           ap (λ (n : Option ℕ). length (option_to_list n)) shadow,
           ap (λ (n : Option ℕ). length (option_to_list n)) created,
@@ -283,25 +265,24 @@ module _ {D : Type 0} (g : Ghosts D) (k : Kernel D) (s : State) (serves : CoreSe
         )
 
         four : 4 ≤ free_to_come g new
-        four = four_left g k new s after s.graph serves T es has (need_of s who request) few (omega (arith, room, beside_is))
+        four = four_left g k new s after s.graph serves T es has (need_of s who request) few (omega (arith, done.room, beside_is))
 
-        pub altered : ((c : D) (n : ℕ) (i : Image) → g.left_since c n i → length i ≡ g.blocks c) → length (g.content k.disk) ≡ g.blocks disk → k.stop ≡ None → Leaves g k.disk disk (λ c. Holds c s.graph)
-            → ClaimsInOrder (claims_in_draft change before was) (id.block ∷ []) (g.content k.disk) (g.content disk) → Answers g None k new s who request replies.Done
-        altered left_sized wide none leaves order = record {
+        pub altered : ((c : D) (n : ℕ) (i : Image) → g.left_since c n i → length i ≡ g.blocks c) → length (g.content k.disk) ≡ g.blocks disk → k.stop ≡ None → Leaves g k.disk disk (λ c. Holds c s.graph) → Answers g None k new s who request replies.Done
+        altered left_sized wide none leaves = record {
           event = makes_stepped g k new s after s.graph serves T es has stepped (next_keeps k.words.seed s after (events.Ask who request replies.Done) serves.state is.speaks (legal none))
-              (changed_drafts who t k.handles s.grants held.handle held.x held.place serves.drafts was before held.drafting held.draft_was now d)
-              (changed_have who t k.handles s.grants held.handle held.x held.place serves.drafts was before held.drafting held.draft_was now d
-              (record { is_open = becomes.is_open; writes = written_in g k s serves who t was held; special = still_special change before.object not_normal })) four
+              (changed_drafts who t k.handles s.grants held.handle held.x held.place serves.drafts was before held.drafting held.draft_was serves.state.alone now d)
+              (changed_have who t k.handles s.grants held.handle held.x held.place serves.drafts was before held.drafting held.draft_was serves.state.alone now d
+              (record { is_open = done.becomes.is_open; writes = written_in g k s serves who t was held; special = still_special change before.object not_normal })) four
               left_sized wide (events.Ask who request replies.Done) (legal none) refl leaves;
           still = λ all. let no : true ≡ false = sym all in cc;
           full = λ full. let no : false ≡ true = full in cc;
-          taken = λ done. subst (TakesForRequest k.handles s who request replies.Done (g.content k.disk)) (sym end_is) (takes disk order);
-          noted = λ done some. let no : true ≡ false = sym some ∙ is.commits_is before has_it in cc;
+          taken = λ _. subst (TakesForRequest k.handles s who request replies.Done (g.content k.disk)) (sym end_is) (takes disk done.order);
+          noted = λ done some. let no : true ≡ false = sym some ∙ is.commits_is before (has_it held) in cc;
           owed = owes k.words.seed s who request (g.content k.disk) (sum k.space.free) replies.Done tt (ByOutcome goes (record {
             block = 0;
             least = λ made. let no : true ≡ false = sym made ∙ is.makes in cc;
             reply_is = sym (ap (λ (p : Reply × State). p.0) (is.outcome k.words.seed 0 held.x before held.found held.draft_was));
-            room = λ short. omega (arith, short.few, room, beside_is);
+            room = λ short. omega (arith, short.few, done.room, beside_is);
           }));
         }
 
@@ -310,8 +291,8 @@ module _ {D : Type 0} (g : Ghosts D) (k : Kernel D) (s : State) (serves : CoreSe
 
       module _ (left_sized : (c : D) (n : ℕ) (i : Image) → g.left_since c n i → length i ≡ g.blocks c) (sized : (c : D) → IsTrue (g.honest c) → length (g.content c) ≡ g.blocks c) (none : k.stop ≡ None)
           (result : Result (Unit {0}) Refused) (changes : ChangesDraft g change k.disk disk k.space space was now result) where
-        alters : AltersDraft g change s.graph ds id before k.disk disk k.space space was now result
-        alters = changes.alters s.graph ds id before knows
+        alters : AltersDraft view change disk space now result
+        alters = changes.alters knows
 
         wide : length (g.content k.disk) ≡ g.blocks disk
         wide = sized k.disk serves.store.carries.tells.honest ∙ sym changes.calls.same.size
@@ -339,19 +320,18 @@ module _ {D : Type 0} (g : Ghosts D) (k : Kernel D) (s : State) (serves : CoreSe
           drawn = refl;
           named = refl;
           grants = grants_with t.draw (Some now) k.handles;
-          leaves = wider g k.disk disk _ _ alters.leaves (λ c holds. record { graph = s.graph; may = Undone; fits = fits g k s serves (g.blocks disk) wide; holds = holds });
+          leaves = wider g k.disk disk _ _ alters.goes.leaves (λ c holds. record { graph = s.graph; may = Undone; fits = fits g k s serves (g.blocks disk) wide; holds = holds });
         }
 
         did : (r : Result (Unit {0}) Refused) → r ≡ result → EndsSo g None k new s who request (done_or r)
-        did (Ok u) same =
-            altered (rw (← same) at alters.done) changes.left changes.shadow changes.created (rw (← same) at alters.room) left_sized wide none alters.leaves (rw (← same) at alters.order)
+        did (Ok u) same = altered (rw (← same) at alters.goes.done) changes.left changes.stays.shadow changes.stays.created left_sized wide none alters.goes.leaves
         did (Err (refusals.Full n)) same =
             let told = (rw (← same) at alters.full) refl in
             let spared = (rw (← same) at changes.spared) refl in
             full n told.0 told.1 spared.0 spared.1 spared.2
         did (Err (refusals.Disk false)) same = (let two = (rw (← same) at changes.untried) refl in disk_failed g left_sized sized 31092 k new two.0 (as_it_was two.1 two.2) s who serves none request)
         did (Err (refusals.Disk true)) same = doubtful
-        did (Err (refusals.Damaged damage)) same = let no : true ≡ false = rw (← same) at alters.sound in cc
+        did (Err (refusals.Damaged damage)) same = let no : true ≡ false = rw (← same) at alters.goes.sound in cc
         did (Err refusals.Memory) same = absurd (rw (← same) at changes.refused)
 
         pub ends_so : EndsSo g None k new s who request (done_or result)
@@ -365,22 +345,9 @@ module _ {D : Type 0} (g : Ghosts D) (left_sized : (d : D) (t : ℕ) (c : Image)
   altered_through = record {
     ends = λ s serves none so.
         let held = the s serves in
-        ends_so g k s serves who t was held ready change request so.alters (so.of_it held.before (ap (option_and_then (λ (x : Grant). x.draft)) held.found ∙ held.draft_was)) so.goes now disk space left_sized sized none result changes;
+        ends_so g k s serves who t was held ready change request so.alters (so.of_it held.before (has_it held)) so.goes now disk space left_sized sized none result changes;
     went = went_done g k disk space (with_drafting t.draw (Some now) k.handles) changes.calls.same.size changes.calls.faults changes.calls.later request result (λ tried is. rw is at changes.refused)
         (λ damage met. told_of_draft g k (record k { disk = disk; space = space; handles = with_drafting t.draw (Some now) k.handles }) (Some request) was.at (inr (inl (t.draw, was, drafting, refl))) damage changes.calls.same.size t.draw was drafting refl
         (damage_as g (top_of was) (draft_top was) refl k.disk disk space (λ far. FarRoots (inr far)) damage (rw met at changes.refused)))
         (λ need want. let why = rw want at changes.refused in let kept = ((rw want at changes.spared) refl).1 in (delete, why.0 ∙ ap (λ (x : Kept). sum x.free) kept, why.1));
-  }
-
-  pub tries_altered : ((s : State) → CoreServes g k s → IsAltering s who t request change) → ((s : State) (serves : CoreServes g k s) → IsChangeOf change (the s serves).before.object) → ((s : State) → CoreServes g k s → refusal_of s who request ≡ None)
-      → TriesWith g None k (record k { disk = disk; space = space; handles = with_drafting t.draw (Some now) k.handles }) who request (done_or result)
-  tries_altered is of_it goes = record {
-    ends = λ s serves none.
-        let held = the s serves in
-        altered_through.ends s serves none (record {
-          alters = is s serves;
-          of_it = λ d has. subst (λ (e : Draft). IsChangeOf change e.object) (same_Some held.before d (sym (ap (option_and_then (λ (x : Grant). x.draft)) held.found ∙ held.draft_was) ∙ has)) (of_it s serves);
-          goes = goes s serves;
-        });
-    went = altered_through.went;
   }

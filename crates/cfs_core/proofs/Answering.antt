@@ -1,11 +1,10 @@
 -- How a call ends that only reads: a refusal, what was asked for, or the failure of a device call.
 use Rattle.std.proofs.Common.{◌≡◌, inl, inr, ℕ, [], length, Bool, true, false, Option, Some, None, Result, Ok, Err, IsTrue, refl, sym, ◌∙◌, ap, subst, arith, IfErr, IfOk, List}
-use Rattle.cfs_core.proofs.Words.{AFile, AnIndex, answer_legal, creates, drafts_of, Either, Event, Ghosts, Image, Index, has_met_damage, IsPlainReply, Kind, need_of, next, Object, object_at, OnlyReads, outcome_legal, outcome_plain, Puid, refusal_of, Refused, refused_answer, refused_plain, Reply, Request, State, Wanted, MapEntry}
+use Rattle.cfs_core.proofs.Words.{AFile, AnIndex, answer_legal, creates, Either, Event, Ghosts, Image, has_met_damage, IsPlainReply, Kind, need_of, next, Object, OnlyReads, outcome_legal, outcome_plain, Puid, refusal_of, Refused, refused_answer, refused_plain, Reply, Request, State, Wanted, MapEntry, HasStopped}
 use Rattle.cfs_base.specs.declared.kind.Kind.TheVariants as kinds
 use Rattle.cfs_base.specs.declared.refusal.Refused.TheVariants as refusals
 use Rattle.ufs_model.specs.declared.asked.Event.TheVariants as events
 use Rattle.ufs_model.specs.declared.asked.Reply.TheVariants as replies
-use Rattle.ufs_model.specs.declared.object.Object.TheVariants as objects
 use Rattle.std.specs.Prelude.{if◌then◌else◌, not, ◌&&◌, ◌==◌}
 use Rattle.cyl_alloc.specs.Left.{LeftCommit, block_shown}
 use Rattle.intentions.specs.Left.{coming}
@@ -13,12 +12,14 @@ use Rattle.puid_space.specs.Directory.{has_root_in}
 use Rattle.cfs_core.specs.Calls.{Answers, ByOutcome, ByRefusal, EndsSo, IsCause, IsFinished, IsOwed, MakesEvent, Owes, Tries, TriesWith, Went, is_full_reply}
 use Rattle.cfs_core.specs.Commits.{commits}
 use Rattle.cfs_core.specs.Kernel.{Kernel}
-use Rattle.cfs_core.specs.Looks.{IsCalm, IsCalmCause, KnowsObject, ReachesAll}
-use Rattle.cfs_core.specs.StandsFor.{ServesIs, ServesWith, drafts_of_handles, end_in, free_with}
+use Rattle.cfs_core.specs.Looks.{IsCalm, IsCalmCause, KnowsObject, ReachesAll, IsReadCause}
+use Rattle.cfs_base.specs.declared.refusal.Damage.{Damage}
+use Rattle.cfs_core.specs.StandsFor.{ServesIs, ServesWith, end_in, free_with}
 use Rattle.cfs_core.specs.Ways.{Reaches, unfit_of}
 use Rattle.cfs_core.proofs.Refusing.{IsSeen}
-use Rattle.cfs_core.specs.Damage.{IsRootHere}
+use Rattle.cfs_core.specs.Damage.{IsDamageTold, IsRootHere}
 use Rattle.cfs_core.proofs.Damages.{told_of_read}
+use Rattle.cfs_core.proofs.Views.{knows_that}
 use Rattle.cfs_core.proofs.Went.{went_so}
 use Rattle.cfs_core.proofs.Serving.{end_same, honest, running, stays}
 use Rattle.cfs_core.specs.Claimed.{ClaimsInOrder, claims_for, owners_of}
@@ -48,6 +49,13 @@ reads_none g n d = record {
 pub plain_unfull : (reply : Reply) → IsPlainReply reply → is_full_reply reply ≡ false
 plain_unfull (replies.Full need) plain = absurd plain
 plain_unfull reply plain = refl
+
+-- why a read failed
+pub failing_cause : {D : Type 0} (g : Ghosts D) (old new : Kernel D) (So : Damage → Type 0) (e : Refused) → IsReadCause g So old.disk new.disk e → (request : Request) → ((damage : Damage) → So damage → IsDamageTold g old new (Some request) damage) → IsCause g old new (Some request) e
+failing_cause g old new So (refusals.Full need) cause request told = absurd cause
+failing_cause g old new So (refusals.Disk tried) cause request told = subst (λ (b : Bool). HasStopped g b old.disk new.disk) (sym cause.0) cause.1
+failing_cause g old new So (refusals.Damaged damage) cause request told = told damage cause
+failing_cause g old new So refusals.Memory cause request told = tt
 
 module _ {D : Type 0} {w : Option LeftCommit} (g : Ghosts D) (left_sized : (d : D) (t : ℕ) (c : Image) → g.left_since d t c → length c ≡ g.blocks d) (sized : (d : D) → IsTrue (g.honest d) → length (g.content d) ≡ g.blocks d)
     (n : ℕ) (old new : Kernel D) (reads : OnlyReads g n old.disk new.disk) (same : new ≡ record old { disk = new.disk }) where
@@ -108,6 +116,13 @@ module _ {D : Type 0} {w : Option LeftCommit} (g : Ghosts D) (left_sized : (d : 
       noted = λ done. let no : false ≡ true = done in cc;
     }
 
+    -- a read that failed, and met no damage
+    pub failing : (So : Damage → Type 0) (e : Refused) → IsReadCause g So old.disk new.disk e → has_met_damage e ≡ false → (request : Request) → EndsSo g w old new s who request (Err e)
+    failing So (refusals.Full need) cause sound request = absurd cause
+    failing So (refusals.Disk tried) cause sound request = subst (λ (b : Bool). EndsSo g w old new s who request (Err (refusals.Disk b))) (sym cause.0) (disk_failed request)
+    failing So (refusals.Damaged damage) cause sound request = let no : true ≡ false = sound in cc
+    failing So refusals.Memory cause sound request = memory request
+
     -- nothing was written, so where nothing was left it is as after a finishing
     pub full_still : w ≡ None → IsFinished g w old new
     full_still nothing = record {
@@ -129,22 +144,9 @@ module _ {D : Type 0} {w : Option LeftCommit} (g : Ghosts D) (left_sized : (d : 
   pub tries_want : (who : ℕ) (request : Request) (e : Refused) → e ≡ refusals.Memory → TriesWith g w old new who request (Err e)
   tries_want who request e is = subst (λ (x : Refused). TriesWith g w old new who request (Err x)) (sym is) (tries_so who request (Err refusals.Memory) (λ s serves none. memory s who serves none request) tt tt)
 
-  -- a read that failed, where such an object is
-  failed : {A : Type 0} (sort : A → Object) (at : ℕ) (e : Refused) → ((a : A) → KnowsObject g old.disk at (sort a) → has_met_damage e ≡ false) → IsCalmCause g at old.disk new.disk e → (who : ℕ) (request : Request) → IsRootHere old (Some request) at
-      → ((s : State) → ServesWith g old s w → (a : A) × KnowsObject g old.disk at (sort a)) → TriesWith g w old new who request (Err e)
-  failed sort at (refusals.Full need) sound cause who request here knows = absurd cause
-  failed sort at (refusals.Disk tried) sound cause who request here knows = subst (λ (b : Bool). TriesWith g w old new who request (Err (refusals.Disk b))) (sym cause.0)
-      (tries_so who request (Err (refusals.Disk false)) (λ s serves none. disk_failed s who serves none request) tt cause.1)
-  failed sort at (refusals.Damaged damage) sound cause who request here knows = tries_so who request (Err (refusals.Damaged damage))
-      (λ s serves none. let k = knows s serves in let no = sound k.0 k.1 in cc) tt (told_of_read g old new request at damage here cause)
-  failed sort at refusals.Memory sound cause who request here knows = tries_so who request (Err refusals.Memory) (λ s serves none. memory s who serves none request) tt tt
-
--- the store has the object that is reached, which is shown at this block, and of which there is no draft
-pub knows_that : {D : Type 0} (g : Ghosts D) (k : Kernel D) (s : State) → ServesIs g k s → (id : Puid) (o : Object) (at : ℕ) → at ≡ block_shown k.space.left id.block → object_at s.graph id ≡ Some o → drafts_of (drafts_of_handles k.handles s.grants) id ≡ [] → KnowsObject g k.disk at o
-knows_that g k s serves id o at shown there shut = record { graph = s.graph; drafts = drafts_of_handles k.handles s.grants; space = k.space; id = id; seen = record { store = serves.store; there = there; shown = shown }; shut = shut }
-
-pub known : {D : Type 0} (g : Ghosts D) (k : Kernel D) (s : State) → ServesIs g k s → (index : Puid) (i : Index) (at : ℕ) → at ≡ block_shown k.space.left index.block → object_at s.graph index ≡ Some (objects.Index i) → drafts_of (drafts_of_handles k.handles s.grants) index ≡ [] → KnowsObject g k.disk at (objects.Index i)
-known g k s serves index i at shown there shut = knows_that g k s serves index (objects.Index i) at shown there shut
+  -- a read that failed
+  pub tries_failing : (So : Damage → Type 0) (e : Refused) → IsReadCause g So old.disk new.disk e → (who : ℕ) (request : Request) → ((s : State) → ServesWith g old s w → has_met_damage e ≡ false) → ((damage : Damage) → So damage → IsDamageTold g old new (Some request) damage) → TriesWith g w old new who request (Err e)
+  tries_failing So e cause who request sound told = tries_so who request (Err e) (λ s serves none. failing s who serves none So e cause (sound s serves) request) tt (failing_cause g old new So e cause request told)
 
 -- the block at which an object is shown that has a name
 pub shown_here : {D : Type 0} (k : Kernel D) (request : Request) (root at : ℕ) → at ≡ block_shown k.space.left root → has_root_in k.directory.named root ≡ true → IsRootHere k (Some request) at
@@ -183,11 +185,12 @@ module _ {D A : Type 0} (g : Ghosts D) (left_sized : (d : D) (t : ℕ) (c : Imag
   IsReplied says = (s : State) (a : A) → ServesIs g k s → Reaches s who request id (sort a) → (need_of s who request ≡ 0) × IsSeen k.words.seed s who request (says a)
 
   abbrev knows : (s : State) → ServesIs g k s → (a : A) × KnowsObject g k.disk at (sort a)
-  knows s serves = let r = reaches.0 s serves in (r.0, knows_that g k s serves id (sort r.0) at shown r.1.there r.2)
+  knows s serves = let r = reaches.0 s serves in (r.0, knows_that g k s serves id (sort r.0) at shown r.1.there)
 
   -- the disk couldn't be read
   pub tries_failed : (e : Refused) → OnlyReads g n k.disk d → ((a : A) → KnowsObject g k.disk at (sort a) → has_met_damage e ≡ false) → IsCalmCause g at k.disk d e → Tries g k (record k { disk = d }) who request (Err e)
-  tries_failed e reads sound cause = failed g left_sized sized n k (record k { disk = d }) reads refl sort at e sound cause who request (shown_here k request id.block at shown reaches.1) knows
+  tries_failed e reads sound cause = tries_failing g left_sized sized n k (record k { disk = d }) reads refl _ e cause who request (λ s serves. sound (knows s serves).0 (knows s serves).1)
+      (λ damage why. told_of_read g k (record k { disk = d }) request at damage (shown_here k request id.block at shown reaches.1) why)
 
   pub tries_seen : (says : A → Reply) (result : Result Reply Refused) → creates request ≡ false → ((s : State) → commits s who request ≡ false) → ((s : State) (reply : Reply) → claims_for k.handles s who request reply ≡ []) → IsReplied says → IfOk result IsPlainReply
       → ((a : A) → KnowsObject g k.disk at (sort a) → IfOk result (λ reply. reply ≡ says a)) → IsCalm g sort n at k.disk d result → Tries g k (record k { disk = d }) who request result

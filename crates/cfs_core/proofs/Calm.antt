@@ -12,6 +12,7 @@ use Rattle.cfs_core.specs.Looks.{IsCalm, IsCalmCause, KnowsObject}
 use Rattle.cfs_base.proofs.Calls.{tells_on}
 use Rattle.intentions.proofs.Shown.{shown_reads, shown_tells}
 use Rattle.cfs_core.proofs.Answering.{reads_none}
+use Rattle.cfs_core.proofs.Rewritten.{sound_told}
 use Rattle.cfs_core.proofs.Damages.{outside_as, outside_file, outside_slot}
 use Rattle.index_ops.specs.Causes.{IsSlotTrouble, NoRoot}
 use Rattle.ufs_model.specs.declared.object.Object.TheVariants as objects
@@ -19,18 +20,11 @@ use Rattle.leaf_changes.specs.Tops.{Top, disk_top, still_top}
 
 -- the store still has the object
 pub knows_on : {D : Type 0} (g : Ghosts D) (n : ℕ) (old new : D) (at : ℕ) (o : Object) → OnlyReads g n old new → KnowsObject g old at o → KnowsObject g new at o
-knows_on g n old new at o reads knows = record {
-  graph = knows.graph;
-  drafts = knows.drafts;
-  space = knows.space;
-  id = knows.id;
-  seen = shown_reads knows.seen new n reads;
-  shut = knows.shut;
-}
+knows_on g n old new at o reads knows = (let v = knows.view in record { view = record { graph = v.graph; ds = v.ds; space = v.space; id = v.id; object = v.object; shown = shown_reads v.shown new n reads }; is = knows.is })
 
 -- and the block the root that was read of it
 pub rooted : {D : Type 0} (g : Ghosts D) {n at : ℕ} {old mid : D} {root : Root} → OnlyReads g n old mid → (o : Object) → KnowsObject g old at o → (Tells g old → IsRootAt (g.content old) at root) → IsRootAt (g.content mid) at root
-rooted g {at = at} {root = root} reads o knows is = subst (λ (a : Image). IsRootAt a at root) (sym reads.content) (is (shown_tells knows.seen))
+rooted g {at = at} {root = root} reads o knows is = subst (λ (a : Image). IsRootAt a at root) (sym reads.content) (is (shown_tells knows.view.shown))
 
 -- a read that was refused, after others
 pub calm_after : {D A B : Type 0} (g : Ghosts D) (sort : A → Object) (n m k at : ℕ) (old mid new : D) (e : Refused) → OnlyReads g n old mid → OnlyReads g m mid new → n + m ≤ k
@@ -52,29 +46,25 @@ pub read_refusal : {D : Type 0} (g : Ghosts D) (at : Top) (old new : D) (t : Tro
 read_refusal g at old new (trouble.Disk tried) is = is
 read_refusal g at old new (trouble.Damaged damage) is = is
 
--- no trouble is told as a want of memory
+-- what is told of a trouble, which is never a want of memory
 pub told_never : (t : Trouble) (e : Refused) → e ≡ refused_by t → e ≢ refusals.Memory
 told_never (trouble.Disk tried) e is = λ same. let no : refusals.Memory ≡ refusals.Disk tried = sym same ∙ is in cc
 told_never (trouble.Damaged damage) e is = λ same. let no : refusals.Memory ≡ refusals.Damaged damage = sym same ∙ is in cc
 
 -- a call on a file that was refused by the first that it makes
-pub calm_trouble : {D A B : Type 0} (g : Ghosts D) (sort : A → Object) (n at : ℕ) (old new : D) (t : Trouble) → OnlyReads g n old new → ((a : A) → KnowsObject g old at (sort a) → is_damage t ≡ false) → trouble_had_tried t ≡ false → IsTrouble g (still_top at) old new t
-    → IsCalm {B = B} g sort n at old new (Err (refused_by t))
-calm_trouble g sort n at old new t reads sound untried why =
-    calm_after g sort 0 n n at old old new (refused_by t) (reads_none g 0 old) reads (omega arith) (λ a knows. sound_told t (sound a knows)) (untried_told t untried) (still_top at) refl (λ size far. absurd far) (read_refusal g (still_top at) old new t why)
+pub calm_trouble : {D A B : Type 0} (g : Ghosts D) (sort : A → Object) (n at : ℕ) (old new : D) (t : Trouble) (e : Refused) → e ≡ refused_by t → OnlyReads g n old new → ((a : A) → KnowsObject g old at (sort a) → is_damage t ≡ false) → trouble_had_tried t ≡ false
+    → IsTrouble g (still_top at) old new t → IsCalm {B = B} g sort n at old new (Err e)
+calm_trouble g sort n at old new t e is reads sound untried why = rw is
+    (calm_after g sort 0 n n at old old new (refused_by t) (reads_none g 0 old) reads (omega arith) (λ a knows. sound_told t (refused_by t) refl (sound a knows)) (untried_told t untried) (still_top at) refl (λ size far. absurd far) (read_refusal g (still_top at) old new t why))
   where
-    sound_told : (x : Trouble) → is_damage x ≡ false → has_met_damage (refused_by x) ≡ false
-    sound_told (trouble.Disk tried) is = refl
-    sound_told (trouble.Damaged damage) is = is
-
     untried_told : (x : Trouble) → trouble_had_tried x ≡ false → had_tried (refused_by x) ≡ false
     untried_told (trouble.Disk tried) is = is
     untried_told (trouble.Damaged damage) is = refl
 
 -- a slot that couldn't be read, after the number of them was
-pub calm_slot : {D B : Type 0} (g : Ghosts D) (slot at : ℕ) (old mid new : D) (t : Trouble) → OnlyReads g 1 old mid → OnlyReads g 3 mid new → ((i : Index) → KnowsObject g old at (objects.Index i) → has_met_damage (refused_by t) ≡ false) → IsSlotTrouble g at slot mid new t
-    → IsCalm {B = B} g objects.Index 4 at old new (Err (refused_by t))
-calm_slot g slot at old mid new t first reads sound is = record { reads = reads_then g old mid new 1 3 4 first reads (omega arith); sound = sound; cause = cause t is }
+pub calm_slot : {D B : Type 0} (g : Ghosts D) (slot at : ℕ) (old mid new : D) (t : Trouble) (e : Refused) → e ≡ refused_by t → OnlyReads g 1 old mid → OnlyReads g 3 mid new → ((i : Index) → KnowsObject g old at (objects.Index i) → is_damage t ≡ false) → IsSlotTrouble g at slot mid new t
+    → IsCalm {B = B} g objects.Index 4 at old new (Err e)
+calm_slot g slot at old mid new t e same first reads sound is = record { reads = reads_then g old mid new 1 3 4 first reads (omega arith); sound = λ i knows. sound_told t e same (sound i knows); cause = rw same (cause t is) }
   where
     cause : (u : Trouble) → IsSlotTrouble g at slot mid new u → IsCalmCause g at old new (refused_by u)
     cause (trouble.Disk tried) is = (is.0, stopped_after_reads g old mid new 1 false first (record { failed = is.1; tries = λ e. cc; no_try = λ e. reads.tries; untouched = λ e. reads.content }))
@@ -87,9 +77,9 @@ pub range_parts : (size offset count : ℕ) → is_range size offset count ≡ t
 range_parts size offset count is = (grind (arith, nat_tests), grind (arith, nat_tests), grind (arith, nat_tests))
 
 -- the root of an index that couldn't be read
-pub calm_root : {D B : Type 0} (g : Ghosts D) (k at : ℕ) (old new : D) (t : Trouble) → OnlyReads g 1 old new → 1 ≤ k → ((i : Index) → KnowsObject g old at (objects.Index i) → has_met_damage (refused_by t) ≡ false) → IsRootTrouble g at old new t
-    → IsCalm {B = B} g objects.Index k at old new (Err (refused_by t))
-calm_root g k at old new t reads few sound is = record { reads = reads_then g old old new 0 1 k (reads_none g 0 old) reads few; sound = sound; cause = cause t is }
+pub calm_root : {D B : Type 0} (g : Ghosts D) (k at : ℕ) (old new : D) (t : Trouble) (e : Refused) → e ≡ refused_by t → OnlyReads g 1 old new → 1 ≤ k → ((i : Index) → KnowsObject g old at (objects.Index i) → is_damage t ≡ false) → IsRootTrouble g at old new t
+    → IsCalm {B = B} g objects.Index k at old new (Err e)
+calm_root g k at old new t e same reads few sound is = record { reads = reads_then g old old new 0 1 k (reads_none g 0 old) reads few; sound = λ i knows. sound_told t e same (sound i knows); cause = rw same (cause t is) }
   where
     cause : (u : Trouble) → IsRootTrouble g at old new u → IsCalmCause g at old new (refused_by u)
     cause (trouble.Disk tried) is = (is.0, subst (λ (b : Bool). HasStopped g b old new) is.0 is.1)

@@ -1,7 +1,6 @@
 -- How a call ends that changes one object.
 use Rattle.std.proofs.Common.{◌≡◌, ℕ, ◌+◌, ◌≤◌, [], ◌∷◌, length, true, false, Option, Some, None, IsTrue, IsSome, refl, sym, ◌∙◌, ap, subst, arith, map, option_map, sum}
-use Rattle.cfs_core.proofs.Words.{and_parts, block_there, blocks_of, ChangesOnly, creates, Ghosts, Graph, has_block, has_block-still, has_number, Image, insert_entry-same, is_placed, is_taken, IsOfThese, IsSpeakable, keys_of-kinds_in, directory_kind-kinds_in, object_kind, kinds_in-insert_entry, kinds_of, MapEntry, Object, object_at, object_at-with_object, of_owner, outcome_of, owner_of, Puid, refusal_of}
-use Rattle.cfs_core.proofs.Words.{Request, rises, same_puid_itself, State, with_object}
+use Rattle.cfs_core.proofs.Words.{and_parts, block_there, blocks_of, ChangesOnly, creates, Ghosts, Graph, has_block, has_block-still, has_number, Image, insert_entry-same, is_placed, is_taken, IsOfThese, IsSpeakable, keys_of-kinds_in, directory_kind-kinds_in, object_kind, kinds_in-insert_entry, kinds_of, MapEntry, Object, object_at, object_at-with_object, of_owner, outcome_of, owner_of, Puid, refusal_of, taken_put, Request, rises, same_puid_itself, State, with_object}
 use Rattle.ufs_model.specs.declared.asked.Event.TheVariants as events
 use Rattle.ufs_model.specs.declared.asked.Reply.TheVariants as replies
 use Rattle.cfs_core.specs.Calls.{Answers, IsInDoubt, IsShortOfBlocks}
@@ -76,4 +75,4 @@ module _ {D : Type 0} (g : Ghosts D) (left_sized : (d : D) (t : ℕ) (c : Image)
   pub object_did : StoreIs g h (drafts_of_handles old.handles s.grants) new.disk new.space → ChangesOnly (λ entry. of_owner id.block entry) (g.content old.disk) (end_in g new) → TakesForRequest old.handles s who request replies.Done (g.content old.disk) (end_in g new)
       → (commits s who request ≡ true → IsSome new.space.left) → Answers g None old new s who request replies.Done
   object_did store only takes noted = did g left_sized sized old new size none s after who 0 request replies.Done serves h n outcome leaves stepped (ap (λ (k : Kernel D). k.handles) same) puts.grants (id.block ∷ [])
-      (record { store = store; only = only; these = of_this s.graph id o }) tt refl short no_create takes noted
+      (record { store = store; only = only; these = of_this s.graph id o }) (taken_put s.graph (drafts_of_handles old.handles s.grants) id was o serves.store.ordered found) tt refl short no_create takes noted

@@ -1,7 +1,6 @@
 -- How a call ends that makes an outcome of the definitions durable by one commit.
 use Rattle.std.proofs.Common.{◌≡◌, ◌⊎◌, inl, inr, ℕ, ◌+◌, ◌≤◌, List, length, Bool, true, false, Option, Some, None, IsTrue, IsSome, sym, ◌∙◌, ap, subst, arith, sum}
-use Rattle.cfs_core.proofs.Words.{After, Before, call, ChangesInPlace, closed_graph, creates, Cut, Early, Event, File, FitsDisk, Ghosts, Grant, Graph, graph_blocks, Holds, HoldsSome, Image, is_free_root, IsBetween, IsClosedGraph, IsLeastFree, IsPlainReply, IsSpeakable, IsState, Late, Leaves, MapEntry, next, next_keeps, of_owners, Opened, outcome_legal, outcome_of, Puid, refusal_of, Reply}
-use Rattle.cfs_core.proofs.Words.{Request, State, wider, with_object}
+use Rattle.cfs_core.proofs.Words.{After, Before, call, ChangesInPlace, closed_graph, creates, Cut, Early, Event, File, FitsDisk, Ghosts, Grant, Graph, graph_blocks, Holds, HoldsSome, Image, is_free_root, IsBetween, IsClosedGraph, IsLeastFree, IsPlainReply, IsSpeakable, IsState, Late, Leaves, MapEntry, next, next_keeps, of_owners, outcome_legal, outcome_of, Puid, refusal_of, Reply, Drafts, blocks_taken, Request, State, wider, with_object}
 use Rattle.ufs_model.specs.declared.asked.Event.TheVariants as events
 use Rattle.ufs_model.specs.declared.asked.Reply.TheVariants as replies
 use Rattle.ufs_model.specs.declared.object.Object.TheVariants as objects
@@ -81,7 +80,7 @@ module _ {D : Type 0} (g : Ghosts D) (left_sized : (d : D) (t : ℕ) (c : Image)
   pub in_doubt : new ≡ record old { disk = new.disk; space = new.space } → IsInDoubt g old new s who request
   in_doubt same = doubtful (ap (λ (k : Kernel D). k.words.drawn) same) (ap (λ (k : Kernel D). k.directory) same) (ap (λ (k : Kernel D). grants_in k.handles) same)
 
-  module _ (stepped : IsStepped old new s after h) (T : Option MapEntry → Bool) (es : List Opened) (has : HasStepped g None old new s h T es) (drafts_are : drafts_of_handles new.handles after.grants ≡ es) (have : AreDraftsOf es new.handles after.grants) (four : 4 ≤ free_to_come g new) where
+  module _ (stepped : IsStepped old new s after h) (T : Option MapEntry → Bool) (es : Drafts) (has : HasStepped g None old new s h T es) (drafts_are : drafts_of_handles new.handles after.grants ≡ es) (have : AreDraftsOf es new.handles after.grants) (four : 4 ≤ free_to_come g new) where
     pub did_with : IsPlainReply reply → leaves_all reply ≡ false → (¬ IsShortOfBlocks s who request (sum old.space.free)) → (creates request ≡ true → IsLeastFree (g.content old.disk) b) → TakesForRequest old.handles s who request reply (g.content old.disk) (end_in g new) → (commits s who request ≡ true → IsSome new.space.left) → Answers g None old new s who request reply
     did_with plain changes short least takes noted = record {
       event = record {
@@ -118,8 +117,9 @@ module _ {D : Type 0} (g : Ghosts D) (left_sized : (d : D) (t : ℕ) (c : Image)
           holds = cut.holds;
         }
 
-  module _ (stepped : IsStepped old new s after h) (handles : new.handles ≡ old.handles) (grants : after.grants ≡ s.grants) (rs : List ℕ) (has : HasStepped g None old new s h (λ entry. of_owners rs entry) (drafts_of_handles old.handles s.grants)) where
-    abbrev drafts : List Opened
+  module _ (stepped : IsStepped old new s after h) (handles : new.handles ≡ old.handles) (grants : after.grants ≡ s.grants) (rs : List ℕ) (has : HasStepped g None old new s h (λ entry. of_owners rs entry) (drafts_of_handles old.handles s.grants))
+      (taken : blocks_taken h (drafts_of_handles old.handles s.grants) + graph_blocks s.graph ≡ blocks_taken s.graph (drafts_of_handles old.handles s.grants) + graph_blocks h) where
+    abbrev drafts : Drafts
     drafts = drafts_of_handles old.handles s.grants
 
     abbrev T : Option MapEntry → Bool
@@ -132,7 +132,7 @@ module _ {D : Type 0} (g : Ghosts D) (left_sized : (d : D) (t : ℕ) (c : Image)
     have = subst (λ x. AreDraftsOf drafts x after.grants) (sym handles) (subst (λ (gs : List Grant). AreDraftsOf drafts old.handles gs) (sym grants) serves.drafts)
 
     four : 4 ≤ free_to_come g new
-    four = four_left g old new s after h serves T drafts has n (omega (arith, is.few)) is.free
+    four = four_left g old new s after h serves T drafts has n (omega (arith, is.few, taken)) is.free
 
     pub did : IsPlainReply reply → leaves_all reply ≡ false → (¬ IsShortOfBlocks s who request (sum old.space.free)) → (creates request ≡ true → IsLeastFree (g.content old.disk) b) → TakesForRequest old.handles s who request reply (g.content old.disk) (end_in g new) → (commits s who request ≡ true → IsSome new.space.left) → Answers g None old new s who request reply
     did = did_with stepped T drafts has same_drafts have four

@@ -1,8 +1,7 @@
 -- How a call ends that makes an object, and puts its identifier into a slot, as one commit.
 use Rattle.std.proofs.Common.{◌≡◌, ◌≢◌, ◌⊎◌, inl, inr, ℕ, zero, suc, ◌+◌, ◌<◌, ◌≤◌, List, [], ◌∷◌, length, Bool, true, false, cond, not, ◌||◌, Option, Some, None, refl, sym, ◌∙◌, ap, subst, arith, ◌==◌, map, option_map, sum, Less, Equal, Greater}
-use Rattle.cfs_core.proofs.Words.{and_parts, block_there, blocks_of, both_ways, cases_lt, changed_draft, created, Draft, edge_stays, entry_in, false_from_ne_true, Fill, free_from, free_is_root, Ghosts, Graph, has_block, has_block-still, has_root_in, Holds, ids_of, Image, in_image, Index, index_with, insert_entry, insert_entry-same, is_free_entry, is_free_in, is_free_root, is_placed, is_taken}
-use Rattle.cfs_core.proofs.Words.{IsLeastFree, IsOfThese, Kept, keys_of-kinds_in, Kind, directory_kind-kinds_in, object_kind, kinds_in-insert_entry, kinds_of, MapEntry, match_ordering, named, nat_tests, need_of, not-true, Object, object_at, object_at-with_object, of_owners, or_cases, owner_of, Puid, puid_cmp, put, put_object-at, range_with_len, refusal_of, Request, rises, rises-with_object, same_puid}
-use Rattle.cfs_core.proofs.Words.{same_puid_is, same_puid_itself, seen, seen_object, State, sum_by, sum_by-cons, target, with_made, with_object, word}
+use Rattle.cfs_core.proofs.Words.{and_parts, block_there, blocks_of, both_ways, cases_lt, changed_draft, created, Draft, edge_stays, entry_in, false_from_ne_true, Fill, free_from, free_is_root, Ghosts, Graph, has_block, has_block-still, has_root_in, Holds, ids_of, Image, in_image, Index, index_with, insert_entry, insert_entry-same, is_free_entry, is_free_in, is_free_root, is_placed, is_taken, taken_more, taken_put, blocks_taken, graph_blocks}
+use Rattle.cfs_core.proofs.Words.{IsLeastFree, IsOfThese, Kept, keys_of-kinds_in, Kind, directory_kind-kinds_in, object_kind, kinds_in-insert_entry, kinds_of, MapEntry, match_ordering, named, nat_tests, need_of, not-true, Object, object_at, object_at-with_object, of_owners, or_cases, owner_of, Puid, puid_cmp, put, put_object-at, range_with_len, refusal_of, Request, rises, rises-with_object, same_puid, same_puid_is, same_puid_itself, seen, seen_object, State, sum_by, sum_by-cons, target, with_made, with_object, word}
 use Rattle.cfs_base.specs.declared.kind.Kind.TheVariants as kinds
 use Rattle.ufs_model.specs.declared.asked.Reply.TheVariants as replies
 use Rattle.ufs_model.specs.declared.object.Object.TheVariants as objects
@@ -14,6 +13,7 @@ use Rattle.cfs_core.proofs.Changed.{of_this}
 use Rattle.cfs_core.proofs.Committed.{IsOutcome}
 use Rattle.cfs_core.proofs.Moved.{IsStepped}
 use Rattle.cfs_core.proofs.Grown.{filled_blocks, replaced_blocks}
+use Rattle.vol_owners.proofs.Owners.{no_draft}
 
 -- ---- an object more
 
@@ -53,6 +53,30 @@ free_inside image g n holds free = at (entry_in image n) refl free
 pub need_is : (s : State) (who : ℕ) (index : Puid) (i : Index) (slot : ℕ) (o : Object) (request : Request) → IsMaking request slot o → Reaches s who request index (objects.Index i) → need_of s who request ≡ 4
 need_is s who index i slot o request making r = making.need s who ∙ rw (r.bare, r.name, r.there) refl
 
+-- ---- a block that is Free, for the root of a new object
+
+module _ {D : Type 0} (g : Ghosts D) (k : Kernel D) (s : State) (serves : CoreServes g k s) (b : ℕ) (least : IsLeastFree (g.content k.disk) b) where
+  pub free_root : is_free_root s.graph b ≡ true
+  free_root = free_is_root (g.content k.disk) s.graph (drafts_of_handles k.handles s.grants) serves.store.account serves.store.ordered b least.free
+
+  pub not_zero : b ≢ 0
+  not_zero zero_is = let no = (and_parts (not (b == 0)) (not (has_block s.graph.objects b)) free_root).0 in let is : (b == 0) ≡ true = grind (arith, nat_tests) in both_ways (b == 0) (not-true _ no) is
+
+  pub no_root : has_block s.graph.objects b ≡ false
+  no_root = not-true _ (and_parts (not (b == 0)) (not (has_block s.graph.objects b)) free_root).1
+
+  pub inside : b < length (g.content k.disk)
+  inside = free_inside (g.content k.disk) s.graph b serves.store.account.holds least.free
+
+  module _ (w : ℕ) where
+    -- what is there is another object
+    pub other_than_new : (x : Puid) → has_block s.graph.objects x.block ≡ true → same_puid x (record { block = b; word = w }) ≡ false
+    other_than_new x there = false_from_ne_true _ (λ same. both_ways _ no_root (subst (λ (y : Puid). has_block s.graph.objects y.block ≡ true) (same_puid_is x (record { block = b; word = w }) same) there))
+
+    -- and this one has no draft
+    pub new_undrafted : drafts_of_handles k.handles s.grants (record { block = b; word = w }) ≡ None
+    new_undrafted = no_draft (g.content k.disk) s.graph (drafts_of_handles k.handles s.grants) serves.store.account (record { block = b; word = w }) (λ p there. both_ways _ no_root (block_there s.graph (record { block = b; word = w }) p there))
+
 -- ---- an object is made, with block b as its root
 
 module _ {D : Type 0} (g : Ghosts D) (k : Kernel D) (s : State) (who : ℕ) (serves : CoreServes g k s) (index : Puid) (i : Index) (slot : ℕ) (o : Object) (one : blocks_of o ≡ 1) (request : Request) (making : IsMaking request slot o)
@@ -69,22 +93,8 @@ module _ {D : Type 0} (g : Ghosts D) (k : Kernel D) (s : State) (who : ℕ) (ser
   abbrev h : Graph
   h = with_made s.graph index i slot id o
 
-  free_root : is_free_root s.graph b ≡ true
-  free_root = free_is_root (g.content k.disk) s.graph (drafts_of_handles k.handles s.grants) serves.store.account serves.store.ordered b least.free
-
-  pub not_zero : b ≢ 0
-  not_zero zero_is = let no = (and_parts (not (b == 0)) (not (has_block s.graph.objects b)) free_root).0 in let is : (b == 0) ≡ true = grind (arith, nat_tests) in both_ways (b == 0) (not-true _ no) is
-
-  pub no_root : has_block s.graph.objects b ≡ false
-  no_root = not-true _ (and_parts (not (b == 0)) (not (has_block s.graph.objects b)) free_root).1
-
-  pub inside : b < length (g.content k.disk)
-  inside = free_inside (g.content k.disk) s.graph b serves.store.account.holds least.free
-
   apart : same_puid index id ≡ false
-  apart = false_from_ne_true _ (λ same.
-      let eq : index.block ≡ b = ap (λ (x : Puid). x.block) (same_puid_is index id same) in
-      both_ways _ no_root (subst (λ (n : ℕ). has_block s.graph.objects n ≡ true) eq (block_there s.graph index (objects.Index i) r.there)))
+  apart = other_than_new g k s serves b least (word k.words.seed (s.drawn + 1)) index (block_there s.graph index (objects.Index i) r.there)
 
   still : object_at with_new index ≡ Some (objects.Index i)
   still = object_at-with_object s.graph id o index ∙ rw apart r.there
@@ -103,13 +113,19 @@ module _ {D : Type 0} (g : Ghosts D) (k : Kernel D) (s : State) (who : ℕ) (ser
   pub outcome : IsOutcome k s who b request (replies.Id id) after h 3
   outcome = record {
     allowed = goes;
-    names = λ _. free_root;
+    names = λ _. free_root g k s serves b least;
     speaks = making.speaks who (replies.Id id);
     out = making.outcome k.words.seed s who b;
     graph = ap (λ (t : State). t.graph) filled_is;
     few = omega (arith, replaced_blocks with_new index (objects.Index i) (index_with i slot (Some id)) 2 up still (filled_blocks i slot (Some id)), more_sum id o s.graph.objects, one);
     free = omega (arith, enough);
   }
+
+  -- it has no draft
+  pub taken : blocks_taken h (drafts_of_handles k.handles s.grants) + graph_blocks s.graph ≡ blocks_taken s.graph (drafts_of_handles k.handles s.grants) + graph_blocks h
+  taken =
+      let ds = drafts_of_handles k.handles s.grants in
+      omega (arith, taken_more s.graph ds id o (new_undrafted g k s serves b least id.word), taken_put with_new ds index (objects.Index i) (index_with i slot (Some id)) up still)
 
   directory_is : insert_entry puid_cmp k.directory.named id (object_kind o) ≡ kinds_of h
   directory_is =

@@ -1,6 +1,6 @@
 -- The draft that the core finds for an object is that of the state, and has its tree.
 use Rattle.std.proofs.Common.{◌≡◌, List, [], ◌∷◌, length, Bool, true, false, cond, ◌&&◌, Option, Some, None, refl, sym, ◌∙◌, ap, subst, map, is_some, option_map}
-use Rattle.cfs_core.proofs.Words.{Draft, Drafting, Ghosts, Grant, HasDraft, Index, Object, Opened, Puid, State, and_parts, drafts_of, is_draft_of, is_grant_in, is_open_so, IsTree, list_all, object_at, opened_as, same_puid, same_puid_is}
+use Rattle.cfs_core.proofs.Words.{Draft, Drafting, Ghosts, Grant, HasDraft, Index, Object, Opened, Puid, State, and_parts, is_draft_of, is_grant_in, is_open_so, IsTree, list_all, object_at, opened_as, same_puid, same_puid_is, Drafts, HasDraftIf}
 use Rattle.block_tree.specs.declared.root.Root.{Root}
 use Rattle.block_tree.specs.Root.{root_spelling}
 use Rattle.collector_steps.specs.Scan.{IsDraftRoot}
@@ -8,31 +8,30 @@ use Rattle.open_table.specs.declared.grant.Grant as handles
 use Rattle.ufs_model.specs.declared.object.Object.TheVariants as objects
 use Rattle.ufs_model.specs.State.{draft_at, object_in}
 use Rattle.vol_image.specs.Seen.{tree_in}
-use Rattle.vol_owners.specs.Account.{HasDrafts}
 use Rattle.cfs_core.specs.Kernel.{Kernel, Handle}
 use Rattle.cfs_core.specs.Handles.{root_at}
 use Rattle.cfs_core.specs.StandsFor.{AreDraftsOf, HasDraftOf, IsDraftOf, CoreServes, bare, drafts_of_handles}
 
 -- the draft of this object, as the store accounts for it, has this root and gives this one
-pub record IsOpenedCore (ds : List Opened) (id : Puid) (own : Object) (root : Root) (o : Object) : Type 0 where
+pub record IsOpenedCore (ds : Drafts) (id : Puid) (own : Object) (root : Root) (o : Object) : Type 0 where
   pub opened : Opened
-  pub only : drafts_of ds id ≡ opened ∷ []
+  pub only : ds id ≡ Some opened
   pub root_is : opened.root ≡ root
   pub object_is : opened.draft.object ≡ o
   pub of_own : is_draft_of own o ≡ true
 
 -- there is one, or the state has none
-abbrev pub Opens : List Opened → Puid → Object → Option Root → Option Object → Type 0
+abbrev pub Opens : Drafts → Puid → Object → Option Root → Option Object → Type 0
 Opens ds id own None None = Unit {0}
 Opens ds id own (Some root) (Some o) = IsOpenedCore ds id own root o
 Opens ds id own (Some root) None = ⊥
 Opens ds id own None (Some o) = ⊥
 
-module _ (s : State) (ds : List Opened) (id : Puid) (own : Object) (at : object_at s.graph id ≡ Some own) where
+module _ (s : State) (ds : Drafts) (id : Puid) (own : Object) (at : object_at s.graph id ≡ Some own) where
   one : (grant : handles.Grant) (drafting : Drafting) (d : Draft) → grant.id ≡ id → IsDraftOf ds grant drafting d → is_open_so (object_at s.graph id) (Some d) ≡ true → IsOpenedCore ds id own drafting.root d.object
   one grant drafting d same is so = record {
-    opened = opened_as id drafting d;
-    only = subst (λ (k : Puid). drafts_of ds k ≡ opened_as k drafting d ∷ []) same is.is_open.alone;
+    opened = opened_as drafting d;
+    only = subst (λ (k : Puid). ds k ≡ Some (opened_as drafting d)) same is.is_open.alone;
     root_is = refl;
     object_is = refl;
     of_own = ap (λ (o : Option Object). is_open_so o (Some d)) (sym at) ∙ so;
@@ -63,14 +62,14 @@ module _ (s : State) (ds : List Opened) (id : Puid) (own : Object) (at : object_
 -- ---- of a core that serves
 
 module _ {D : Type 0} (g : Ghosts D) (k : Kernel D) (s : State) (serves : CoreServes g k s) (id : Puid) (own : Object) (at : object_at s.graph id ≡ Some own) where
-  abbrev drafts : List Opened
+  abbrev drafts : Drafts
   drafts = drafts_of_handles k.handles s.grants
 
   pub opens_here : Opens drafts id own (root_at k.handles id) (draft_at s.grants id)
   opens_here = opens s drafts id own at k.handles s.grants serves.front.grants serves.drafts serves.state.grants
 
   pub its_tree : (root : Root) (o : Object) (is : IsOpenedCore drafts id own root o) → HasDraft (g.content k.disk) id is.opened
-  its_tree root o is = subst (HasDrafts (g.content k.disk) id) is.only (serves.store.account.drafts id own at)
+  its_tree root o is = subst (HasDraftIf (g.content k.disk) id) is.only (serves.store.account.drafts id own at)
 
 -- the root of an index's draft
 pub draft_root : {D : Type 0} (g : Ghosts D) (k : Kernel D) (s : State) → CoreServes g k s → (id : Puid) (i : Index) → object_at s.graph id ≡ Some (objects.Index i) → (d : Option Index) × IsDraftRoot (g.content k.disk) s id (root_at k.handles id) d

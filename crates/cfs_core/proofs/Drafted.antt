@@ -1,17 +1,16 @@
 -- The draft of one grant among those of all handles: changed, and gone.
-use Rattle.std.proofs.Common.{◌≡◌, ℕ, ◌+◌, List, [], ◌∷◌, ◌++◌, length, Bool, true, false, cond, not, Option, Some, None, refl, sym, ◌∙◌, ap, subst, arith, append-nil, append_assoc, length-append, ◌==◌, filter, find, map, nat_lt}
-use Rattle.cfs_core.proofs.Words.{and_parts, Draft, Drafting, drafts_of, draws_of, eq-eqb, eqb-true, filter-append, Grant, is_grant, is_normal, is_reading, IsOpen, list_all, list_any, nat_tests, numbers_rise, Opened, opened_as, or_from, or_parts, Puid, replaced, replaced_others, same_puid, same_puid_itself, SameOthers, Tuid, with_draft, without_draft, without_none, without_others}
+use Rattle.std.proofs.Common.{◌≡◌, ◌⊎◌, inl, inr, ℕ, List, [], ◌∷◌, ◌++◌, Bool, true, false, cond, not, ◌&&◌, ◌||◌, Option, Some, None, refl, sym, ◌∙◌, ap, subst, arith, ◌==◌, filter, find, map, nat_lt, is_some, is_none}
+use Rattle.std.proofs.Math.Path.{fun_ext}
+use Rattle.cfs_core.proofs.Words.{and_parts, are_granted, differs, Draft, Drafting, Drafts, draws_of, eq-eqb, eqb-true, Grant, is_grant, is_normal, is_reading, IsOpen, list_all, list_all-append, list_any, may_share, nat_tests, numbers_rise, Opened, opened_as, or_from, or_parts, Puid, same_puid, Tuid, with_again, with_draft, with_draft_if, with_here, with_opened, without_draft, without_with}
 use Rattle.open_table.specs.declared.grant.Grant as handles
 use Rattle.open_table.specs.Grants as tables
+use Rattle.vol_owners.proofs.Drafts.{each_draft, with_others}
 use Rattle.cfs_core.specs.Kernel.{Handle, grants_in}
 use Rattle.cfs_core.specs.Handles.{is_drawn, handles_but, with_drafting}
-use Rattle.cfs_core.specs.StandsFor.{AreDraftsOf, HasDraftOf, IsDraftOf, bare, drafts_at, drafts_of_handles}
+use Rattle.cfs_core.specs.StandsFor.{AreDraftsOf, HasDraftOf, IsDraftOf, bare, drafts_of_handles, opened_if, with_opened_if}
+use Rattle.ufs_model.specs.State.{draft_at, object_in}
 
 -- ---- lists in three parts
-
-nil_of : {X : Type 0} (xs : List X) → length xs ≡ 0 → xs ≡ []
-nil_of [] is = refl
-nil_of (x ∷ xs) is = cc
 
 -- where the test holds of this element alone, it alone is changed, or left out
 module _ {X : Type 0} (P : X → Bool) where
@@ -31,42 +30,133 @@ module _ {X : Type 0} (P : X → Bool) where
   left_at x ys [] is none rest = rw is (left_none ys rest)
   left_at x ys (z ∷ xs) is none rest = (let two = or_parts (P z) (list_any P xs) none in rw two.0 (ap (λ zs. z ∷ zs) (left_at x ys xs is two.1 rest)))
 
--- one draft of an object stands between others, which are of other objects
-beside_alone : (id : Puid) (e : Opened) (xs ys : List Opened) → same_puid e.id id ≡ true → drafts_of ((ys ++ e ∷ []) ++ xs) id ≡ e ∷ [] → (drafts_of xs id ≡ []) × (drafts_of ys id ≡ [])
-beside_alone id e xs ys same alone = (nil_of (drafts_of xs id) (omega (arith, counted)), nil_of (drafts_of ys id) (omega (arith, counted)))
-  where
-    whole : drafts_of ((ys ++ e ∷ []) ++ xs) id ≡ (drafts_of ys id ++ e ∷ []) ++ drafts_of xs id
-    whole = filter-append (λ d. same_puid d.id id) (ys ++ e ∷ []) xs ∙ ap (λ ds. ds ++ drafts_of xs id) (filter-append (λ d. same_puid d.id id) ys (e ∷ []) ∙ rw same refl)
+-- ---- of an object no grant has a draft
 
-    counted : length (drafts_of ys id) + 1 + length (drafts_of xs id) ≡ 1
-    counted = sym (length-append (drafts_of ys id ++ e ∷ []) (drafts_of xs id) ∙ ap (λ n. n + length (drafts_of xs id)) (length-append (drafts_of ys id) (e ∷ []))) ∙ ap length (sym whole ∙ alone)
+-- then the first of them has none of it
+draft_parts : (id : Puid) (x : Grant) (grants : List Grant) → draft_at (x ∷ grants) id ≡ None → (is_some x.draft ≡ true → same_puid id x.id ≡ false) × (draft_at grants id ≡ None)
+draft_parts id x grants none = at (same_puid id x.id) x.draft none
+  where
+    at : (same : Bool) (d : Option Draft) → cond (same && is_some d) (object_in d) (draft_at grants id) ≡ None → (is_some d ≡ true → same ≡ false) × (draft_at grants id ≡ None)
+    at false d none = (λ some. refl, none)
+    at true None none = (λ some. cc, none)
+    at true (Some d) none = cc
+
+none_from : (id : Puid) (x : Grant) (grants : List Grant) → (is_some x.draft ≡ true → same_puid id x.id ≡ false) → draft_at grants id ≡ None → draft_at (x ∷ grants) id ≡ None
+none_from id x grants other none = at (same_puid id x.id) x.draft other
+  where
+    at : (same : Bool) (d : Option Draft) → (is_some d ≡ true → same ≡ false) → cond (same && is_some d) (object_in d) (draft_at grants id) ≡ None
+    at false d other = none
+    at true None other = none
+    at true (Some d) other = let no : true ≡ false = other refl in cc
+
+-- and the core has none of it
+pub core_has_none : (id : Puid) (ss : List Handle) (grants : List Grant) → grants_in ss ≡ map bare grants → draft_at grants id ≡ None → drafts_of_handles ss grants id ≡ None
+core_has_none id [] grants table none = refl
+core_has_none id (handle ∷ ss) [] table none = refl
+core_has_none id (handle ∷ ss) (x ∷ grants) table none =
+    let head : handle.grant ≡ bare x = cc in
+    let tail : grants_in ss ≡ map bare grants = cc in
+    let two = draft_parts id x grants none in
+    at handle.drafting x.draft (λ some. ap (λ (e : handles.Grant). same_puid id e.id) head ∙ two.0 some) (core_has_none id ss grants tail two.1)
+  where
+    at : (o : Option Drafting) (d : Option Draft) → (is_some d ≡ true → same_puid id handle.grant.id ≡ false) → drafts_of_handles ss grants id ≡ None → with_opened_if handle.grant.id (opened_if o d) (drafts_of_handles ss grants) id ≡ None
+    at None d other rest = rest
+    at (Some o) None other rest = rest
+    at (Some o) (Some d) other rest = with_others handle.grant.id (Some (opened_as o d)) (drafts_of_handles ss grants) id (other refl) ∙ rest
+
+-- ---- no other grant has a draft of the object of one
+
+-- of two that may share, of which one has a draft
+writes : (d : Option Draft) (reads : Bool) → (is_none d || not reads) ≡ true → is_some d ≡ true → reads ≡ false
+writes None reads so some = cc
+writes (Some d) false so some = refl
+writes (Some d) true so some = cc
+
+apart : (same r s : Bool) → (r ≡ false) ⊎ (s ≡ false) → (not same || (r && s)) ≡ true → same ≡ false
+apart false r s write share = refl
+apart true false s write share = cc
+apart true true false write share = cc
+apart true true true write share = elim write [ inl r_not ↦ cc | inr s_not ↦ cc ]
+
+pub none_after : (x : Grant) (gs : List Grant) → list_all (may_share x) gs ≡ true → are_granted gs ≡ true → draft_at gs x.id ≡ None
+none_after x [] share all = refl
+none_after x (y ∷ gs) share all =
+    let two = and_parts (may_share x y) (list_all (may_share x) gs) share in
+    let rest = and_parts _ (are_granted gs) all in
+    let one = and_parts (is_none y.draft || not (is_reading y.mode)) _ rest.0 in
+    none_from x.id y gs (λ some. differs y.id x.id (apart (same_puid y.id x.id) (is_reading x.mode) (is_reading y.mode) (inr (writes y.draft (is_reading y.mode) one.0 some)) two.0)) (none_after x gs two.1 rest.1)
+
+pub none_beside : (x : Grant) (gs2 gs1 : List Grant) → are_granted (gs1 ++ x ∷ gs2) ≡ true → (draft_at gs1 x.id ≡ None) × (draft_at gs2 x.id ≡ None)
+none_beside x gs2 [] all =
+    let two = and_parts _ (are_granted gs2) all in
+    (refl, none_after x gs2 (and_parts _ (list_all (may_share x) gs2) two.0).1 two.1)
+none_beside x gs2 (y ∷ gs1) all =
+    let two = and_parts _ (are_granted (gs1 ++ x ∷ gs2)) all in
+    let share = and_parts (is_none y.draft || not (is_reading y.mode)) (list_all (may_share y) (gs1 ++ x ∷ gs2)) two.0 in
+    let later = and_parts (list_all (may_share y) gs1) (list_all (may_share y) (x ∷ gs2)) (sym (list_all-append (may_share y) gs1 (x ∷ gs2)) ∙ share.1) in
+    let rest = none_beside x gs2 gs1 two.1 in
+    (none_from x.id y gs1 (λ some. apart (same_puid x.id y.id) (is_reading y.mode) (is_reading x.mode) (inl (writes y.draft (is_reading y.mode) share.0 some)) (and_parts (may_share y x) _ later.1).0) rest.0, rest.1)
+
+-- ---- drafts of lists in two parts
+
+-- drafts of two objects come in any order
+with_swap : (a b : Puid) (d e : Option Opened) (ds : Drafts) → same_puid a b ≡ false → with_draft_if a d (with_draft_if b e ds) ≡ with_draft_if b e (with_draft_if a d ds)
+with_swap a b d e ds other = fun_ext (λ x. each_draft a d (with_draft_if b e ds) (λ y f. f ≡ with_draft_if b e (with_draft_if a d ds) y) (sym (with_others b e (with_draft_if a d ds) a other ∙ with_here a d ds)) x
+    (λ off. ap (λ f. cond (same_puid x b) e f) (sym (with_others a d ds x off))))
+
+-- what becomes of a draft after these, none of which is of its object
+pub drafts_beside : (id : Puid) (d : Option Opened) (ss2 ts2 : List Handle) (gs2 hs2 : List Grant) → drafts_of_handles ts2 hs2 ≡ with_draft_if id d (drafts_of_handles ss2 gs2)
+    → (ss1 : List Handle) (gs1 : List Grant) → grants_in ss1 ≡ map bare gs1 → draft_at gs1 id ≡ None → drafts_of_handles (ss1 ++ ts2) (gs1 ++ hs2) ≡ with_draft_if id d (drafts_of_handles (ss1 ++ ss2) (gs1 ++ gs2))
+drafts_beside id d ss2 ts2 gs2 hs2 is [] [] table none = is
+drafts_beside id d ss2 ts2 gs2 hs2 is [] (y ∷ gs1) table none = cc
+drafts_beside id d ss2 ts2 gs2 hs2 is (z ∷ ss1) [] table none = cc
+drafts_beside id d ss2 ts2 gs2 hs2 is (z ∷ ss1) (y ∷ gs1) table none =
+    let head : z.grant ≡ bare y = cc in
+    let tail : grants_in ss1 ≡ map bare gs1 = cc in
+    let two = draft_parts id y gs1 none in
+    ap (with_opened_if z.grant.id (opened_if z.drafting y.draft)) (drafts_beside id d ss2 ts2 gs2 hs2 is ss1 gs1 tail two.1)
+    ∙ swap z.drafting y.draft (λ some. differs id z.grant.id (ap (λ (e : handles.Grant). same_puid id e.id) head ∙ two.0 some))
+  where
+    rest : Drafts
+    rest = drafts_of_handles (ss1 ++ ss2) (gs1 ++ gs2)
+
+    swap : (o : Option Drafting) (e : Option Draft) → (is_some e ≡ true → same_puid z.grant.id id ≡ false) → with_opened_if z.grant.id (opened_if o e) (with_draft_if id d rest) ≡ with_draft_if id d (with_opened_if z.grant.id (opened_if o e) rest)
+    swap None e other = refl
+    swap (Some o) None other = refl
+    swap (Some o) (Some e) other = with_swap z.grant.id id (Some (opened_as o e)) d rest (other refl)
+
+module _ (ds : Drafts) (ss2 : List Handle) (gs2 : List Grant) where
+  pub parts_have : (ss1 : List Handle) (gs1 : List Grant) → grants_in ss1 ≡ map bare gs1 → AreDraftsOf ds (ss1 ++ ss2) (gs1 ++ gs2) → AreDraftsOf ds ss1 gs1 × AreDraftsOf ds ss2 gs2
+  parts_have [] [] table are = (tt, are)
+  parts_have [] (y ∷ gs1) table are = cc
+  parts_have (z ∷ ss1) [] table are = cc
+  parts_have (z ∷ ss1) (y ∷ gs1) table are = (let tail : grants_in ss1 ≡ map bare gs1 = cc in let rest = parts_have ss1 gs1 tail are.1 in ((are.0, rest.0), rest.1))
+
+  pub both_have : (ss1 : List Handle) (gs1 : List Grant) → AreDraftsOf ds ss1 gs1 → AreDraftsOf ds ss2 gs2 → AreDraftsOf ds (ss1 ++ ss2) (gs1 ++ gs2)
+  both_have [] [] first second = second
+  both_have [] (y ∷ gs1) first second = absurd first
+  both_have (z ∷ ss1) [] first second = absurd first
+  both_have (z ∷ ss1) (y ∷ gs1) first second = (first.0, both_have ss1 gs1 first.1 second)
 
 -- the drafts of the others are as they were
-pub others_have : (id : Puid) (ds es : List Opened) → SameOthers id ds es → (ss : List Handle) (grants : List Grant) → drafts_of (drafts_of_handles ss grants) id ≡ [] → AreDraftsOf ds ss grants → AreDraftsOf es ss grants
-others_have id ds es others [] [] none are = tt
-others_have id ds es others [] (x ∷ grants) none are = absurd are
-others_have id ds es others (handle ∷ ss) [] none are = absurd are
-others_have id ds es others (handle ∷ ss) (x ∷ grants) none are =
-    let whole = sym (filter-append (λ d. same_puid d.id id) (drafts_of_handles ss grants) (drafts_at handle handle.drafting x.draft)) ∙ none in
-    let two = both_nil (drafts_of (drafts_of_handles ss grants) id) (drafts_of (drafts_at handle handle.drafting x.draft) id) whole in
-    (one handle.drafting x.draft two.1 are.0, others_have id ds es others ss grants two.0 are.1)
+pub others_have : (id : Puid) (e : Option Opened) (ds : Drafts) (ss : List Handle) (grants : List Grant) → grants_in ss ≡ map bare grants → draft_at grants id ≡ None → AreDraftsOf ds ss grants → AreDraftsOf (with_draft_if id e ds) ss grants
+others_have id e ds [] [] table none are = tt
+others_have id e ds [] (x ∷ grants) table none are = absurd are
+others_have id e ds (handle ∷ ss) [] table none are = absurd are
+others_have id e ds (handle ∷ ss) (x ∷ grants) table none are =
+    let head : handle.grant ≡ bare x = cc in
+    let tail : grants_in ss ≡ map bare grants = cc in
+    let two = draft_parts id x grants none in
+    (one handle.drafting x.draft (λ some. differs id handle.grant.id (ap (λ (g : handles.Grant). same_puid id g.id) head ∙ two.0 some)) are.0, others_have id e ds ss grants tail two.1 are.1)
   where
-    both_nil : {X : Type 0} (xs ys : List X) → xs ++ ys ≡ [] → (xs ≡ []) × (ys ≡ [])
-    both_nil [] ys is = (refl, is)
-    both_nil (x ∷ xs) ys is = cc
-
-    apart : (b : Bool) (e : Opened) → cond b (e ∷ []) [] ≡ [] → b ≡ false
-    apart true e is = cc
-    apart false e is = refl
-
-    one : (drafting : Option Drafting) (d : Option Draft) → drafts_of (drafts_at handle drafting d) id ≡ [] → HasDraftOf ds handle drafting d → HasDraftOf es handle drafting d
-    one None None left has = tt
-    one None (Some d) left has = absurd has
-    one (Some drafting) None left has = absurd has
-    one (Some drafting) (Some d) left has = record {
+    one : (drafting : Option Drafting) (d : Option Draft) → (is_some d ≡ true → same_puid handle.grant.id id ≡ false) → HasDraftOf ds handle drafting d → HasDraftOf (with_draft_if id e ds) handle drafting d
+    one None None other has = tt
+    one None (Some d) other has = absurd has
+    one (Some drafting) None other has = absurd has
+    one (Some drafting) (Some d) other has = record {
       is_open = record {
         at = has.is_open.at;
-        alone = others handle.grant.id (apart (same_puid handle.grant.id id) (opened_as handle.grant.id drafting d) left) ∙ has.is_open.alone;
+        alone = with_others id e ds handle.grant.id (other refl) ∙ has.is_open.alone;
         leaf_flags = has.is_open.leaf_flags;
         node_flags = has.is_open.node_flags;
         fresh = has.is_open.fresh;
@@ -74,56 +164,6 @@ others_have id ds es others (handle ∷ ss) (x ∷ grants) none are =
       special = has.special;
       writes = has.writes;
     }
-
-module _ (handle : Handle) (x : Grant) (ss2 : List Handle) (gs2 : List Grant) where
-  split_drafts : (ss1 : List Handle) (gs1 : List Grant) → grants_in ss1 ≡ map bare gs1
-      → drafts_of_handles (ss1 ++ handle ∷ ss2) (gs1 ++ x ∷ gs2) ≡ (drafts_of_handles ss2 gs2 ++ drafts_at handle handle.drafting x.draft) ++ drafts_of_handles ss1 gs1
-  split_drafts [] [] table = sym (append-nil _)
-  split_drafts [] (y ∷ gs1) table = cc
-  split_drafts (z ∷ ss1) [] table = cc
-  split_drafts (z ∷ ss1) (y ∷ gs1) table =
-      let tail : grants_in ss1 ≡ map bare gs1 = cc in ap (λ ds. ds ++ drafts_at z z.drafting y.draft) (split_drafts ss1 gs1 tail) ∙ append_assoc (drafts_of_handles ss2 gs2 ++ drafts_at handle handle.drafting x.draft) _ _
-
-  module _ (ds : List Opened) where
-    split_have : (ss1 : List Handle) (gs1 : List Grant) → grants_in ss1 ≡ map bare gs1 → AreDraftsOf ds (ss1 ++ handle ∷ ss2) (gs1 ++ x ∷ gs2)
-        → AreDraftsOf ds ss1 gs1 × (HasDraftOf ds handle handle.drafting x.draft × AreDraftsOf ds ss2 gs2)
-    split_have [] [] table are = (tt, are)
-    split_have [] (y ∷ gs1) table are = cc
-    split_have (z ∷ ss1) [] table are = cc
-    split_have (z ∷ ss1) (y ∷ gs1) table are = (let tail : grants_in ss1 ≡ map bare gs1 = cc in let rest = split_have ss1 gs1 tail are.1 in ((are.0, rest.0), rest.1))
-
-    join_have : (ss1 : List Handle) (gs1 : List Grant) → AreDraftsOf ds ss1 gs1 → HasDraftOf ds handle handle.drafting x.draft → AreDraftsOf ds ss2 gs2 → AreDraftsOf ds (ss1 ++ handle ∷ ss2) (gs1 ++ x ∷ gs2)
-    join_have [] [] first has second = (has, second)
-    join_have [] (y ∷ gs1) first has second = absurd first
-    join_have (z ∷ ss1) [] first has second = absurd first
-    join_have (z ∷ ss1) (y ∷ gs1) first has second = (first.0, join_have ss1 gs1 first.1 has second)
-
-module _ (ss2 : List Handle) (gs2 : List Grant) where
-  join_drafts : (ss1 : List Handle) (gs1 : List Grant) → grants_in ss1 ≡ map bare gs1 → drafts_of_handles (ss1 ++ ss2) (gs1 ++ gs2) ≡ drafts_of_handles ss2 gs2 ++ drafts_of_handles ss1 gs1
-  join_drafts [] [] table = sym (append-nil _)
-  join_drafts [] (y ∷ gs1) table = cc
-  join_drafts (z ∷ ss1) [] table = cc
-  join_drafts (z ∷ ss1) (y ∷ gs1) table =
-      let tail : grants_in ss1 ≡ map bare gs1 = cc in ap (λ ds. ds ++ drafts_at z z.drafting y.draft) (join_drafts ss1 gs1 tail) ∙ append_assoc (drafts_of_handles ss2 gs2) _ _
-
-  without_have : (ds : List Opened) (ss1 : List Handle) (gs1 : List Grant) → AreDraftsOf ds ss1 gs1 → AreDraftsOf ds ss2 gs2 → AreDraftsOf ds (ss1 ++ ss2) (gs1 ++ gs2)
-  without_have ds [] [] first second = second
-  without_have ds [] (y ∷ gs1) first second = absurd first
-  without_have ds (z ∷ ss1) [] first second = absurd first
-  without_have ds (z ∷ ss1) (y ∷ gs1) first second = (first.0, without_have ds ss1 gs1 first.1 second)
-
--- ---- one draft replaced among others
-
-replaced_append : (e : Opened) (xs ys : List Opened) → replaced e (xs ++ ys) ≡ replaced e xs ++ replaced e ys
-replaced_append e [] ys = refl
-replaced_append e (f ∷ xs) ys = ap (λ ds. cond (same_puid f.id e.id) e f ∷ ds) (replaced_append e xs ys)
-
-replaced_none : (e : Opened) (ds : List Opened) → drafts_of ds e.id ≡ [] → replaced e ds ≡ ds
-replaced_none e [] none = refl
-replaced_none e (f ∷ ds) none = elim (same_puid f.id e.id) as (λ b. cond b (f ∷ drafts_of ds e.id) (drafts_of ds e.id) ≡ [] → cond b e f ∷ replaced e ds ≡ f ∷ ds) [
-  | true ↦ λ empty. cc
-  | false ↦ λ empty. ap (λ es. f ∷ es) (replaced_none e ds empty)
-] none
 
 -- ---- the place of a grant
 
@@ -279,11 +319,11 @@ module _ (who : ℕ) (t : Tuid) where
     but_with = ap (handles_but (tables.is_session_grant who t)) (with_is None) ∙ left_at (λ (e : Handle). tables.is_session_grant who t e.grant) (record { grant = handle.grant; drafting = None }) p.ss2 p.ss1 mine (none_these p.ss1 p.none_first) (none_these p.ss2 p.none_second) ∙ sym handles_left
 
     module _ (are : AreDraftsOf (drafts_of_handles ss grants) ss grants) where
-      abbrev ds : List Opened
+      abbrev ds : Drafts
       ds = drafts_of_handles ss grants
 
       three : AreDraftsOf ds p.ss1 p.gs1 × (HasDraftOf ds handle handle.drafting x.draft × AreDraftsOf ds p.ss2 p.gs2)
-      three = split_have handle x p.ss2 p.gs2 ds p.ss1 p.gs1 p.first (subst (λ zs. AreDraftsOf ds zs (p.gs1 ++ x ∷ p.gs2)) p.handles_are (subst (λ zs. AreDraftsOf ds ss zs) p.grants_are are))
+      three = parts_have ds (handle ∷ p.ss2) (x ∷ p.gs2) p.ss1 p.gs1 p.first (subst (λ zs. AreDraftsOf ds zs (p.gs1 ++ x ∷ p.gs2)) p.handles_are (subst (λ zs. AreDraftsOf ds ss zs) p.grants_are are))
 
       -- its handle has a draft exactly where it has one
       pub has_draft : HasDraftOf ds handle handle.drafting x.draft
@@ -305,38 +345,42 @@ module _ (who : ℕ) (t : Tuid) where
         pub written : is_reading handle.grant.mode ≡ false
         written = both.writes
 
-        whole : ds ≡ (drafts_of_handles p.ss2 p.gs2 ++ opened_as id was before ∷ []) ++ drafts_of_handles p.ss1 p.gs1
-        whole = ap (λ zs. drafts_of_handles zs grants) p.handles_are ∙ ap (drafts_of_handles (p.ss1 ++ handle ∷ p.ss2)) p.grants_are ∙ split_drafts handle x p.ss2 p.gs2 p.ss1 p.gs1 p.first
-            ∙ ap (λ o. (drafts_of_handles p.ss2 p.gs2 ++ drafts_at handle o x.draft) ++ drafts_of_handles p.ss1 p.gs1) drafting_is
-            ∙ ap (λ o. (drafts_of_handles p.ss2 p.gs2 ++ drafts_at handle (Some was) o) ++ drafts_of_handles p.ss1 p.gs1) draft_was
+        module _ (alone : are_granted grants ≡ true) where
+          beside : (draft_at p.gs1 id ≡ None) × (draft_at p.gs2 id ≡ None)
+          beside = subst (λ (e : handles.Grant). (draft_at p.gs1 e.id ≡ None) × (draft_at p.gs2 e.id ≡ None)) (sym p.here) (none_beside x p.gs2 p.gs1 (subst (λ zs. are_granted zs ≡ true) p.grants_are alone))
 
-        beside : (drafts_of (drafts_of_handles p.ss1 p.gs1) id ≡ []) × (drafts_of (drafts_of_handles p.ss2 p.gs2) id ≡ [])
-        beside = beside_alone id (opened_as id was before) (drafts_of_handles p.ss1 p.gs1) (drafts_of_handles p.ss2 p.gs2) (same_puid_itself id) (ap (λ es. drafts_of es id) (sym whole) ∙ opened.alone)
+          whole : ds ≡ drafts_of_handles (p.ss1 ++ handle ∷ p.ss2) (p.gs1 ++ x ∷ p.gs2)
+          whole = ap (λ zs. drafts_of_handles zs grants) p.handles_are ∙ ap (drafts_of_handles (p.ss1 ++ handle ∷ p.ss2)) p.grants_are
 
-        module _ (now : Drafting) (d : Draft) where
-          abbrev it : Opened
-          it = opened_as id now d
+          opens : drafts_of_handles (handle ∷ p.ss2) (x ∷ p.gs2) ≡ with_opened id (opened_as was before) (drafts_of_handles p.ss2 p.gs2)
+          opens = ap (λ o. with_opened_if id (opened_if o x.draft) (drafts_of_handles p.ss2 p.gs2)) drafting_is ∙ ap (λ o. with_opened_if id (opened_if (Some was) o) (drafts_of_handles p.ss2 p.gs2)) draft_was
 
-          pub changed_drafts : drafts_of_handles (with_drafting t.draw (Some now) ss) (with_draft who t d grants) ≡ replaced it ds
-          changed_drafts = ap (λ zs. drafts_of_handles zs (with_draft who t d grants)) (with_is (Some now)) ∙ ap (drafts_of_handles (p.ss1 ++ record { grant = handle.grant; drafting = Some now } ∷ p.ss2)) (draft_is d)
-              ∙ split_drafts (record { grant = handle.grant; drafting = Some now }) (record x { draft = Some d }) p.ss2 p.gs2 p.ss1 p.gs1 p.first
-              ∙ sym (ap (replaced it) whole ∙ replaced_append it (drafts_of_handles p.ss2 p.gs2 ++ opened_as id was before ∷ []) (drafts_of_handles p.ss1 p.gs1)
-              ∙ ap (λ es. es ++ replaced it (drafts_of_handles p.ss1 p.gs1)) (replaced_append it (drafts_of_handles p.ss2 p.gs2) (opened_as id was before ∷ []))
-              ∙ rw (same_puid_itself id, replaced_none it (drafts_of_handles p.ss1 p.gs1) beside.0, replaced_none it (drafts_of_handles p.ss2 p.gs2) beside.1) refl)
+          module _ (now : Drafting) (d : Draft) where
+            abbrev it : Opened
+            it = opened_as now d
 
-          pub changed_have : IsDraftOf (replaced it ds) handle.grant now d → AreDraftsOf (replaced it ds) (with_drafting t.draw (Some now) ss) (with_draft who t d grants)
-          changed_have is_open = subst (λ zs. AreDraftsOf (replaced it ds) zs (with_draft who t d grants)) (sym (with_is (Some now))) (subst (λ zs. AreDraftsOf (replaced it ds) (p.ss1 ++ record { grant = handle.grant; drafting = Some now } ∷ p.ss2) zs) (sym (draft_is d))
-              (join_have (record { grant = handle.grant; drafting = Some now }) (record x { draft = Some d }) p.ss2 p.gs2 (replaced it ds) p.ss1 p.gs1
-              (others_have id ds (replaced it ds) (replaced_others it it ds) p.ss1 p.gs1 beside.0 three.0) is_open (others_have id ds (replaced it ds) (replaced_others it it ds) p.ss2 p.gs2 beside.1 three.1.1)))
+            abbrev handle_now : Handle
+            handle_now = record { grant = handle.grant; drafting = Some now }
 
-        pub gone_drafts : drafts_of_handles (handles_but (tables.is_session_grant who t) ss) (filter (λ y. not (is_grant who t y)) grants) ≡ without_draft id ds
-        gone_drafts = ap (λ zs. drafts_of_handles zs (filter (λ y. not (is_grant who t y)) grants)) handles_left ∙ ap (drafts_of_handles (p.ss1 ++ p.ss2)) grants_left
-            ∙ join_drafts p.ss2 p.gs2 p.ss1 p.gs1 p.first
-            ∙ sym (ap (without_draft id) whole ∙ filter-append (λ e. not (same_puid e.id id)) (drafts_of_handles p.ss2 p.gs2 ++ opened_as id was before ∷ []) (drafts_of_handles p.ss1 p.gs1)
-            ∙ ap (λ es. es ++ without_draft id (drafts_of_handles p.ss1 p.gs1)) (filter-append (λ e. not (same_puid e.id id)) (drafts_of_handles p.ss2 p.gs2) (opened_as id was before ∷ []))
-            ∙ rw (same_puid_itself id, without_none id (drafts_of_handles p.ss1 p.gs1) beside.0, without_none id (drafts_of_handles p.ss2 p.gs2) beside.1) (ap (λ es. es ++ drafts_of_handles p.ss1 p.gs1) (append-nil (drafts_of_handles p.ss2 p.gs2))))
+            abbrev grant_now : Grant
+            grant_now = record x { draft = Some d }
 
-        pub gone_have : AreDraftsOf (without_draft id ds) (handles_but (tables.is_session_grant who t) ss) (filter (λ y. not (is_grant who t y)) grants)
-        gone_have = subst (λ zs. AreDraftsOf (without_draft id ds) zs (filter (λ y. not (is_grant who t y)) grants)) (sym handles_left) (subst (λ zs. AreDraftsOf (without_draft id ds) (p.ss1 ++ p.ss2) zs) (sym grants_left)
-            (without_have p.ss2 p.gs2 (without_draft id ds) p.ss1 p.gs1 (others_have id ds (without_draft id ds) (without_others id ds) p.ss1 p.gs1 beside.0 three.0)
-            (others_have id ds (without_draft id ds) (without_others id ds) p.ss2 p.gs2 beside.1 three.1.1)))
+            pub changed_drafts : drafts_of_handles (with_drafting t.draw (Some now) ss) (with_draft who t d grants) ≡ with_opened id it ds
+            changed_drafts = ap (λ zs. drafts_of_handles zs (with_draft who t d grants)) (with_is (Some now)) ∙ ap (drafts_of_handles (p.ss1 ++ handle_now ∷ p.ss2)) (draft_is d)
+                ∙ drafts_beside id (Some it) (handle ∷ p.ss2) (handle_now ∷ p.ss2) (x ∷ p.gs2) (grant_now ∷ p.gs2)
+                (sym (ap (with_opened id it) opens ∙ with_again id (Some it) (drafts_of_handles p.ss2 p.gs2) (Some (opened_as was before)))) p.ss1 p.gs1 p.first beside.0
+                ∙ sym (ap (with_opened id it) whole)
+
+            pub changed_have : IsDraftOf (with_opened id it ds) handle.grant now d → AreDraftsOf (with_opened id it ds) (with_drafting t.draw (Some now) ss) (with_draft who t d grants)
+            changed_have is = subst (λ zs. AreDraftsOf (with_opened id it ds) zs (with_draft who t d grants)) (sym (with_is (Some now))) (subst (AreDraftsOf (with_opened id it ds) (p.ss1 ++ handle_now ∷ p.ss2)) (sym (draft_is d))
+                (both_have (with_opened id it ds) (handle_now ∷ p.ss2) (grant_now ∷ p.gs2) p.ss1 p.gs1 (others_have id (Some it) ds p.ss1 p.gs1 p.first beside.0 three.0) (is, others_have id (Some it) ds p.ss2 p.gs2 p.second beside.1 three.1.1)))
+
+          pub gone_drafts : drafts_of_handles (handles_but (tables.is_session_grant who t) ss) (filter (λ y. not (is_grant who t y)) grants) ≡ without_draft id ds
+          gone_drafts = ap (λ zs. drafts_of_handles zs (filter (λ y. not (is_grant who t y)) grants)) handles_left ∙ ap (drafts_of_handles (p.ss1 ++ p.ss2)) grants_left
+              ∙ drafts_beside id None (handle ∷ p.ss2) p.ss2 (x ∷ p.gs2) p.gs2
+              (sym (ap (without_draft id) opens ∙ without_with id (opened_as was before) (drafts_of_handles p.ss2 p.gs2) (core_has_none id p.ss2 p.gs2 p.second beside.1))) p.ss1 p.gs1 p.first beside.0
+              ∙ sym (ap (without_draft id) whole)
+
+          pub gone_have : AreDraftsOf (without_draft id ds) (handles_but (tables.is_session_grant who t) ss) (filter (λ y. not (is_grant who t y)) grants)
+          gone_have = subst (λ zs. AreDraftsOf (without_draft id ds) zs (filter (λ y. not (is_grant who t y)) grants)) (sym handles_left) (subst (AreDraftsOf (without_draft id ds) (p.ss1 ++ p.ss2)) (sym grants_left)
+              (both_have (without_draft id ds) p.ss2 p.gs2 p.ss1 p.gs1 (others_have id None ds p.ss1 p.gs1 p.first beside.0 three.0) (others_have id None ds p.ss2 p.gs2 p.second beside.1 three.1.1)))

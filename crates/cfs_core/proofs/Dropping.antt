@@ -14,13 +14,15 @@ use Rattle.cfs_core.specs.Calls.{AddsNoStray}
 use Rattle.cfs_core.specs.Leaving.{GaveUp, GivesUp, IsGivenUp, ServesFewer, Sheds, of_others}
 use Rattle.cfs_core.proofs.Joined.{serves_finished}
 use Rattle.cfs_core.specs.Handles.{drafting_at, have_draft, is_at, handles_but, with_drafting}
-use Rattle.cfs_core.specs.StandsFor.{CoreServes, ServesIs, drafts_of_handles, end_in}
+use Rattle.cfs_core.specs.StandsFor.{CoreServes, ServesIs, end_in}
 use Rattle.cfs_core.specs.Rescues.{AreRescued, ended_by}
 use Rattle.cfs_core.specs.declared.collecting.Collections.{Collections}
 use Rattle.cfs_core.proofs.Collected.{collection_asked}
 use Rattle.cfs_core.proofs.Damages.{told_of_draft}
-use Rattle.cfs_core.proofs.Drafted.{but_with, opened}
-use Rattle.cfs_core.proofs.Ended.{IsHeld, held_by, stores_aborted, strays_aborted}
+use Rattle.cfs_core.proofs.Drafted.{but_with}
+use Rattle.cfs_core.proofs.Ended.{stores_aborted, strays_aborted}
+use Rattle.cfs_core.proofs.Views.{IsHeld, draft_seen, held_by}
+use Rattle.special_files.specs.View.{DraftSeen}
 use Rattle.cfs_core.proofs.Granted.{close_goes, stores_closed}
 use Rattle.cfs_core.proofs.Handled.{grants_with}
 use Rattle.cfs_core.proofs.Serving.{none_more, running, nothing_left}
@@ -99,12 +101,15 @@ module _ {D : Type 0} (g : Ghosts D) (k : Kernel D) (who : ℕ) (t : Tuid) (id :
       held : (s : State) → ServesIs g k s → IsHeld g k s who t was
       held s serves = let x = the s serves in held_by g k s serves who t was drafting (x.0, x.1)
 
-      gave : (s : State) (serves : ServesIs g k s) → k.stop ≡ None → GaveUp g s.graph (drafts_of_handles k.handles s.grants) (held s serves).handle.grant.id was.created mid new
-      gave s serves none = gives.ends s.graph _ _ _ _ serves.store (held s serves).there (let h = held s serves in opened who t k.handles s.grants h.handle h.x h.place serves.drafts was h.before h.drafting h.draft_was) none
+      abbrev view : (s : State) → ServesIs g k s → DraftSeen g k.disk was
+      view s serves = draft_seen g k s serves who t was (held s serves)
+
+      gave : (s : State) (serves : ServesIs g k s) → k.stop ≡ None → GaveUp (view s serves) mid new
+      gave s serves none = gives.ends (view s serves) refl none
 
       -- the core as it was once nothing was unfinished
       module _ (s : State) (serves : ServesIs g k s) (none : k.stop ≡ None) (runs : new.stop ≡ None) where
-        given : IsGivenUp g s.graph (drafts_of_handles k.handles s.grants) (held s serves).handle.grant.id was.created mid new
+        given : IsGivenUp (view s serves) mid new
         given = (gave s serves none).given runs
 
         abbrev calm : Kernel D

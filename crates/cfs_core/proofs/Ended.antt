@@ -1,8 +1,7 @@
 -- A grant is closed that has a draft: the draft is given up, or becomes the object.
-use Rattle.std.proofs.Common.{◌≡◌, ℕ, ◌+◌, ◌/◌, ◌≤◌, List, [], ◌∷◌, ◌++◌, length, Bool, true, false, cond, not, ◌≢◌, Option, Some, None, Ok, Err, refl, sym, ◌∙◌, ap, subst, arith, ⊎_elim, find, option_and_then, option_map, option_to_list, sum}
-use Rattle.cfs_core.proofs.Words.{and_parts, block_there, ChangesOnly, closed, closed_graph, closed_keeps, Committed, committed, Draft, draft_blocks, Drafting, drafts_of, Dropped, FileKind, FitsDisk, Ghosts, Grant, grant_found, grant_of, Graph, graph_blocks, has_block, has_number, Holds, Image, insert_entry-same, is_draft_of, is_meant, is_open_so, is_placed, IsClosedGraph, IsOfThese, IsOldOrNew}
-use Rattle.cfs_core.proofs.Words.{IsOpen, IsState, Kept, keys_of-kinds_in, directory_kind-kinds_in, object_kind, kinds_in-insert_entry, kinds_of, Leaves, list_any, MapEntry, nat_tests, next, Object, object_at, of_drafts, of_owners, open_there, Opened, opened_as, or_parts, outcome_legal, owner_of, Puid, refusal_of, refused_by, rises, room, same_kind, same_puid, State, sum_by, sum_by-cons, sum_is, the_draft}
-use Rattle.cfs_core.proofs.Words.{Trouble, Tuid, wider, with_object, without_draft}
+use Rattle.std.proofs.Common.{◌≡◌, ℕ, ◌+◌, ◌/◌, ◌≤◌, List, [], ◌∷◌, ◌++◌, length, Bool, true, false, ◌≢◌, Option, Some, None, Ok, Err, refl, sym, ◌∙◌, ap, subst, arith, ⊎_elim, option_map, option_to_list, sum}
+use Rattle.cfs_core.proofs.Words.{and_parts, block_there, ChangesOnly, closed, closed_graph, closed_keeps, Committed, committed, Draft, Drafting, Dropped, FitsDisk, Ghosts, Grant, grant_of, Graph, graph_blocks, has_block, has_number, Holds, Image, insert_entry-same, is_meant, is_placed, IsClosedGraph, IsOfThese, IsOldOrNew, Drafts, draft_blocks_if, taken_put, taken_with, blocks_taken}
+use Rattle.cfs_core.proofs.Words.{IsState, Kept, keys_of-kinds_in, directory_kind-kinds_in, object_kind, kinds_in-insert_entry, kinds_of, Leaves, MapEntry, nat_tests, next, Object, of_drafts, of_owners, opened_as, outcome_legal, owner_of, Puid, refusal_of, refused_by, rises, room, State, sum_by, sum_is, the_draft, Trouble, Tuid, wider, with_object, without_draft}
 use Rattle.cfs_base.specs.declared.kind.FileKind.TheVariants as file_kinds
 use Rattle.cfs_base.specs.declared.refusal.Trouble.TheVariants as troubles
 use Rattle.cyl_alloc.specs.Left.{LeftCommit}
@@ -14,21 +13,23 @@ use Rattle.ufs_model.specs.declared.asked.Request.TheVariants as asks
 use Rattle.ufs_model.specs.declared.object.Object.TheVariants as objects
 use Rattle.cfs_core.specs.Calls.{AddsNoStray, Answers, ByOutcome, EndsSo, IsInDoubt, MayBeRead, Owes, Undone, Whole}
 use Rattle.cfs_core.specs.Drafts.{DraftEnds, EndsDraft, LeavesDraftCommit}
-use Rattle.cfs_core.specs.Kernel.{Kernel, Handle}
-use Rattle.cfs_core.specs.Handles.{drafting_at, is_drawn, handles_but, with_drafting}
+use Rattle.cfs_core.specs.Kernel.{Kernel}
+use Rattle.cfs_core.specs.Handles.{handles_but, with_drafting}
 use Rattle.std.specs.Prelude.{IsSome}
 use Rattle.intentions.specs.Left.{StoreWith, coming, final_image}
 use Rattle.special_files.specs.Committing.{IsNoted}
-use Rattle.cfs_core.specs.StandsFor.{AreDraftsOf, HasDraftOf, CoreServes, ServesWith, StoresState, drafts_of_handles, free_to_come}
+use Rattle.cfs_core.specs.StandsFor.{AreDraftsOf, CoreServes, StoresState, drafts_of_handles, free_to_come}
 use Rattle.cfs_core.proofs.Answering.{owes}
 use Rattle.cfs_core.proofs.Changed.{of_this}
-use Rattle.cfs_core.proofs.Drafted.{Place, but_with, drawn, gone_drafts, gone_have, has_draft, opened, place_of}
+use Rattle.cfs_core.proofs.Drafted.{but_with, drawn, gone_drafts, gone_have}
 use Rattle.cfs_core.proofs.Granted.{close_goes, closed_stepped}
 use Rattle.cfs_core.proofs.Grown.{replaced_blocks}
 use Rattle.cfs_core.proofs.Handled.{grants_with}
 use Rattle.cfs_core.proofs.Serving.{fits, running}
-use Rattle.cfs_core.proofs.Moved.{HasStepped, IsStepped, fewer_take, four_left, makes_committed, makes_stepped, stores_stepped, strays_stepped}
+use Rattle.cfs_core.proofs.Moved.{HasStepped, IsStepped, four_left, makes_committed, makes_stepped, stores_stepped, strays_stepped}
 use Rattle.cfs_core.proofs.Taken.{replaced_few}
+use Rattle.cfs_core.proofs.Views.{IsHeld, draft_view, open_in, so}
+use Rattle.cfs_core.proofs.Ways.{draft_kind}
 use Rattle.cfs_core.specs.Claimed.{ClaimsInOrder, owners_of}
 use Rattle.cfs_core.proofs.Claimed.{claims_meant, claims_only, takes_alone}
 
@@ -42,94 +43,12 @@ of_its_draft graph id there = record {
     owner : (entry : Option MapEntry) → has_number (owner_of entry) (id.block ∷ []) ≡ true → owner_of entry ≡ id.block
     owner entry has = grind (arith, nat_tests)
 
-pub find_drawn : (draw : ℕ) (handle : Handle) (ss2 ss1 : List Handle) → is_drawn draw handle ≡ true → list_any (is_drawn draw) ss1 ≡ false → find (is_drawn draw) (ss1 ++ handle ∷ ss2) ≡ Some handle
-find_drawn draw handle ss2 [] is none = rw is refl
-find_drawn draw handle ss2 (z ∷ ss1) is none = (let two = or_parts (is_drawn draw z) (list_any (is_drawn draw) ss1) none in rw two.0 (find_drawn draw handle ss2 ss1 is two.1))
-
-pub kind_alike : (o d : Object) → is_draft_of o d ≡ true → object_kind d ≡ object_kind o
-kind_alike (objects.File f) (objects.File e) is =
-    at e.kind f.kind (and_parts (same_kind e.kind f.kind) _ (and_parts _ _ is).0).0
-  where
-    at : (a b : FileKind) → same_kind a b ≡ true → object_kind (objects.File (record e { kind = a })) ≡ object_kind (objects.File (record f { kind = b }))
-    at file_kinds.Normal file_kinds.Normal same = refl
-    at file_kinds.Normal file_kinds.Special same = cc
-    at file_kinds.Special file_kinds.Normal same = cc
-    at file_kinds.Special file_kinds.Special same = refl
-kind_alike (objects.File f) (objects.Index i) is = cc
-kind_alike (objects.Index i) (objects.Index d) is = refl
-kind_alike (objects.Index i) (objects.File f) is = cc
-
--- the one draft of an object is among the drafts, and all are what the others take and it
-pub alone_take : (id : Puid) (e : Opened) (ds : List Opened) → drafts_of ds id ≡ e ∷ [] → sum_by draft_blocks ds ≡ sum_by draft_blocks (without_draft id ds) + draft_blocks e
-alone_take id e ds is = omega (arith, split ds, ap (sum_by draft_blocks) is, sum_by-cons draft_blocks e [])
-  where
-    split : (xs : List Opened) → sum_by draft_blocks xs ≡ sum_by draft_blocks (without_draft id xs) + sum_by draft_blocks (drafts_of xs id)
-    split [] = refl
-    split (x ∷ xs) = elim (same_puid x.id id) as (λ b. sum_by draft_blocks (x ∷ xs) ≡ sum_by draft_blocks (cond (not b) (x ∷ without_draft id xs) (without_draft id xs)) + sum_by draft_blocks (cond b (x ∷ drafts_of xs id) (drafts_of xs id))) [
-      | true ↦ omega (arith, split xs, sum_by-cons draft_blocks x xs, sum_by-cons draft_blocks x (drafts_of xs id))
-      | false ↦ omega (arith, split xs, sum_by-cons draft_blocks x xs, sum_by-cons draft_blocks x (without_draft id xs))
-    ]
-
 -- a grant's draft becomes its object
 committed_by : (graph : Graph) (o : Option Grant) (x : Grant) (d : Draft) → o ≡ Some x → x.draft ≡ Some d → committed o graph ≡ with_object graph x.id d.object
 committed_by graph o x d found has = rw (found, has) refl
 
--- The session's grant has a handle, which holds this draft; and the draft is the state's, of an object that is there.
-pub record IsHeld {D : Type 0} (g : Ghosts D) (k : Kernel D) (s : State) (who : ℕ) (t : Tuid) (was : Drafting) : Type 0 where
-  pub at : drafting_at k.handles t.draw ≡ Some was
-  pub x : Grant
-  pub found : grant_of s who t ≡ Some x
-  pub handle : Handle
-  pub place : Place who t k.handles s.grants handle x
-  pub drafting : handle.drafting ≡ Some was
-  pub before : Draft
-  pub draft_was : x.draft ≡ Some before
-  pub object : Object
-  pub there : object_at s.graph handle.grant.id ≡ Some object
-  pub there_x : object_at s.graph x.id ≡ Some object
-
-pub held_by : {D : Type 0} {w : Option LeftCommit} (g : Ghosts D) (k : Kernel D) (s : State) → ServesWith g k s w → (who : ℕ) (t : Tuid) (was : Drafting) → drafting_at k.handles t.draw ≡ Some was → (x : Grant) × (grant_of s who t ≡ Some x) → IsHeld g k s who t was
-held_by g k s serves who t was drafting found = record {
-  at = drafting;
-  x = found.0;
-  found = found.1;
-  handle = two.0;
-  place = two.1;
-  drafting = drafting_is;
-  before = there.0;
-  draft_was = there.1;
-  object = object.0;
-  there = ap (λ (e : handles.Grant). object_at s.graph e.id) two.1.here ∙ object.1;
-  there_x = object.1;
-}
-  where
-    two : (handle : Handle) × Place who t k.handles s.grants handle found.0
-    two = place_of who t k.handles s.grants found.0 serves.front.grants serves.state.rising found.1
-
-    drafting_is : two.0.drafting ≡ Some was
-    drafting_is = sym (ap (option_and_then (λ (e : Handle). e.drafting)) (ap (find (is_drawn t.draw)) two.1.handles_are ∙ find_drawn t.draw two.0 two.1.ss2 two.1.ss1 (drawn who t k.handles s.grants two.0 found.0 two.1) two.1.none_first)) ∙ drafting
-
-    there : (d : Draft) × (found.0.draft ≡ Some d)
-    there = at two.0.drafting found.0.draft drafting_is (has_draft who t k.handles s.grants two.0 found.0 two.1 serves.drafts)
-      where
-        at : (o : Option Drafting) (d : Option Draft) → o ≡ Some was → HasDraftOf (drafts_of_handles k.handles s.grants) two.0 o d → (e : Draft) × (d ≡ Some e)
-        at None d is has = cc
-        at (Some o) None is has = absurd has
-        at (Some o) (Some d) is has = (d, refl)
-
-    object : (o : Object) × (object_at s.graph found.0.id ≡ Some o)
-    object = open_there (object_at s.graph found.0.id) found.0.draft (grant_found s who t found.0 serves.state found.1).1
-
--- whatever is left of a commit
-module _ {D : Type 0} {w : Option LeftCommit} (g : Ghosts D) (k : Kernel D) (s : State) (serves : ServesWith g k s w) (who : ℕ) (t : Tuid) (was : Drafting) (held : IsHeld g k s who t was) where
-  pub open_in : IsOpen (drafts_of_handles k.handles s.grants) held.handle.grant.id was held.before
-  open_in = opened who t k.handles s.grants held.handle held.x held.place serves.drafts was held.before held.drafting held.draft_was
-
-  pub so : is_open_so (Some held.object) (Some held.before) ≡ true
-  so = subst (λ (o : Option Object). is_open_so o (Some held.before) ≡ true) held.there_x (subst (λ (o : Option Draft). is_open_so (object_at s.graph held.x.id) o ≡ true) held.draft_was (grant_found s who t held.x serves.state held.found).1)
-
 module _ {D : Type 0} (g : Ghosts D) (k : Kernel D) (s : State) (serves : CoreServes g k s) (who : ℕ) (t : Tuid) (was : Drafting) (held : IsHeld g k s who t was) where
-  abbrev ds : List Opened
+  abbrev ds : Drafts
   ds = drafts_of_handles k.handles s.grants
 
   abbrev id : Puid
@@ -142,12 +61,12 @@ module _ {D : Type 0} (g : Ghosts D) (k : Kernel D) (s : State) (serves : CoreSe
   object = held.object
 
   alike : object_kind before.object ≡ object_kind object
-  alike = kind_alike object before.object (so g k s serves who t was held)
+  alike = draft_kind object before.object (so g k s serves who t was held)
 
   pub block : has_block s.graph.objects id.block ≡ true
   block = block_there s.graph id object held.there
 
-  abbrev left : List Opened
+  abbrev left : Drafts
   left = without_draft id ds
 
   allowed : (commit : Bool) → refusal_of s who (asks.Close t commit) ≡ None
@@ -155,10 +74,17 @@ module _ {D : Type 0} (g : Ghosts D) (k : Kernel D) (s : State) (serves : CoreSe
 
   -- the grants that are left are the same with and without a commit
   drafts_left : (commit : Bool) → drafts_of_handles (handles_but (tables.is_session_grant who t) k.handles) (closed s who t commit).grants ≡ left
-  drafts_left commit = gone_drafts who t k.handles s.grants held.handle held.x held.place serves.drafts was before held.drafting held.draft_was
+  drafts_left commit = gone_drafts who t k.handles s.grants held.handle held.x held.place serves.drafts was before held.drafting held.draft_was serves.state.alone
 
   have_left : (commit : Bool) → AreDraftsOf left (handles_but (tables.is_session_grant who t) k.handles) (closed s who t commit).grants
-  have_left commit = gone_have who t k.handles s.grants held.handle held.x held.place serves.drafts was before held.drafting held.draft_was
+  have_left commit = gone_have who t k.handles s.grants held.handle held.x held.place serves.drafts was before held.drafting held.draft_was serves.state.alone
+
+  fresh : ℕ
+  fresh = sum_by length before.fresh
+
+  takes : blocks_taken s.graph left + fresh ≤ blocks_taken s.graph ds
+  unfolding fresh
+  takes = omega (arith, taken_with s.graph ds id object None serves.store.ordered held.there, ap draft_blocks_if (open_in g k s serves who t was held).alone)
 
   owners : (commit : Bool) → owners_of s who (asks.Close t commit) replies.Done ≡ id.block ∷ []
   owners commit = rw held.found (ap (λ (e : handles.Grant). e.id.block ∷ []) (sym held.place.here))
@@ -196,7 +122,7 @@ module _ {D : Type 0} (g : Ghosts D) (k : Kernel D) (s : State) (serves : CoreSe
       }
 
       four : 4 ≤ free_to_come g aborted
-      four = four_left g k aborted s (closed s who t false) s.graph serves T left has 0 (omega (arith, fewer_take (λ e. not (same_puid e.id id)) ds)) (omega (arith, serves.four))
+      four = four_left g k aborted s (closed s who t false) s.graph serves T left has 0 (omega (arith, takes)) (omega (arith, serves.four))
 
       pub stores_aborted : StoresState g aborted (closed s who t false)
       stores_aborted = stores_stepped g k aborted s (closed s who t false) s.graph serves T left has stepped (closed_keeps s who t false serves.state) (drafts_left false) (have_left false) four
@@ -236,18 +162,11 @@ module _ {D : Type 0} (g : Ghosts D) (k : Kernel D) (s : State) (serves : CoreSe
     graph_is : (closed s who t true).graph ≡ h
     graph_is = committed_by s.graph (grant_of s who t) held.x before held.found held.draft_was ∙ ap (λ (e : handles.Grant). with_object s.graph e.id before.object) (sym held.place.here)
 
-    fresh : ℕ
-    fresh = sum_by length before.fresh
-
     few : graph_blocks h ≤ graph_blocks s.graph + fresh
     unfolding fresh
     few = replaced_blocks s.graph id object before.object (sum_by length before.fresh) serves.store.ordered held.there
-        (replaced_few (g.content k.disk) s.graph serves.store.account.holds id object held.there (serves.store.account.objects id object held.there) (opened_as id was before)
+        (replaced_few (g.content k.disk) s.graph serves.store.account.holds id object held.there (serves.store.account.objects id object held.there) (opened_as was before)
         (the_draft (g.content k.disk) ds id was before (open_in g k s serves who t was held) (serves.store.account.drafts id object held.there)))
-
-    takes : sum_by draft_blocks left + fresh ≤ sum_by draft_blocks ds
-    unfolding fresh
-    takes = omega (arith, alone_take id (opened_as id was before) ds (open_in g k s serves who t was held).alone)
 
     directory_stays : kinds_of h ≡ kinds_of s.graph
     directory_stays = kinds_in-insert_entry s.graph.objects id before.object
@@ -273,7 +192,7 @@ module _ {D : Type 0} (g : Ghosts D) (k : Kernel D) (s : State) (serves : CoreSe
       holds_now = record { store = committed.store; only = committed.only; these = of_this s.graph id before.object }
 
       four_now : 4 ≤ free_to_come g aborted
-      four_now = four_left g k aborted s (closed s who t true) h serves U left holds_now 0 (omega (arith, few, takes)) (omega (arith, serves.four))
+      four_now = four_left g k aborted s (closed s who t true) h serves U left holds_now 0 (omega (arith, few, takes, taken_put s.graph left id object before.object serves.store.ordered held.there)) (omega (arith, serves.four))
 
       pub commits : ((c : D) (n : ℕ) (i : Image) → g.left_since c n i → length i ≡ g.blocks c) → length (g.content k.disk) ≡ g.blocks d → k.stop ≡ None → Leaves g k.disk d (IsOldOrNew s.graph s.graph id before.object)
           → Answers g None k aborted s who (asks.Close t true) replies.Done
@@ -310,16 +229,16 @@ module _ {D : Type 0} (g : Ghosts D) (k : Kernel D) (s : State) (serves : CoreSe
 
     module _ (bare : was.created ≡ None) (left_sized : (c : D) (n : ℕ) (i : Image) → g.left_since c n i → length i ≡ g.blocks c) (wide : length (g.content k.disk) ≡ g.blocks d) (none : k.stop ≡ None) (commit : Bool) where
       pub ended_ok : EndsDraft g commit was k.disk d k.space space (Ok tt) → Answers g None k gone s who (asks.Close t commit) replies.Done
-      ended_ok is = subst (λ ss. Answers g None k (record k { disk = d; space = space; handles = ss }) s who (asks.Close t commit) replies.Done) gone_is (by commit is.left (is.ends s.graph ds id object before serves.store held.there (open_in g k s serves who t was held)))
+      ended_ok is = subst (λ ss. Answers g None k (record k { disk = d; space = space; handles = ss }) s who (asks.Close t commit) replies.Done) gone_is (by commit is.left (is.ends (draft_view g k s serves who t was held)))
         where
-          by : (b : Bool) → LeavesDraftCommit b was.at space.left → DraftEnds g b s.graph ds id before was k.disk d space (Ok tt) → Answers g None k (aborted d space) s who (asks.Close t b) replies.Done
+          by : (b : Bool) → LeavesDraftCommit b was.at space.left → DraftEnds (draft_view g k s serves who t was held) b d space (Ok tt) → Answers g None k (aborted d space) s who (asks.Close t b) replies.Done
           by true left e = commits d space left e.done left_sized wide none e.leaves
           by false left e = aborts d space bare left e.done left_sized wide none e.leaves
 
       pub ended_err : (e : Trouble) → EndsDraft g commit was k.disk d k.space space (Err e) → EndsSo g None k (doubtful d space) s who (asks.Close t commit) (Err (refused_by e))
-      ended_err e is = by commit e is.tried (is.ends s.graph ds id object before serves.store held.there (open_in g k s serves who t was held))
+      ended_err e is = by commit e is.tried (is.ends (draft_view g k s serves who t was held))
         where
-          by : (b : Bool) (x : Trouble) → x ≢ troubles.Disk false → DraftEnds g b s.graph ds id before was k.disk d space (Err x) → EndsSo g None k (doubtful d space) s who (asks.Close t b) (Err (refused_by x))
+          by : (b : Bool) (x : Trouble) → x ≢ troubles.Disk false → DraftEnds (draft_view g k s serves who t was held) b d space (Err x) → EndsSo g None k (doubtful d space) s who (asks.Close t b) (Err (refused_by x))
           by true (troubles.Disk true) tried e = commit_in_doubt d space wide e.leaves
           by false (troubles.Disk true) tried e = abort_in_doubt d space wide e.leaves
           by b (troubles.Disk false) tried e = absurd (tried refl)

@@ -1,8 +1,7 @@
 -- How a call ends that closes a grant with a draft, on any disk.
-use Rattle.std.proofs.Common.{◌≡◌, inr, ℕ, List, length, Bool, Option, Some, None, Ok, Err, IsTrue, refl, sym, ◌∙◌, ap, subst, IsSome, OnErr, OnOk, Result, option_map, inl}
-use Rattle.cfs_core.proofs.Words.{Drafting, Ghosts, Grant, grant_of, Image, IsDraftTrouble, Kept, NoGrant, refused_by, Request, shown, State, table_of, Trouble, Tuid, MakesAtMost}
+use Rattle.std.proofs.Common.{◌≡◌, inr, ℕ, List, length, Bool, Option, Some, None, Ok, Err, IsTrue, refl, sym, ◌∙◌, subst, IsSome, OnErr, OnOk, Result, inl}
+use Rattle.cfs_core.proofs.Words.{Drafting, Ghosts, Image, IsDraftTrouble, Kept, NoGrant, refused_by, Request, State, Trouble, Tuid, MakesAtMost}
 use Rattle.cfs_base.specs.declared.refusal.Trouble.TheVariants as troubles
-use Rattle.std.proofs.lemmas.Option.{same_Some}
 use Rattle.open_table.specs.Grants as tables
 use Rattle.open_table.specs.declared.grant.Grant as handles
 use Rattle.ufs_model.specs.declared.asked.Reply.TheVariants as replies
@@ -11,9 +10,9 @@ use Rattle.cfs_core.specs.Calls.{IsCause, TriesWith}
 use Rattle.cfs_core.specs.Drafts.{EndsDraft}
 use Rattle.cfs_core.specs.Kernel.{Kernel, Handle, grants_in}
 use Rattle.cfs_core.specs.Handles.{drafting_at, handles_but, with_drafting}
-use Rattle.cyl_alloc.specs.Left.{LeftCommit}
-use Rattle.cfs_core.specs.StandsFor.{CoreServes, ServesWith}
-use Rattle.cfs_core.proofs.Ended.{IsHeld, ended_err, ended_ok, held_by}
+use Rattle.cfs_core.specs.StandsFor.{CoreServes}
+use Rattle.cfs_core.proofs.Ended.{ended_err, ended_ok}
+use Rattle.cfs_core.proofs.Views.{IsHeld}
 use Rattle.cfs_core.specs.Damage.{IsRootHere}
 use Rattle.cfs_core.proofs.Damages.{told_of_draft}
 use Rattle.cfs_core.proofs.Went.{went_so}
@@ -24,32 +23,10 @@ pub trouble_cause : {D : Type 0} (g : Ghosts D) (old new : Kernel D) (request : 
 trouble_cause g old new request at here size draw was there same (troubles.Disk tried) is = is
 trouble_cause g old new request at here size draw was there same (troubles.Damaged damage) is = told_of_draft g old new request at here damage size draw was there same is
 
-pub shown_by : (o : Option Grant) (x : handles.Grant) → Some x ≡ option_map shown o → (y : Grant) × (o ≡ Some y)
-shown_by None x is = cc
-shown_by (Some y) x is = (y, refl)
-
-pub none_there : (o : Option Grant) → None ≡ option_map shown o → o ≡ None
-none_there None is = refl
-none_there (Some y) is = cc
-
-pub the_grant : (found : Option handles.Grant) (o : Option Grant) → IsSome found → found ≡ option_map shown o → (y : Grant) × (o ≡ Some y)
-the_grant None o some is = cc
-the_grant (Some x) o some is = shown_by o x is
-
--- and it is on the same object
-pub the_same : (found : Option handles.Grant) (o : Option Grant) (g : handles.Grant) → found ≡ Some g → found ≡ option_map shown o → (y : Grant) × (o ≡ Some y) × (y.id ≡ g.id)
-the_same found None g is same = let no : Some g ≡ None = sym is ∙ same in cc
-the_same found (Some y) g is same = (y, refl, ap (λ (z : handles.Grant). z.id) (same_Some (shown y) g (sym same ∙ is)))
-
 -- the grant that is found is closed
 pub closed_handles : (who : ℕ) (t : Tuid) (r : Result handles.Grant NoGrant) (old new : List Handle) → IsSome (tables.session_grant (grants_in old) who t) → OnOk r (new ≡ handles_but (tables.is_session_grant who t) old) → OnErr r (tables.session_grant (grants_in old) who t ≡ None) → new ≡ handles_but (tables.is_session_grant who t) old
 closed_handles who t (Ok x) old new some done none = done
 closed_handles who t (Err e) old new some done none = let no = subst (λ (o : Option handles.Grant). IsSome o) none some in cc
-
--- a grant that the core finds, and of which it has the draft
-pub held_in : {D : Type 0} {w : Option LeftCommit} (g : Ghosts D) (k : Kernel D) (who : ℕ) (t : Tuid) (was : Drafting) → drafting_at k.handles t.draw ≡ Some was → IsSome (tables.session_grant (grants_in k.handles) who t)
-    → ((s : State) → tables.session_grant (table_of s.grants) who t ≡ option_map shown (grant_of s who t)) → (s : State) → ServesWith g k s w → IsHeld g k s who t was
-held_in g k who t was has some law s serves = held_by g k s serves who t was has (the_grant (tables.session_grant (grants_in k.handles) who t) _ some (ap (λ gs. tables.session_grant gs who t) serves.front.grants ∙ law s))
 
 module _ {D : Type 0} (g : Ghosts D) (left_sized : (d : D) (t : ℕ) (c : Image) → g.left_since d t c → length c ≡ g.blocks d) (sized : (d : D) → IsTrue (g.honest d) → length (g.content d) ≡ g.blocks d)
     (k : Kernel D) (who : ℕ) (t : Tuid) (was : Drafting) (drafting : drafting_at k.handles t.draw ≡ Some was) (bare : was.created ≡ None) (the : (s : State) → CoreServes g k s → IsHeld g k s who t was)

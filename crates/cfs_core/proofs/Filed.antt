@@ -1,8 +1,8 @@
 -- How a call ends that changes a file which has no draft: a normal one in place, a special one as one commit.
 use Rattle.std.proofs.Common.{◌≡◌, ◌⊎◌, inl, inr, ℕ, ◌+◌, ◌<◌, ◌≤◌, [], length, true, false, cond, Some, None, Result, Ok, Err, IsTrue, refl, sym, ◌∙◌, ap, subst, arith, List, ◌∷◌, nat_lt, sum, Option}
-use Rattle.cfs_core.proofs.Words.{and_parts, blocks_of, byte_may_stand, Change, change_need, change_of, changed, changed_object, closed_graph, creates, draft_of, drafts_of, each_from, eq-eqb, File, FileKind, Fill, filter-rises, FitsDisk, Ghosts, Graph, has_number, held_levels, here, Holds, HoldsOfEither, Image, in_filter, in_with, index_has_pair, is_among, is_object, is_running}
-use Rattle.cfs_core.proofs.Words.{is_there, IsInside, IsPartly, IsSpeakable, Kept, object_kind, later, Leaves, leaves_in, list_all, MayChangeFile, MayLeaveFile, named, nat_tests, Need, need_for, need_of, next, numbers_rise, Object, object_at, object_at-with_object, object_whole, OnlyReads, Opened, outcome_of, Overwrite, pair_from_index, Puid, Ref, referred, refusal_of, Refused, Request, resized}
-use Rattle.cfs_core.proofs.Words.{rises-with_object, same_puid, same_puid_is, SetSize, State, still_there, target, touched, wider, with_numbers, with_object, withs-rise, written, MapEntry, ChangesOnly, of_owner, Reply, Draft, HasStopped, has_met_damage, reads_then, stopped_after_reads}
+use Rattle.cfs_core.proofs.Words.{and_parts, blocks_of, byte_may_stand, Change, change_need, change_of, changed, changed_object, closed_graph, creates, draft_of, each_from, eq-eqb, File, FileKind, Fill, filter-rises, FitsDisk, Ghosts, Graph, has_number, held_levels, here, Holds, HoldsOfEither, Image, in_filter, in_with, index_has_pair, is_among, is_object, is_running}
+use Rattle.cfs_core.proofs.Words.{is_there, IsInside, IsPartly, IsSpeakable, Kept, object_kind, later, Leaves, leaves_in, list_all, MayChangeFile, MayLeaveFile, named, nat_tests, Need, need_for, need_of, next, numbers_rise, Object, object_at, object_at-with_object, object_whole, OnlyReads, outcome_of, Overwrite, pair_from_index, Puid, Ref, referred, refusal_of, Refused, Request, resized}
+use Rattle.cfs_core.proofs.Words.{rises-with_object, same_puid, same_puid_is, SetSize, State, still_there, target, touched, wider, with_numbers, with_object, withs-rise, written, MapEntry, ChangesOnly, of_owner, Reply, Draft, has_met_damage, reads_then, stopped_after_reads}
 use Rattle.cfs_base.specs.Run.{Tells}
 use Rattle.cfs_base.specs.declared.kind.FileKind.TheVariants as kinds
 use Rattle.cfs_base.specs.declared.refusal.Refused.TheVariants as refusals
@@ -11,19 +11,18 @@ use Rattle.ufs_model.specs.declared.asked.Reply.TheVariants as replies
 use Rattle.ufs_model.specs.declared.asked.Request.TheVariants as asks
 use Rattle.ufs_model.specs.declared.object.Object.TheVariants as objects
 use Rattle.ufs_model.specs.Graph.{IsClosedGraph}
-use Rattle.cfs_core.specs.Calls.{Answers, ByWant, EndsSo, IsCause, IsInDoubt, IsShortOfBlocks, IsWant, Tries, Undone, Went, done_or, leaves_all}
+use Rattle.cfs_core.specs.Calls.{Answers, ByWant, EndsSo, IsInDoubt, IsShortOfBlocks, IsWant, Tries, Undone, Went, done_or, leaves_all}
 use Rattle.ufs_model.specs.Next.{is_direct_delete}
 use Rattle.cfs_core.specs.Damage.{IsDamageTold, bytes_wanted, is_set_size}
-use Rattle.file_ops.specs.Changes.{ChangesFile, ClaimsFor, EndsChange, claims_beside, least_size}
+use Rattle.file_ops.specs.Changes.{ChangesFile, ChangesSo, ClaimsFor, EndsChange, claims_beside, least_size, LeavesFileCommit, is_resize}
 use Rattle.cfs_core.specs.Kernel.{Kernel, Handle}
 use Rattle.cfs_core.specs.Looks.{IsCalmCause, KnowsObject, ReachesAll}
-use Rattle.std.specs.Prelude.{IfOk, IsSome, ◌≢◌, Bool, is_some}
+use Rattle.std.specs.Prelude.{IfOk, IsSome, ◌≢◌, Bool, is_some, not}
 use Rattle.block_tree.specs.declared.root.Root.{Root}
 use Rattle.cyl_alloc.specs.Left.{LeftCommit, block_shown}
 use Rattle.intentions.proofs.Shown.{store_tells}
 use Rattle.normal_files.specs.Standing.{IsRootAt}
 use Rattle.intentions.specs.Left.{final_image}
-use Rattle.file_ops.specs.Changes.{LeavesFileCommit}
 use Rattle.cfs_core.specs.Commits.{commits}
 use Rattle.cfs_core.specs.Finished.{FinishesLeft, refused_since, since}
 use Rattle.cfs_core.specs.StandsFor.{CoreServes, ServesIs, drafts_of_handles}
@@ -32,7 +31,8 @@ use Rattle.cfs_core.proofs.Damages.{far_on_disk, told_of_file, told_of_read, tol
 use Rattle.cfs_core.proofs.Joined.{done_decides, done_never, ends_since, serves_mid, since_none, went_since}
 use Rattle.cfs_core.proofs.Went.{went_done, went_so, went_then}
 use Rattle.cfs_core.proofs.After.{ends}
-use Rattle.cfs_core.proofs.Answering.{disk_failed, full_still, knows_that, memory}
+use Rattle.cfs_core.proofs.Answering.{disk_failed, failing, failing_cause, full_still, memory}
+use Rattle.cfs_core.proofs.Views.{knows_that, object_view}
 use Rattle.cfs_core.proofs.Changed.{object_did, object_in_doubt}
 use Rattle.cfs_core.proofs.Committed.{IsCut, LeavesThese}
 use Rattle.cfs_core.proofs.Few.{blocks_within}
@@ -41,12 +41,10 @@ use Rattle.cfs_core.proofs.Refusing.{put_is}
 use Rattle.cfs_core.proofs.Serving.{fits, may_fit, running, serves_is, serves_on, stays}
 use Rattle.cfs_core.specs.Claimed.{ClaimsInOrder, TakesForRequest, claims_for, claims_in_file, claims_through, commits_alone, is_beside, owners_of, claims_in_place, claims_in_draft, drafting_of, root_reached}
 use Rattle.cfs_core.proofs.Claimed.{Commits, claims_all, claims_only, claims_put, takes_alone, takes_last}
-use Rattle.std.specs.Prelude.{not}
 use Rattle.ufs_model.specs.Need.{is_normal}
 use Rattle.normal_files.specs.Order as plain
 use Rattle.ufs_model.specs.State.{file_seen}
 use Rattle.std.specs.Option.{option_map_or}
-use Rattle.file_ops.specs.Changes.{is_resize}
 use Rattle.leaf_changes.specs.Tops.{Top, disk_top}
 
 -- ---- a request that changes a file
@@ -208,16 +206,16 @@ module _ {D : Type 0} (g : Ghosts D) (left_sized : (d : D) (t : ℕ) (c : Image)
   abbrev new : Kernel D
   new = record k { disk = d; space = space }
 
-  module _ (s : State) (who : ℕ) (f : File) (serves : CoreServes g k s) (none : k.stop ≡ None) (reach : Reaches s who request id (objects.File f)) (shut : drafts_of (drafts_of_handles k.handles s.grants) id ≡ []) (kind_is : f.kind ≡ kind) (inside : IsInside change (objects.File f))
+  module _ (s : State) (who : ℕ) (f : File) (serves : CoreServes g k s) (none : k.stop ≡ None) (reach : Reaches s who request id (objects.File f)) (shut : (drafts_of_handles k.handles s.grants) id ≡ None) (kind_is : f.kind ≡ kind) (inside : IsInside change (objects.File f))
       (goes : refusal_of s who request ≡ None) where
-    abbrev drafts : List Opened
-    drafts = drafts_of_handles k.handles s.grants
-
     abbrev o : Object
     o = changed_object change (objects.File f)
 
-    has : MayChangeFile g id.block kind change s.graph drafts id f k.disk k.space
-    has = record { has = record { store = serves.store; root = refl; there = reach.there; shut = shut }; kind_is = kind_is; inside = inside }
+    abbrev may : MayChangeFile g id.block kind change k.disk k.space
+    may = record { view = object_view g k s serves id (objects.File f) reach.there; shut = shut; file = f; is = refl; kind_is = kind_is; inside = inside }
+
+    goes_so : ChangesSo may 4 d space result
+    goes_so = changes.goes may
 
     need : need_of s who request ≡ need_for kind change f
     need = is.need s who ∙ need_told s who (target request) id f kind change reach.name reach.bare reach.there kind_is
@@ -246,7 +244,7 @@ module _ {D : Type 0} (g : Ghosts D) (left_sized : (d : D) (t : ℕ) (c : Image)
     }
 
     left : need_for kind change f + 4 ≤ sum k.space.free → LeavesThese g k.disk d s who request replies.Done (with_object s.graph id o)
-    left free = wider g k.disk d _ _ (changes.leaves s.graph drafts id f has) (λ c may. by c kind change refl refl may)
+    left free = wider g k.disk d _ _ goes_so.leaves (λ c left. by c kind change refl refl left)
       where
         by : (c : Image) (x : FileKind) (y : Change) → kind ≡ x → change ≡ y → MayLeaveFile x y s.graph id f c → (Holds c s.graph ⊎ Holds c (with_object s.graph id o)) ⊎ IsCut (g.blocks d) s who request replies.Done c
         by c kinds.Special y at same either = inl (subst (λ (z : Change). Holds c s.graph ⊎ Holds c (with_object s.graph id (changed_object z (objects.File f)))) (sym same) either)
@@ -344,15 +342,15 @@ module _ {D : Type 0} (g : Ghosts D) (left_sized : (d : D) (t : ℕ) (c : Image)
 
     did_so : (r : Result (Unit {0}) Refused) → r ≡ result → EndsSo g None k new s who request (done_or r)
     did_so (Ok u) same =
-        let done = rw (← same) at (changes.done s.graph drafts id f has) in
-        let free = rw (← same) at (changes.room s.graph drafts id f has) in
+        let done = rw (← same) at goes_so.done in
+        let free = rw (← same) at goes_so.room in
         object_did g left_sized sized k new size refl none s after who request serves id (objects.File f) o reach.there (same_kinds change f) (need_for kind change f) more goes is.makes (is.speaks who) out
         (record { graph = refl; grants = refl; drawn = refl; stopped = refl; sweeping = refl }) (roomy free) free (left free) done.store done.only
-        (takes done.only (rw (← same) at (changes.order s.graph drafts id f has))) (noted kind refl (rw (← same) at changes.ends.left))
-    did_so (Err (refusals.Full n)) same = let told = (rw (← same) at (changes.full s.graph drafts id f has)) refl in full n (same_need n _ told.0, told.1) ((rw (← same) at changes.ends.untried) refl)
+        (takes done.only (rw (← same) at goes_so.order)) (noted kind refl (rw (← same) at changes.ends.left))
+    did_so (Err (refusals.Full n)) same = let told = (rw (← same) at goes_so.full) refl in full n (same_need n _ told.0, told.1) ((rw (← same) at changes.ends.untried) refl)
     did_so (Err (refusals.Disk false)) same = let two = (rw (← same) at changes.ends.untried) refl in disk_failed g left_sized sized 31093 k new two.1 (as_it_was two) s who serves none request
-    did_so (Err (refusals.Disk true)) same = doubtful ((rw (← same) at (changes.begun s.graph drafts id f has)) refl)
-    did_so (Err (refusals.Damaged damage)) same = let no : true ≡ false = rw (← same) at (changes.sound s.graph drafts id f has) in cc
+    did_so (Err (refusals.Disk true)) same = doubtful ((rw (← same) at goes_so.begun) refl)
+    did_so (Err (refusals.Damaged damage)) same = let no : true ≡ false = rw (← same) at goes_so.sound in cc
     did_so (Err refusals.Memory) same = let two = (rw (← same) at changes.ends.untried) refl in memory g left_sized sized 31093 k new two.1 (as_it_was two) s who serves none request
 
     pub did : EndsSo g None k new s who request (done_or result)
@@ -390,27 +388,17 @@ module _ {D : Type 0} (g : Ghosts D) (left_sized : (d : D) (t : ℕ) (c : Image)
   pub tries_unread : (e : Refused) → ((f : File) → KnowsObject g d1 id.block (objects.File f) → has_met_damage e ≡ false) → IsCalmCause g id.block d1 d2 e → e ≢ refusals.Memory
       → ((s : State) → ServesIs g k s → refusal_of s who request ≡ None) → Tries g k read who request (Err (refused_since tried e))
   tries_unread e sound cause never goes = record {
-    ends = λ s serves none. ends_joined read (Err e) again.same.size tt other s serves none (goes s serves) (by e s serves none sound cause never);
-    went = went_joined read (Err e) again.same.size tt other (went_so g mid d2 space1 k.handles again.same.size again.faults again.images.later request (Err e) tt (calm_here e cause));
+    ends = λ s serves none.
+        let r = reaches.0 s serves in
+        let now = serves_there s serves in
+        let knows = knows_that g mid s (serves_is g mid s now) id (objects.File r.0) id.block (ap (λ (w : Option LeftCommit). block_shown w id.block) (sym fin.done)) r.1.there in
+        ends_joined read (Err e) again.same.size tt other s serves none (goes s serves) (failing g left_sized sized m mid read again refl s who now none _ e cause (sound r.0 knows) request);
+    went = went_joined read (Err e) again.same.size tt other (went_so g mid d2 space1 k.handles again.same.size again.faults again.images.later request (Err e) tt
+        (failing_cause g mid read _ e cause request (λ damage why. told_of_read g mid read request id.block damage (inl reaches.1) why)));
   }
     where
       other : ◌≢◌ {A = Result Reply Refused} (Err e) (Err refusals.Memory)
       other = λ is. never (let same : e ≡ refusals.Memory = cc in same)
-
-      calm_here : (x : Refused) → IsCalmCause g id.block d1 d2 x → IsCause g mid read (Some request) x
-      calm_here (refusals.Full need) is = absurd is
-      calm_here (refusals.Disk was) is = subst (λ (b : Bool). HasStopped g b d1 d2) (sym is.0) is.1
-      calm_here (refusals.Damaged damage) is = told_of_read g mid read request id.block damage (inl reaches.1) is
-      calm_here refusals.Memory is = tt
-
-      by : (x : Refused) (s : State) → ServesIs g k s → k.stop ≡ None → ((f : File) → KnowsObject g d1 id.block (objects.File f) → has_met_damage x ≡ false) → IsCalmCause g id.block d1 d2 x → x ≢ refusals.Memory → EndsSo g None mid read s who request (Err x)
-      by (refusals.Full need) s serves none calm is other = absurd is
-      by (refusals.Disk was) s serves none calm is other = subst (λ (b : Bool). EndsSo g None mid read s who request (Err (refusals.Disk b))) (sym is.0) (disk_failed g left_sized sized m mid read again refl s who (serves_there s serves) none request)
-      by (refusals.Damaged damage) s serves none calm is other =
-          let r = reaches.0 s serves in
-          let now = serves_there s serves in
-          let no : true ≡ false = calm r.0 (knows_that g mid s (serves_is g mid s now) id (objects.File r.0) id.block (ap (λ (w : Option LeftCommit). block_shown w id.block) (sym fin.done)) r.1.there r.2) in cc
-      by refusals.Memory s serves none calm is other = absurd (other refl)
 
   -- changed from this root, of which a pointer may lead past the disk as it is then
   module _ (d : D) (space : Kept) (kind : FileKind) (change : Change) (is : IsChanging request change) (result : Result (Unit {0}) Refused) (top : Top) (at : top.block ≡ id.block) (end : EndsChange g top kind 4 change d2 d space1 space result) where
@@ -439,7 +427,7 @@ module _ {D : Type 0} (g : Ghosts D) (left_sized : (d : D) (t : ℕ) (c : Image)
         wants
 
     pub tries_filed : (Tells g k.disk → Tells g d1 → ChangesFile g id.block kind 4 change d2 d space1 space result) → (tried ≡ false → (size : ℕ) → top.IsFar size → (disk_top g id.block k.disk).IsFar size) → (tried ≡ true → (size : ℕ) → top.IsFar size → (disk_top g id.block d1).IsFar size)
-        → (kind ≡ kinds.Special → result ≢ Err refusals.Memory) → ((s : State) (f : File) → ServesIs g k s → Reaches s who request id (objects.File f) → drafts_of (drafts_of_handles k.handles s.grants) id ≡ [] → (f.kind ≡ kind) × IsInside change (objects.File f) × (refusal_of s who request ≡ None))
+        → (kind ≡ kinds.Special → result ≢ Err refusals.Memory) → ((s : State) (f : File) → ServesIs g k s → Reaches s who request id (objects.File f) → (drafts_of_handles k.handles s.grants) id ≡ None → (f.kind ≡ kind) × IsInside change (objects.File f) × (refusal_of s who request ≡ None))
         → Tries g k changed_to who request (since tried (done_or result))
     tries_filed changes far_bare far_mid special goes = record {
       ends = λ s serves none.

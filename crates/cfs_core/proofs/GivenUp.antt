@@ -1,10 +1,10 @@
 -- How a draft is given up while a session leaves.
-use Rattle.std.proofs.Common.{◌≡◌, ◌≢◌, ◌-◌, ◌≤◌, ℕ, List, Bool, true, false, Some, None, Ok, Err, refl, sym, ◌∙◌, ap, subst, arith}
-use Rattle.cfs_core.proofs.Words.{Draft, Drafting, Dropped, Ghosts, Graph, HasFailed, Holds, is_damage, IsOpen, IsDraftTrouble, Kept, Leaves, MakesAtMost, nothing_made, Object, object_at, Opened, Puid, refused_by, StoreHas, then, Trouble}
+use Rattle.std.proofs.Common.{◌≡◌, ◌≢◌, ◌-◌, ◌≤◌, Bool, true, false, Some, None, Result, Ok, Err, refl, sym, ◌∙◌, ap, subst, arith}
+use Rattle.cfs_core.proofs.Words.{Drafting, Ghosts, HasFailed, Holds, is_damage, IsDraftTrouble, Kept, Leaves, nothing_made, refused_by, then, Trouble}
 use Rattle.cfs_base.specs.declared.refusal.Trouble.TheVariants as troubles
 use Rattle.cfs_base.specs.declared.refusal.Damage.{Damage}
-use Rattle.special_files.specs.Committing.{draft_top}
-use Rattle.special_files.specs.Refusal.{IsDraftDamage}
+use Rattle.special_files.specs.Committing.{AbortCall, AbortEnds, draft_top}
+use Rattle.special_files.specs.Refusal.{IsDraftDamage, NoMap}
 use Rattle.cfs_core.specs.declared.kernel.Stop.{Stop}
 use Rattle.cfs_core.specs.Asked.{stopped_by, reply_to}
 use Rattle.cfs_core.specs.Kernel.{Kernel}
@@ -13,16 +13,16 @@ use Rattle.cfs_base.specs.Refusals.{trouble_after_try}
 use Rattle.finisher.proofs.Finished.{finished_content, finished_store}
 use Rattle.finisher.specs.Going.{IsLeftTrouble}
 use Rattle.intentions.specs.Left.{StoreIs}
-use Rattle.special_files.specs.Refusal.{NoMap}
+use Rattle.special_files.specs.View.{DraftSeen, DraftView}
 use Rattle.cfs_core.specs.Finished.{FinishesLeft}
 use Rattle.cfs_core.specs.Leaving.{GivesUp, MeetsDamage}
 use Rattle.cfs_core.proofs.Stored.{going_in}
 
 -- A draft wasn't given up, and the core stops.
 stops_so : {D : Type 0} (g : Ghosts D) (was : Drafting) (k : Kernel D) (d : D) (space : Kept) → g.blocks d ≡ g.blocks k.disk → g.faults k.disk ≤ g.faults d → g.moment k.disk ≤ g.moment d → k.stop ≡ None
-    → ((graph : Graph) (ds : List Opened) (id : Puid) (o : Object) (dr : Draft) → StoreIs g graph ds k.disk k.space → object_at graph id ≡ Some o → IsOpen ds id was dr → Leaves g k.disk d (λ c. Holds c graph))
+    → ((v : DraftSeen g k.disk was) → v.space ≡ k.space → Leaves g k.disk d (λ c. Holds c v.graph))
     → (e : Trouble) → e ≢ troubles.Disk false → ((b : Bool) → e ≡ troubles.Disk b → HasFailed g k.disk d) → ((damage : Damage) → e ≡ troubles.Damaged damage → MeetsDamage g (draft_top was) k (record k { disk = d; space = space }) damage)
-    → ((graph : Graph) (ds : List Opened) (id : Puid) (o : Object) (dr : Draft) → StoreIs g graph ds k.disk k.space → object_at graph id ≡ Some o → IsOpen ds id was dr → is_damage e ≡ false)
+    → ((v : DraftSeen g k.disk was) → v.space ≡ k.space → is_damage e ≡ false)
     → GivesUp g was k (record k { disk = d; space = space; stop = stopped_by (reply_to (refused_by e) (g.moment d)) k.stop })
 stops_so g was k d space size faults later runs leaves e untried failed met sound = at e refl untried
   where
@@ -30,7 +30,7 @@ stops_so g was k d space size faults later runs leaves e untried failed met soun
     no_stop stop is = let no : None ≡ Some stop = sym runs ∙ is in cc
 
     with_stop : (stop : Stop) → (stop.damage ≡ None → HasFailed g k.disk d × (stop.moment ≡ g.moment d - 1)) → ((damage : Damage) → stop.damage ≡ Some damage → MeetsDamage g (draft_top was) k (record k { disk = d; space = space }) damage × (stop.moment ≡ g.moment d))
-        → ((graph : Graph) (ds : List Opened) (id : Puid) (o : Object) (dr : Draft) → StoreIs g graph ds k.disk k.space → object_at graph id ≡ Some o → IsOpen ds id was dr → stop.damage ≡ None)
+        → ((v : DraftSeen g k.disk was) → v.space ≡ k.space → stop.damage ≡ None)
         → GivesUp g was k (record k { disk = d; space = space; stop = Some stop })
     with_stop stop fails meets calm = record {
       same = refl;
@@ -39,10 +39,10 @@ stops_so g was k d space size faults later runs leaves e untried failed met soun
       later = later;
       idle = λ other is. no_stop other is;
       left = λ none still. let no : Some stop ≡ None = still in cc;
-      ends = λ graph ds id o dr store there opened none. record {
-        leaves = leaves graph ds id o dr store there opened;
+      ends = λ v now none. record {
+        leaves = leaves v now;
         given = λ still. let no : Some stop ≡ None = still in cc;
-        sound = λ other is. let same : stop ≡ other = cc in ap (λ (x : Stop). x.damage) (sym same) ∙ calm graph ds id o dr store there opened;
+        sound = λ other is. let same : stop ≡ other = cc in ap (λ (x : Stop). x.damage) (sym same) ∙ calm v now;
       };
       failed = λ other none is quiet. let same : stop ≡ other = cc in rw (← same) (fails (ap (λ (x : Stop). x.damage) same ∙ quiet));
       damaged = λ other damage none is there. let same : stop ≡ other = cc in
@@ -51,44 +51,48 @@ stops_so g was k d space size faults later runs leaves e untried failed met soun
     }
 
     at : (t : Trouble) → t ≡ e → t ≢ troubles.Disk false → GivesUp g was k (record k { disk = d; space = space; stop = stopped_by (reply_to (refused_by t) (g.moment d)) k.stop })
-    at (troubles.Disk true) is first = with_stop _ (λ none. (failed true (sym is), refl)) (λ damage none. let no : None ≡ Some damage = none in cc) (λ graph ds id o dr store there opened. refl)
+    at (troubles.Disk true) is first = with_stop _ (λ none. (failed true (sym is), refl)) (λ damage none. let no : None ≡ Some damage = none in cc) (λ v now. refl)
     at (troubles.Disk false) is first = absurd (first refl)
     at (troubles.Damaged damage) is first = with_stop _ (λ none. let no : Some damage ≡ None = none in cc) (λ other same. let one : damage ≡ other = cc in (met other (sym is ∙ ap (λ (x : Damage). troubles.Damaged x) one), refl))
-        (λ graph ds id o dr store there opened. let no : true ≡ false = ap is_damage is ∙ sound graph ds id o dr store there opened in cc)
+        (λ v now. let no : true ≡ false = ap is_damage is ∙ sound v now in cc)
 
 -- What was left of a commit was carried out first.
-module _ {D : Type 0} (g : Ghosts D) (was : Drafting) (k : Kernel D) (d1 : D) (space1 : Kept) (tried : Bool) (fin : FinishesLeft g k.disk d1 k.space space1 (Ok tried)) (d : D) (space : Kept) (n m : ℕ) (calls : MakesAtMost g n m d1 d) (runs : k.stop ≡ None) (left_same : space.left ≡ space1.left)
-    (leaves : (graph : Graph) (ds : List Opened) (id : Puid) (o : Object) (dr : Draft) → StoreHas g graph ds d1 space1 → object_at graph id ≡ Some o → IsOpen ds id was dr → Leaves g d1 d (λ c. Holds c graph)) where
+module _ {D : Type 0} (g : Ghosts D) (was : Drafting) (k : Kernel D) (d1 : D) (space1 : Kept) (tried : Bool) (fin : FinishesLeft g k.disk d1 k.space space1 (Ok tried)) (d : D) (space : Kept) (runs : k.stop ≡ None)
+    (result : Result (Unit {0}) Trouble) (aborts : (v : DraftView g d1 space1 was) → AbortEnds g v.graph v.ds v.id was.created d1 d space result) (call : AbortCall g was d1 d space1 space result) where
   no_stop : {A : Type 0} (stop : Stop) → k.stop ≡ Some stop → A
   no_stop stop is = let no : None ≡ Some stop = sym runs ∙ is in cc
 
   size : g.blocks d ≡ g.blocks k.disk
-  size = calls.same.size ∙ fin.calls.same.size
+  size = call.calls.same.size ∙ fin.calls.same.size
 
-  store_now : (graph : Graph) (ds : List Opened) → StoreIs g graph ds k.disk k.space → StoreHas g graph ds d1 space1
-  store_now graph ds store = finished_store g graph ds k.disk d1 k.space space1 fin.goes store fin.done
+  module _ (v : DraftSeen g k.disk was) (now : v.space ≡ k.space) where
+    store : StoreIs g v.graph v.ds k.disk k.space
+    store = subst (StoreIs g v.graph v.ds k.disk) now v.store
 
-  leaves_all : (graph : Graph) (ds : List Opened) (id : Puid) (o : Object) (dr : Draft) → StoreIs g graph ds k.disk k.space → object_at graph id ≡ Some o → IsOpen ds id was dr → Leaves g k.disk d (λ c. Holds c graph)
-  leaves_all graph ds id o dr store at opened = then g k.disk d1 d _ _ (fin.goes.leaves graph (going_in g graph ds k.disk k.space k.space.left store)) (leaves graph ds id o dr (store_now graph ds store) at opened) (λ c p. p)
+    -- the store has the draft then
+    abbrev then_view : DraftView g d1 space1 was
+    then_view = record { graph = v.graph; ds = v.ds; id = v.id; object = v.object; draft = v.draft; store = finished_store g v.graph v.ds k.disk d1 k.space space1 fin.goes store fin.done; at = v.at; opened = v.opened }
 
-  pub given_up : ((graph : Graph) (ds : List Opened) (id : Puid) (o : Object) (dr : Draft) → StoreHas g graph ds d1 space1 → object_at graph id ≡ Some o → IsOpen ds id was dr → Dropped g graph ds id was.created d1 d space)
-      → GivesUp g was k (record k { disk = d; space = space })
-  given_up done = record {
+    leaves : Leaves g k.disk d (λ c. Holds c v.graph)
+    leaves = then g k.disk d1 d _ _ (fin.goes.leaves v.graph (going_in g v.graph v.ds k.disk k.space k.space.left store)) (aborts then_view).leaves (λ c p. p)
+
+  pub given_up : result ≡ Ok tt → GivesUp g was k (record k { disk = d; space = space })
+  given_up ok = record {
     same = refl;
     size = size;
-    faults = omega (arith, fin.calls.faults, calls.faults);
-    later = omega (arith, fin.calls.later, calls.later);
+    faults = omega (arith, fin.calls.faults, call.calls.faults);
+    later = omega (arith, fin.calls.later, call.calls.later);
     idle = λ stop is. no_stop stop is;
-    left = λ none still. left_same ∙ fin.done;
-    ends = λ graph ds id o dr store at opened none. record {
-      leaves = leaves_all graph ds id o dr store at opened;
+    left = λ none still. call.left ∙ fin.done;
+    ends = λ v now none. record {
+      leaves = leaves v now;
       given = λ still. record {
         mid = d1;
         space = space1;
-        store = store_now graph ds store;
+        store = (then_view v now).store;
         none = fin.done;
-        content = finished_content g graph ds k.disk d1 k.space space1 fin.goes store fin.done;
-        dropped = done graph ds id o dr (store_now graph ds store) at opened;
+        content = finished_content g v.graph v.ds k.disk d1 k.space space1 fin.goes (store v now) fin.done;
+        dropped = rw ok at (aborts (then_view v now)).done;
       };
       sound = λ stop is. no_stop stop is;
     };
@@ -97,10 +101,8 @@ module _ {D : Type 0} (g : Ghosts D) (was : Drafting) (k : Kernel D) (d1 : D) (s
   }
 
   -- it stops
-  pub not_given_up : (e : Trouble) → e ≢ troubles.Disk false → IsDraftTrouble g (draft_top was) d1 d space e
-      → ((graph : Graph) (ds : List Opened) (id : Puid) (o : Object) (dr : Draft) → StoreHas g graph ds d1 space1 → object_at graph id ≡ Some o → IsOpen ds id was dr → is_damage e ≡ false)
-      → GivesUp g was k (record k { disk = d; space = space; stop = stopped_by (reply_to (refused_by e) (g.moment d)) k.stop })
-  not_given_up e untried why sound = stops_so g was k d space size (omega (arith, fin.calls.faults, calls.faults)) (omega (arith, fin.calls.later, calls.later)) runs leaves_all e untried (at e why) (met e why) (λ graph ds id o dr store there opened. sound graph ds id o dr (store_now graph ds store) there opened)
+  pub not_given_up : (e : Trouble) → result ≡ Err e → GivesUp g was k (record k { disk = d; space = space; stop = stopped_by (reply_to (refused_by e) (g.moment d)) k.stop })
+  not_given_up e is = stops_so g was k d space size (omega (arith, fin.calls.faults, call.calls.faults)) (omega (arith, fin.calls.later, call.calls.later)) runs leaves e (rw is at call.tried) (at e (rw is at call.refused)) (met e (rw is at call.refused)) (λ v now. rw is at (aborts (then_view v now)).sound)
     where
       at : (t : Trouble) → IsDraftTrouble g (draft_top was) d1 d space t → (b : Bool) → t ≡ troubles.Disk b → HasFailed g k.disk d
       at (troubles.Disk x) is b same = failed_since g k.disk d1 d fin.calls.later fin.calls.faults is.failed
@@ -112,9 +114,12 @@ module _ {D : Type 0} (g : Ghosts D) (was : Drafting) (k : Kernel D) (d1 : D) (s
 
 -- It couldn't be carried out: the draft is gone, and the core stops, also where nothing was tried.
 pub not_finished : {D : Type 0} (g : Ghosts D) (was : Drafting) (k : Kernel D) (d : D) (space : Kept) (why : Trouble) (fin : FinishesLeft g k.disk d k.space space (Err why)) → k.stop ≡ None → GivesUp g was k (record k { disk = d; space = space; stop = stopped_by (reply_to (refused_by (trouble_after_try why)) (g.moment d)) k.stop })
-not_finished g was k d space why fin runs = stops_so g was k d space fin.calls.same.size fin.calls.faults fin.calls.later runs (λ graph ds id o dr store there opened. fin.goes.leaves graph (going_in g graph ds k.disk k.space k.space.left store)) (trouble_after_try why) (never why) (at why fin.ends.refused) (met why fin.ends.refused)
-    (λ graph ds id o dr store there opened. sound why (fin.goes.sound graph (going_in g graph ds k.disk k.space k.space.left store)))
+not_finished g was k d space why fin runs = stops_so g was k d space fin.calls.same.size fin.calls.faults fin.calls.later runs (λ v now. fin.goes.leaves v.graph (going_in g v.graph v.ds k.disk k.space k.space.left (store v now))) (trouble_after_try why) (never why) (at why fin.ends.refused) (met why fin.ends.refused)
+    (λ v now. sound why (fin.goes.sound v.graph (going_in g v.graph v.ds k.disk k.space k.space.left (store v now))))
   where
+    store : (v : DraftSeen g k.disk was) → v.space ≡ k.space → StoreIs g v.graph v.ds k.disk k.space
+    store v now = subst (StoreIs g v.graph v.ds k.disk) now v.store
+
     never : (t : Trouble) → trouble_after_try t ≢ troubles.Disk false
     never (troubles.Disk x) = λ is. cc
     never (troubles.Damaged damage) = λ is. cc

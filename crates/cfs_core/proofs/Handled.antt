@@ -1,12 +1,12 @@
 -- What is handled: grants with the drafts that are held for their draws.
-use Rattle.std.proofs.Common.{◌≡◌, ℕ, suc, ◌+◌, List, [], ◌∷◌, ◌++◌, drop, slice_get, add-one, rules, Bool, true, false, cond, not, ◌||◌, ◌&&◌, Option, Some, None, Result, Ok, Err, is_some, refl, sym, ◌∙◌, ap, subst, arith, ◌==◌, IfSome, IsOk, IsSome, OnErr, OnOk, filter}
+use Rattle.std.proofs.Common.{◌≡◌, ℕ, suc, ◌+◌, List, [], ◌∷◌, ◌++◌, drop, slice_get, add-one, rules, Bool, true, false, cond, not, ◌||◌, ◌&&◌, Option, Some, None, Result, Ok, Err, is_some, refl, sym, ◌∙◌, ap, subst, arith, ◌≤◌, ◌==◌, IsOk, OnErr, OnOk, filter}
 use Rattle.cfs_core.proofs.Words.{and_right, Drafting, eq-eqb, eqb-true, false_from_ne_true, list_any, list_any-append, nat_tests, or_from, or_parts, same_tuid, true≢false, Tuid}
 use Rattle.open_table.specs.declared.grant.Grant.{Grant}
 use Rattle.open_table.specs.Grants.{is_session_grant}
 use Rattle.cfs_core.specs.Kernel.{Handle, grants_in}
-use Rattle.cfs_core.specs.Handles.{AreOfGrants, drafting_at, have_draft, is_at, is_drawn, handled, handles_but, root_at, with_drafting}
+use Rattle.cfs_core.specs.Handles.{AreOfGrants, ChangesHeld, HoldsDraft, drafting_at, have_draft, is_at, is_drawn, handled, handles_but, root_at, with_drafting}
 use Rattle.std.proofs.Math.Seq.{drop-cons}
-use Rattle.std.proofs.lemmas.Option.{get_or_from_slice_get, slice_get_within}
+use Rattle.std.proofs.lemmas.Option.{get_or_from_slice_get, same_Some, slice_get_within}
 use Rattle.ufs_model.specs.Identifier.{same_puid}
 use Rattle.cfs_base.specs.declared.identifier.Puid.{Puid}
 
@@ -47,7 +47,7 @@ module _ (held : ℕ → Option Drafting) where
   any_drawn draw (g ∷ gs) = ap (λ b. (draw == g.tuid.draw) || b) (any_drawn draw gs)
 
   -- the draft that is held for a draw is that of its handle
-  pub held_at : (gs : List Grant) (draw : ℕ) → (list_any (λ g. draw == g.tuid.draw) gs ≡ false → held draw ≡ None) → held draw ≡ drafting_at (handled held gs) draw
+  held_at : (gs : List Grant) (draw : ℕ) → (list_any (λ g. draw == g.tuid.draw) gs ≡ false → held draw ≡ None) → held draw ≡ drafting_at (handled held gs) draw
   held_at [] draw none = none refl
   held_at (g ∷ gs) draw none = at (λ rest. held_at gs draw rest) (draw == g.tuid.draw) refl
     where
@@ -90,6 +90,22 @@ module _ (draw : ℕ) (what : Option Drafting) (before after : ℕ → Option Dr
           ≡ cond b (record { grant = g; drafting = what }) (record { grant = g; drafting = before g.tuid.draw }) ∷ with_drafting draw what (handled before gs)
       at true = refl
       at false = refl
+
+-- the drafts of a table, seen as its handles
+module _ (held : ℕ → Option Drafting) (gs : List Grant) (handles : List Handle) (view : handled held gs ≡ handles) (all : AreOfGrants held gs) (draw : ℕ) where
+  pub held_here : held draw ≡ drafting_at handles draw
+  held_here = held_at held gs draw (all draw) ∙ ap (λ hs. drafting_at hs draw) view
+
+  -- the draft that a call is handed is the one that is there
+  pub it_holds : {bytes : ℕ} → HoldsDraft handles draw bytes → (d : Drafting) → held draw ≡ Some d → bytes ≤ d.root.size
+  it_holds {bytes = bytes} has d is = (let same : has.drafting ≡ d = same_Some has.drafting d (sym has.has ∙ sym held_here ∙ is) in subst (λ (x : Drafting). bytes ≤ x.root.size) same has.within)
+
+  pub never_absent : {A : Type 0} {bytes : ℕ} → HoldsDraft handles draw bytes → held draw ≡ None → A
+  never_absent has none = (let no : Some has.drafting ≡ None = sym has.has ∙ sym held_here ∙ none in cc)
+
+  -- and becomes another
+  pub changes_held : {So : Drafting → Drafting → Type 0} (after : ℕ → Option Drafting) (was now : Drafting) → held draw ≡ Some was → ((q : ℕ) → after q ≡ cond (draw == q) (Some now) (held q)) → So was now → ChangesHeld draw handles (handled after gs) So
+  changes_held after was now is puts so = record { was = was; has = sym held_here ∙ is; now = now; with_it = handled_put draw (Some now) held after puts gs ∙ ap (with_drafting draw (Some now)) view; so = so }
 
 -- where nothing is held for a draw that no grant has, and something for a new grant
 module _ (g : Grant) (what : Option Drafting) (before after : ℕ → Option Drafting) (puts : (q : ℕ) → after q ≡ cond (g.tuid.draw == q) what (before q)) where
@@ -166,15 +182,7 @@ none_of_grant who t (handle ∷ ss) none =
         apart : (who : ℕ) (t : Tuid) (g : Grant) → (t.draw == g.tuid.draw) ≡ false → (is_session_grant who t g && true) ≡ false
         apart who t g other = grind (arith, nat_tests)
 
--- a consequence of what a call does
--- what holds of what is there
-pub some_if : {A : Type 0} (P : A → Type 0) (o : Option A) (x : A) → o ≡ Some x → IfSome o P → P x
-some_if P None x is has = cc
-some_if P (Some y) x is has = let same : y ≡ x = cc in subst P same has
-
-pub if_some : {A : Type 0} (P : A → Type 0) (o : Option A) (x : A) → o ≡ Some x → P x → IfSome o P
-if_some P None x is has = cc
-if_some P (Some y) x is has = let same : x ≡ y = cc in subst P same has
+-- ---- a consequence of what a call does
 
 pub ok_of : {A E P : Type 0} (r : Result A E) → IsOk r → OnOk r P → P
 ok_of (Ok x) ok is = is
@@ -191,8 +199,3 @@ stays_or (Err e) P done kept p q = subst P (sym kept) q
 pub on_err : {A E P Q : Type 0} (r : Result A E) → (P → Q) → OnErr r P → OnErr r Q
 on_err (Ok a) f p = tt
 on_err (Err e) f p = f p
-
--- what is there
-pub some_it : {A : Type 0} (o : Option A) → IsSome o → (x : A) × (o ≡ Some x)
-some_it None is = cc
-some_it (Some x) is = (x, refl)

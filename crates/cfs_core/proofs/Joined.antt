@@ -1,6 +1,6 @@
 -- What was left of a commit is carried out, and a change comes after it.
 use Rattle.std.proofs.Common.{◌≡◌, ◌≢◌, inl, ℕ, length, Bool, true, false, Option, Some, None, Result, Ok, Err, IsTrue, refl, sym, ◌∙◌, ap, subst, arith, IfOk, sum, IsSome}
-use Rattle.cfs_core.proofs.Words.{Before, Early, Event, Ghosts, Holds, Image, Kept, keeps, Late, Leaves, OnlyReads, Opened, refusal_of, Refused, Reply, Request, State, StoreHas, sum_is, then, wider, HoldsSome, Puid, IsSwept}
+use Rattle.cfs_core.proofs.Words.{Before, Early, Event, Ghosts, Holds, Image, Kept, keeps, Late, Leaves, OnlyReads, refusal_of, Refused, Reply, Request, State, StoreHas, sum_is, then, wider, HoldsSome, Puid, IsSwept, Drafts}
 use Rattle.cfs_base.specs.declared.refusal.Damage.{Damage}
 use Rattle.cfs_base.specs.declared.refusal.Need.{Need}
 use Rattle.cfs_base.specs.declared.refusal.Refused.TheVariants as refusals
@@ -8,16 +8,14 @@ use Rattle.cfs_base.specs.declared.refusal.Trouble.{Trouble}
 use Rattle.cfs_base.specs.declared.refusal.Trouble.TheVariants as troubles
 use Rattle.cfs_base.specs.Refusals.{refused_by}
 use Rattle.cfs_base.proofs.Calls.{stopped_after_try}
-use Rattle.std.specs.Prelude.{is_some, ◌⊎◌, List, ◌≤◌}
+use Rattle.std.specs.Prelude.{is_some, ◌⊎◌, ◌≤◌}
 use Rattle.cyl_alloc.specs.Left.{LeftCommit}
 use Rattle.finisher.proofs.Finished.{finished_content, finished_store}
 use Rattle.finisher.specs.Going.{IsLeftTrouble, calls_left, tries_left}
 use Rattle.survival.specs.Call.{ReadsIn}
 use Rattle.ufs_model.specs.declared.asked.Event.TheVariants as events
 use Rattle.ufs_model.specs.declared.asked.Reply.TheVariants as replies
-use Rattle.cfs_base.specs.declared.identifier.Tuid.{Tuid}
-use Rattle.ufs_model.specs.declared.change.Change.{Change}
-use Rattle.cfs_core.specs.Drafts.{TriesMakingWith, TriesThroughWith}
+use Rattle.cfs_core.specs.Drafts.{TriesWhere}
 use Rattle.cfs_core.specs.Calls.{AddsNoStray, Answers, EndsSo, IsCauseOf, IsWant, MayBeRead, Owes, Tries, TriesOn, TriesOnWith, TriesWith, Undone, Went, done_or, leaves_all}
 use Rattle.cfs_core.specs.Claimed.{TakesForRequest}
 use Rattle.cfs_core.specs.Damage.{After, IsDamageTold, IsMet, NoEntry}
@@ -58,7 +56,7 @@ module _ {D : Type 0} (g : Ghosts D) (old : Kernel D) (d : D) (space : Kept) (tr
   mid = record old { disk = d; space = space }
 
   module _ (s : State) (serves : ServesIs g old s) where
-    abbrev drafts : List Opened
+    abbrev drafts : Drafts
     drafts = drafts_of_handles old.handles s.grants
 
     store_now : StoreHas g s.graph drafts d space
@@ -198,15 +196,9 @@ module _ {D : Type 0} (g : Ghosts D) (old : Kernel D) (d : D) (space : Kept) (tr
       went = λ named. went_since new request result (tries.went named);
     }
 
-    pub tries_through_since : (who : ℕ) (t : Tuid) (change : Change) → TriesThroughWith g None mid new who t change request result → TriesThroughWith g old.space.left old new who t change request (since tried result)
-    tries_through_since who t change tries = record {
-      ends = λ s serves none so. ends_since left_sized sized new s who request serves none so.goes result (λ some. decides) (λ some. never) size (tries.ends s (serves_mid s serves) none so);
-      went = went_since new request result tries.went;
-    }
-
-    pub tries_making_since : (who : ℕ) (t : Tuid) → TriesMakingWith g None mid new who t request result → TriesMakingWith g old.space.left old new who t request (since tried result)
-    tries_making_since who t tries = record {
-      ends = λ s serves none so. ends_since left_sized sized new s who request serves none so.goes result (λ some. decides) (λ some. never) size (tries.ends s (serves_mid s serves) none so);
+    pub where_since : (who : ℕ) (may : State → Type 0) → ((s : State) → may s → refusal_of s who request ≡ None) → TriesWhere g None mid new who request may result → TriesWhere g old.space.left old new who request may (since tried result)
+    where_since who may goes tries = record {
+      ends = λ s serves none so. ends_since left_sized sized new s who request serves none (goes s so) result (λ some. decides) (λ some. never) size (tries.ends s (serves_mid s serves) none so);
       went = went_since new request result tries.went;
     }
 
@@ -266,15 +258,9 @@ module _ {D : Type 0} (g : Ghosts D) (left_sized : (d : D) (t : ℕ) (c : Image)
     went = λ named. went_unfinished;
   })
 
-  pub through_unfinished : (who : ℕ) (t : Tuid) (change : Change) (e : Refused) → e ≡ refused_by why → TriesThroughWith g old.space.left old cut who t change request (Err e)
-  through_unfinished who t change e is = subst (λ (x : Refused). TriesThroughWith g old.space.left old cut who t change request (Err x)) (sym is) (record {
-    ends = λ s serves none so. ends_unfinished s who serves none so.goes;
-    went = went_unfinished;
-  })
-
-  pub making_unfinished : (who : ℕ) (t : Tuid) (e : Refused) → e ≡ refused_by why → TriesMakingWith g old.space.left old cut who t request (Err e)
-  making_unfinished who t e is = subst (λ (x : Refused). TriesMakingWith g old.space.left old cut who t request (Err x)) (sym is) (record {
-    ends = λ s serves none so. ends_unfinished s who serves none so.goes;
+  pub where_unfinished : (who : ℕ) (may : State → Type 0) → ((s : State) → may s → refusal_of s who request ≡ None) → (e : Refused) → e ≡ refused_by why → TriesWhere g old.space.left old cut who request may (Err e)
+  where_unfinished who may goes e is = subst (λ (x : Refused). TriesWhere g old.space.left old cut who request may (Err x)) (sym is) (record {
+    ends = λ s serves none so. ends_unfinished s who serves none (goes s so);
     went = went_unfinished;
   })
 

@@ -9,6 +9,7 @@ mod Refusing
 mod Damages
 mod Went
 mod Claimed
+mod Views
 mod Answering
 mod Joined
 mod Calm
@@ -43,7 +44,6 @@ mod Indexed
 mod Slotted
 mod MadeIn
 mod Altered
-mod Barred
 mod Rewritten
 pub mod Asked
 mod SoundGraph

@@ -1,9 +1,9 @@
 -- An object made in a draft of an index: it is in the graph at once, and its identifier in a slot of the draft.
-use Rattle.std.proofs.Common.{◌≡◌, ◌≢◌, ◌⊎◌, inl, inr, ℕ, zero, suc, ◌+◌, ◌/◌, ◌<◌, ◌≤◌, List, [], ◌∷◌, length, get_or, Bool, true, false, not, ◌||◌, ◌==◌, Option, Some, None, Result, Ok, Err, IsTrue, refl, sym, ◌∙◌, ap, subst, arith, sum, option_to_list, option_and_then, map, ⊎_elim, IfErr}
-use Rattle.cfs_core.proofs.Words.{and_parts, blocks_of, blocks_taken, both_ways, cases_lt, changed_draft, changed_object, ChangesOnly, created, Draft, draft_blocks, draft_of, Drafting, edge_stays, Fill, free_is_root, fresh_of, Ghosts, Grant, Graph, has_block, has_block-still, held_levels, Holds, Image, Index, insert_entry, is_free_root, IsLeastFree, IsOfThese, Kept, word, true≢false}
-use Rattle.cfs_core.proofs.Words.{Kind, kinds_in-insert_entry, kinds_of, list_all, MapEntry, missing, named, nat_tests, need_of, not-true, numbers_rise, Object, object_kind, of_draft, of_owner, Opened, opened_as, or_cases, owner_of, Puid, puid_cmp, put, put_draft-at, Refused, replaced, Reply, Request, seen, seen_draft, State, sum_by, sum_is, wider, target, Through, Tuid, with_draft, with_object, written_anew}
+use Rattle.std.proofs.Common.{◌≡◌, ◌≢◌, ◌⊎◌, inl, inr, ℕ, zero, suc, ◌+◌, ◌/◌, ◌<◌, ◌≤◌, List, [], ◌∷◌, length, get_or, Bool, true, false, ◌||◌, ◌==◌, Option, Some, None, Result, Ok, Err, IsTrue, refl, sym, ◌∙◌, ap, subst, arith, sum, option_to_list, map, ⊎_elim, IfErr}
+use Rattle.cfs_core.proofs.Words.{blocks_of, blocks_taken, cases_lt, changed_draft, changed_object, ChangesOnly, created, Draft, Drafting, edge_stays, Fill, fresh_of, Ghosts, Graph, has_block-still, held_levels, Holds, Image, Index, insert_entry, IsLeastFree, IsOfThese, Kept, word, true≢false, Drafts, with_opened, draft_blocks_if, taken_more, taken_with, differs}
+use Rattle.cfs_core.proofs.Words.{Kind, kinds_in-insert_entry, kinds_of, list_all, MapEntry, missing, named, need_of, numbers_rise, Object, object_kind, of_draft, of_owner, Opened, opened_as, or_cases, owner_of, Puid, puid_cmp, put, put_draft-at, Refused, Reply, Request, seen, seen_draft, State, sum_is, wider, target, Through, Tuid, with_draft, with_object, written_anew}
 use Rattle.cfs_base.specs.declared.refusal.Refused.TheVariants as refusals
-use Rattle.index_drafts.specs.Creates.{CreateCall, CreateEnds, CreatesInDraft, new_root_entry}
+use Rattle.index_drafts.specs.Creates.{CreateCall, CreateEnds, CreatesIn, CreatesInDraft, new_root_entry}
 use Rattle.intentions.specs.Left.{StoreWith, coming, final_image}
 use Rattle.special_files.specs.Order.{leaf_claims}
 use Rattle.ufs_model.specs.Need.{change_need, is_normal}
@@ -12,7 +12,7 @@ use Rattle.cfs_core.specs.Claimed.{ClaimsInOrder, TakesForRequest, claims_for, c
 use Rattle.cfs_core.proofs.Changed.{of_this}
 use Rattle.cfs_core.proofs.Claimed.{claims_all, takes_alone}
 use Rattle.index_drafts.specs.Puts.{IndexView, slot_need}
-use Rattle.index_ops.specs.Creates.{IsOpenMap, made_of}
+use Rattle.special_files.specs.Creates.{IsOpenMap, made_of}
 use Rattle.special_files.specs.Committing.{FarRoots, draft_top, puid_at}
 use Rattle.special_files.specs.Refusal.{IsDraftRefusal, has_met_damage, is_full_refusal, top_of}
 use Rattle.ufs_model.specs.declared.asked.Event.TheVariants as events
@@ -23,13 +23,13 @@ use Rattle.special_files.specs.Drafting.{draft_takes}
 use Rattle.ufs_model.specs.declared.asked.Reply.TheVariants as replies
 use Rattle.ufs_model.specs.declared.object.Object.TheVariants as objects
 use Rattle.ufs_model.specs.Outcome.{with_edge}
-use Rattle.cfs_core.specs.Drafts.{MakesInDraft, MakesSo, TriesMakingWith}
+use Rattle.cfs_core.specs.Drafts.{MakesSo, TriesMakingWith}
 use Rattle.cfs_core.specs.Kernel.{Kernel, Handle}
 use Rattle.cfs_core.specs.Handles.{drafting_at, with_drafting}
 use Rattle.cfs_core.specs.Makes.{IsMaking, NamesMade}
 use Rattle.cfs_core.specs.Damage.{IsDamageTold}
 use Rattle.cfs_core.specs.StandsFor.{CoreServes, drafts_of_handles, free_to_come, sweeps_now}
-use Rattle.cfs_core.proofs.Altered.{all_rise, bare_with, fresh_few, need_by, not_beside, set_rises, still_special, unchanged, without_replaced}
+use Rattle.cfs_core.proofs.Altered.{all_rise, bare_with, fresh_few, need_by, not_beside, set_rises, still_special, unchanged}
 use Rattle.cfs_core.proofs.Answering.{disk_failed, full_still, reads_none}
 use Rattle.cfs_core.proofs.Committed.{IsOutcome, LeavesThese, did_with, doubtful, uncut}
 use Rattle.cfs_core.proofs.Damages.{told_of_draft, told_of_making}
@@ -37,12 +37,14 @@ use Rattle.cfs_core.proofs.Placed.{if_astray, one_block, root_is}
 use Rattle.cfs_core.proofs.Serving.{running, stays}
 use Rattle.cfs_core.proofs.Went.{cause_of, causes_met, went_so}
 use Rattle.special_files.proofs.Refusals.{damage_as}
-use Rattle.cfs_core.proofs.Created.{free_inside, least_one, least_there, more_sum}
+use Rattle.cfs_core.proofs.Created.{least_one, least_there, more_sum, free_root, inside, other_than_new, new_undrafted, no_root, not_zero}
 use Rattle.cfs_core.proofs.Drafted.{changed_drafts, changed_have, special}
-use Rattle.cfs_core.proofs.Ended.{IsHeld, alone_take, block, of_its_draft, open_in}
+use Rattle.cfs_core.proofs.Ended.{block, of_its_draft}
+use Rattle.cfs_core.proofs.Views.{IsHeld, draft_view, open_in, has_it}
 use Rattle.cfs_core.proofs.Handled.{grants_with}
 use Rattle.cfs_core.proofs.Moved.{HasStepped, IsStepped, four_left}
 use Rattle.cfs_core.proofs.Reached.{written_in}
+use Rattle.vol_owners.proofs.Drafts.{with_others}
 
 -- ---- what a call is refused for
 
@@ -71,16 +73,13 @@ failed g old new s who request refusals.Memory doubt spare still never sound = a
 -- Of a state that the core serves; the parts are those of Created, but that the draft takes the slot.
 module _ {D : Type 0} (g : Ghosts D) (k : Kernel D) (s : State) (serves : CoreServes g k s) (who : ℕ) (t : Tuid) (was : Drafting) (held : IsHeld g k s who t was) (slot : ℕ) (o : Object) (one : blocks_of o ≡ 1) (request : Request) (making : IsMaking request slot o)
     (so : MakesSo s who t request) where
-  pub has_it : draft_of s who (Through t) ≡ Some held.before
-  has_it = ap (option_and_then (λ (x : Grant). x.draft)) held.found ∙ held.draft_was
-
   -- the index, and what the store is handed
   abbrev two : (i : Index) × (held.before.object ≡ objects.Index i)
-  two = so.index held.before has_it
+  two = so.index held.before (has_it held)
 
   abbrev view : IndexView g k.disk k.space was
   view = record {
-    view = record { graph = s.graph; ds = drafts_of_handles k.handles s.grants; id = held.handle.grant.id; object = held.object; draft = held.before; store = serves.store; at = held.there; opened = open_in g k s serves who t was held };
+    view = draft_view g k s serves who t was held;
     index = two.0;
     is = two.1;
   }
@@ -117,18 +116,6 @@ module _ {D : Type 0} (g : Ghosts D) (k : Kernel D) (s : State) (serves : CoreSe
     out_is : (created k.words.seed s who (target request) slot o b) ≡ (replies.Id id, after)
     out_is = ap (λ r. created k.words.seed s who r slot o b) so.to ∙ ap (λ (y : State). (replies.Id id, record y { collection = with_edge (named s who (Through t)) id s.collection })) filled_is
 
-    free_root : is_free_root s.graph b ≡ true
-    free_root = free_is_root (g.content k.disk) s.graph (drafts_of_handles k.handles s.grants) serves.store.account serves.store.ordered b least.free
-
-    pub not_zero : b ≢ 0
-    not_zero zero_is = let no = (and_parts (not (b == 0)) (not (has_block s.graph.objects b)) free_root).0 in let is : (b == 0) ≡ true = grind (arith, nat_tests) in both_ways (b == 0) (not-true _ no) is
-
-    pub no_root : has_block s.graph.objects b ≡ false
-    no_root = not-true _ (and_parts (not (b == 0)) (not (has_block s.graph.objects b)) free_root).1
-
-    pub inside : b < length (g.content k.disk)
-    inside = free_inside (g.content k.disk) s.graph b serves.store.account.holds least.free
-
     directory_is : insert_entry puid_cmp k.directory.named id (object_kind o) ≡ kinds_of h
     directory_is = ap (λ names. insert_entry puid_cmp names id (object_kind o)) serves.front.directory ∙ sym (kinds_in-insert_entry s.graph.objects id o)
 
@@ -136,7 +123,7 @@ module _ {D : Type 0} (g : Ghosts D) (k : Kernel D) (s : State) (serves : CoreSe
       pub outcome : IsOutcome k s who b request (replies.Id id) after h 1
       outcome = record {
         allowed = so.goes;
-        names = λ _. free_root;
+        names = λ _. free_root g k s serves b least;
         speaks = making.speaks who (replies.Id id);
         out = making.outcome k.words.seed s who b ∙ out_is;
         graph = refl;
@@ -158,13 +145,13 @@ module _ {D : Type 0} (g : Ghosts D) (k : Kernel D) (s : State) (serves : CoreSe
         index_id = held.handle.grant.id
 
         abbrev it : Opened
-        it = opened_as index_id now d
+        it = opened_as now d
 
-        abbrev ds : List Opened
+        abbrev ds : Drafts
         ds = drafts_of_handles k.handles s.grants
 
-        abbrev es : List Opened
-        es = replaced it ds
+        abbrev es : Drafts
+        es = with_opened index_id it ds
 
         abbrev T : Option MapEntry → Bool
         T entry = of_owner b entry || of_draft index_id.block entry
@@ -213,9 +200,9 @@ module _ {D : Type 0} (g : Ghosts D) (k : Kernel D) (s : State) (serves : CoreSe
           arith,
           more_sum id o s.graph.objects,
           one,
-          alone_take index_id it es created_is.is_open.alone,
-          alone_take index_id (opened_as index_id was held.before) ds (open_in g k s serves who t was held).alone,
-          ap (sum_by draft_blocks) (without_replaced it ds),
+          taken_with s.graph ds index_id held.object (Some it) serves.store.ordered held.there,
+          ap draft_blocks_if (open_in g k s serves who t was held).alone,
+          taken_more s.graph es id o (with_others index_id (Some it) ds id (differs index_id id (other_than_new g k s serves b least id.word index_id (block g k s serves who t was held))) ∙ new_undrafted g k s serves b least id.word),
           fresh_few (written_anew (Fill slot (Some id)) held.before.object held.before.fresh) held.before.fresh (held_levels (changed_object (Fill slot (Some id)) held.before.object)) rising,
           ap (λ (n : Option ℕ). length (option_to_list n)) shadow,
           ap (λ (n : Option ℕ). length (option_to_list n)) made,
@@ -227,8 +214,8 @@ module _ {D : Type 0} (g : Ghosts D) (k : Kernel D) (s : State) (serves : CoreSe
         takes : TakesForRequest k.handles s who request (replies.Id id) (g.content k.disk) (g.content disk)
         takes =
             let claims : claims_for k.handles s who request (replies.Id id) ≡ new_root_entry b ∷ leaf_claims was.at was.leaves was.nodes (slot / 64) =
-            making.claims k.handles s who (replies.Id id) ∙ ap (λ r. made_entry s who r (replies.Id id) ∷ claims_for_slot k.handles s who r slot) so.to ∙ rw (has_it, held.at, claims_for_slot) refl in
-            let alone : commits_alone s who request ≡ false = making.alone s who ∙ ap (is_beside s who) so.to ∙ not_beside s who t held.before has_it in
+            making.claims k.handles s who (replies.Id id) ∙ ap (λ r. made_entry s who r (replies.Id id) ∷ claims_for_slot k.handles s who r slot) so.to ∙ rw (has_it held, held.at, claims_for_slot) refl in
+            let alone : commits_alone s who request ≡ false = making.alone s who ∙ ap (is_beside s who) so.to ∙ not_beside s who t held.before (has_it held) in
             takes_alone k.handles s who request (replies.Id id) (g.content k.disk) (g.content disk) alone
             (subst (λ (cs : List MapEntry). ClaimsInOrder cs (owners_of s who request (replies.Id id)) (g.content k.disk) (g.content disk)) (sym claims)
             (claims_all (new_root_entry b ∷ leaf_claims was.at was.leaves was.nodes (slot / 64)) (owners_of s who request (replies.Id id)) (g.content k.disk) (g.content disk) created_is.order))
@@ -237,11 +224,11 @@ module _ {D : Type 0} (g : Ghosts D) (k : Kernel D) (s : State) (serves : CoreSe
             (leaves : LeavesThese g k.disk disk s who request (replies.Id id) h) where
           pub made_answers : Answers g None k new s who request (replies.Id id)
           made_answers = did_with g left_sized sized k new size none s after who b request (replies.Id id) serves h 1 outcome leaves stepped T es has
-              (changed_drafts who t k.handles s.grants held.handle held.x held.place serves.drafts was held.before held.drafting held.draft_was now d)
-              (changed_have who t k.handles s.grants held.handle held.x held.place serves.drafts was held.before held.drafting held.draft_was now d
+              (changed_drafts who t k.handles s.grants held.handle held.x held.place serves.drafts was held.before held.drafting held.draft_was serves.state.alone now d)
+              (changed_have who t k.handles s.grants held.handle held.x held.place serves.drafts was held.before held.drafting held.draft_was serves.state.alone now d
               (record { is_open = created_is.is_open; writes = written_in g k s serves who t was held; special = still_special (Fill slot (Some id)) held.before.object not_normal }))
               four tt refl (λ short. omega (arith, short.few, room, takes_is, need_is)) (λ _. least) (subst (TakesForRequest k.handles s who request (replies.Id id) (g.content k.disk)) (sym end_is) takes)
-              (λ some. let no : true ≡ false = sym some ∙ making.commits_is s who ∙ ap (is_beside s who) so.to ∙ not_beside s who t held.before has_it in cc)
+              (λ some. let no : true ≡ false = sym some ∙ making.commits_is s who ∙ ap (is_beside s who) so.to ∙ not_beside s who t held.before (has_it held) in cc)
 
   -- ---- how the call ends
 
@@ -274,8 +261,8 @@ module _ {D : Type 0} (g : Ghosts D) (k : Kernel D) (s : State) (serves : CoreSe
         let b = id.block in
         let least = done.1.least in
         let same : id_at b ≡ id = ap (λ n. puid_at b n) (sym word_drawn ∙ sym done.0) in
-        let there = inside b least in
-        let named_so = names.named (not_zero b least) (omega (arith, there, room, sized k.disk serves.store.carries.tells.honest)) (root_is k.directory.named s.graph b serves.front.directory ∙ no_root b least) in
+        let there = inside g k s serves b least in
+        let named_so = names.named (not_zero g k s serves b least) (omega (arith, there, room, sized k.disk serves.store.carries.tells.honest)) (root_is k.directory.named s.graph b serves.front.directory ∙ no_root g k s serves b least) in
         let answers = made_answers b least takes_is enough now disk space (subst (CreatesInDraft view slot o disk space now) (sym same) done.1) call.left call.stays.shadow call.stays.created left_sized sized none call.calls.same.size (leaves_at b least) in
         subst (EndsSo g None k new s who request) (sym named_so.0)
         (subst (λ (x : Kernel D). Answers g None k x s who request (replies.Id id)) (sym named_so.1)
@@ -329,7 +316,7 @@ module _ {D : Type 0} (g : Ghosts D) (k : Kernel D) (s : State) (serves : CoreSe
 
 module _ {D : Type 0} (g : Ghosts D) (left_sized : (d : D) (t : ℕ) (c : Image) → g.left_since d t c → length c ≡ g.blocks d) (sized : (d : D) → IsTrue (g.honest d) → length (g.content d) ≡ g.blocks d)
     (k : Kernel D) (room : k.directory.room ≡ g.blocks k.disk) (who : ℕ) (t : Tuid) (was : Drafting) (drafting : drafting_at k.handles t.draw ≡ Some was) (the : (s : State) → CoreServes g k s → IsHeld g k s who t was) (slot : ℕ) (kind : Kind) (fill bytes : ℕ) (w : ℕ) (word_is : w ≡ word k.words.seed (k.words.drawn + 1))
-    (now : Drafting) (disk : D) (space : Kept) (r : Result Puid Refused) (makes : MakesInDraft g slot kind fill bytes w k.disk disk k.space space was now r) (request : Request) (making : IsMaking request slot (made_of kind fill bytes)) where
+    (now : Drafting) (disk : D) (space : Kept) (r : Result Puid Refused) (makes : CreatesIn g slot (made_of kind fill bytes) w 4 k.disk disk k.space space was now r) (request : Request) (making : IsMaking request slot (made_of kind fill bytes)) where
   abbrev mid : Kernel D
   mid = record k { disk = disk; space = space; handles = with_drafting t.draw (Some now) k.handles }
 
@@ -337,7 +324,7 @@ module _ {D : Type 0} (g : Ghosts D) (left_sized : (d : D) (t : ℕ) (c : Image)
   tries_made_in id is new result names = record {
     ends = λ s serves none so.
         let i = view g k s serves who t was (the s serves) slot (made_of kind fill bytes) (one_block kind fill bytes) request making so in
-        made g k s serves who t was (the s serves) slot (made_of kind fill bytes) (one_block kind fill bytes) request making so left_sized sized none room w word_is now disk space r (makes.ends i) (makes.need i) makes.call id is new result names;
+        made g k s serves who t was (the s serves) slot (made_of kind fill bytes) (one_block kind fill bytes) request making so left_sized sized none room w word_is now disk space r (makes.creates i) (makes.need i) makes.call id is new result names;
     went = record {
       plain = names.plain;
       cause = causes_met g k new request result (if_astray g k new request id k.directory result making.makes refl room names.astray);
@@ -356,7 +343,7 @@ module _ {D : Type 0} (g : Ghosts D) (left_sized : (d : D) (t : ℕ) (c : Image)
   tries_unmade_in e is = record {
     ends = λ s serves none so.
         let i = view g k s serves who t was (the s serves) slot (made_of kind fill bytes) (one_block kind fill bytes) request making so in
-        unmade g k s serves who t was (the s serves) slot (made_of kind fill bytes) (one_block kind fill bytes) request making so left_sized sized none room w word_is now disk space r (makes.ends i) (makes.need i) makes.call e is;
+        unmade g k s serves who t was (the s serves) slot (made_of kind fill bytes) (one_block kind fill bytes) request making so left_sized sized none room w word_is now disk space r (makes.creates i) (makes.need i) makes.call e is;
     went = went_so g k disk space (with_drafting t.draw (Some now) k.handles) makes.call.calls.same.size makes.call.calls.faults makes.call.calls.later request (Err e) tt
         (cause_of g k mid (Some request) e (λ tried same. stopped_so tried (subst Why same (rw is at makes.call.refused))) (λ damage same. met_so damage (subst Why same (rw is at makes.call.refused))) (λ need same. wants_so need (is ∙ ap (λ (x : Refused). Err x) same)));
   }

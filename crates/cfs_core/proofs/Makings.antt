@@ -1,6 +1,6 @@
 -- The two requests that make an object.
-use Rattle.std.proofs.Common.{◌≡◌, ℕ, ◌+◌, ◌*◌, ◌<◌, ◌||◌, true, false, length, None, Some, refl, sym, ◌∙◌, subst, arith, ◌==◌, nat_lt, eq-eqb}
-use Rattle.cfs_core.proofs.Words.{FileKind, Index, Kind, made_of, nat_tests, new_file, new_index, Puid, Ref, refusal_of, State}
+use Rattle.std.proofs.Common.{◌≡◌, ◌⊎◌, inl, inr, ℕ, ◌+◌, ◌*◌, ◌<◌, ◌≤◌, ◌||◌, true, false, length, None, Some, refl, sym, ◌∙◌, subst, arith, ◌==◌, nat_lt, eq-eqb}
+use Rattle.cfs_core.proofs.Words.{FileKind, Index, Kind, lt-ltb, made_of, nat_tests, new_file, new_index, Puid, Ref, refusal_of, State}
 use Rattle.cfs_base.specs.declared.kind.FileKind.TheVariants as file_kinds
 use Rattle.cfs_base.specs.declared.kind.Kind.TheVariants as kinds
 use Rattle.ufs_model.specs.declared.asked.Reply.TheVariants as replies
@@ -65,3 +65,15 @@ file_makes kind k fill to slot is few = subst (λ (x : Kind). IsMaking (asks.Cre
 
 pub index_makes : (slots : ℕ) (to : Ref) (slot : ℕ) → IsMaking (asks.CreateIndex slots to slot) slot (made_of kinds.Index 0 (8 * slots))
 index_makes slots to slot = subst (λ (n : ℕ). IsMaking (asks.CreateIndex slots to slot) slot (objects.Index (new_index n))) (omega arith) (index_making slots to slot)
+
+-- ---- how many slots an index may have
+
+pub some_slots : (slots : ℕ) → (slots ≡ 0 → ⊥) → (slots == 0) ≡ false
+some_slots slots some = grind (arith, nat_tests)
+
+pub few_slots : (slots : ℕ) → slots ≤ 983040 → nat_lt 983040 slots ≡ false
+few_slots slots few = grind (arith, nat_tests)
+
+pub out_of_slots : (slots : ℕ) → (slots ≡ 0) ⊎ ((slots ≡ 0 → ⊥) × 983040 < slots) → ((slots == 0) || nat_lt 983040 slots) ≡ true
+out_of_slots slots (inl none) = (let no : (slots == 0) ≡ true = grind (arith, nat_tests) in rw no refl)
+out_of_slots slots (inr (some, many)) = rw (some_slots slots some, lt-ltb 983040 slots many) refl

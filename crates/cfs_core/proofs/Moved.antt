@@ -1,6 +1,6 @@
 -- What a step of a draft, its commit or its end makes of the state.
-use Rattle.std.proofs.Common.{◌≡◌, ◌⊎◌, ℕ, ◌+◌, ◌/◌, ◌≤◌, List, [], ◌∷◌, length, Bool, true, false, cond, Option, Some, refl, sym, ◌∙◌, ap, subst, arith, filter, map, option_map, sum_by}
-use Rattle.cfs_core.proofs.Words.{blocks_taken, ChangesOnly, done, draft_blocks, Event, FitsDisk, Ghosts, Graph, Holds, Image, IsOfThese, IsState, IsSwept, kinds_of, Leaves, loose, MapEntry, next, Opened, room, State, stays_swept, stray_was, strays_stay, sum_by-cons}
+use Rattle.std.proofs.Common.{◌≡◌, ◌⊎◌, ℕ, ◌+◌, ◌/◌, ◌≤◌, [], ◌∷◌, length, Bool, Option, Some, refl, sym, ◌∙◌, ap, subst, arith, map, option_map}
+use Rattle.cfs_core.proofs.Words.{blocks_taken, ChangesOnly, done, Event, FitsDisk, Ghosts, Graph, Holds, Image, IsOfThese, IsState, IsSwept, kinds_of, Leaves, loose, MapEntry, next, room, State, stays_swept, stray_was, strays_stay, Drafts}
 use Rattle.cfs_core.specs.declared.kernel.Stop.{Stop}
 use Rattle.cfs_core.specs.Calls.{AddsNoStray, MakesEvent}
 use Rattle.cfs_core.specs.Kernel.{Kernel, grants_in}
@@ -25,20 +25,12 @@ pub record IsStepped {D : Type 0} (old new : Kernel D) (s after : State) (h : Gr
 
 -- the store has these objects and drafts afterwards, whatever is left of a commit then; from the image that was to come to
 -- the one that is only blocks of objects that are there changed
-pub record HasStepped {D : Type 0} (g : Ghosts D) (w : Option LeftCommit) (old new : Kernel D) (s : State) (h : Graph) (T : Option MapEntry → Bool) (es : List Opened) : Type 0 where
+pub record HasStepped {D : Type 0} (g : Ghosts D) (w : Option LeftCommit) (old new : Kernel D) (s : State) (h : Graph) (T : Option MapEntry → Bool) (es : Drafts) : Type 0 where
   pub store : StoreIs g h es new.disk new.space
   pub only : ChangesOnly T (coming (g.content old.disk) w) (end_in g new)
   pub these : IsOfThese T s.graph h
 
--- the drafts of fewer take no more
-pub fewer_take : (P : Opened → Bool) (ds : List Opened) → sum_by draft_blocks (filter P ds) ≤ sum_by draft_blocks ds
-fewer_take P [] = omega arith
-fewer_take P (d ∷ ds) = elim (P d) as (λ b. sum_by draft_blocks (cond b (d ∷ filter P ds) (filter P ds)) ≤ sum_by draft_blocks (d ∷ ds)) [
-  | true ↦ omega (arith, sum_by-cons draft_blocks d (filter P ds), sum_by-cons draft_blocks d ds, fewer_take P ds)
-  | false ↦ omega (arith, sum_by-cons draft_blocks d ds, fewer_take P ds)
-]
-
-module _ {D : Type 0} {w : Option LeftCommit} (g : Ghosts D) (old new : Kernel D) (s after : State) (h : Graph) (serves : ServesWith g old s w) (T : Option MapEntry → Bool) (es : List Opened) (has : HasStepped g w old new s h T es) where
+module _ {D : Type 0} {w : Option LeftCommit} (g : Ghosts D) (old new : Kernel D) (s after : State) (h : Graph) (serves : ServesWith g old s w) (T : Option MapEntry → Bool) (es : Drafts) (has : HasStepped g w old new s h T es) where
   abbrev before : Image
   before = coming (g.content old.disk) w
 
@@ -68,9 +60,9 @@ module _ {D : Type 0} {w : Option LeftCommit} (g : Ghosts D) (old new : Kernel D
       state = state;
       root = ap (λ (x : Graph). x.root) is.graph ∙ is.rooted ∙ serves.root ∙ sym is.root;
       store = subst (λ (x : Graph). StoreIs g x (drafts_of_handles new.handles after.grants) new.disk new.space) (sym is.graph)
-          (subst (λ (ds : List Opened). StoreIs g h ds new.disk new.space) (sym drafts_are) has.store);
+          (subst (λ (ds : Drafts). StoreIs g h ds new.disk new.space) (sym drafts_are) has.store);
       left = refl;
-      drafts = subst (λ (ds : List Opened). AreDraftsOf ds new.handles after.grants) (sym drafts_are) have;
+      drafts = subst (λ (ds : Drafts). AreDraftsOf ds new.handles after.grants) (sym drafts_are) have;
       swept = λ rests. subst (IsSwept (end_in g new)) (sym is.graph)
           (stays_swept T before (end_in g new) s.graph h has.only has.these (serves.swept (sym is.sweeping ∙ rests)));
       four = subst (λ (f : ℕ). 4 ≤ f) (sym (free_called g new c new.space.left)) four;

@@ -1,9 +1,10 @@
 -- A core on a volume that was opened stands for what the volume reads as.
 use Rattle.std.proofs.Common.{◌≡◌, ℕ, [], Bool, true, false, None, refl, sym, ◌∙◌, ap, subst, arith, ◌==◌}
-use Rattle.cfs_core.proofs.Words.{AreBlocks, false_from_ne_true, Ghosts, Graph, has_root_in, Image, IsRecovered, IsSoundAs, Kept, keys_of-kinds_in, Label, list_any, Listing, no_strays, object_of_block, opening_state, Puid, reading_is_one, room, sum_is}
+use Rattle.cfs_core.proofs.Words.{AreBlocks, false_from_ne_true, Ghosts, Graph, has_root_in, ids_of, Image, IsRecovered, IsSoundAs, Kept, keys_of-kinds_in, Label, list_any, Listing, no_drafts, no_strays, object_of_block, opening_state, Puid, reading_is_one, room, sum_is}
 use Rattle.ufs_model.specs.State.{opening}
 use Rattle.cfs_core.specs.Kernel.{Kernel}
 use Rattle.cfs_core.specs.Opened.{IsOpenedCore}
+use Rattle.cfs_core.proofs.Readied.{none_take}
 use Rattle.cfs_core.proofs.Serving.{serves_is}
 use Rattle.cfs_core.proofs.SoundGraph.{sound_graph, root_some}
 
@@ -31,7 +32,7 @@ module _ {D : Type 0} (g : Ghosts D) (before : Image) (d : D) (label : Label) (d
       left = left;
       drafts = tt;
       swept = λ _. is.swept;
-      four = omega (arith, room (g.content d) is.graph [] is.account is.ordered, no_strays (g.content d) is.graph is.swept, sum_is (g.content d) space is.counts, is.sound.room);
+      four = omega (arith, room (g.content d) is.graph no_drafts is.account is.ordered, none_take (ids_of is.graph), no_strays (g.content d) is.graph is.swept, sum_is (g.content d) space is.counts, is.sound.room);
       collecting = refl;
     });
     words = refl;

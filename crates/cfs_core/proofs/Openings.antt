@@ -1,8 +1,7 @@
 -- How an opening ends.
-use Rattle.std.proofs.Common.{◌≡◌, inl, ℕ, ◌+◌, ◌<◌, ◌≤◌, List, [], ◌∷◌, ◌++◌, length, Bool, true, false, cond, get_or, Option, Some, None, Ok, Err, IsTrue, refl, sym, ◌∙◌, ap, subst, arith, IfSome, Result, is_some, map, nat_le, nat_lt, option_to_list, sum}
-use Rattle.cfs_core.proofs.Words.{AcquireFault, begun_at, begun_fresh, block_there, changes_begin, differs, draft_blocks, Drafting, drafts_of, Draws, fault_by, FileKind, first_draft, first_here, first_others, fresh_of, Ghosts, Grant, granted, Graph, had_tried, has_all_grants, Holds, Image, has_met_damage, is_full_refusal, is_locked, is_normal, is_reading, is_there, IsOpen, next_keeps}
-use Rattle.cfs_core.proofs.Words.{IsPlainReply, IsState, Kept, Kind, directory_kind, object_kind, Leaves, length-none, list_any, Mode, MOST_GRANTS, nat_tests, Need, need_of, next, Object, object_at, of_draft, one_if, OnlyReads, Opened, opened_as, or_parts, outcome_legal, outcome_of, Puid, Reading, refusal_of, Refused, Reply, Request, same_puid, start_stays, State, sum_by-cons, takes_draft, Tuid}
-use Rattle.cfs_core.proofs.Words.{wider, word, Writing, MapEntry, stands_for, entry_in, the_draft, ChangesOnly}
+use Rattle.std.proofs.Common.{◌≡◌, inl, ℕ, ◌+◌, ◌<◌, ◌≤◌, List, [], ◌∷◌, ◌++◌, length, Bool, true, false, cond, get_or, Option, Some, None, Ok, Err, IsTrue, refl, sym, ◌∙◌, ap, subst, arith, IfSome, is_some, map, nat_le, nat_lt, option_to_list, sum}
+use Rattle.cfs_core.proofs.Words.{AcquireFault, begun_at, begun_fresh, block_there, changes_begin, Drafting, Draws, FileKind, first_draft, fresh_of, Ghosts, Grant, granted, has_all_grants, Holds, Image, has_met_damage, is_locked, is_normal, is_reading, is_there, IsOpen, next_keeps, Drafts, with_opened, with_here, taken_with}
+use Rattle.cfs_core.proofs.Words.{IsPlainReply, IsState, Kept, Kind, directory_kind, object_kind, Leaves, length-none, list_any, Mode, MOST_GRANTS, nat_tests, Need, need_of, next, Object, object_at, of_draft, one_if, Opened, opened_as, outcome_legal, outcome_of, Puid, Reading, refusal_of, Refused, Reply, Request, same_puid, start_stays, State, takes_draft, Tuid, fault_of, grants_of, mode_against, table_of, wider, word, Writing, MapEntry, the_draft, ChangesOnly}
 use Rattle.cfs_base.specs.declared.kind.FileKind.TheVariants as file_kinds
 use Rattle.cfs_base.specs.declared.kind.Kind.TheVariants as kinds
 use Rattle.cfs_base.specs.declared.refusal.Refused.TheVariants as refusals
@@ -14,30 +13,32 @@ use Rattle.ufs_model.specs.declared.asked.Request.TheVariants as asks
 use Rattle.ufs_model.specs.declared.object.Object.TheVariants as objects
 use Rattle.cfs_core.specs.Calls.{Answers, ByOutcome, ByWant, EndsSo, IsCause, Owes, Tries, TriesWith, Undone}
 use Rattle.cfs_core.specs.Kernel.{Kernel, Handle, grants_in, is_ready}
-use Rattle.cfs_core.specs.Opening.{Begins, BeginsSo, IsBegun, gets_draft, reply_to_fault}
+use Rattle.cfs_core.specs.Opening.{Begins, BeginsSo, IsBegun, gets_draft, reply_to_fault, IsRefusalOrMemory}
 use Rattle.cyl_alloc.specs.Left.{LeftCommit}
 use Rattle.intentions.specs.Left.{StoreWith, coming, final_image}
-use Rattle.cfs_core.specs.StandsFor.{HasDraftOf, CoreServes, ServesIs, ServesWith, bare, drafts_at, drafts_of_handles, end_in, free_to_come, free_with, sweeps_now}
+use Rattle.cfs_core.specs.StandsFor.{HasDraftOf, CoreServes, ServesIs, ServesWith, bare, drafts_of_handles, end_in, free_to_come, free_with, sweeps_now, opened_if}
 use Rattle.cfs_core.proofs.Answering.{disk_failed, full_still, memory, owes}
-use Rattle.cfs_core.proofs.Drafted.{others_have}
+use Rattle.cfs_core.proofs.Drafted.{both_have, core_has_none, others_have}
 use Rattle.cfs_core.proofs.Ended.{of_its_draft}
 use Rattle.cfs_core.proofs.Readied.{for_ready}
-use Rattle.cfs_core.proofs.Regranted.{grants_push, push_drafts, push_have}
+use Rattle.cfs_core.proofs.Regranted.{grants_push, push_bare, push_opened}
 use Rattle.cfs_core.proofs.Granted.{locked_by, many_by, none_by}
 use Rattle.ufs_model.specs.Next.{is_direct_delete}
 use Rattle.cfs_core.specs.Damage.{IsRootHere}
-use Rattle.special_files.specs.Refusal.{IsDraftRefusal}
-use Rattle.cfs_core.specs.Opening.{IsRefusalOrMemory}
 use Rattle.cfs_core.proofs.Damages.{told_still}
 use Rattle.cfs_core.proofs.Went.{went_so}
 use Rattle.cfs_core.proofs.Serving.{account, fits, honest, kind_is, named_root, object_listed, running, stays, nothing_left}
-use Rattle.cfs_core.proofs.Ways.{adds_none}
 use Rattle.cfs_core.proofs.Moved.{HasStepped, IsStepped, four_left, makes_stepped}
 use Rattle.cfs_core.specs.Claimed.{ClaimsInOrder, TakesForRequest, claims_for}
 use Rattle.cfs_core.proofs.Claimed.{claims_none, claims_shadow, takes_alone}
 use Rattle.cyl_alloc.specs.Space.{intended}
 use Rattle.cfs_base.specs.declared.kind.Place.TheVariants as places
-use Rattle.leaf_changes.specs.Tops.{Top, still_top}
+use Rattle.leaf_changes.specs.Tops.{still_top}
+use Rattle.special_files.specs.Begins.{BeginCall, drafts_begun, equal_to}
+use Rattle.special_files.specs.View.{IsShut, ObjectView}
+use Rattle.cfs_core.proofs.Views.{object_view}
+use Rattle.ufs_model.specs.State.{draft_at}
+use Rattle.ufs_model.proofs.Drafts.{not_open}
 
 -- ---- by its kind
 
@@ -101,46 +102,49 @@ pub told_plain : (fault : AcquireFault) → IsPlainReply (reply_to_fault fault)
 told_plain (faults.Locked mode) = tt
 told_plain faults.Grants = tt
 
-module _ (s : State) (who : ℕ) (id : Puid) (mode : Mode) (there : is_there s.graph id ≡ true)
-    (m : Option Mode) (count : ℕ) (lock : is_some m ≡ is_locked s who (asks.OpenFor id mode)) (many : nat_le MOST_GRANTS count ≡ has_all_grants s who (asks.OpenFor id mode)) where
-  pub fault_told : (fault : AcquireFault) → fault_by m count ≡ Some fault → refusal_of s who (asks.OpenFor id mode) ≡ Some (reply_to_fault fault)
-  fault_told (faults.Locked held) is = open_locked s who id there mode (sym lock ∙ locked_by m count (faults.Locked held) held is refl)
-  fault_told faults.Grants is = (let two = many_by m count faults.Grants is refl in open_many s who id there mode (sym lock ∙ two.0) (sym many ∙ two.1))
+-- of a table that is the core's
+module _ {D : Type 0} {w : Option LeftCommit} (g : Ghosts D) (k : Kernel D) (s : State) (serves : ServesWith g k s w) (who : ℕ) (id : Puid) (mode : Mode) (kind : Kind) (listed : directory_kind k.directory.named id ≡ Some kind) (tuid : Tuid) (gs : List handles.Grant) (same : gs ≡ grants_in k.handles) where
+  abbrev to_open : handles.Grant
+  to_open = record { tuid = tuid; session = who; id = id; mode = mode }
 
-  pub none_told : fault_by m count ≡ None → refusal_of s who (asks.OpenFor id mode) ≡ None
-  none_told is = (let two = none_by m count is in open_goes s who id there mode (sym lock ∙ two.0) (sym many ∙ two.1))
+  module _ (locks : is_some (mode_against (table_of s.grants) to_open) ≡ is_locked s who (asks.OpenFor id mode)) (fills : nat_le MOST_GRANTS (length (grants_of (table_of s.grants) who)) ≡ has_all_grants s who (asks.OpenFor id mode)) where
+    abbrev m : Option Mode
+    m = mode_against gs to_open
 
-  pub none_locked : fault_by m count ≡ None → is_locked s who (asks.OpenFor id mode) ≡ false
-  none_locked is = sym lock ∙ (none_by m count is).0
+    abbrev count : ℕ
+    count = length (grants_of gs who)
 
--- ---- no grant is on it
+    there : is_there s.graph id ≡ true
+    there = there_now g k s serves id kind listed
 
-pub unopened : (id : Puid) (ss : List Handle) (grants : List Grant) → grants_in ss ≡ map bare grants → list_any (λ x. same_puid id x.id) grants ≡ false → drafts_of (drafts_of_handles ss grants) id ≡ []
-unopened id [] [] table none = refl
-unopened id [] (x ∷ grants) table none = cc
-unopened id (handle ∷ ss) [] table none = refl
-unopened id (handle ∷ ss) (x ∷ grants) table none =
-    let head : handle.grant ≡ bare x = cc in
-    let tail : grants_in ss ≡ map bare grants = cc in
-    let two = or_parts (same_puid id x.id) (list_any (λ y. same_puid id y.id) grants) none in
-    adds_none id handle x ss grants (unopened id ss grants tail two.1) (λ d e has was. differs id handle.grant.id (ap (same_puid id) (ap (λ (e : handles.Grant). e.id) head) ∙ two.0))
+    lock : is_some m ≡ is_locked s who (asks.OpenFor id mode)
+    lock = ap (λ xs. is_some (mode_against xs to_open)) (same ∙ serves.front.grants) ∙ locks
+
+    many : nat_le MOST_GRANTS count ≡ has_all_grants s who (asks.OpenFor id mode)
+    many = ap (λ xs. nat_le MOST_GRANTS (length (grants_of xs who))) (same ∙ serves.front.grants) ∙ fills
+
+    pub fault_told : (fault : AcquireFault) → fault_of gs to_open ≡ Some fault → refusal_of s who (asks.OpenFor id mode) ≡ Some (reply_to_fault fault)
+    fault_told (faults.Locked held) is = open_locked s who id there mode (sym lock ∙ locked_by m count (faults.Locked held) held is refl)
+    fault_told faults.Grants is = (let two = many_by m count faults.Grants is refl in open_many s who id there mode (sym lock ∙ two.0) (sym many ∙ two.1))
+
+    -- nothing does
+    pub none_told : fault_of gs to_open ≡ None → (refusal_of s who (asks.OpenFor id mode) ≡ None) × (is_locked s who (asks.OpenFor id mode) ≡ false)
+    none_told is = (let two = none_by m count is in (open_goes s who id there mode (sym lock ∙ two.0) (sym many ∙ two.1), sym lock ∙ two.0))
 
 -- one that couldn't be begun
-pub refusal_so : {D : Type 0} (g : Ghosts D) (graph : Graph) (ds : List Opened) (id : Puid) (o : Object) (old new : D) (before after : Kept) (wanted_draft : Bool) → wanted_draft ≡ true → (e : Refused)
-    → (is_full_refusal e ≡ true → (e ≡ refusals.Full (record { free = sum before.free; need = 1 })) × (sum before.free < 5) × (new ≡ old)) → (had_tried e ≡ false → (after ≡ before) × OnlyReads g 2 old new)
-    → has_met_damage e ≡ false → Leaves g old new (λ c. Holds c graph) → BeginsSo g graph ds id o wanted_draft old new before after (Err e)
-refusal_so g graph ds id o old new before after w wants (refusals.Full need) full untried sound leaves = (let is = full refl in let same : need ≡ record { free = sum before.free; need = 1 } = (let both = is.0 in cc) in (wants, same, is.1, (untried refl).1, (untried refl).0))
-refusal_so g graph ds id o old new before after w wants (refusals.Disk true) full untried sound leaves = leaves
-refusal_so g graph ds id o old new before after w wants (refusals.Disk false) full untried sound leaves = ((untried refl).1, (untried refl).0)
-refusal_so g graph ds id o old new before after w wants (refusals.Damaged damage) full untried sound leaves = cc
-refusal_so g graph ds id o old new before after w wants refusals.Memory full untried sound leaves = ((untried refl).1, (untried refl).0)
+pub refusal_so : {D : Type 0} (g : Ghosts D) {at : ℕ} {old : D} {before : Kept} (v : ObjectView g old before at) (new : D) (after : Kept) (w : Bool) → w ≡ true → (e : Refused) → BeginCall g at 4 old new before after (Err e)
+    → has_met_damage e ≡ false → Leaves g old new (λ c. Holds c v.graph) → BeginsSo v w new after (Err e)
+refusal_so g {before = before} v new after w wants (refusals.Full need) call sound leaves = (let is = call.full refl in let same : need ≡ record { free = sum before.free; need = 1 } = (let both = is.0 in cc) in (wants, same, is.1, (call.untried refl).1, (call.untried refl).0))
+refusal_so g v new after w wants (refusals.Disk true) call sound leaves = leaves
+refusal_so g v new after w wants (refusals.Disk false) call sound leaves = ((call.untried refl).1, (call.untried refl).0)
+refusal_so g v new after w wants (refusals.Damaged damage) call sound leaves = cc
+refusal_so g v new after w wants refusals.Memory call sound leaves = ((call.untried refl).1, (call.untried refl).0)
 
 -- a draft that was begun is among the drafts
-pub begun_open : (id : Puid) (o : Object) (ds : List Opened) (at n : ℕ) (d : Drafting) → d ≡ begun_at at (Some n) d.own → id.block ≡ at → drafts_of ds id ≡ []
-    → IsOpen (opened_as id d (record { object = o; fresh = [] }) ∷ ds) id d (record { object = o; fresh = [] })
-begun_open id o ds at n d is same none = record {
-  at = same ∙ sym (ap (λ (w : Drafting). w.at) is);
-  alone = first_here (opened_as id d (record { object = o; fresh = [] })) ds none;
+pub begun_open : {D : Type 0} (g : Ghosts D) {at : ℕ} {old : D} {before : Kept} (v : ObjectView g old before at) (n : ℕ) (d : Drafting) → d ≡ begun_at at (Some n) d.own → IsShut v → IsOpen (drafts_begun v d) v.id d (equal_to v.object)
+begun_open g {at = at} v n d is none = record {
+  at = v.root ∙ sym (ap (λ (w : Drafting). w.at) is);
+  alone = with_here v.id (Some (opened_as d (equal_to v.object))) v.ds;
   leaf_flags = ap (λ (w : Drafting). length w.leaves) is ∙ length-none 15360;
   node_flags = ap (λ (w : Drafting). length w.nodes) is ∙ length-none 120;
   fresh = λ level. begun_fresh at (Some n) d.own level ∙ ap (λ (w : Drafting). get_or (fresh_of w) level []) (sym is);
@@ -166,7 +170,7 @@ module _ {D : Type 0} {w : Option LeftCommit} (g : Ghosts D) (left_sized : (d : 
   abbrev request : Request
   request = asks.OpenFor id mode
 
-  abbrev ds : List Opened
+  abbrev ds : Drafts
   ds = drafts_of_handles k.handles s.grants
 
   abbrev after : State
@@ -230,9 +234,6 @@ module _ {D : Type 0} {w : Option LeftCommit} (g : Ghosts D) (left_sized : (d : 
       table = table;
     }
 
-    drafts_are : drafts_of_handles (k.handles ++ handle ∷ []) (s.grants ++ grant ∷ []) ≡ drafts_at handle drafting grant.draft ++ ds
-    drafts_are = push_drafts ds handle grant k.handles s.grants serves.drafts
-
     state : IsState after
     state = next_keeps k.words.seed s after (events.Ask who request (replies.Grant tuid)) serves.state refl legal
 
@@ -257,8 +258,8 @@ module _ {D : Type 0} {w : Option LeftCommit} (g : Ghosts D) (left_sized : (d : 
       let four : 4 ≤ free_to_come g after_it = subst (λ (f : ℕ). 4 ≤ f) (sym (ap (free_with g after_it) serves.left ∙ free_opened g k words (k.handles ++ record { grant = shown; drafting = None } ∷ []) w)) serves.four in
       record {
         event = makes_stepped g k after_it s after s.graph serves (λ entry. false) ds has (stepped None k.disk k.space words words_are) (state None k.disk k.space words words_are)
-            (drafts_are None k.disk k.space words words_are)
-            (push_have ds (record { grant = shown; drafting = None }) grant (subst (HasDraftOf ds (record { grant = shown; drafting = None }) None) (sym no_draft) tt) k.handles s.grants serves.drafts) four
+            (push_bare (record { grant = shown; drafting = None }) grant refl k.handles s.grants serves.front.grants)
+            (both_have ds (record { grant = shown; drafting = None } ∷ []) (grant ∷ []) k.handles s.grants serves.drafts (subst (HasDraftOf ds (record { grant = shown; drafting = None }) None) (sym no_draft) tt, tt)) four
             left_sized (sized k.disk (honest g k s serves)) (events.Ask who request (replies.Grant tuid)) legal refl (nothing_left g k.disk (λ c. Holds c s.graph));
         still = λ all. let no : true ≡ false = sym all in cc;
         full = λ full. let no : false ≡ true = full in cc;
@@ -269,40 +270,41 @@ module _ {D : Type 0} {w : Option LeftCommit} (g : Ghosts D) (left_sized : (d : 
       }
 
   -- one is, and was begun where nothing was left
-  pub opened_draft : CoreServes g k s → wanted_draft ≡ true → (drafting : Drafting) (d : D) (space : Kept) (words : Draws) → words ≡ record { seed = k.words.seed; drawn = k.words.drawn + 1 } → drafts_of ds id ≡ [] → g.blocks d ≡ g.blocks k.disk → space.left ≡ k.space.left
-      → IsBegun g s.graph ds id o k.disk d k.space space drafting
+  pub opened_draft : (now : CoreServes g k s) → wanted_draft ≡ true → (drafting : Drafting) (d : D) (space : Kept) (words : Draws) → words ≡ record { seed = k.words.seed; drawn = k.words.drawn + 1 } → draft_at s.grants id ≡ None → g.blocks d ≡ g.blocks k.disk → space.left ≡ k.space.left
+      → IsBegun (object_view g k s now id o there) d space drafting
       → Answers g None k (record k { disk = d; space = space; words = words; handles = k.handles ++ record { grant = shown; drafting = Some drafting } ∷ [] }) s who request (replies.Grant tuid)
-  opened_draft now wants drafting d space words words_are shut size left begun =
-      let it : Opened = opened_as id drafting (record { object = o; fresh = [] }) in
+  opened_draft now wants drafting d space words words_are alone size left begun =
+      let it : Opened = opened_as drafting (record { object = o; fresh = [] }) in
       let has_draft : first_draft mode (object_at s.graph id) ≡ Some (record { object = o; fresh = [] }) = draft_is ∙ ap (λ b. cond b (Some (record { object = o; fresh = [] })) None) wants in
       let need : need_of s who request ≡ 1 = need_is ∙ ap one_if wants in
-      let after_it : Kernel D = record k { disk = d; space = space; words = words; handles = k.handles ++ record { grant = shown; drafting = Some drafting } ∷ [] } in
+      let es : Drafts = with_opened id it ds in
+      let handle_now : Handle = record { grant = shown; drafting = Some drafting } in
+      let after_it : Kernel D = record k { disk = d; space = space; words = words; handles = k.handles ++ handle_now ∷ [] } in
       -- nothing is left, so the content is what is to come
       let nothing : space.left ≡ None = left ∙ now.left in
       let end_is : final_image g d space ≡ g.content d = ap (coming (g.content d)) nothing in
-      let has : HasStepped g None k after_it s s.graph (λ entry. of_draft id.block entry) (it ∷ ds) = record {
-        store = subst (StoreWith g s.graph (it ∷ ds) d space) (sym nothing) begun.steps.store;
-        only = subst (ChangesOnly (λ entry. of_draft id.block entry) (g.content k.disk)) (sym end_is) begun.steps.only;
+      let has : HasStepped g None k after_it s s.graph (λ entry. of_draft id.block entry) es = record {
+        store = subst (StoreWith g s.graph es d space) (sym nothing) begun.opens.steps.store;
+        only = subst (ChangesOnly (λ entry. of_draft id.block entry) (g.content k.disk)) (sym end_is) begun.opens.steps.only;
         these = of_its_draft s.graph id (block_there s.graph id o there);
       } in
+      let shadow = (the_draft (g.content d) _ id drafting (record { object = o; fresh = [] }) begun.opened (begun.opens.steps.store.account.drafts id o there)).shadow begun.opens.least.0 begun.opens.least.1 in
       let made : length (option_to_list drafting.created) ≡ 0 = ap (λ (c : Option ℕ). length (option_to_list c)) begun.bare in
-      let four = four_left g k after_it s after s.graph now (λ entry. of_draft id.block entry) (it ∷ ds) has 1 (omega (arith, sum_by-cons draft_blocks it ds, made, one_at_most drafting.shadow)) (omega (arith, begun.free)) in
+      let four = four_left g k after_it s after s.graph now (λ entry. of_draft id.block entry) es has 1 (omega (arith, taken_with s.graph ds id o (Some it) now.store.ordered there, made, one_at_most drafting.shadow)) (omega (arith, begun.free)) in
       record {
-        event = makes_stepped g k after_it s after s.graph now (λ entry. of_draft id.block entry) (it ∷ ds) has (stepped (Some drafting) d space words words_are) (state (Some drafting) d space words words_are)
-            (drafts_are (Some drafting) d space words words_are ∙ ap (λ x. drafts_at (record { grant = shown; drafting = Some drafting }) (Some drafting) x ++ ds) has_draft)
-            (push_have (it ∷ ds) (record { grant = shown; drafting = Some drafting }) grant (subst (HasDraftOf (it ∷ ds) (record { grant = shown; drafting = Some drafting }) (Some drafting)) (sym has_draft) (record { is_open = begun.opened; special = special_of mode o (gets ∙ wants); writes = written_of mode o (gets ∙ wants) })) k.handles s.grants (others_have id ds (it ∷ ds) (first_others it ds) k.handles s.grants shut serves.drafts)) four
+        event = makes_stepped g k after_it s after s.graph now (λ entry. of_draft id.block entry) es has (stepped (Some drafting) d space words words_are) (state (Some drafting) d space words words_are)
+            (push_opened handle_now grant it (ap (opened_if (Some drafting)) has_draft) k.handles s.grants serves.front.grants alone)
+            (both_have es (handle_now ∷ []) (grant ∷ []) k.handles s.grants (others_have id (Some it) ds k.handles s.grants serves.front.grants alone serves.drafts)
+            (subst (HasDraftOf es handle_now (Some drafting)) (sym has_draft) (record { is_open = begun.opened; special = special_of mode o (gets ∙ wants); writes = written_of mode o (gets ∙ wants) }), tt)) four
             left_sized (sized k.disk now.store.carries.tells.honest ∙ sym size) (events.Ask who request (replies.Grant tuid)) legal refl begun.leaves;
         still = λ all. let no : true ≡ false = sym all in cc;
         full = λ full. let no : false ≡ true = full in cc;
         noted = λ done some. let no : false ≡ true = some in cc;
         taken = λ done. subst (TakesForRequest k.handles s who request (replies.Grant tuid) (g.content k.disk)) (sym end_is) (takes_alone k.handles s who request (replies.Grant tuid) (g.content k.disk) (g.content d) refl (subst (λ (cs : List MapEntry). ClaimsInOrder cs (id.block ∷ []) (g.content k.disk) (g.content d)) (sym (claims_are ∙ ap (λ b. cond b (intended places.ShadowRoot id.block ∷ []) []) wants))
-            (claims_shadow id.block begun.least.0 (g.content k.disk) (g.content d) begun.least.2 (the_shadow begun) begun.steps.only)));
+            (claims_shadow id.block begun.opens.least.0 (g.content k.disk) (g.content d) begun.opens.least.2 shadow begun.opens.steps.only)));
         owed = owed (g.content k.disk) (sum k.space.free) (omega (arith, need, begun.free));
       }
     where
-      the_shadow : (begun : IsBegun g s.graph ds id o k.disk d k.space space drafting) → stands_for id.block (entry_in (g.content d) begun.least.0) ≡ true
-      the_shadow begun = (the_draft (g.content d) _ id drafting (record { object = o; fresh = [] }) begun.opened (begun.steps.store.account.drafts id o there)).shadow begun.least.0 begun.least.1
-
       one_at_most : (c : Option ℕ) → length (option_to_list c) ≤ 1
       one_at_most None = omega arith
       one_at_most (Some n) = omega arith
@@ -315,7 +317,7 @@ module _ {D : Type 0} {w : Option LeftCommit} (g : Ghosts D) (left_sized : (d : 
     as_it_was : space ≡ k.space → stays_as ≡ record k { disk = d }
     as_it_was same = ap (λ (x : Kept). record k { disk = d; space = x }) same
 
-    pub not_opened : (e : Refused) → BeginsSo g s.graph ds id o wanted_draft k.disk d k.space space (Err e) → EndsSo g None k stays_as s who request (Err e)
+    pub not_opened : (e : Refused) → BeginsSo (object_view g k s now id o there) wanted_draft d space (Err e) → EndsSo g None k stays_as s who request (Err e)
     not_opened (refusals.Full need) is =
         let wants : need_of s who request ≡ 1 = need_is ∙ ap one_if is.0 in
         subst (λ n. Answers g None k stays_as s who request (replies.Full n)) (sym is.1) (record {
@@ -342,11 +344,11 @@ module _ {D : Type 0} {w : Option LeftCommit} (g : Ghosts D) (left_sized : (d : 
     not_opened refusals.Memory is = memory g left_sized sized 2 k stays_as is.0 (as_it_was is.1) s who now none request
 
 -- why it couldn't be, as the store says it
-pub or_memory : {D : Type 0} (g : Ghosts D) (at : Top) (floor : ℕ) (old new : D) (before after : Kept) (e : Refused) → IsDraftRefusal g at floor old new after e → (is_full_refusal e ≡ true → (e ≡ refusals.Full (record { free = sum before.free; need = 1 })) × (sum before.free < 1 + floor) × (new ≡ old)) → IsRefusalOrMemory g at floor old new before after e
-or_memory g at floor old new before after (refusals.Full need) is full = (let same : refusals.Full need ≡ refusals.Full (record { free = sum before.free; need = 1 }) = (full refl).0 in let one : need ≡ record { free = sum before.free; need = 1 } = cc in ap (λ (n : Need). n.free) one, is.1)
-or_memory g at floor old new before after (refusals.Disk was) is full = is
-or_memory g at floor old new before after (refusals.Damaged damage) is full = is
-or_memory g at floor old new before after refusals.Memory is full = tt
+pub or_memory : {D : Type 0} (g : Ghosts D) (at floor : ℕ) (old new : D) (before after : Kept) (e : Refused) → BeginCall g at floor old new before after (Err e) → IsRefusalOrMemory g (still_top at) floor old new before after e
+or_memory g at floor old new before after (refusals.Full need) call = (let same : refusals.Full need ≡ refusals.Full (record { free = sum before.free; need = 1 }) = (call.full refl).0 in let one : need ≡ record { free = sum before.free; need = 1 } = cc in ap (λ (n : Need). n.free) one, call.refused.1)
+or_memory g at floor old new before after (refusals.Disk was) call = call.refused
+or_memory g at floor old new before after (refusals.Damaged damage) call = call.refused
+or_memory g at floor old new before after refusals.Memory call = tt
 
 begin_cause : {D : Type 0} (g : Ghosts D) (old now : Kernel D) (request : Request) (at : ℕ) → IsRootHere old (Some request) at → is_direct_delete request ≡ false → g.blocks now.disk ≡ g.blocks old.disk → (e : Refused) → IsRefusalOrMemory g (still_top at) 4 old.disk now.disk old.space now.space e → IsCause g old now (Some request) e
 begin_cause g old now asked at here delete size (refusals.Full need) is = (delete, is.0, is.1)
@@ -360,18 +362,20 @@ module _ {D : Type 0} (g : Ghosts D) (left_sized : (d : D) (t : ℕ) (c : Image)
     (k : Kernel D) (who : ℕ) (id : Puid) (mode : Mode) (kind : Kind) (listed : directory_kind k.directory.named id ≡ Some kind) (tuid : Tuid) (tuid_is : tuid ≡ record { draw = k.words.drawn + 1; word = word k.words.seed (k.words.drawn + 1) })
     (goes : (s : State) → CoreServes g k s → (refusal_of s who (asks.OpenFor id mode) ≡ None) × (is_locked s who (asks.OpenFor id mode) ≡ false)) (d : D) (space : Kept) where
   -- where it is to have a draft no grant is on it
-  shut : (s : State) (serves : CoreServes g k s) → gets_draft kind mode ≡ true → drafts_of (drafts_of_handles k.handles s.grants) id ≡ []
-  shut s serves wants = unopened id k.handles s.grants serves.front.grants (alone mode kind wants (goes s serves).1)
+  alone : (s : State) → CoreServes g k s → gets_draft kind mode ≡ true → draft_at s.grants id ≡ None
+  alone s serves wants = not_open s.grants id (at mode kind wants (goes s serves).1)
     where
-      alone : (m : Mode) (n : Kind) → gets_draft n m ≡ true → is_locked s who (asks.OpenFor id m) ≡ false → list_any (λ x. same_puid id x.id) s.grants ≡ false
-      alone Writing n gets free = free
-      alone Reading kinds.Special gets free = cc
-      alone Reading kinds.Normal gets free = cc
-      alone Reading kinds.Index gets free = cc
+      at : (m : Mode) (n : Kind) → gets_draft n m ≡ true → is_locked s who (asks.OpenFor id m) ≡ false → list_any (λ x. same_puid id x.id) s.grants ≡ false
+      at Writing n gets free = free
+      at Reading kinds.Special gets free = cc
+      at Reading kinds.Normal gets free = cc
+      at Reading kinds.Index gets free = cc
 
-  begins_so : (result : Result (Option Drafting) Refused) → Begins g id.block (gets_draft kind mode) k.disk d k.space space result → (s : State) (serves : CoreServes g k s)
-      → BeginsSo g s.graph (drafts_of_handles k.handles s.grants) id (the_object g k s serves id kind listed).0 (gets_draft kind mode) k.disk d k.space space result
-  begins_so result begins s serves = (let o = the_object g k s serves id kind listed in begins.ends s.graph _ id o.0 serves.store refl o.1 (shut s serves))
+  shut : (s : State) → CoreServes g k s → gets_draft kind mode ≡ true → drafts_of_handles k.handles s.grants id ≡ None
+  shut s serves wants = core_has_none id k.handles s.grants serves.front.grants (alone s serves wants)
+
+  abbrev view : (s : State) → CoreServes g k s → ObjectView g k.disk k.space id.block
+  view s serves = (let o = the_object g k s serves id kind listed in object_view g k s serves id o.0 o.1)
 
   module _ (words : Draws) (words_are : words ≡ record { seed = k.words.seed; drawn = k.words.drawn + 1 }) where
     abbrev handle_with : Option Drafting → Handle
@@ -380,7 +384,7 @@ module _ {D : Type 0} (g : Ghosts D) (left_sized : (d : D) (t : ℕ) (c : Image)
     pub tries_open : (drafting : Option Drafting) → Begins g id.block (gets_draft kind mode) k.disk d k.space space (Ok drafting)
         → TriesWith g None k (record k { disk = d; space = space; words = words; handles = k.handles ++ handle_with drafting ∷ [] }) who (asks.OpenFor id mode) (Ok (replies.Grant tuid))
     tries_open drafting begins = record {
-      ends = λ s serves none. ends drafting s serves none (begins_so (Ok drafting) begins s serves);
+      ends = λ s serves none. ends drafting s serves none (begins.ends (view s serves) (shut s serves));
       went = record {
         plain = tt;
         cause = tt;
@@ -395,7 +399,7 @@ module _ {D : Type 0} (g : Ghosts D) (left_sized : (d : D) (t : ℕ) (c : Image)
       };
     }
       where
-        ends : (o : Option Drafting) (s : State) (serves : CoreServes g k s) → k.stop ≡ None → BeginsSo g s.graph (drafts_of_handles k.handles s.grants) id (the_object g k s serves id kind listed).0 (gets_draft kind mode) k.disk d k.space space (Ok o)
+        ends : (o : Option Drafting) (s : State) (serves : CoreServes g k s) → k.stop ≡ None → BeginsSo (view s serves) (gets_draft kind mode) d space (Ok o)
             → Answers g None k (record k { disk = d; space = space; words = words; handles = k.handles ++ handle_with o ∷ [] }) s who (asks.OpenFor id mode) (replies.Grant tuid)
         ends None s serves none is =
             let o = the_object g k s serves id kind listed in
@@ -405,12 +409,12 @@ module _ {D : Type 0} (g : Ghosts D) (left_sized : (d : D) (t : ℕ) (c : Image)
         ends (Some drafting) s serves none is =
             let o = the_object g k s serves id kind listed in
             opened_draft g left_sized sized k who id mode (gets_draft kind mode) tuid tuid_is s serves none o.0 o.1 (gets_now g k s serves id kind listed mode) (goes s serves).0 serves is.0 drafting d space words words_are
-            (shut s serves is.0) begins.calls.same.size begins.left is.1
+            (alone s serves is.0) begins.calls.same.size begins.left is.1
 
   pub tries_not : (e : Refused) → Begins g id.block (gets_draft kind mode) k.disk d k.space space (Err e) → TriesWith g None k (record k { disk = d; space = space }) who (asks.OpenFor id mode) (Err e)
   tries_not e begins = record {
     ends = λ s serves none. let o = the_object g k s serves id kind listed in
-        not_opened g left_sized sized k who id mode (gets_draft kind mode) tuid tuid_is s serves none o.0 o.1 (gets_now g k s serves id kind listed mode) (goes s serves).0 serves d space begins.calls.same.size e (begins_so (Err e) begins s serves);
+        not_opened g left_sized sized k who id mode (gets_draft kind mode) tuid tuid_is s serves none o.0 o.1 (gets_now g k s serves id kind listed mode) (goes s serves).0 serves d space begins.calls.same.size e (begins.ends (view s serves) (shut s serves));
     went = went_so g k d space k.handles begins.calls.same.size begins.calls.faults begins.calls.later (asks.OpenFor id mode) (Err e) tt
         (begin_cause g k (record k { disk = d; space = space }) (asks.OpenFor id mode) id.block (inl (named_root k.directory.named id kind listed)) refl begins.calls.same.size e begins.cause);
   }

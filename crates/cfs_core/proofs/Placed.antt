@@ -1,7 +1,6 @@
 -- What the store says of an object that is made, as the core has it.
 use Rattle.std.proofs.Common.{Bool, ◌≡◌, ◌⊎◌, inl, inr, ⊎_elim, ℕ, ◌+◌, ◌<◌, ◌≤◌, List, [], ◌∷◌, length, true, false, None, Some, Result, Ok, Err, IsTrue, refl, sym, ◌∙◌, ap, subst, arith, ◌==◌, IfErr, sum, ◌/◌}
-use Rattle.cfs_core.proofs.Words.{blocks_of, created, Ghosts, Graph, has_block, has_root_in, HasSlot, HasStopped, Holds, Image, Index, insert_entry, has_met_damage, IsIndexRefusal, IsLeastFree, IsOpenMap, Kept, keys_of-kinds_in, Kind, object_kind, kinds_of, list_any, made_of, Need, Object, OnlyReads, Puid, puid_cmp, PutsObject, refusal_of, Refused, Reply, Request, State, sum_is, target, wider, drafts_of}
-use Rattle.cfs_core.proofs.Words.{with_made, word, block_named}
+use Rattle.cfs_core.proofs.Words.{blocks_of, created, Ghosts, Graph, has_block, has_root_in, HasStopped, Holds, Image, Index, insert_entry, has_met_damage, IsIndexRefusal, IsLeastFree, IsOpenMap, Kept, keys_of-kinds_in, Kind, object_kind, kinds_of, list_any, made_of, Need, Object, OnlyReads, Puid, puid_cmp, PutsObject, refusal_of, Refused, Reply, Request, State, sum_is, target, wider, with_made, word, block_named}
 use Rattle.cfs_base.specs.declared.refusal.Refused.TheVariants as refusals
 use Rattle.special_files.specs.Committing.{puid_at}
 use Rattle.ufs_model.specs.declared.asked.Reply.TheVariants as replies
@@ -20,13 +19,15 @@ use Rattle.cfs_core.specs.StandsFor.{CoreServes, drafts_of_handles}
 use Rattle.cfs_core.specs.Ways.{Reaches}
 use Rattle.cfs_core.proofs.Answering.{disk_failed, full_still, reads_none}
 use Rattle.cfs_core.proofs.Committed.{LeavesThese, did, in_doubt, uncut}
-use Rattle.cfs_core.proofs.Created.{filled_is, inside, least_one, least_there, need_is, no_root, not_zero, outcome, stepped, theirs}
+use Rattle.cfs_core.proofs.Created.{filled_is, inside, least_one, least_there, need_is, no_root, not_zero, outcome, stepped, taken, theirs}
 use Rattle.cfs_core.proofs.Damages.{told_of_making}
 use Rattle.cfs_core.proofs.Went.{cause_of, causes_met, went_so}
 use Rattle.cfs_core.proofs.Serving.{running, stays}
 use Rattle.cfs_core.specs.Claimed.{TakesForRequest, claims_for_slot}
 use Rattle.cfs_core.proofs.Claimed.{claims_then, takes_last}
 use Rattle.index_ops.specs.Changes.{leaf_and_node}
+use Rattle.index_ops.specs.Creates.{PlacesIn}
+use Rattle.cfs_core.proofs.Views.{slot_view}
 use Rattle.cyl_alloc.specs.Space.{intended}
 use Rattle.index_ops.specs.Changes as ops
 use Rattle.cfs_base.specs.declared.kind.Kind.TheVariants as kinds
@@ -73,15 +74,9 @@ module _ {D : Type 0} (g : Ghosts D) (left_sized : (d : D) (t : ℕ) (c : Image)
   size : g.blocks d ≡ g.blocks k.disk
   size = puts.calls.same.size
 
-  module _ (request : Request) (making : IsMaking request slot o) (s : State) (who : ℕ) (i : Index) (serves : CoreServes g k s) (none : k.stop ≡ None) (reach : Reaches s who request index (objects.Index i)) (shut : drafts_of (drafts_of_handles k.handles s.grants) index ≡ []) (within : slot < length i.slots) (goes : refusal_of s who request ≡ None) where
-    has : HasSlot g s.graph (drafts_of_handles k.handles s.grants) k.disk k.space index.block index i slot
-    has = record {
-      store = serves.store;
-      root = refl;
-      there = reach.there;
-      shut = shut;
-      inside = within;
-    }
+  module _ (request : Request) (making : IsMaking request slot o) (s : State) (who : ℕ) (i : Index) (serves : CoreServes g k s) (none : k.stop ≡ None) (reach : Reaches s who request index (objects.Index i)) (shut : (drafts_of_handles k.handles s.grants) index ≡ None) (within : slot < length i.slots) (goes : refusal_of s who request ≡ None) where
+    puts_it : PlacesIn (slot_view g k s serves index i reach.there shut slot within) o w d space r
+    puts_it = puts.places (slot_view g k s serves index i reach.there shut slot within)
 
     word_drawn : w ≡ word k.words.seed (s.drawn + 1)
     word_drawn = word_is ∙ ap (λ n. word k.words.seed (n + 1)) (sym serves.front.drawn)
@@ -90,7 +85,7 @@ module _ {D : Type 0} (g : Ghosts D) (left_sized : (d : D) (t : ℕ) (c : Image)
     id_at b = record { block = b; word = word k.words.seed (s.drawn + 1) }
 
     leaves_at : (b : ℕ) → IsLeastFree (g.content k.disk) b → LeavesThese g k.disk d s who request (replies.Id (id_at b)) (with_made s.graph index i slot (id_at b) o)
-    leaves_at b least = uncut g k.disk d s who request (replies.Id (id_at b)) _ (wider g k.disk d _ _ (puts.leaves s.graph (drafts_of_handles k.handles s.grants) index i has) (λ c p. ⊎_elim inl (λ t. inr
+    leaves_at b least = uncut g k.disk d s who request (replies.Id (id_at b)) _ (wider g k.disk d _ _ puts_it.leaves (λ c p. ⊎_elim inl (λ t. inr
         (subst (λ (q : Puid). Holds c (with_made s.graph index i slot q o)) (ap (λ n. puid_at n w) (least_one (g.content k.disk) t.0 b t.1 least) ∙ ap (λ n. puid_at b n) word_drawn) t.2)) p))
 
     short : ¬ IsShortOfBlocks s who request (sum k.space.free)
@@ -103,14 +98,14 @@ module _ {D : Type 0} (g : Ghosts D) (left_sized : (d : D) (t : ℕ) (c : Image)
 
     made : (p : Puid) → r ≡ Ok p → (new : Kernel D) (result : Result Reply Refused) → NamesMade mid new p (object_kind o) result → EndsSo g None k new s who request result
     made p is new result names =
-        let two = rw is at (puts.done s.graph (drafts_of_handles k.handles s.grants) index i has) in
+        let two = rw is at puts_it.done in
         let left = rw is at puts.left in
         let least = two.1.least in
         let same : id_at p.block ≡ p = ap (λ n. puid_at p.block n) (sym word_drawn ∙ sym two.0) in
         let b = p.block in
-        let there = inside g k s who serves index i slot o one request making reach goes enough b least in
-        let named_so = names.named (not_zero g k s who serves index i slot o one request making reach goes enough b least) (omega (arith, there, room, sized k.disk serves.store.carries.tells.honest))
-        (root_is k.directory.named s.graph b serves.front.directory ∙ no_root g k s who serves index i slot o one request making reach goes enough b least) in
+        let there = inside g k s serves b least in
+        let named_so = names.named (not_zero g k s serves b least) (omega (arith, there, room, sized k.disk serves.store.carries.tells.honest))
+        (root_is k.directory.named s.graph b serves.front.directory ∙ no_root g k s serves b least) in
         let answers = did g left_sized sized k (kernel_with (id_at b)) size none s (created k.words.seed s who (target request) slot o b).1 who b request (replies.Id (id_at b)) serves (with_made s.graph index i slot (id_at b) o) 3
         (outcome g k s who serves index i slot o one request making reach goes enough b least) (leaves_at b least) (stepped g k s who serves index i slot o one request making reach goes enough b least d space) refl
         (ap (λ (t : State). t.grants) (filled_is g k s who serves index i slot o one request making reach goes enough b least)) (index.block ∷ b ∷ [])
@@ -119,7 +114,7 @@ module _ {D : Type 0} (g : Ghosts D) (left_sized : (d : D) (t : ℕ) (c : Image)
           only = two.1.only;
           these = theirs g k s who serves index i slot o one request making reach goes enough b least;
         })
-        tt refl short (λ _. least) (takes (replies.Id (id_at b)) b refl two.1.takes) (λ _. subst (λ (w : Option LeftCommit). IsSome w) (sym left.1.is) refl) in
+        (taken g k s who serves index i slot o one request making reach goes enough b least) tt refl short (λ _. least) (takes (replies.Id (id_at b)) b refl two.1.takes) (λ _. subst (λ (w : Option LeftCommit). IsSome w) (sym left.1.is) refl) in
         subst (EndsSo g None k new s who request) (sym named_so.0)
         (subst (λ (x : Kernel D). Answers g None k x s who request (replies.Id p)) (sym named_so.1)
         (subst (λ (q : Puid). Answers g None k (kernel_with q) s who request (replies.Id q)) same answers))
@@ -150,7 +145,7 @@ module _ {D : Type 0} (g : Ghosts D) (left_sized : (d : D) (t : ℕ) (c : Image)
     failed refusals.Memory untried refused sound = absurd (never_wanted g index.block slot k.disk d k.space space refused)
 
     sound_at : (e : Refused) → r ≡ Err e → has_met_damage e ≡ false
-    sound_at e is = subst (λ (x : Result Puid Refused). IfErr x (λ f. has_met_damage f ≡ false)) is (puts.sound s.graph (drafts_of_handles k.handles s.grants) index i has)
+    sound_at e is = subst (λ (x : Result Puid Refused). IfErr x (λ f. has_met_damage f ≡ false)) is puts_it.sound
 
   module _ (request : Request) (making : IsMaking request slot o) where
     pub tries_made : (p : Puid) → r ≡ Ok p → (new : Kernel D) (result : Result Reply Refused) → NamesMade mid new p (object_kind o) result → TriesOnWith g None k new index slot request result

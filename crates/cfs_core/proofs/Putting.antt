@@ -1,6 +1,6 @@
 -- What the store says of a slot that is filled or emptied, as the core has it.
 use Rattle.std.proofs.Common.{◌≡◌, inl, ℕ, ◌+◌, ◌*◌, ◌<◌, ◌≤◌, length, true, false, Option, None, Some, Result, Ok, Err, IsTrue, refl, sym, ◌∙◌, ap, subst, arith, sum, ◌⊎◌, inr, [], ◌∷◌, is_none, ◌/◌, set, IsSome}
-use Rattle.cfs_core.proofs.Words.{creates, Ghosts, HasSlot, Image, Index, index_with, IsSpeakable, Kept, Need, OnlyReads, outcome_of, Puid, PutsSlot, Ref, refusal_of, Refused, Request, State, with_object, Object, Holds, slot_of, target, object_at-with_object, same_puid_itself, drafts_of, need_of, Direct, Through}
+use Rattle.cfs_core.proofs.Words.{creates, Ghosts, Image, Index, index_with, IsSpeakable, Kept, Need, OnlyReads, outcome_of, Puid, PutsSlot, Ref, refusal_of, Refused, Request, State, with_object, Object, Holds, slot_of, target, object_at-with_object, same_puid_itself, need_of, Direct, Through}
 use Rattle.cfs_base.specs.declared.refusal.Refused.TheVariants as refusals
 use Rattle.ufs_model.specs.declared.asked.Event.TheVariants as events
 use Rattle.ufs_model.specs.declared.asked.Reply.TheVariants as replies
@@ -8,7 +8,7 @@ use Rattle.ufs_model.specs.declared.asked.Request.TheVariants as asks
 use Rattle.ufs_model.specs.declared.object.Object.TheVariants as objects
 use Rattle.cyl_alloc.specs.Left.{LeftCommit}
 use Rattle.intentions.specs.Left.{StoreIs, coming, final_image}
-use Rattle.index_ops.specs.Changes.{LeavesCommit}
+use Rattle.index_ops.specs.Changes.{LeavesCommit, ChangesLeaf, FillsIndex, leaf_and_node}
 use Rattle.cfs_core.specs.Calls.{ByWant, EndsSo, IsShortOfBlocks, TriesOn, TriesOnWith, done_or, delete_floor}
 use Rattle.cfs_core.proofs.Stored.{account_in}
 use Rattle.cfs_core.specs.Damage.{bytes_wanted}
@@ -27,7 +27,7 @@ use Rattle.std.proofs.lemmas.List.{get_or-set_same}
 use Rattle.std.proofs.lemmas.Option.{unwrap_or-slice_get}
 use Rattle.cfs_core.specs.Claimed.{TakesForRequest, claims_for, owners_of, root_reached}
 use Rattle.cfs_core.proofs.Claimed.{Commits, claims_then, takes_last}
-use Rattle.index_ops.specs.Changes.{ChangesLeaf, leaf_and_node}
+use Rattle.cfs_core.proofs.Views.{slot_view}
 use Rattle.vol_image.proofs.Unique.{held_object}
 use Rattle.ufs_model.specs.State.{the_index}
 use Rattle.index_ops.specs.Changes as ops
@@ -43,15 +43,9 @@ module _ {D : Type 0} (g : Ghosts D) (left_sized : (d : D) (t : ℕ) (c : Image)
   abbrev new : Kernel D
   new = record k { disk = d; space = space }
 
-  module _ (s : State) (who : ℕ) (i : Index) (serves : CoreServes g k s) (none : k.stop ≡ None) (reach : Reaches s who request index (objects.Index i)) (shut : drafts_of (drafts_of_handles k.handles s.grants) index ≡ []) (inside : slot < length i.slots) (goes : refusal_of s who request ≡ None) where
-    has : HasSlot g s.graph (drafts_of_handles k.handles s.grants) k.disk k.space index.block index i slot
-    has = record {
-      store = serves.store;
-      root = refl;
-      there = reach.there;
-      shut = shut;
-      inside = inside;
-    }
+  module _ (s : State) (who : ℕ) (i : Index) (serves : CoreServes g k s) (none : k.stop ≡ None) (reach : Reaches s who request index (objects.Index i)) (shut : (drafts_of_handles k.handles s.grants) index ≡ None) (inside : slot < length i.slots) (goes : refusal_of s who request ≡ None) where
+    fills : FillsIndex (slot_view g k s serves index i reach.there shut slot inside) what d space result
+    fills = puts.fills (slot_view g k s serves index i reach.there shut slot inside)
 
     size : g.blocks d ≡ g.blocks k.disk
     size = puts.calls.same.size
@@ -60,7 +54,7 @@ module _ {D : Type 0} (g : Ghosts D) (left_sized : (d : D) (t : ℕ) (c : Image)
     speak w = speaks
 
     left : LeavesThese g k.disk d s who request replies.Done (with_object s.graph index (index_with i slot what))
-    left = uncut g k.disk d s who request replies.Done _ (puts.leaves s.graph (drafts_of_handles k.handles s.grants) index i has)
+    left = uncut g k.disk d s who request replies.Done _ fills.leaves
 
     -- one that was emptied held something, so the content isn't as it was
     not_still : {A : Type 0} → StoreIs g (with_object s.graph index (index_with i slot what)) (drafts_of_handles k.handles s.grants) d space → (what ≡ None) × (final_image g d space ≡ g.content k.disk) → A
@@ -88,15 +82,15 @@ module _ {D : Type 0} (g : Ghosts D) (left_sized : (d : D) (t : ℕ) (c : Image)
 
     ends : (r : Result (Unit {0}) Refused) → r ≡ result → EndsSo g None k new s who request (done_or r)
     ends (Ok u) is =
-        let changes = rw (← is) at (puts.done s.graph (drafts_of_handles k.handles s.grants) index i has) in
-        let leaf = rw (← is) at (puts.leaf s.graph (drafts_of_handles k.handles s.grants) index i has) in
+        let changes = rw (← is) at fills.done in
+        let leaf = rw (← is) at fills.leaf in
         object_did g left_sized sized k new size refl none s (outcome_of k.words.seed s who request 0).1 who request serves index (objects.Index i) (index_with i slot what) reach.there refl (added_by what) (filled_blocks i slot what) goes makes (speak who)
         (out s who i serves reach).0 (out s who i serves reach).1 (room s who i serves reach).0 (room s who i serves reach).1 left changes.store changes.only (takes changes.store leaf) (λ _. noted changes.store (rw (← is) at puts.left) (λ nothing. rw (← is) at (puts.still nothing)))
     ends (Err (refusals.Full need)) is = absurd (rw (← is) at puts.refused)
     ends (Err (refusals.Disk false)) is = let two = (rw (← is) at puts.untried) refl in disk_failed g left_sized sized 9 k new two.1 (ap (λ (x : Kept). record k { disk = d; space = x }) two.0) s who serves none request
     ends (Err (refusals.Disk true)) is = object_in_doubt g left_sized sized k new size refl none s (outcome_of k.words.seed s who request 0).1 who request serves index (objects.Index i) (index_with i slot what) reach.there refl (added_by what) (filled_blocks i slot what) goes makes (speak who)
         (out s who i serves reach).0 (out s who i serves reach).1 (room s who i serves reach).0 (room s who i serves reach).1 left
-    ends (Err (refusals.Damaged damage)) is = let no : true ≡ false = rw (← is) at (puts.sound s.graph (drafts_of_handles k.handles s.grants) index i has) in cc
+    ends (Err (refusals.Damaged damage)) is = let no : true ≡ false = rw (← is) at fills.sound in cc
     ends (Err refusals.Memory) is = absurd (rw (← is) at puts.refused)
 
   pub tries_put : TriesOnWith g None k new index slot request (done_or result)

@@ -1,13 +1,16 @@
 -- Drafts as they stand between two calls.
-use Rattle.std.proofs.Common.{◌≡◌, ℕ, ◌*◌, ◌<◌, List, [], ◌∷◌, ◌++◌, Bool, true, false, cond, ◌&&◌, length, Option, Some, None, refl, sym, ◌∙◌, ap, subst, arith, filter, find, is_none, is_some, nat_lt, option_and_then, option_to_list}
-use Rattle.cfs_core.proofs.Words.{and_parts, Draft, Drafting, Grant, Kept, list_all, list_all-append, Listing, nat_tests, Opened, opened_as, sum_by, sum_by-append, sum_by-cons}
+use Rattle.std.proofs.Common.{◌≡◌, ℕ, ◌+◌, ◌*◌, ◌<◌, List, [], ◌∷◌, ◌++◌, Bool, true, false, cond, ◌&&◌, length, Option, Some, None, refl, sym, ◌∙◌, ap, subst, arith, filter, find, is_none, is_some, map, nat_lt, option_and_then, option_to_list}
+use Rattle.cfs_core.proofs.Words.{and_parts, are_granted, Draft, Drafting, Drafts, Grant, Graph, graph_blocks, ids_of, is_grant_in, Kept, list_all, list_all-append, Listing, nat_tests, no_drafts, Object, object_at, open_there, opened_as, Puid, rises, sum_by, sum_by-cons, taken_with}
 use Rattle.open_table.specs.declared.grant.Grant as handles
 use Rattle.vol_owners.specs.Room as owners
 use Rattle.cfs_core.specs.declared.collecting.Collections.{Collections}
 use Rattle.cfs_core.specs.Room.{blocks_of_grant}
-use Rattle.cfs_core.specs.StandsFor.{AreDraftsOf, HasDraftOf, drafts_at, drafts_of_handles}
-use Rattle.cfs_core.specs.Kernel.{IsSizedKernel, Handle, is_drawn_by, is_ready, is_ready_for}
-use Rattle.cfs_core.specs.Handles.{drafting_at, is_drawn, handles_but, with_drafting}
+use Rattle.cfs_core.specs.StandsFor.{AreDraftsOf, HasDraftOf, bare, drafts_of_handles, opened_if, with_opened_if}
+use Rattle.cfs_core.specs.Kernel.{IsSizedKernel, Handle, is_drawn_by, is_ready, is_ready_for, grants_in}
+use Rattle.cfs_core.specs.Handles.{drafting_at, is_drawn, handles_but, with_drafting, ChangesHeld, IsOnDisk}
+use Rattle.cfs_core.proofs.Drafted.{core_has_none, none_beside}
+use Rattle.cfs_core.specs.Drafts.{StaysOf}
+use Rattle.ufs_model.specs.State.{draft_at}
 
 pub record IsReadyFor (blocks : ℕ) (d : Drafting) : Type 0 where
   pub on_disk : d.at < blocks
@@ -121,6 +124,18 @@ module _ {D : Type 0} {blocks : D → ℕ} {d : D} {directory : Listing} {before
     ready = ready;
   }
 
+  -- with another draft in the place of one
+  pub sized_put : {So : Drafting → Drafting → Type 0} (draw : ℕ) (new : List Handle) (changed : ChangesHeld draw ss new So) → StaysOf changed.was changed.now → (e : D) (after : Kept) → blocks e ≡ blocks d → length after.free ≡ length before.free → IsSizedKernel blocks e directory after new drawn c
+  sized_put draw new changed stays e after size cylinders =
+      let ready = ready_for directory.room changed.was (ready_at directory.room draw ss sized.ready changed.was changed.has) in
+      let still = for_ready directory.room changed.now (record { on_disk = omega (arith, ready.on_disk, stays.at); shadow = (ready.shadow.0, stays.shadow ∙ ready.shadow.1); bare = stays.created ∙ ready.bare }) in
+      sized_with e after new drawn size cylinders (ap (list_all (is_drawn_by drawn)) changed.with_it ∙ drawn_put drawn draw (Some changed.now) ss sized.drawn_all)
+      (ap (list_all (is_ready directory.room)) changed.with_it ∙ ready_put directory.room draw changed.now still ss sized.ready)
+
+  -- each draft is on a disk of its size
+  pub all_on_disk : (draw size : ℕ) → size ≡ blocks d → IsOnDisk ss draw size
+  all_on_disk draw size is = λ w has. subst (λ n. w.at < n) (sized.room ∙ sym is) (ready_for directory.room w (ready_at directory.room draw ss sized.ready w has)).on_disk
+
   -- without a draft, and with fewer handles
   pub sized_taken : (draw : ℕ) (new : List Handle) → new ≡ with_drafting draw None ss → IsSizedKernel blocks d directory before new drawn c
   sized_taken draw new is = sized_with d before new drawn refl refl (ap (list_all (is_drawn_by drawn)) is ∙ drawn_taken drawn draw ss sized.drawn_all) (ap (list_all (is_ready directory.room)) is ∙ ready_taken directory.room draw ss sized.ready)
@@ -130,20 +145,46 @@ module _ {D : Type 0} {blocks : D → ℕ} {d : D} {directory : Listing} {before
 
 -- ---- what drafts take
 
-pub drafts_take : (blocks : ℕ) (ds : List Opened) (ss : List Handle) (grants : List Grant) → list_all (is_ready blocks) ss ≡ true → AreDraftsOf ds ss grants → sum_by owners.draft_blocks (drafts_of_handles ss grants) ≡ sum_by blocks_of_grant grants
-drafts_take blocks ds [] [] all are = refl
-drafts_take blocks ds [] (x ∷ grants) all are = absurd are
-drafts_take blocks ds (handle ∷ ss) [] all are = absurd are
-drafts_take blocks ds (handle ∷ ss) (x ∷ grants) all are =
-    let two = and_parts (is_ready blocks handle) (list_all (is_ready blocks) ss) all in
-    omega (arith, sum_by-append owners.draft_blocks (drafts_of_handles ss grants) (drafts_at handle handle.drafting x.draft), drafts_take blocks ds ss grants two.1 are.1, one handle.drafting x.draft two.0 are.0, sum_by-cons blocks_of_grant x grants)
-  where
-    one : (o : Option Drafting) (d : Option Draft) → is_ready blocks (record handle { drafting = o }) ≡ true → HasDraftOf ds handle o d → sum_by owners.draft_blocks (drafts_at handle o d) ≡ blocks_of_grant (record x { draft = d })
-    one None None is has = refl
-    one None (Some d) is has = absurd has
-    one (Some o) None is has = absurd has
-    one (Some o) (Some d) is has =
-        let ready = ready_for blocks o is in
-        let shadow = ap (λ (c : Option ℕ). length (option_to_list c)) ready.shadow.1 in
-        let made = ap (λ (c : Option ℕ). length (option_to_list c)) ready.bare in
-        omega (arith, sum_by-cons owners.draft_blocks (opened_as handle.grant.id o d) [], shadow, made)
+-- no drafts take no block
+pub none_take : (ids : List Puid) → sum_by (λ id. owners.draft_blocks_if (no_drafts id)) ids ≡ 0
+none_take [] = refl
+none_take (id ∷ ids) = omega (arith, sum_by-cons (λ (x : Puid). owners.draft_blocks_if (no_drafts x)) id ids, none_take ids)
+
+-- beside the objects it is what the grants take
+module _ (graph : Graph) (up : rises (ids_of graph) ≡ true) (blocks : ℕ) (ds : Drafts) where
+  pub drafts_take : (ss : List Handle) (grants : List Grant) → list_all (is_ready blocks) ss ≡ true → grants_in ss ≡ map bare grants → AreDraftsOf ds ss grants → list_all (is_grant_in graph) grants ≡ true → are_granted grants ≡ true
+      → owners.blocks_taken graph (drafts_of_handles ss grants) ≡ graph_blocks graph + sum_by blocks_of_grant grants
+  drafts_take [] [] all table are there alone = omega (arith, none_take (ids_of graph))
+  drafts_take [] (x ∷ grants) all table are there alone = absurd are
+  drafts_take (handle ∷ ss) [] all table are there alone = absurd are
+  drafts_take (handle ∷ ss) (x ∷ grants) all table are there alone =
+      let head : handle.grant ≡ bare x = cc in
+      let tail : grants_in ss ≡ map bare grants = cc in
+      let two = and_parts (is_ready blocks handle) (list_all (is_ready blocks) ss) all in
+      let so = and_parts (is_grant_in graph x) (list_all (is_grant_in graph) grants) there in
+      let rest = drafts_take ss grants two.1 tail are.1 so.1 (and_parts _ (are_granted grants) alone).1 in
+      let o = open_there (object_at graph x.id) x.draft so.0 in
+      omega (
+        arith,
+        rest,
+        sum_by-cons blocks_of_grant x grants,
+        one o.0 (ap (λ (e : handles.Grant). object_at graph e.id) head ∙ o.1)
+            (core_has_none handle.grant.id ss grants tail (subst (λ (e : handles.Grant). draft_at grants e.id ≡ None) (sym head) (none_beside x grants [] alone).1))
+            handle.drafting x.draft two.0 are.0,
+      )
+    where
+      one : (object : Object) → object_at graph handle.grant.id ≡ Some object → drafts_of_handles ss grants handle.grant.id ≡ None
+          → (o : Option Drafting) (d : Option Draft) → is_ready blocks (record handle { drafting = o }) ≡ true → HasDraftOf ds handle o d
+          → owners.blocks_taken graph (with_opened_if handle.grant.id (opened_if o d) (drafts_of_handles ss grants)) ≡ owners.blocks_taken graph (drafts_of_handles ss grants) + blocks_of_grant (record x { draft = d })
+      one object at none None None is has = omega arith
+      one object at none None (Some d) is has = absurd has
+      one object at none (Some o) None is has = absurd has
+      one object at none (Some o) (Some d) is has =
+          let ready = ready_for blocks o is in
+          omega (
+            arith,
+            taken_with graph (drafts_of_handles ss grants) handle.grant.id object (Some (opened_as o d)) up at,
+            ap owners.draft_blocks_if none,
+            ap (λ (c : Option ℕ). length (option_to_list c)) ready.shadow.1,
+            ap (λ (c : Option ℕ). length (option_to_list c)) ready.bare,
+          )

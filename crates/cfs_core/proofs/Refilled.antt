@@ -1,8 +1,8 @@
--- A slot of a draft filled or emptied, with what was left of a commit carried out before.
-use Rattle.std.proofs.Common.{◌≡◌, ◌+◌, ℕ, length, Some, None, Result, Ok, true, false, IsTrue, refl, ap, arith, nat_lt, eq-eqb, Bool}
+-- A draft changed, with what was left of a commit carried out before.
+use Rattle.std.proofs.Common.{◌≡◌, ◌+◌, ℕ, length, Some, None, Result, Ok, true, false, IsTrue, refl, sym, ap, subst, arith, nat_lt, eq-eqb, Bool, List}
 use Rattle.ufs_model.specs.Next.{is_direct_delete}
 use Rattle.cfs_core.specs.Claimed.{claims_for_slot}
-use Rattle.cfs_core.proofs.Words.{Change, Drafting, Fill, Ghosts, Image, list_all, nat_tests, Puid, Refused, Request, State, Through, Tuid, named}
+use Rattle.cfs_core.proofs.Words.{Change, Fill, Ghosts, Image, list_all, nat_tests, Puid, Refused, Request, State, Through, Tuid, named, edge_stays}
 use Rattle.ufs_model.specs.declared.asked.Request.TheVariants as asks
 use Rattle.ufs_model.specs.declared.asked.Reply.TheVariants as replies
 use Rattle.ufs_model.specs.Outcome.{with_edge}
@@ -10,16 +10,14 @@ use Rattle.cyl_alloc.specs.Space.{Kept}
 use Rattle.cfs_core.specs.Calls.{done_or}
 use Rattle.cfs_core.specs.Drafts.{ChangesDraft, HasGrant, IsAltering, TriesThroughWith}
 use Rattle.cfs_core.specs.Finished.{FinishesLeft, since}
-use Rattle.cfs_core.specs.Handles.{drafting_at, with_drafting}
-use Rattle.cfs_core.specs.Kernel.{Kernel, is_ready}
-use Rattle.cfs_core.specs.StandsFor.{CoreServes, sweeps_now}
+use Rattle.cfs_core.specs.Handles.{ChangesHeld, with_drafting}
+use Rattle.cfs_core.specs.Kernel.{Handle, Kernel, is_ready}
+use Rattle.cfs_core.specs.StandsFor.{sweeps_now}
 use Rattle.cfs_core.proofs.Altered.{altered_through, changed_through, not_beside}
-use Rattle.cfs_core.proofs.Ended.{IsHeld}
-use Rattle.cfs_core.proofs.Ending.{held_in}
-use Rattle.cfs_core.proofs.Joined.{done_decides, done_never, tries_through_since}
-use Rattle.cfs_core.proofs.Words.{edge_stays}
+use Rattle.cfs_core.proofs.Joined.{done_decides, done_never, where_since}
+use Rattle.cfs_core.proofs.Views.{held_in}
 
--- ---- the two requests
+-- ---- the requests on a slot
 
 -- an identifier is put into a slot of a draft
 pub retain_alters : (s : State) (who : ℕ) (t : Tuid) (slot : ℕ) (id : Puid) → IsAltering s who t (asks.Retain (Through t) slot id) (Fill slot (Some id))
@@ -57,13 +55,13 @@ delete_alters s who t slot = record {
 
 -- ---- the whole call
 
-pub tries_filled : {D : Type 0} (g : Ghosts D) (left_sized : (d : D) (t : ℕ) (c : Image) → g.left_since d t c → length c ≡ g.blocks d) (sized : (d : D) → IsTrue (g.honest d) → length (g.content d) ≡ g.blocks d)
-    (k : Kernel D) (d1 : D) (k1 : Kept) (tried : Bool) (finishes : FinishesLeft g k.disk d1 k.space k1 (Ok tried)) (ready : list_all (is_ready k.directory.room) k.handles ≡ true) (who : ℕ) (t : Tuid) (was : Drafting) (at : drafting_at k.handles t.draw ≡ Some was)
-    (change : Change) (request : Request) (has : HasGrant k who t) (delete : is_direct_delete request ≡ false)
-    (now : Drafting) (disk : D) (space : Kept) (result : Result (Unit {0}) Refused) (changes : ChangesDraft g change d1 disk k1 space was now result)
-    → TriesThroughWith g k.space.left k (record k { disk = disk; space = space; handles = with_drafting t.draw (Some now) k.handles }) who t change request (since tried (done_or result))
-tries_filled g left_sized sized k d1 k1 tried finishes ready who t was at change request has delete now disk space result changes =
+pub tries_redrafted : {D : Type 0} (g : Ghosts D) (left_sized : (d : D) (t : ℕ) (c : Image) → g.left_since d t c → length c ≡ g.blocks d) (sized : (d : D) → IsTrue (g.honest d) → length (g.content d) ≡ g.blocks d)
+    (k : Kernel D) (d1 : D) (k1 : Kept) (tried : Bool) (finishes : FinishesLeft g k.disk d1 k.space k1 (Ok tried)) (ready : list_all (is_ready k.directory.room) k.handles ≡ true) (who : ℕ) (t : Tuid) (change : Change) (request : Request) (has : HasGrant k who t)
+    (delete : is_direct_delete request ≡ false) (disk : D) (space : Kept) (result : Result (Unit {0}) Refused) (handles : List Handle) (done : ChangesHeld t.draw k.handles handles (λ was now. ChangesDraft g change d1 disk k1 space was now result))
+    → TriesThroughWith g k.space.left k (record k { disk = disk; space = space; handles = handles }) who t change request (since tried (done_or result))
+tries_redrafted g left_sized sized k d1 k1 tried finishes ready who t change request has delete disk space result handles done =
     let mid : Kernel _ = record k { disk = d1; space = k1 } in
-    let there : (s : State) → CoreServes g mid s → IsHeld g mid s who t was = held_in g mid who t was at has.found has.law in
-    let changed = altered_through g left_sized sized mid ready who t was at there change request delete now disk space result changes in
-    tries_through_since g k d1 k1 tried finishes left_sized sized (record k { disk = disk; space = space; handles = with_drafting t.draw (Some now) k.handles }) changes.calls.same.size request (done_or result) (done_decides result) (done_never result (λ is. rw is at changes.refused)) who t change changed
+    let new : Kernel _ = record k { disk = disk; space = space; handles = with_drafting t.draw (Some done.now) k.handles } in
+    let changed = altered_through g left_sized sized mid ready who t done.was done.has (held_in g mid who t done.was done.has has.found has.law) change request delete done.now disk space result done.so in
+    subst (λ hs. TriesThroughWith g k.space.left k (record k { disk = disk; space = space; handles = hs }) who t change request (since tried (done_or result))) (sym done.with_it)
+    (where_since g k d1 k1 tried finishes left_sized sized new done.so.calls.same.size request (done_or result) (done_decides result) (done_never result (λ is. rw is at done.so.refused)) who _ (λ s so. so.goes) changed)

@@ -1,15 +1,17 @@
 -- Calls that change the grants, and no draft.
-use Rattle.std.proofs.Common.{◌≤◌, ◌≡◌, ℕ, List, [], ◌∷◌, ◌++◌, length, Bool, true, false, cond, ◌&&◌, Option, Some, None, is_some, refl, sym, ◌∙◌, ap, subst, arith, ◌+◌, append-nil, append_assoc, filter, find, map, nat_le, not}
-use Rattle.cfs_core.proofs.Words.{and_parts, changes_begin, Draft, Drafting, Event, Ghosts, Grant, Holds, Image, is_grant, IsState, list_all, nat_tests, next, Opened, or_parts, State, Tuid}
+use Rattle.std.proofs.Common.{◌≤◌, ◌≡◌, ℕ, List, [], ◌∷◌, ◌++◌, length, Bool, true, false, cond, ◌&&◌, Option, Some, None, is_some, refl, sym, ◌∙◌, ap, subst, arith, ◌+◌, append-nil, filter, find, map, nat_le, not}
+use Rattle.cfs_core.proofs.Words.{and_parts, changes_begin, Draft, Drafting, Drafts, Event, Ghosts, Grant, Holds, Image, is_grant, IsState, list_all, nat_tests, next, no_drafts, Opened, or_parts, State, Tuid, with_opened}
 use Rattle.open_table.specs.declared.grant.Grant as handles
 use Rattle.open_table.specs.Grants as tables
 use Rattle.cfs_core.specs.Calls.{MakesEvent}
 use Rattle.cfs_core.specs.Kernel.{Kernel, Handle, grants_in, is_drawn_by}
 use Rattle.cfs_core.specs.Handles.{have_draft, handles_but}
 use Rattle.cyl_alloc.specs.Left.{LeftCommit}
-use Rattle.cfs_core.specs.StandsFor.{AreDraftsOf, HasDraftOf, ServesIs, StoresState, bare, drafts_at, drafts_of_handles, end_in, free_to_come, free_with}
+use Rattle.cfs_core.specs.StandsFor.{AreDraftsOf, HasDraftOf, ServesIs, StoresState, bare, drafts_of_handles, end_in, free_to_come, free_with, opened_if, with_opened_if}
+use Rattle.cfs_core.proofs.Drafted.{drafts_beside}
 use Rattle.cfs_core.proofs.Moved.{HasStepped, IsStepped, makes_stepped, stores_stepped}
 use Rattle.cfs_core.proofs.Serving.{account, nothing_left}
+use Rattle.ufs_model.specs.State.{draft_at}
 
 -- each is drawn where more are drawn
 pub drawn_more : (ss : List Handle) (n m : ℕ) → m ≡ n + 1 → list_all (is_drawn_by n) ss ≡ true → list_all (is_drawn_by m) ss ≡ true
@@ -26,7 +28,7 @@ grants_push [] x = refl
 grants_push (y ∷ ss) x = ap (λ more. y.grant ∷ more) (grants_push ss x)
 
 -- a grant whose handle has no draft has none
-pub draft_none : (ds : List Opened) (who : ℕ) (t : Tuid) (ss : List Handle) (grants : List Grant) → grants_in ss ≡ map bare grants → AreDraftsOf ds ss grants → have_draft (tables.is_session_grant who t) ss ≡ false
+pub draft_none : (ds : Drafts) (who : ℕ) (t : Tuid) (ss : List Handle) (grants : List Grant) → grants_in ss ≡ map bare grants → AreDraftsOf ds ss grants → have_draft (tables.is_session_grant who t) ss ≡ false
     → (x : Grant) → find (is_grant who t) grants ≡ Some x → x.draft ≡ None
 draft_none ds who t [] [] table are none x found = cc
 draft_none ds who t [] (y ∷ grants) table are none x found = absurd are
@@ -51,28 +53,27 @@ draft_none ds who t (handle ∷ ss) (y ∷ grants) table are none x found =
 -- the grants after a call have the drafts of those before it
 pub record KeepsDrafts (ss left : List Handle) (grants after : List Grant) : Type 0 where
   pub same : drafts_of_handles left after ≡ drafts_of_handles ss grants
-  pub have : (ds : List Opened) → AreDraftsOf ds ss grants → AreDraftsOf ds left after
+  pub have : (ds : Drafts) → AreDraftsOf ds ss grants → AreDraftsOf ds left after
 
-module _ (ds : List Opened) (handle : Handle) (grant : Grant) (has : HasDraftOf ds handle handle.drafting grant.draft) where
-  -- one more
-  pub push_have : (ss : List Handle) (grants : List Grant) → AreDraftsOf ds ss grants → AreDraftsOf ds (ss ++ handle ∷ []) (grants ++ grant ∷ [])
-  push_have [] [] are = (has, tt)
-  push_have [] (x ∷ grants) are = absurd are
-  push_have (x ∷ ss) [] are = absurd are
-  push_have (x ∷ ss) (y ∷ grants) are = (are.0, push_have ss grants are.1)
+-- one more, with this draft, or with none
+module _ (handle : Handle) (grant : Grant) where
+  pub push_opened : (e : Opened) → opened_if handle.drafting grant.draft ≡ Some e → (ss : List Handle) (grants : List Grant) → grants_in ss ≡ map bare grants → draft_at grants handle.grant.id ≡ None
+      → drafts_of_handles (ss ++ handle ∷ []) (grants ++ grant ∷ []) ≡ with_opened handle.grant.id e (drafts_of_handles ss grants)
+  push_opened e is ss grants table none =
+      drafts_beside handle.grant.id (Some e) [] (handle ∷ []) [] (grant ∷ []) (ap (λ o. with_opened_if handle.grant.id o no_drafts) is) ss grants table none
+      ∙ ap (with_opened handle.grant.id e) (ap (λ zs. drafts_of_handles zs (grants ++ [])) (append-nil ss) ∙ ap (drafts_of_handles ss) (append-nil grants))
 
-pub push_drafts : (ds : List Opened) (handle : Handle) (grant : Grant) (ss : List Handle) (grants : List Grant) → AreDraftsOf ds ss grants
-    → drafts_of_handles (ss ++ handle ∷ []) (grants ++ grant ∷ []) ≡ drafts_at handle handle.drafting grant.draft ++ drafts_of_handles ss grants
-push_drafts ds handle grant [] [] are = sym (append-nil _)
-push_drafts ds handle grant [] (x ∷ grants) are = absurd are
-push_drafts ds handle grant (x ∷ ss) [] are = absurd are
-push_drafts ds handle grant (x ∷ ss) (y ∷ grants) are = ap (λ more. more ++ drafts_at x x.drafting y.draft) (push_drafts ds handle grant ss grants are.1) ∙ append_assoc (drafts_at handle handle.drafting grant.draft) _ _
+  pub push_bare : opened_if handle.drafting grant.draft ≡ None → (ss : List Handle) (grants : List Grant) → grants_in ss ≡ map bare grants → drafts_of_handles (ss ++ handle ∷ []) (grants ++ grant ∷ []) ≡ drafts_of_handles ss grants
+  push_bare is [] [] table = ap (λ o. with_opened_if handle.grant.id o no_drafts) is
+  push_bare is [] (x ∷ grants) table = cc
+  push_bare is (x ∷ ss) [] table = cc
+  push_bare is (x ∷ ss) (y ∷ grants) table = (let tail : grants_in ss ≡ map bare grants = cc in ap (with_opened_if x.grant.id (opened_if x.drafting y.draft)) (push_bare is ss grants tail))
 
 module _ (test : handles.Grant → Bool) where
   abbrev left_of : List Grant → List Grant
   left_of grants = filter (λ grant. not (test (bare grant))) grants
 
-  but_have : (ds : List Opened) (ss : List Handle) (grants : List Grant) → grants_in ss ≡ map bare grants → AreDraftsOf ds ss grants → AreDraftsOf ds (handles_but test ss) (left_of grants)
+  but_have : (ds : Drafts) (ss : List Handle) (grants : List Grant) → grants_in ss ≡ map bare grants → AreDraftsOf ds ss grants → AreDraftsOf ds (handles_but test ss) (left_of grants)
   but_have ds [] [] table are = tt
   but_have ds [] (y ∷ grants) table are = absurd are
   but_have ds (x ∷ ss) [] table are = absurd are
@@ -85,7 +86,7 @@ module _ (test : handles.Grant → Bool) where
       at rest true = rest
       at rest false = (are.0, rest)
 
-  but_same : (ds : List Opened) (ss : List Handle) (grants : List Grant) → grants_in ss ≡ map bare grants → AreDraftsOf ds ss grants → have_draft test ss ≡ false
+  but_same : (ds : Drafts) (ss : List Handle) (grants : List Grant) → grants_in ss ≡ map bare grants → AreDraftsOf ds ss grants → have_draft test ss ≡ false
       → drafts_of_handles (handles_but test ss) (left_of grants) ≡ drafts_of_handles ss grants
   but_same ds [] [] table are none = refl
   but_same ds [] (y ∷ grants) table are none = absurd are
@@ -96,17 +97,17 @@ module _ (test : handles.Grant → Bool) where
       let two = or_parts (test x.grant && is_some x.drafting) (have_draft test ss) none in
       rw (← head) (at (but_same ds ss grants tail are.1 two.1) (test x.grant) two.0)
     where
-      gone : (drafting : Option Drafting) (d : Option Draft) → is_some drafting ≡ false → drafts_at x drafting d ≡ []
+      gone : (drafting : Option Drafting) (d : Option Draft) → is_some drafting ≡ false → opened_if drafting d ≡ None
       gone None d none = refl
       gone (Some drafting) d none = cc
 
       at : drafts_of_handles (handles_but test ss) (left_of grants) ≡ drafts_of_handles ss grants → (b : Bool) → (b && is_some x.drafting) ≡ false
-          → drafts_of_handles (cond (not b) (x ∷ handles_but test ss) (handles_but test ss)) (cond (not b) (y ∷ left_of grants) (left_of grants)) ≡ drafts_of_handles ss grants ++ drafts_at x x.drafting y.draft
-      at rest true bare = rest ∙ sym (append-nil _) ∙ ap (λ more. drafts_of_handles ss grants ++ more) (sym (gone x.drafting y.draft bare))
-      at rest false bare = ap (λ more. more ++ drafts_at x x.drafting y.draft) rest
+          → drafts_of_handles (cond (not b) (x ∷ handles_but test ss) (handles_but test ss)) (cond (not b) (y ∷ left_of grants) (left_of grants)) ≡ drafts_of_handles (x ∷ ss) (y ∷ grants)
+      at rest true bare = rest ∙ sym (ap (λ o. with_opened_if x.grant.id o (drafts_of_handles ss grants)) (gone x.drafting y.draft bare))
+      at rest false bare = ap (with_opened_if x.grant.id (opened_if x.drafting y.draft)) rest
 
   -- fewer, of which those that go have none
-  pub but_keeps : (ds : List Opened) (ss : List Handle) (grants : List Grant) → grants_in ss ≡ map bare grants → AreDraftsOf ds ss grants → have_draft test ss ≡ false → KeepsDrafts ss (handles_but test ss) grants (left_of grants)
+  pub but_keeps : (ds : Drafts) (ss : List Handle) (grants : List Grant) → grants_in ss ≡ map bare grants → AreDraftsOf ds ss grants → have_draft test ss ≡ false → KeepsDrafts ss (handles_but test ss) grants (left_of grants)
   but_keeps ds ss grants table are none = record { same = but_same ds ss grants table are none; have = λ es. but_have es ss grants table }
 
   pub but_table : (ss : List Handle) (grants : List Grant) → grants_in ss ≡ map bare grants → grants_in (handles_but test ss) ≡ map bare (left_of grants)
@@ -134,7 +135,7 @@ module _ {D : Type 0} (g : Ghosts D) (k : Kernel D) (left : List Handle) (s afte
   abbrev new : Kernel D
   new = record k { handles = left }
 
-  abbrev ds : List Opened
+  abbrev ds : Drafts
   ds = drafts_of_handles k.handles s.grants
 
   has : HasStepped g k.space.left k new s s.graph (λ entry. false) ds

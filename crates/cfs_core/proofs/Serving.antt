@@ -1,7 +1,6 @@
 -- What a core that serves knows of its disk, and what it goes on to know after calls that only read.
 use Rattle.std.proofs.Common.{◌≡◌, ◌≢◌, cond, ℕ, ◌+◌, ◌*◌, ◌/◌, ◌≤◌, List, [], ◌∷◌, length, Bool, true, false, Option, Some, None, IsTrue, refl, sym, ◌∙◌, ap, subst, arith, ◌==◌, ◌||◌, is_some, option_map, sum, eq-eqb, inl}
-use Rattle.cfs_core.proofs.Words.{blocks_taken, closed_graph, entry_in, Event, FitsDisk, Ghosts, Graph, graph_blocks, has_root_in, Holds, Image, is_running, is_stray, is_there, IsClosedGraph, IsSwept, Kind, directory_kind, directory_kind-kinds_in, object_kind, left_now, loose, next, no_strays, Object, object_at, ones_le, OnlyReads, Opened, Puid, room, same_puid, same_puid_is, State}
-use Rattle.cfs_core.proofs.Words.{ids_of, rises, stray_blocks, sum_is, wider, Leaves}
+use Rattle.cfs_core.proofs.Words.{blocks_taken, closed_graph, entry_in, Event, FitsDisk, Ghosts, Graph, graph_blocks, has_root_in, Holds, Image, is_running, is_stray, is_there, IsClosedGraph, IsSwept, Kind, directory_kind, directory_kind-kinds_in, object_kind, left_now, loose, next, no_strays, Object, object_at, ones_le, OnlyReads, Puid, room, same_puid, same_puid_is, State, Drafts, ids_of, rises, stray_blocks, sum_is, wider, Leaves}
 use Rattle.cyl_alloc.specs.Left.{LeftCommit}
 use Rattle.cyl_alloc.specs.Space.{AreCounts}
 use Rattle.intentions.specs.Left.{coming}
@@ -82,7 +81,7 @@ fewer_lost a b g h wide adds =
     omega (arith, ones_le (λ n. is_stray h (entry_in b n)) (λ n. is_stray g (entry_in a n)) 0 (length a) (λ n stray. (adds n stray).1), ap (λ n. stray_blocks b h n) wide)
 
 module _ {D : Type 0} {w : Option LeftCommit} (g : Ghosts D) (k : Kernel D) (s : State) (serves : ServesWith g k s w) where
-  abbrev drafts : List Opened
+  abbrev drafts : Drafts
   drafts = drafts_of_handles k.handles s.grants
 
   -- the image that is to come, and what is said of it

@@ -1,8 +1,7 @@
 -- What a sound image of blocks reads as is a well-formed graph.
 use Rattle.std.proofs.Common.{◌≡◌, ◌≢◌, ◌⊎◌, inl, inr, ℕ, suc, ◌+◌, ◌*◌, ◌/◌, ◌%◌, ◌<◌, ◌≤◌, List, [], ◌∷◌, length, get_or, refl, sym, ◌∙◌, ap, subst, arith, Bool, true, false, cond, not, Option, Some, None, is_some, ◌==◌, is_none, is_lt, is_eq, Ordering, Less, Equal, Greater}
 use Rattle.cfs_core.proofs.Words.{absent_byte, all_among, all_filter, all_numbers, all_pairs, and_from, and_parts, AreBlocks, block_at, blocks_differ, byte_may_stand, each_among, each_from, eq-eqb, eqb-true, false_from_ne_true, File, file_to_leaves, found, GivesFile, GivesIndex, Graph, graph_pairs, has_number, Held, held-rise, held_byte, held_in, held_is, Holds, ids_of, Image, Index}
-use Rattle.cfs_core.proofs.Words.{index_to_leaves, is_among, is_object, is_root_index, is_there, is_there-ids, IsGraph, IsSoundAs, IsTree, keys_of, le-leb, leaf_content, leaf_in, leaves_in, list_all, lt-ltb, ne_eqb, Object, object_at, object_there, or_left, or_right, part_at, part_of, Puid, puid_cmp, range_with_len, ReadsAs, reserved, rises, same_block, same_puid, same_slot, slot_get, slot_in}
-use Rattle.cfs_core.proofs.Words.{slot_may_stand, source, to_held, tree_in}
+use Rattle.cfs_core.proofs.Words.{index_to_leaves, is_among, is_object, is_root_index, is_there, is_there-ids, IsGraph, IsSoundAs, IsTree, keys_of, le-leb, leaf_content, leaf_in, leaves_in, list_all, lt-ltb, ne_eqb, Object, object_at, object_there, or_left, or_right, part_at, part_of, Puid, puid_cmp, range_with_len, ReadsAs, reserved, rises, same_block, same_puid, same_slot, slot_get, slot_in, slot_may_stand, source, to_held, tree_in}
 use Rattle.ufs_model.specs.declared.object.Object.TheVariants as objects
 use Rattle.ufs_model.proofs.Reached.{same_puid_is, same_puid_itself}
 use Rattle.vol_image.specs.Sight.{sight}

@@ -1,6 +1,6 @@
 -- The steps of the collector, of a core.
 use Rattle.std.proofs.Common.{◌≡◌, inl, ℕ, ◌+◌, ◌-◌, ◌*◌, ◌/◌, ◌^◌, ◌<◌, ◌≤◌, cond, ◌||◌, List, [], ◌∷◌, length, true, false, Result, Ok, Err, Option, Some, None, IsTrue, refl, sym, ◌∙◌, ap, subst, arith, IfSome, map}
-use Rattle.cfs_core.proofs.Words.{Accounts, Collecting, count_after, done, Event, FitsDisk, Ghosts, Grant, had_tried, Holds, Image, IsCollecting, keeps, Kept, list_all, Listing, loose, most_steps, next, Puid, Refused, State, steps_left, stopped_at, volume_of, wider}
+use Rattle.cfs_core.proofs.Words.{Accounts, Collecting, count_after, done, Event, FitsDisk, Ghosts, Grant, had_tried, Holds, Image, IsCollecting, keeps, Kept, list_all, Listing, loose, most_steps, next, Puid, Refused, State, steps_left, stopped_at, volume_of, wider, no_drafts}
 use Rattle.cfs_base.specs.declared.refusal.Refused.TheVariants as refusals
 use Rattle.collector_steps.specs.Collecting as Keeps
 use Rattle.collector_steps.specs.declared.phase.Phase.TheVariants as phases
@@ -251,7 +251,7 @@ module _ {D : Type 0} (g : Ghosts D) (k : Kernel D) where
     col_there : (s : State) → CoreServes g k s → HasCollector (g.content k.disk) s col
     col_there s serves = subst (HasCollection (g.content k.disk) s) there serves.collecting
 
-    none_open : (handles : List Handle) (grants : List Grant) → handles ≡ [] → AreDraftsOf (drafts_of_handles handles grants) handles grants → drafts_of_handles handles grants ≡ []
+    none_open : (handles : List Handle) (grants : List Grant) → handles ≡ [] → AreDraftsOf (drafts_of_handles handles grants) handles grants → drafts_of_handles handles grants ≡ no_drafts
     none_open [] [] none drafts = refl
     none_open [] (y ∷ grants) none drafts = absurd drafts
     none_open (x ∷ handles) grants none drafts = cc

@@ -1,8 +1,8 @@
 -- The steps of the collector: where each leaves a core, and a step of a collection that runs, on any disk.
-use Rattle.std.proofs.Common.{IsTrue, ◌≡◌, inl, inr, ℕ, ◌+◌, ◌*◌, ◌/◌, ◌<◌, ◌≤◌, List, [], ◌∷◌, length, Bool, true, false, not, ◌||◌, cond, Result, Option, Some, None, Ok, Err, refl, sym, ◌∙◌, ap, subst, append-nil, arith, ◌==◌, nat_lt, map, option_map, slice_get}
-use Rattle.cfs_core.proofs.Words.{Accounts, all_among, and_from, and_parts, AreCounts, blocks_taken, both_ways, carries_fewer, Collecting, Collection, Collects, count_after, cylinder_of, Draft, Drafting, entry_in, Event, Ghosts, goes, Grant, Graph, graph_blocks, had_tried, has_root_in, HasSwept, Holds, Image, events_left, steps_left, is_among, is_running, is_stray, is_there, IsAsBefore, IsCollecting, IsDamaged}
-use Rattle.cfs_core.proofs.Words.{IsMapTrouble, IsPhaseOf, IsScanTrouble, IsSpeakable, IsState, IsSwept, IsSweptOf, joined_has, joined_has_new, joined_within, Kept, kept_by, kept_stays, Kind, kinds_of, Leaves, list_all, list_all-append, Listing, MakesAtMost, MapEntry, may_vanish_test, MayVanish, next, next_keeps, next_phase, Object, object_at, object_at-without, ones_le, OnlyReads}
-use Rattle.cfs_core.proofs.Words.{open_ids, open_kept, Opened, opened_as, or_cases, or_left, or_right, pairs_of, Pass, Phase, Puid, reads_make, reads_within, Refused, refused_by, rises-without, room, same_puid, starts_now, State, stray_blocks, sum_is, swept, Trouble, trouble_had_tried, vanish_goes_on, volume_of, wider, without}
+use Rattle.std.proofs.Common.{IsTrue, ◌≡◌, inl, inr, ℕ, ◌+◌, ◌*◌, ◌/◌, ◌<◌, ◌≤◌, List, [], ◌∷◌, length, Bool, true, false, not, ◌||◌, cond, Result, Option, Some, None, Ok, Err, refl, sym, ◌∙◌, ap, subst, arith, ◌==◌, nat_lt, map, option_map, slice_get, filter}
+use Rattle.cfs_core.proofs.Words.{Accounts, AreCounts, blocks_taken, both_ways, carries_fewer, Collecting, Collection, Collects, count_after, cylinder_of, entry_in, Event, Ghosts, goes, Grant, Graph, graph_blocks, had_tried, has_root_in, HasSwept, Holds, Image, events_left, steps_left, is_among, is_running, is_stray, is_there, IsAsBefore, IsCollecting, IsDamaged, Drafts, list_any, or_parts, or_from, cases_Bool, Opened, draft_blocks_if, sum_by, sum_by-cons, keys_of}
+use Rattle.cfs_core.proofs.Words.{IsMapTrouble, IsPhaseOf, IsScanTrouble, IsSpeakable, IsState, IsSwept, IsSweptOf, joined_has, joined_has_new, joined_within, Kept, kept_by, kept_stays, Kind, kinds_of, Leaves, Listing, MakesAtMost, MapEntry, may_vanish_test, MayVanish, next, next_keeps, next_phase, Object, object_at, object_at-without, ones_le, OnlyReads}
+use Rattle.cfs_core.proofs.Words.{open_ids, open_kept, or_cases, or_left, or_right, pairs_of, Pass, Phase, Puid, reads_make, reads_within, Refused, refused_by, rises-without, room, same_puid, starts_now, State, stray_blocks, sum_is, swept, Trouble, trouble_had_tried, vanish_goes_on, volume_of, wider, without}
 use Rattle.std.specs.Cmp as cmp
 use Rattle.cfs_base.specs.declared.refusal.Trouble.TheVariants as trouble
 use Rattle.cfs_base.specs.declared.refusal.Refused.TheVariants as refusals
@@ -20,7 +20,7 @@ use Rattle.cfs_core.proofs.Damages.{told_of_map, told_of_scan}
 use Rattle.cfs_core.specs.Calls.{IsCause}
 use Rattle.cfs_core.specs.Damage.{IsOfGrey}
 use Rattle.cfs_core.specs.Collect.{EndsUnmade, HasBegunCollection, IsStepMade, IsMadeOrNot, IsNextStep, MovesTo, StepsSo, is_starved, phase_of, sweeps_blocks, told_as, with_parts}
-use Rattle.cfs_core.specs.Kernel.{Kernel, Handle, marks_in, collection_runs, sweeps_in}
+use Rattle.cfs_core.specs.Kernel.{Kernel, Handle, marks_in, collection_runs, sweeps_in, grants_in}
 use Rattle.cfs_core.specs.Left.{LeavesFewer, RunsBy}
 use Rattle.cfs_core.specs.Room.{MayLose, lost_blocks}
 use Rattle.cfs_core.specs.Handles.{root_at}
@@ -28,9 +28,11 @@ use Rattle.cfs_core.specs.StandsFor.{HasCollection, HasCollector, CoreServes, ba
 use Rattle.cfs_core.proofs.Answering.{reads_none}
 use Rattle.cfs_core.proofs.Collected.{as_before, collection_ready, none_is}
 use Rattle.cfs_core.proofs.Lefts.{events_swept, goes_within}
+use Rattle.cfs_core.proofs.Drafted.{core_has_none}
 use Rattle.cfs_core.proofs.Serving.{running, serves_on, stored_with, nothing_left}
 use Rattle.cfs_core.proofs.Swept.{frees_strays}
 use Rattle.cfs_core.proofs.Went.{fewer_calls}
+use Rattle.ufs_model.proofs.Drafts.{not_open}
 
 -- ---- a sweep
 
@@ -63,28 +65,22 @@ in_sweep pass phases.Swept is = absurd is
 -- ---- where a step leaves the state
 
 -- a draft is of an object that is open
-drafts_open : (all : List Puid) (handles : List Handle) (grants : List Grant) → map (λ (x : Handle). x.grant) handles ≡ map bare grants → list_all (λ id. is_among id all) (map (λ (x : Grant). x.id) grants) ≡ true
-    → list_all (λ d. is_among d.id all) (drafts_of_handles handles grants) ≡ true
-drafts_open all [] grants are opened = refl
-drafts_open all (x ∷ handles) [] are opened = refl
-drafts_open all (x ∷ handles) (y ∷ grants) are opened =
-    let two = and_parts (is_among y.id all) _ opened in
-    let here : x.grant ≡ bare y = cc in
-    let rest : map (λ (z : Handle). z.grant) handles ≡ map bare grants = cc in
-    at x.drafting y.draft (ap (λ z. is_among z.id all) here ∙ two.0) (drafts_open all handles grants rest two.1)
+drafts_open : (id : Puid) (handles : List Handle) (grants : List Grant) → grants_in handles ≡ map bare grants → (d : Opened) → drafts_of_handles handles grants id ≡ Some d → is_among id (map (λ (x : Grant). x.id) grants) ≡ true
+drafts_open id handles grants are d has = elim (cases_Bool (is_among id (map (λ (x : Grant). x.id) grants))) [
+  | inl there ↦ there
+  | inr none ↦ (let no : None ≡ Some d = sym (core_has_none id handles grants are (not_open grants id (none_on grants none))) ∙ has in cc)
+]
   where
-    at : (o : Option Drafting) (d : Option Draft) → is_among x.grant.id all ≡ true → list_all (λ e. is_among e.id all) (drafts_of_handles handles grants) ≡ true
-        → list_all (λ e. is_among e.id all) (drafts_of_handles ((record { grant = x.grant; drafting = o }) ∷ handles) ((record y { draft = d }) ∷ grants)) ≡ true
-    at (Some drafting) (Some d) one rest = list_all-append (λ e. is_among e.id all) (drafts_of_handles handles grants) (opened_as x.grant.id drafting d ∷ []) ∙ and_from _ _ rest (and_from _ _ one refl)
-    at (Some drafting) None one rest = ap (list_all (λ e. is_among e.id all)) (append-nil (drafts_of_handles handles grants)) ∙ rest
-    at None d one rest = ap (list_all (λ e. is_among e.id all)) (append-nil (drafts_of_handles handles grants)) ∙ rest
+    none_on : (gs : List Grant) → is_among id (map (λ (x : Grant). x.id) gs) ≡ false → list_any (λ x. same_puid id x.id) gs ≡ false
+    none_on [] none = refl
+    none_on (x ∷ gs) none = (let two = or_parts (same_puid id x.id) (is_among id (map (λ (y : Grant). y.id) gs)) none in or_from (same_puid id x.id) _ two.0 (none_on gs two.1))
 
 -- A core with a collector `col`, of a state that it serves; and where its step leaves it.
 module _ {D : Type 0} (g : Ghosts D) (k : Kernel D) (old : D) (space : Kept) (directory : Listing) (col : Collecting) (s : State) (serves : CoreServes g (with_parts k old space directory col) s) (l : Collecting) where
   abbrev core : Kernel D
   core = with_parts k old space directory col
 
-  abbrev ds : List Opened
+  abbrev ds : Drafts
   ds = drafts_of_handles k.handles s.grants
 
   pub served : IsServed g old directory.named s ds
@@ -115,13 +111,9 @@ module _ {D : Type 0} (g : Ghosts D) (k : Kernel D) (old : D) (space : Kept) (di
     pub condemns : (seed : ℕ) → next seed s (events.Vanish ids) ≡ Some gone
     condemns seed = rw (runs, may_vanish_test s ids serves.state legal) refl
 
-    still_there : (es : List Opened) → list_all (λ d. is_among d.id (open_ids s)) es ≡ true → list_all (λ d. is_there s.graph d.id) es ≡ true → list_all (λ d. is_there (without s.graph ids) d.id) es ≡ true
-    still_there [] opened there = refl
-    still_there (d ∷ es) opened there =
-        let one = and_parts (is_among d.id (open_ids s)) _ opened in
-        let two = and_parts (is_there s.graph d.id) _ there in
-        let stays = kept_stays s.graph ids d.id (legal.none_kept d.id (open_kept s d.id one.0)) in
-        and_from _ _ (ap (λ (o : Option Object). Rattle.std.specs.Prelude.is_some o) stays ∙ two.0) (still_there es one.1 two.1)
+    still_on_objects : (x : Puid) (d : Opened) → ds x ≡ Some d → is_there (without s.graph ids) x ≡ true
+    still_on_objects x d has =
+        ap (λ (o : Option Object). Rattle.std.specs.Prelude.is_some o) (kept_stays s.graph ids x (legal.none_kept x (open_kept s x (drafts_open x k.handles s.grants serves.front.grants d has)))) ∙ serves.store.account.on_objects x d has
 
     was : (x : Puid) (o : Object) → object_at (without s.graph ids) x ≡ Some o → object_at s.graph x ≡ Some o
     was x o found = elim (not (is_among x ids)) as (λ t. cond t (object_at s.graph x) None ≡ Some o → object_at s.graph x ≡ Some o) [
@@ -129,9 +121,23 @@ module _ {D : Type 0} (g : Ghosts D) (k : Kernel D) (old : D) (space : Kept) (di
       | false ↦ λ h. cc
     ] (sym (object_at-without s.graph ids x) ∙ found)
 
+    -- what goes has no draft
+    none_goes : (x : Puid) → is_among x ids ≡ true → draft_blocks_if (ds x) ≡ 0
+    none_goes x goes = by (ds x) refl
+      where
+        by : (o : Option Opened) → ds x ≡ o → draft_blocks_if o ≡ 0
+        by None has = refl
+        by (Some d) has = (let no : false ≡ true = sym (ap (λ (o : Option Object). Rattle.std.specs.Prelude.is_some o) (object_at-without s.graph ids x ∙ ap (λ b. cond (not b) (object_at s.graph x) None) goes)) ∙ still_on_objects x d has in cc)
+
+    drafts_stay : (es : List (Puid × Object)) → sum_by (λ x. draft_blocks_if (ds x)) (keys_of (filter (λ e. not (is_among e.0 ids)) es)) ≡ sum_by (λ x. draft_blocks_if (ds x)) (keys_of es)
+    drafts_stay [] = refl
+    drafts_stay (e ∷ es) = elim (is_among e.0 ids) as (λ b. is_among e.0 ids ≡ b → sum_by (λ x. draft_blocks_if (ds x)) (keys_of (cond (not b) (e ∷ filter (λ y. not (is_among y.0 ids)) es) (filter (λ y. not (is_among y.0 ids)) es))) ≡ sum_by (λ x. draft_blocks_if (ds x)) (keys_of (e ∷ es))) [
+      | true ↦ λ among. omega (arith, sum_by-cons (λ x. draft_blocks_if (ds x)) e.0 (keys_of es), none_goes e.0 among, drafts_stay es)
+      | false ↦ λ stays. omega (arith, sum_by-cons (λ x. draft_blocks_if (ds x)) e.0 (keys_of es), sum_by-cons (λ x. draft_blocks_if (ds x)) e.0 (keys_of (filter (λ y. not (is_among y.0 ids)) es)), drafts_stay es)
+    ] refl
+
     accounts : Accounts (g.content old) (without s.graph ids) ds
-    accounts = vanish_goes_on (g.content old) s.graph ds ids serves.store.account
-        (still_there ds (drafts_open (open_ids s) k.handles s.grants serves.front.grants (all_among (λ id. is_among id (open_ids s)) (open_ids s) (λ x h. h))) serves.store.account.on_objects)
+    accounts = vanish_goes_on (g.content old) s.graph ds ids serves.store.account still_on_objects
 
     pub condemned : (left : Listing) → l.phase ≡ phases.Inner 0 → left.named ≡ kinds_of (without s.graph ids) → Collects (g.content old) gone l → MovesTo g core (with_parts k old space left l) s (Some (events.Vanish ids))
     condemned left phase named collects = record {
@@ -154,7 +160,7 @@ module _ {D : Type 0} (g : Ghosts D) (k : Kernel D) (old : D) (space : Kept) (di
         collecting = record { marking = ap marks_in (sym phase); sweeping = ap sweeps_in (sym phase); collects = collects };
       };
       leaves = nothing_left g old (λ c. Holds c s.graph);
-      lost = omega (arith, room (g.content old) s.graph ds serves.store.account serves.store.ordered, room (g.content old) (without s.graph ids) ds accounts (rises-without s.graph ids serves.store.ordered));
+      lost = omega (arith, room (g.content old) s.graph ds serves.store.account serves.store.ordered, room (g.content old) (without s.graph ids) ds accounts (rises-without s.graph ids serves.store.ordered), drafts_stay s.graph.objects);
     }
 
   -- ---- a cylinder is swept
@@ -389,7 +395,7 @@ module _ {D : Type 0} (g : Ghosts D) (old : D) (space : Kept) (directory : Listi
     cylinders = refl;
   }
     where
-      blocks_less : (h : Graph) (ds : List Opened) → graph_blocks h ≤ blocks_taken h ds
+      blocks_less : (h : Graph) (ds : Drafts) → graph_blocks h ≤ blocks_taken h ds
       blocks_less h ds = omega arith
 
       moves : (core : Kernel D) (s : State) → CoreServes g (before core) s → core.stop ≡ None → MovesTo g (before core) (with_parts core old space left l) s (Some (events.Vanish ids))

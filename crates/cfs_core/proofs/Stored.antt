@@ -1,7 +1,7 @@
 -- What the store says whatever is left of a commit.
-use Rattle.std.proofs.Common.{◌≡◌, Bool, true, false, List, length, Option, Some, None, IsTrue, refl, ◌∙◌}
+use Rattle.std.proofs.Common.{◌≡◌, Bool, true, false, length, Option, Some, None, IsTrue, refl, ◌∙◌}
 use Rattle.std.proofs.lemmas.List.{length-set}
-use Rattle.cfs_core.proofs.Words.{frames_hold, Ghosts, Graph, Holds, Image, Kept, left_now, Object, Opened, Puid, rises, sum_is}
+use Rattle.cfs_core.proofs.Words.{frames_hold, Ghosts, Graph, Holds, Image, Kept, left_now, Object, Puid, rises, sum_is, Drafts}
 use Rattle.cfs_base.specs.Disk.{block_at}
 use Rattle.cyl_alloc.specs.Left.{LeftCommit}
 use Rattle.cyl_alloc.specs.Space.{AreCounts}
@@ -13,7 +13,7 @@ use Rattle.vol_owners.specs.Account.{Accounts}
 use Rattle.cfs_core.specs.Kernel.{Kernel}
 use Rattle.cfs_core.specs.StandsFor.{free_of, free_with}
 
-module _ {D : Type 0} (g : Ghosts D) (graph : Graph) (ds : List Opened) (d : D) (k : Kept) where
+module _ {D : Type 0} (g : Ghosts D) (graph : Graph) (ds : Drafts) (d : D) (k : Kept) where
   pub account_in : (w : Option LeftCommit) → StoreWith g graph ds d k w → Accounts (coming (g.content d) w) graph ds
   account_in None store = store.account
   account_in (Some l) has = has.account

@@ -2,29 +2,26 @@
 -- object's own.
 use Rattle.std.proofs.Common.{◌≡◌, ◌/◌, ◌⊎◌, inl, inr, ℕ, ◌+◌, ◌-◌, ◌≤◌, List, [], ◌∷◌, length, get_or, Bool, true, false, cond, Option, Some, None, is_some, refl, sym, ◌∙◌, ap, subst, arith, filter, ◌%◌, nat_le, zero, suc}
 use Rattle.std.specs.List.{sum_by, range_with_len}
-use Rattle.std.specs.Map.{keys_of}
 use Rattle.std.proofs.lemmas.List.Sums.{sum_by-cons}
 use Rattle.block_tree.specs.declared.root.Root.{Root}
 use Rattle.block_tree.proofs.Trees.{path_is}
 use Rattle.ufs_model.specs.Need.{one_if}
 use Rattle.block_tree.specs.Tree.{levels_of}
 use Rattle.std.proofs.Math.Path.{fun_ext}
-use Rattle.cfs_core.proofs.Words.{blocks_of, blocks_taken, block_at, cases_Bool, drafts_of, Ghosts, Graph, HasDraft, HasItsBlocks, Held, Holds, Image, Index, is_meant_for, IsTree, Object, object_at, Opened, Puid, State, content_of}
+use Rattle.cfs_core.proofs.Words.{blocks_of, blocks_taken, block_at, cases_Bool, Ghosts, Graph, HasDraft, HasItsBlocks, Held, Holds, Image, Index, is_meant_for, IsTree, Object, object_at, Opened, Puid, State, content_of, Drafts, draft_blocks_if}
 use Rattle.marking.proofs.Sums.{count_all, sum_more}
 use Rattle.marking.specs.Colours.{none_marked}
 use Rattle.marking.specs.Pace.{unread, unread_at, unread_of}
 use Rattle.collector_steps.proofs.Indices.{tree_of_index}
 use Rattle.special_files.proofs.Levels.{fresh_leaf, leaf_level, levels_are}
 use Rattle.ufs_model.specs.declared.object.Object.TheVariants as objects
-use Rattle.ufs_model.specs.Numbers.{parents}
-use Rattle.ufs_model.specs.Numbers.{first_level}
+use Rattle.ufs_model.specs.Numbers.{parents, first_level}
 use Rattle.ufs_model.specs.State.{draft_at}
 use Rattle.vol_image.proofs.Counts.{blocks_counted}
 use Rattle.vol_image.specs.Seen.{held_at, tree_in}
 use Rattle.vol_owners.specs.Account.{passes}
-use Rattle.vol_owners.specs.Room.{draft_blocks}
 use Rattle.vol_owners.proofs.Differing.{not_meant_is_own, stands_some}
-use Rattle.vol_owners.proofs.Keys.{drafts_sum, sum_objects}
+use Rattle.vol_owners.proofs.Keys.{sum_ids, sum_objects}
 use Rattle.vol_owners.proofs.Sums.{sum_both}
 use Rattle.cfs_core.specs.Kernel.{Kernel}
 use Rattle.cfs_core.specs.Handles.{root_at}
@@ -127,14 +124,11 @@ module _ {D : Type 0} (g : Ghosts D) (k : Kernel D) (s : State) (serves : CoreSe
   abbrev image : Image
   image = g.content k.disk
 
-  abbrev ds : List Opened
+  abbrev ds : Drafts
   ds = drafts_of_handles k.handles s.grants
 
   abbrev taken_at : Puid × Object → ℕ
-  taken_at e = blocks_of e.1 + sum_by draft_blocks (drafts_of ds e.0)
-
-  one_draft : (d : Opened) → sum_by length d.draft.fresh ≤ sum_by draft_blocks (d ∷ [])
-  one_draft d = omega (arith, sum_by-cons draft_blocks d [])
+  taken_at e = blocks_of e.1 + draft_blocks_if (ds e.0)
 
   at_one : (id : Puid) (own : Object) → object_at s.graph id ≡ Some own → unread_at s none_marked id ≤ taken_at (id, own)
   at_one id own at = by own at (root_at k.handles id) (draft_at s.grants id) refl (opens_here g k s serves id own at)
@@ -148,16 +142,11 @@ module _ {D : Type 0} (g : Ghosts D) (k : Kernel D) (s : State) (serves : CoreSe
       by (objects.Index i) at (Some root) (Some (objects.Index d)) has is =
           let account = serves.store.account in
           let few = held_few image s.graph account.holds id i at (account.objects id (objects.Index i) at) is.opened (its_tree g k s serves id (objects.Index i) at root (objects.Index d) is) d is.object_is in
-          let drafts = ap (λ (es : List Opened). sum_by draft_blocks es) is.only in
-          rw has (omega (arith, all_few true d.held, few, one_draft is.opened, drafts, index_blocks i))
+          rw has (omega (arith, all_few true d.held, few, ap draft_blocks_if is.only, index_blocks i))
       by own at (Some root) None has is = absurd is
       by own at None (Some o) has is = absurd is
 
   -- ---- all
-
-  sum_keys : (f : Puid → ℕ) (es : List (Puid × Object)) → sum_by f (keys_of es) ≡ sum_by (λ e. f e.0) es
-  sum_keys f [] = refl
-  sum_keys f (e ∷ es) = omega (arith, sum_by-cons f e.0 (keys_of es), sum_by-cons (λ (x : Puid × Object). f x.0) e es, sum_keys f es)
 
   pub unread_few : unread s none_marked ≤ blocks_taken s.graph ds
   unread_few =
@@ -165,9 +154,9 @@ module _ {D : Type 0} (g : Ghosts D) (k : Kernel D) (s : State) (serves : CoreSe
       let filled = sum_objects s.graph serves.store.ordered (λ e. f e + (taken_at e - f e)) taken_at (λ x o at. let le = at_one x o at in omega (arith, le)) in
       omega (
         arith,
-        sum_keys (unread_at s none_marked) s.graph.objects,
+        sum_ids (unread_at s none_marked) s.graph.objects,
         filled,
         sum_both f (λ e. taken_at e - f e) s.graph.objects,
-        sum_both (λ (e : Puid × Object). blocks_of e.1) (λ e. sum_by draft_blocks (drafts_of ds e.0)) s.graph.objects,
-        drafts_sum draft_blocks s.graph ds serves.store.ordered serves.store.account.on_objects,
+        sum_both (λ (e : Puid × Object). blocks_of e.1) (λ e. draft_blocks_if (ds e.0)) s.graph.objects,
+        sum_ids (λ id. draft_blocks_if (ds id)) s.graph.objects,
       )

@@ -1,7 +1,6 @@
 -- What refuses a request on its way, and what a table of grants tells of it.
 use Rattle.std.proofs.Common.{◌≡◌, ℕ, List, [], ◌∷◌, ◌++◌, Bool, true, false, cond, not, ◌&&◌, ◌||◌, Option, Some, None, is_some, is_none, refl, sym, ◌∙◌, ap, subst, option_map, option_and_then}
-use Rattle.cfs_core.proofs.Words.{AFile, and_parts, AnIndex, Direct, Draft, draft_of, Drafting, drafts_of, Either, FileKind, filter-append, goes_nowhere, goes_through_reading, Grant, grant_found, grant_of, has_no_such_grant, is_for_reading, is_draft_of, is_open_so, is_unwanted_file, is_unwanted_index, IsState, object_kind, meets_a_grant, named, Object, object_at, object_of}
-use Rattle.cfs_core.proofs.Words.{open_there, Puid, Ref, refusal_of, Reply, Request, same_kind, same_puid, shown, State, target, Through, Wanted}
+use Rattle.cfs_core.proofs.Words.{AFile, and_parts, AnIndex, Direct, Draft, draft_of, Either, FileKind, goes_nowhere, goes_through_reading, Grant, grant_found, grant_of, has_no_such_grant, is_for_reading, is_draft_of, is_open_so, is_unwanted_file, is_unwanted_index, IsState, object_kind, meets_a_grant, named, Object, object_at, object_of, open_there, Puid, Ref, refusal_of, Reply, Request, same_kind, shown, State, target, Through, Wanted}
 use Rattle.cfs_base.specs.declared.kind.FileKind.TheVariants as file_kinds
 use Rattle.open_table.specs.declared.grant.Grant as handles
 use Rattle.ufs_model.specs.declared.asked.Reply.TheVariants as replies
@@ -9,8 +8,6 @@ use Rattle.ufs_model.specs.declared.object.Object.TheVariants as objects
 use Rattle.ufs_model.specs.Refusal.{first_of}
 use Rattle.cfs_core.specs.declared.way.Way.{Way}
 use Rattle.cfs_core.specs.Drafts.{HasNoneOf}
-use Rattle.cfs_core.specs.Kernel.{Handle}
-use Rattle.cfs_core.specs.StandsFor.{bare, drafts_at, drafts_of_handles}
 use Rattle.cfs_core.specs.Ways.{Arrives, GoesBy, Reaches, is_gone, on_the_way, once_there, reads_by, unfit_of}
 
 -- ---- the first that holds of more conditions
@@ -28,19 +25,6 @@ first_later (c ∷ cs) ds is = elim c.0 as (λ b. cond b (Some c.1) (first_of cs
   | true ↦ λ h. cc
   | false ↦ λ h. first_later cs ds h
 ] is
-
--- ---- the drafts of a state, as the core has them
-
--- the first handle adds nothing where, should it have a draft, it is of another object
-pub adds_none : (id : Puid) (handle : Handle) (x : Grant) (ss : List Handle) (grants : List Grant) → drafts_of (drafts_of_handles ss grants) id ≡ [] → ((d : Drafting) (e : Draft) → handle.drafting ≡ Some d → x.draft ≡ Some e → same_puid handle.grant.id id ≡ false)
-    → drafts_of (drafts_of_handles (handle ∷ ss) (x ∷ grants)) id ≡ []
-adds_none id handle x ss grants rest other =
-    filter-append (λ d. same_puid d.id id) (drafts_of_handles ss grants) (drafts_at handle handle.drafting x.draft) ∙ rw rest (at handle.drafting x.draft refl refl)
-  where
-    at : (o : Option Drafting) (d : Option Draft) → handle.drafting ≡ o → x.draft ≡ d → drafts_of (drafts_at handle o d) id ≡ []
-    at None d is was = refl
-    at (Some o) None is was = refl
-    at (Some o) (Some d) is was = rw (other o d is was) refl
 
 -- ---- what a table of grants tells
 
@@ -160,7 +144,7 @@ module _ (s : State) (who : ℕ) (wants : Wanted) (way : Way) where
 -- ---- an object that is reached, without a draft
 
 -- a draft is of its object's kind
-draft_kind : (o d : Object) → is_draft_of o d ≡ true → object_kind d ≡ object_kind o
+pub draft_kind : (o d : Object) → is_draft_of o d ≡ true → object_kind d ≡ object_kind o
 draft_kind (objects.File f) (objects.File e) is = at e.kind f.kind (and_parts (same_kind e.kind f.kind) _ (and_parts _ _ is).0).0
   where
     at : (a b : FileKind) → same_kind a b ≡ true → object_kind (objects.File (record e { kind = a })) ≡ object_kind (objects.File (record f { kind = b }))

@@ -36,7 +36,7 @@ pub use Rattle.cyl_map.specs.declared.entry.MapEntry.{MapEntry}
 pub use Rattle.file_ops.specs.Changes.{ChangesFile, EndsChange, MayChangeFile, MayLeaveFile, need_for}
 pub use Rattle.file_ops.specs.Files.{IsReadRefusal}
 pub use Rattle.index_ops.specs.Changes.{HasSlot, IsIndexRefusal, PutsSlot, index_with}
-pub use Rattle.index_ops.specs.Creates.{IsOpenMap, PutsObject, made_of, with_made}
+pub use Rattle.index_ops.specs.Creates.{PutsObject, with_made}
 pub use Rattle.intentions.specs.Store.{StoreHas}
 pub use Rattle.leaf_changes.proofs.Contents.{absent_byte, held_byte}
 pub use Rattle.leaf_changes.proofs.Given.{file_to_leaves, index_to_leaves, slot_get}
@@ -64,20 +64,19 @@ pub use Rattle.puid_space.specs.Directory.{Listing, has_root_in, kept_by, direct
 pub use Rattle.puid_space.specs.Draw.{Draws}
 pub use Rattle.puid_space.specs.Kinds.{object_kind, kinds_of}
 pub use Rattle.special_files.proofs.Begun.{begun_fresh, store_reads}
-pub use Rattle.special_files.proofs.CommitDraft.{nothing_made, without_none, without_others}
+pub use Rattle.special_files.proofs.CommitDraft.{nothing_made}
 pub use Rattle.special_files.proofs.Levels.{length-none}
-pub use Rattle.special_files.proofs.Lists.{differs, first_here, first_others, replaced_others}
 pub use Rattle.special_files.proofs.PutStore.{the_draft}
 pub use Rattle.special_files.specs.Becomes.{DraftBecomes}
 pub use Rattle.special_files.specs.Committing.{Committed, Dropped, IsOldOrNew}
+pub use Rattle.special_files.specs.Creates.{IsOpenMap, made_of}
 pub use Rattle.special_files.specs.Drafting.{Drafting, IsOpen, begun_at, fresh_of, need_beside, opened_as, shadow_need}
 pub use Rattle.special_files.specs.Ends.{EndsCall}
 pub use Rattle.block_tree.specs.Reads.{is_damage}
 pub use Rattle.special_files.specs.Refusal.{IsDraftTrouble, has_met_damage, is_full_refusal}
 pub use Rattle.special_files.specs.Shed.{Resizes}
-pub use Rattle.special_files.specs.Store.{replaced, without_draft}
 pub use Rattle.std.proofs.Math.Seq.{take-append_seam}
-pub use Rattle.std.proofs.lemmas.Bool.{and_from, and_left, and_parts, and_right, both_ways, cases_Bool, cases_lt, eq-eqb, eqb-true, false_from_ne_true, le-leb, lt-ltb, ne_eqb, not-true, or_cases, or_from, or_left, or_parts, or_right, true≢false}
+pub use Rattle.std.proofs.lemmas.Bool.{and_from, and_left, and_parts, and_right, both_ways, cases_Bool, cases_lt, eq-eqb, eqb-true, false_from_ne_true, le-leb, lt-ltb, ltb-true, ne_eqb, not-false, not-true, or_cases, or_from, or_left, or_parts, or_right, true≢false}
 pub use Rattle.std.proofs.lemmas.Bool.Decides.{nat_tests}
 pub use Rattle.std.proofs.lemmas.Grind.{common_steps}
 pub use Rattle.std.proofs.lemmas.List.{append_assoc, map-append, take_all, take_more}
@@ -118,7 +117,7 @@ pub use Rattle.ufs_model.specs.Reach.{starts_now}
 pub use Rattle.ufs_model.specs.Refusal.{goes_nowhere, goes_through_reading, has_all_grants, has_no_slot, has_no_such_grant, is_for_reading, is_locked, is_open, is_open_for_writing, is_range, is_reading, is_unwanted_file, is_unwanted_index, meets_a_grant, refusal_of, slot_named, target, wanted}
 pub use Rattle.ufs_model.specs.State.{State, after_leave, changed_draft, draft_of, grant_of, is_grant, is_running, named, object_of, open_ids, pairs_of, put, seen, stopped_at, with_draft}
 pub use Rattle.ufs_model.specs.Vanish.{MayVanish, is_marking}
-pub use Rattle.ufs_model.specs.WellFormed.{IsSpeakable, IsState, draws_of, is_draft_of, is_grant_in, is_open_so, same_kind}
+pub use Rattle.ufs_model.specs.WellFormed.{IsSpeakable, IsState, are_granted, draws_of, is_draft_of, is_grant_in, is_open_so, may_share, same_kind}
 pub use Rattle.ufs_model.specs.Word.{word}
 pub use Rattle.ufs_model.specs.declared.asked.Event.{Event}
 pub use Rattle.ufs_model.specs.declared.asked.Ref.{Ref}
@@ -157,15 +156,17 @@ pub use Rattle.vol_label.specs.declared.label.Label.{Label}
 pub use Rattle.vol_owners.proofs.Changes.{changes_begin}
 pub use Rattle.vol_owners.proofs.Differ.{Differ, append_differ, count_of_these, has-append}
 pub use Rattle.vol_owners.proofs.Differing.{not_meant_is_own, stands_some}
+pub use Rattle.vol_owners.proofs.Drafts.{with_again, with_here, without_with}
 pub use Rattle.vol_owners.proofs.Entries.{free_unplaced, had_not_meant}
-pub use Rattle.vol_owners.proofs.Keys.{block_there, object_of_block}
+pub use Rattle.vol_owners.proofs.Keys.{block_there, differs, object_of_block}
 pub use Rattle.vol_owners.proofs.Owned.{same_sums}
 pub use Rattle.vol_owners.proofs.Rooms.{free_is_root, no_strays, one_use, room}
 pub use Rattle.vol_owners.proofs.Standing.{blocks_standing, is_standing, length-down, levels_all, standing_differ, standing_is}
 pub use Rattle.vol_owners.proofs.Steps.{vanish_goes_on}
 pub use Rattle.vol_owners.proofs.Strays.{stays_swept, stray_was, strays_stay}
 pub use Rattle.vol_owners.proofs.Sums.{ones_le}
-pub use Rattle.vol_owners.specs.Account.{Accounts, HasDraft, HasItsBlocks, IsSwept, Opened, StandsIn, content_of, drafts_of, is_meant_for, levels_standing}
-pub use Rattle.vol_owners.specs.Change.{ChangesOnly, IsOfThese, SameOthers, of_draft, of_drafts, of_owner, of_owners}
+pub use Rattle.vol_owners.proofs.Taken.{taken_more, taken_put, taken_with}
+pub use Rattle.vol_owners.specs.Account.{Accounts, Drafts, HasDraft, HasDraftIf, HasItsBlocks, IsSwept, Opened, StandsIn, content_of, is_meant_for, levels_standing, no_drafts, with_draft_if, with_opened, without_draft}
+pub use Rattle.vol_owners.specs.Change.{ChangesOnly, IsOfThese, of_draft, of_drafts, of_owner, of_owners}
 pub use Rattle.vol_owners.specs.Owner.{is_had, is_made, is_meant, is_placed, is_root, is_stray, is_taken, owner_of, stray_blocks}
-pub use Rattle.vol_owners.specs.Room.{blocks_taken, draft_blocks, is_of_draft, is_of_object, one_of}
+pub use Rattle.vol_owners.specs.Room.{blocks_taken, draft_blocks, draft_blocks_if, is_of_draft, is_of_object, one_of}

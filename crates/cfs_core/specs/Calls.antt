@@ -1,5 +1,5 @@
 -- What a call of a core is: one event, and how exact its reply is.
-use Rattle.std.specs.Prelude.{◌≡◌, ℕ, ◌+◌, ◌<◌, ◌≤◌, Bool, true, false, nat_le, if◌then◌else◌, []}
+use Rattle.std.specs.Prelude.{◌≡◌, ℕ, ◌+◌, ◌<◌, ◌≤◌, Bool, true, false, nat_le, if◌then◌else◌}
 use Rattle.std.specs.Prelude.{length, sum, Result, Ok, Err, IfErr, IfOk, IsSome, Option, Some, None}
 use Rattle.cfs_base.specs.Calls.{HasStopped, OnlyReads}
 use Rattle.cfs_base.specs.Disk.{Image}
@@ -37,7 +37,6 @@ use Rattle.ufs_model.specs.Plain.{IsPlainReply}
 use Rattle.ufs_model.specs.Refusal.{refusal_of}
 use Rattle.ufs_model.specs.State.{State}
 use Rattle.vol_image.specs.Survives.{ChangesInPlace, IsBetween, MayName}
-use Rattle.vol_owners.specs.Account.{drafts_of}
 use Rattle.vol_owners.specs.Owner.{is_stray}
 use Rattle.cfs_core.specs.Claimed.{TakesForRequest}
 use Rattle.cfs_core.specs.Commits.{commits}
@@ -214,7 +213,7 @@ Tries g old new who request result = TriesWith g old.space.left old new who requ
 pub record TriesOnWith {D : Type 0} (g : Ghosts D) (commit : Option LeftCommit) (old new : Kernel D) (index : Puid)
     (slot : ℕ) (request : Request) (result : Result Reply Refused) : Type 0 where
   pub ends : (s : State) (who : ℕ) (i : Index) → ServesWith g old s commit → old.stop ≡ None
-      → Reaches s who request index (objects.Index i) → drafts_of (drafts_of_handles old.handles s.grants) index ≡ []
+      → Reaches s who request index (objects.Index i) → (drafts_of_handles old.handles s.grants) index ≡ None
       → slot < length i.slots → refusal_of s who request ≡ None → EndsSo g commit old new s who request result
   pub went : has_root_in old.directory.named index.block ≡ true → Went g old new request result
 

@@ -1,6 +1,6 @@
 -- The grants of all sessions, with the drafts of special files and indices that are open for writing.
-use Rattle.std.specs.Prelude.{◌≡◌, ℕ, Bool, false, not, ◌&&◌, ◌==◌, if◌then◌else◌, List}
-use Rattle.std.specs.Prelude.{map, filter, find, [], ◌∷◌, Option, None, option_and_then, option_map, is_some}
+use Rattle.std.specs.Prelude.{◌≡◌, ℕ, ◌<◌, ◌≤◌, Bool, false, not, ◌&&◌, ◌==◌, if◌then◌else◌, List}
+use Rattle.std.specs.Prelude.{map, filter, find, [], ◌∷◌, Option, None, Some, option_and_then, option_map, is_some}
 use Rattle.std.specs.List.{list_any}
 use Rattle.block_tree.specs.declared.root.Root.{Root}
 use Rattle.cfs_base.specs.declared.identifier.Puid.{Puid}
@@ -30,10 +30,28 @@ is_drawn draw handle = draw == handle.grant.tuid.draw
 abbrev pub drafting_at : List Handle → ℕ → Option Drafting
 drafting_at handles draw = option_and_then (λ handle. handle.drafting) (find (is_drawn draw) handles)
 
+-- there is a draft of this draw, and so many bytes lie within its size
+pub record HoldsDraft (handles : List Handle) (draw bytes : ℕ) : Type 0 where
+  pub drafting : Drafting
+  pub has : drafting_at handles draw ≡ Some drafting
+  pub within : bytes ≤ drafting.root.size
+
+-- its object's root is on a disk of so many blocks
+abbrev pub IsOnDisk : List Handle → (draw blocks : ℕ) → Type 0
+IsOnDisk handles draw blocks = (d : Drafting) → drafting_at handles draw ≡ Some d → d.at < blocks
+
 -- the handles with this draft there, or with none
 abbrev pub with_drafting : ℕ → Option Drafting → List Handle → List Handle
 with_drafting draw drafting handles =
     map (λ handle. if is_drawn draw handle then record { grant = handle.grant; drafting = drafting } else handle) handles
+
+-- The draft of this draw has become another, so; the other handles are as they were.
+pub record ChangesHeld (draw : ℕ) (old new : List Handle) (So : Drafting → Drafting → Type 0) : Type 0 where
+  pub was : Drafting
+  pub has : drafting_at old draw ≡ Some was
+  pub now : Drafting
+  pub with_it : new ≡ with_drafting draw (Some now) old
+  pub so : So was now
 
 -- the root that this object is to get by a draft, where it has one
 abbrev pub root_at : List Handle → Puid → Option Root

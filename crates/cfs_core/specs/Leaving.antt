@@ -7,21 +7,17 @@ use Rattle.cfs_base.specs.declared.disk.Disk.{Ghosts}
 use Rattle.cfs_base.specs.declared.identifier.Puid.{Puid}
 use Rattle.cfs_base.specs.declared.refusal.Damage.{Damage}
 use Rattle.finisher.specs.Going.{calls_left, tries_left}
-use Rattle.intentions.specs.Left.{StoreIs}
 use Rattle.intentions.specs.Store.{StoreHas}
 use Rattle.cyl_alloc.specs.Space.{Kept}
 use Rattle.leaf_changes.specs.Tops.{Top}
 use Rattle.open_table.specs.Grants.{without_session}
 use Rattle.special_files.specs.Committing.{Dropped, draft_top}
-use Rattle.special_files.specs.Drafting.{Drafting, IsOpen}
+use Rattle.special_files.specs.Drafting.{Drafting}
 use Rattle.special_files.specs.Refusal.{IsDraftDamage}
-use Rattle.ufs_model.specs.declared.object.Draft.{Draft}
+use Rattle.special_files.specs.View.{DraftSeen}
 use Rattle.ufs_model.specs.declared.object.Grant.{Grant}
-use Rattle.ufs_model.specs.declared.object.Object.{Object}
-use Rattle.ufs_model.specs.Graph.{Graph, object_at}
 use Rattle.ufs_model.specs.State.{State}
 use Rattle.vol_image.specs.Sound.{Holds}
-use Rattle.vol_owners.specs.Account.{Opened}
 use Rattle.cfs_core.specs.declared.kernel.Halt.{Halt}
 use Rattle.cfs_core.specs.declared.kernel.Stop.{Stop}
 use Rattle.cfs_core.specs.Calls.{AddsNoStray}
@@ -87,19 +83,19 @@ pub record Sheds {D : Type 0} (g : Ghosts D) (who : ℕ) (old new : Kernel D) : 
 -- ---- one draft
 
 -- what the store has of it then; it is given up on the disk as it is once nothing is unfinished
-pub record IsGivenUp {D : Type 0} (g : Ghosts D) (graph : Graph) (ds : List Opened) (id : Puid) (created : Option ℕ)
+pub record IsGivenUp {D : Type 0} {g : Ghosts D} {disk : D} {was : Drafting} (v : DraftSeen g disk was)
     (old new : Kernel D) : Type 0 where
   pub mid : D
   pub space : Kept
-  pub store : StoreHas g graph ds mid space
+  pub store : StoreHas g v.graph v.ds mid space
   pub none : space.left ≡ None
   pub content : g.content mid ≡ end_in g old
-  pub dropped : Dropped g graph ds id created mid new.disk new.space
+  pub dropped : Dropped g v.graph v.ds v.id was.created mid new.disk new.space
 
-pub record GaveUp {D : Type 0} (g : Ghosts D) (graph : Graph) (ds : List Opened) (id : Puid) (created : Option ℕ)
+pub record GaveUp {D : Type 0} {g : Ghosts D} {disk : D} {was : Drafting} (v : DraftSeen g disk was)
     (old new : Kernel D) : Type 0 where
-  pub leaves : Leaves g old.disk new.disk (λ c. Holds c graph)
-  pub given : new.stop ≡ None → IsGivenUp g graph ds id created old new
+  pub leaves : Leaves g old.disk new.disk (λ c. Holds c v.graph)
+  pub given : new.stop ≡ None → IsGivenUp v old new
   pub sound : (stop : Stop) → new.stop ≡ Some stop → stop.damage ≡ None
 
 -- a block was damaged on the way
@@ -117,9 +113,7 @@ pub record GivesUp {D : Type 0} (g : Ghosts D) (was : Drafting) (old new : Kerne
   pub later : g.moment old.disk ≤ g.moment new.disk
   pub idle : (stop : Stop) → old.stop ≡ Some stop → new ≡ old
   pub left : old.stop ≡ None → new.stop ≡ None → new.space.left ≡ None
-  pub ends : (graph : Graph) (ds : List Opened) (id : Puid) (o : Object) (d : Draft)
-      → StoreIs g graph ds old.disk old.space → object_at graph id ≡ Some o → IsOpen ds id was d
-      → old.stop ≡ None → GaveUp g graph ds id was.created old new
+  pub ends : (v : DraftSeen g old.disk was) → v.space ≡ old.space → old.stop ≡ None → GaveUp v old new
   pub failed : (stop : Stop) → old.stop ≡ None → new.stop ≡ Some stop → stop.damage ≡ None
       → HasFailed g old.disk new.disk × (stop.moment ≡ g.moment new.disk - 1)
   pub damaged : (stop : Stop) (damage : Damage) → old.stop ≡ None → new.stop ≡ Some stop → stop.damage ≡ Some damage

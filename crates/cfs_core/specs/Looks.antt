@@ -1,25 +1,24 @@
 -- Reads of an object.
-use Rattle.std.specs.Prelude.{◌≡◌, ℕ, ◌+◌, true, false, List, [], length, slice_range, if◌then◌else◌, IfErr, Result}
+use Rattle.std.specs.Prelude.{◌≡◌, ℕ, ◌+◌, true, false, length, slice_range, if◌then◌else◌, IfErr, None, Result}
 use Rattle.cfs_base.specs.Calls.{HasStopped, OnlyReads}
 use Rattle.cfs_base.specs.declared.disk.Disk.{Ghosts}
 use Rattle.cfs_base.specs.declared.identifier.Puid.{Puid}
+use Rattle.cfs_base.specs.declared.refusal.Damage.{Damage}
 use Rattle.cfs_base.specs.declared.refusal.Refused.{Refused}
 use Rattle.cfs_base.specs.declared.refusal.Refused.TheVariants as refusals
 use Rattle.cyl_alloc.specs.Space.{Kept}
-use Rattle.intentions.specs.Left.{IsShownAt}
 use Rattle.puid_space.specs.Directory.{has_root_in}
 use Rattle.leaf_changes.specs.Tops.{Top}
 use Rattle.special_files.specs.Refusal.{IsDraftDamage, has_met_damage}
+use Rattle.special_files.specs.View.{ShownView}
 use Rattle.ufs_model.specs.declared.asked.Reply.{Reply}
 use Rattle.ufs_model.specs.declared.asked.Reply.TheVariants as replies
 use Rattle.ufs_model.specs.declared.asked.Request.{Request}
 use Rattle.ufs_model.specs.declared.object.File.{File}
 use Rattle.ufs_model.specs.declared.object.Index.{Index}
 use Rattle.ufs_model.specs.declared.object.Object.{Object}
-use Rattle.ufs_model.specs.Graph.{Graph}
 use Rattle.ufs_model.specs.Refusal.{is_range}
 use Rattle.ufs_model.specs.State.{State}
-use Rattle.vol_owners.specs.Account.{Opened, drafts_of}
 use Rattle.cfs_base.specs.Run.{Tells}
 use Rattle.cfs_core.specs.Damage.{IsOutside}
 use Rattle.cfs_core.specs.Kernel.{Kernel}
@@ -31,38 +30,35 @@ use Rattle.cfs_core.specs.Ways.{Reaches}
 -- Whatever the core stands for, the request reaches such an object, of which there is no draft.
 abbrev pub ReachesIn : {D A : Type 0} → Ghosts D → (A → Object) → Kernel D → ℕ → Request → Puid → Type 0
 ReachesIn {A = A} g sort k who request id = (s : State) → ServesIs g k s → (a : A) × Reaches s who request id (sort a)
-    × (drafts_of (drafts_of_handles k.handles s.grants) id ≡ [])
+    × ((drafts_of_handles k.handles s.grants) id ≡ None)
 
 -- and it has a name, whatever disk it is
 abbrev pub ReachesAll : {D A : Type 0} → Ghosts D → (A → Object) → Kernel D → ℕ → Request → Puid → Type 0
 ReachesAll g sort k who request id = ReachesIn g sort k who request id × (has_root_in k.directory.named id.block ≡ true)
 
--- the store has this object, which is shown at the block, and it has no draft
+-- the store has this object, which is shown at the block
 pub record KnowsObject {D : Type 0} (g : Ghosts D) (d : D) (at : ℕ) (o : Object) : Type 0 where
-  pub graph : Graph
-  pub drafts : List Opened
-  pub space : Kept
-  pub id : Puid
-  pub seen : IsShownAt g graph drafts d space id o at
-  pub shut : drafts_of drafts id ≡ []
+  pub view : ShownView g d at
+  pub is : view.object ≡ o
 
 -- ---- calls that only read
 
--- a device call failed, and nothing had been tried; a block of the object with this root is outside its table; or
--- memory is wanted
-abbrev pub IsCalmCause : {D : Type 0} → Ghosts D → (at : ℕ) → D → D → Refused → Type 0
-IsCalmCause g at old new (refusals.Full need) = ⊥
-IsCalmCause g at old new (refusals.Disk tried) = (tried ≡ false) × HasStopped g false old new
-IsCalmCause g at old new (refusals.Damaged damage) =
-    IsOutside (Tells g old) (g.content old) (g.blocks old) (λ n. n ≡ at) 0 damage
-IsCalmCause g at old new refusals.Memory = Unit {0}
+-- a device call failed, and nothing had been tried; a block is damaged so; or memory is wanted
+abbrev pub IsReadCause : {D : Type 0} → Ghosts D → (Damage → Type 0) → D → D → Refused → Type 0
+IsReadCause g So old new (refusals.Full need) = ⊥
+IsReadCause g So old new (refusals.Disk tried) = (tried ≡ false) × HasStopped g false old new
+IsReadCause g So old new (refusals.Damaged damage) = So damage
+IsReadCause g So old new refusals.Memory = Unit {0}
 
--- the same of a draft of the object with this root, of which nothing is written
+-- of the object with this root a block is outside its table
+abbrev pub IsCalmCause : {D : Type 0} → Ghosts D → (at : ℕ) → D → D → Refused → Type 0
+IsCalmCause g at old new e =
+    IsReadCause g (IsOutside (Tells g old) (g.content old) (g.blocks old) (λ n. n ≡ at) 0) old new e
+
+-- of a draft of the object with this root, of which nothing is written
 abbrev pub IsDraftCause : {D : Type 0} → Ghosts D → Top → D → D → Refused → Type 0
-IsDraftCause g at old new (refusals.Full need) = ⊥
-IsDraftCause g at old new (refusals.Disk tried) = (tried ≡ false) × HasStopped g false old new
-IsDraftCause g at old new (refusals.Damaged damage) = (kept : Kept) → IsDraftDamage g at old new kept damage
-IsDraftCause g at old new refusals.Memory = Unit {0}
+IsDraftCause g at old new e =
+    IsReadCause g (λ damage. (kept : Kept) → IsDraftDamage g at old new kept damage) old new e
 
 -- a call that only reads, and meets no damage where such an object is
 pub record IsCalm {D A B : Type 0} (g : Ghosts D) (sort : A → Object) (n at : ℕ) (old new : D)

@@ -1,32 +1,27 @@
 -- An object is opened.
-use Rattle.std.specs.Prelude.{◌≡◌, ℕ, ◌+◌, ◌<◌, ◌≤◌, Bool, true, false, List, [], ◌∷◌, sum}
+use Rattle.std.specs.Prelude.{◌≡◌, ℕ, ◌+◌, ◌<◌, ◌≤◌, Bool, true, false, sum}
 use Rattle.std.specs.Prelude.{Option, Some, None, Result, Ok, Err, IfErr, IfOk, IfSome}
 use Rattle.cfs_base.specs.Calls.{HasStopped, MakesAtMost, OnlyReads}
 use Rattle.cfs_base.specs.Run.{Leaves}
 use Rattle.cfs_base.specs.declared.disk.Disk.{Ghosts}
-use Rattle.cfs_base.specs.declared.identifier.Puid.{Puid}
 use Rattle.cfs_base.specs.declared.kind.Kind.{Kind}
 use Rattle.cfs_base.specs.declared.kind.Kind.TheVariants as kinds
 use Rattle.cfs_base.specs.declared.kind.Mode.{Mode}
 use Rattle.cfs_base.specs.declared.kind.Mode.TheVariants as modes
 use Rattle.cfs_base.specs.declared.refusal.Refused.{Refused}
 use Rattle.cfs_base.specs.declared.refusal.Refused.TheVariants as refusals
-use Rattle.cyl_alloc.specs.Space.{Kept, IsLeastFree}
-use Rattle.intentions.specs.Store.{StoreHas}
+use Rattle.cyl_alloc.specs.Space.{Kept}
 use Rattle.leaf_changes.specs.Tops.{Top, still_top}
 use Rattle.open_table.specs.declared.fault.AcquireFault.{AcquireFault}
 use Rattle.open_table.specs.declared.fault.AcquireFault.TheVariants as faults
-use Rattle.special_files.specs.Drafting.{Drafting, IsOpen, opened_as}
+use Rattle.special_files.specs.Begins.{OpensDraft, drafts_begun, equal_to}
+use Rattle.special_files.specs.Drafting.{Drafting, IsOpen}
 use Rattle.special_files.specs.Refusal.{IsDraftDamage}
-use Rattle.special_files.specs.Store.{Steps}
+use Rattle.special_files.specs.View.{IsShut, ObjectView}
 use Rattle.ufs_model.specs.declared.asked.Reply.{Reply}
 use Rattle.ufs_model.specs.declared.asked.Reply.TheVariants as replies
-use Rattle.ufs_model.specs.declared.object.Draft.{Draft}
-use Rattle.ufs_model.specs.declared.object.Object.{Object}
-use Rattle.ufs_model.specs.Graph.{Graph, object_at}
 use Rattle.ufs_model.specs.Limits.{reserve}
 use Rattle.vol_image.specs.Sound.{Holds}
-use Rattle.vol_owners.specs.Account.{Opened, drafts_of}
 
 -- an object of this kind gets a draft where it is opened so
 abbrev pub gets_draft : Kind → Mode → Bool
@@ -42,35 +37,31 @@ reply_to_fault faults.Grants = replies.Grants
 
 -- ---- a draft begun
 
--- a draft that equals its object
-abbrev pub draft_at_first : Object → Draft
-draft_at_first o = record { object = o; fresh = [] }
-
 -- The store has the draft, and each image that a crash leaves has the objects. A block was Free for it beside the last
 -- four.
-pub record IsBegun {D : Type 0} (g : Ghosts D) (graph : Graph) (ds : List Opened) (id : Puid) (o : Object)
-    (old new : D) (before after : Kept) (drafting : Drafting) : Type 0 where
-  pub steps : Steps g graph id (opened_as id drafting (draft_at_first o) ∷ ds) old new after
-  pub opened : IsOpen (opened_as id drafting (draft_at_first o) ∷ ds) id drafting (draft_at_first o)
+pub record IsBegun {D : Type 0} {g : Ghosts D} {old : D} {before : Kept} {at : ℕ} (v : ObjectView g old before at)
+    (new : D) (after : Kept) (drafting : Drafting) : Type 0 where
+  pub opens : OpensDraft v new after drafting
+  pub opened : IsOpen (drafts_begun v drafting) v.id drafting (equal_to v.object)
   pub bare : drafting.created ≡ None
-  pub least : (n : ℕ) × (drafting.shadow ≡ Some n) × IsLeastFree (g.content old) n
-  pub leaves : Leaves g old new (λ c. Holds c graph)
+  pub leaves : Leaves g old new (λ c. Holds c v.graph)
   pub free : 1 + reserve ≤ sum before.free
 
 -- how it ends where the store has the object, of which there is no draft, by whether it is to have one
-abbrev pub BeginsSo : {D : Type 0} → Ghosts D → Graph → List Opened → Puid → Object → (wanted : Bool) → (old new : D)
-    → (before after : Kept) → Result (Option Drafting) Refused → Type 0
-BeginsSo g graph ds id o wanted old new before after (Ok None) = (wanted ≡ false) × (new ≡ old) × (after ≡ before)
-BeginsSo g graph ds id o wanted old new before after (Ok (Some drafting)) =
-    (wanted ≡ true) × IsBegun g graph ds id o old new before after drafting
-BeginsSo g graph ds id o wanted old new before after (Err (refusals.Full need)) = (wanted ≡ true)
+abbrev pub BeginsSo : {D : Type 0} {g : Ghosts D} {old : D} {before : Kept} {at : ℕ} → ObjectView g old before at
+    → (wanted : Bool) → D → Kept → Result (Option Drafting) Refused → Type 0
+BeginsSo {old = old} {before = before} v wanted new after (Ok None) =
+    (wanted ≡ false) × (new ≡ old) × (after ≡ before)
+BeginsSo v wanted new after (Ok (Some drafting)) = (wanted ≡ true) × IsBegun v new after drafting
+BeginsSo {g = g} {old = old} {before = before} v wanted new after (Err (refusals.Full need)) = (wanted ≡ true)
     × (need ≡ record { free = sum before.free; need = 1 }) × (sum before.free < 1 + reserve) × OnlyReads g 2 old new
     × (after ≡ before)
-BeginsSo g graph ds id o wanted old new before after (Err (refusals.Disk false)) =
+BeginsSo {g = g} {old = old} {before = before} v wanted new after (Err (refusals.Disk false)) =
     OnlyReads g 2 old new × (after ≡ before)
-BeginsSo g graph ds id o wanted old new before after (Err (refusals.Disk true)) = Leaves g old new (λ c. Holds c graph)
-BeginsSo g graph ds id o wanted old new before after (Err (refusals.Damaged damage)) = ⊥
-BeginsSo g graph ds id o wanted old new before after (Err refusals.Memory) = OnlyReads g 2 old new × (after ≡ before)
+BeginsSo {g = g} {old = old} v wanted new after (Err (refusals.Disk true)) = Leaves g old new (λ c. Holds c v.graph)
+BeginsSo v wanted new after (Err (refusals.Damaged damage)) = ⊥
+BeginsSo {g = g} {old = old} {before = before} v wanted new after (Err refusals.Memory) =
+    OnlyReads g 2 old new × (after ≡ before)
 
 -- why it isn't begun: as many blocks as it tells were counted Free, too few beside the floor; a device call failed; a
 -- block that was read is damaged; or memory is wanted
@@ -83,9 +74,7 @@ IsRefusalOrMemory g at floor old new before after refusals.Memory = Unit {0}
 
 pub record Begins {D : Type 0} (g : Ghosts D) (at : ℕ) (wanted : Bool) (old new : D) (before after : Kept)
     (result : Result (Option Drafting) Refused) : Type 0 where
-  pub ends : (graph : Graph) (ds : List Opened) (id : Puid) (o : Object) → StoreHas g graph ds old before
-      → id.block ≡ at → object_at graph id ≡ Some o → (wanted ≡ true → drafts_of ds id ≡ [])
-      → BeginsSo g graph ds id o wanted old new before after result
+  pub ends : (v : ObjectView g old before at) → (wanted ≡ true → IsShut v) → BeginsSo v wanted new after result
   pub ready : IfOk result (λ o.
       IfSome o (λ drafting. (wanted ≡ true) × (drafting.at ≡ at) × ((s : ℕ) × (drafting.shadow ≡ Some s))
       × (drafting.created ≡ None)))

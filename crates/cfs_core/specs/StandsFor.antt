@@ -2,6 +2,7 @@
 use Rattle.std.specs.Prelude.{◌≡◌, ℕ, ◌≤◌, Bool, true, false, ◌||◌, List, [], ◌∷◌}
 use Rattle.std.specs.Prelude.{◌++◌, length, map, sum, Option, Some, None, option_map}
 use Rattle.cfs_base.specs.Disk.{Image}
+use Rattle.cfs_base.specs.declared.identifier.Puid.{Puid}
 use Rattle.cfs_base.specs.declared.disk.Disk.{Ghosts}
 use Rattle.collector_steps.specs.Collecting.{Collecting, Collects}
 use Rattle.cyl_alloc.specs.Left.{LeftCommit}
@@ -20,7 +21,7 @@ use Rattle.ufs_model.specs.Refusal.{is_reading}
 use Rattle.ufs_model.specs.State.{State}
 use Rattle.ufs_model.specs.Vanish.{is_marking}
 use Rattle.ufs_model.specs.WellFormed.{IsState}
-use Rattle.vol_owners.specs.Account.{IsSwept, Opened}
+use Rattle.vol_owners.specs.Account.{Drafts, IsSwept, Opened, no_drafts, with_opened}
 use Rattle.cfs_core.specs.declared.collecting.Collections.{Collections}
 use Rattle.cfs_core.specs.declared.kernel.Stop.{Stop}
 use Rattle.cfs_core.specs.Kernel.{Kernel, Handle, grants_in, marks_in, sweeps_in}
@@ -31,32 +32,38 @@ use Rattle.cfs_core.specs.Kernel.{Kernel, Handle, grants_in, marks_in, sweeps_in
 abbrev pub bare : Grant → handles.Grant
 bare g = record { tuid = g.tuid; session = g.session; id = g.id; mode = g.mode }
 
--- the drafts that the grants have, as the store accounts for them, those that were begun later first
-abbrev pub drafts_at : Handle → Option Drafting → Option Draft → List Opened
-drafts_at handle (Some drafting) (Some d) = opened_as handle.grant.id drafting d ∷ []
-drafts_at handle (Some drafting) None = []
-drafts_at handle None draft = []
+-- the draft that a grant has, as the store accounts for it
+abbrev pub opened_if : Option Drafting → Option Draft → Option Opened
+opened_if (Some drafting) (Some d) = Some (opened_as drafting d)
+opened_if (Some drafting) None = None
+opened_if None draft = None
 
-abbrev pub drafts_of_handles : List Handle → List Grant → List Opened
+-- with the draft of one grant more, if it has one
+abbrev pub with_opened_if : Puid → Option Opened → Drafts → Drafts
+with_opened_if id None ds = ds
+with_opened_if id (Some d) ds = with_opened id d ds
+
+-- the drafts that the grants have
+abbrev pub drafts_of_handles : List Handle → List Grant → Drafts
 drafts_of_handles (handle ∷ handles) (grant ∷ grants) =
-    drafts_of_handles handles grants ++ drafts_at handle handle.drafting grant.draft
-drafts_of_handles [] grants = []
-drafts_of_handles (handle ∷ handles) [] = []
+    with_opened_if handle.grant.id (opened_if handle.drafting grant.draft) (drafts_of_handles handles grants)
+drafts_of_handles [] grants = no_drafts
+drafts_of_handles (handle ∷ handles) [] = no_drafts
 
 -- the draft of a special file or an index, which a grant for writing has
-pub record IsDraftOf (ds : List Opened) (grant : handles.Grant) (drafting : Drafting) (d : Draft) : Type 0 where
+pub record IsDraftOf (ds : Drafts) (grant : handles.Grant) (drafting : Drafting) (d : Draft) : Type 0 where
   pub is_open : IsOpen ds grant.id drafting d
   pub special : is_normal d.object ≡ false
   pub writes : is_reading grant.mode ≡ false
 
 -- the core has a draft exactly where the grant has one, and that is this one
-abbrev pub HasDraftOf : List Opened → Handle → Option Drafting → Option Draft → Type 0
+abbrev pub HasDraftOf : Drafts → Handle → Option Drafting → Option Draft → Type 0
 HasDraftOf ds handle None None = Unit {0}
 HasDraftOf ds handle (Some drafting) (Some d) = IsDraftOf ds handle.grant drafting d
 HasDraftOf ds handle None (Some d) = ⊥
 HasDraftOf ds handle (Some drafting) None = ⊥
 
-abbrev pub AreDraftsOf : List Opened → List Handle → List Grant → Type 0
+abbrev pub AreDraftsOf : Drafts → List Handle → List Grant → Type 0
 AreDraftsOf ds (handle ∷ handles) (grant ∷ grants) =
     HasDraftOf ds handle handle.drafting grant.draft × AreDraftsOf ds handles grants
 AreDraftsOf ds [] [] = Unit {0}

@@ -3,7 +3,8 @@ ghost use Rattle.std.specs.Prelude.{◌≡◌, ◌≢◌, ◌+◌, ◌*◌, ◌<
 ghost use Rattle.cfs_base.specs.declared.refusal.Refused.TheVariants as refusals;
 ghost use Rattle.cfs_core.specs.Calls.{Tries, TriesOn};
 ghost use Rattle.cfs_core.specs.Makes.{IsMaking, NamesMade, made_kind};
-ghost use Rattle.index_ops.specs.Creates.{MayBeMade, PutsObject, made_of};
+ghost use Rattle.index_ops.specs.Creates.{PutsObject};
+ghost use Rattle.special_files.specs.Creates.{MayBeMade, made_of};
 ghost use Rattle.cfs_core.specs.Drafts.{HasNoneOf};
 ghost use Rattle.cfs_core.specs.StandsFor.{ServesIs};
 ghost use Rattle.ufs_model.specs.State.{State, draft_of};

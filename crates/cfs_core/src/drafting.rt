@@ -1,30 +1,21 @@
 //! Requests on a file through a grant with a draft.
-ghost use Rattle.std.specs.Prelude.{◌≡◌, ◌+◌, ◌*◌, ◌<◌, ◌≤◌, ℕ, false, IfErr, IfOk};
-ghost use Rattle.std.specs.Prelude.{IfNone, IfSome, List, Some, length, None};
+ghost use Rattle.std.specs.Prelude.{◌≡◌, ◌+◌, ◌*◌, ◌<◌, ◌≤◌, false, IfErr, IfNone, IfOk, IfSome, length};
 ghost use Rattle.cfs_base.specs.Calls.{OnlyReads};
-ghost use Rattle.cfs_base.specs.declared.identifier.Puid.{Puid};
 ghost use Rattle.cfs_core.specs.Calls.{Tries};
 ghost use Rattle.cfs_core.specs.Drafts.{ChangesDraft, HasNoneOf, IsDrafted};
 ghost use Rattle.cfs_core.specs.Looks.{IsDraftCause, content_reply};
 ghost use Rattle.cfs_core.specs.Handles.{drafting_at};
 ghost use Rattle.cfs_core.specs.StandsFor.{ServesIs};
-ghost use Rattle.cyl_alloc.specs.Space.{Kept};
-ghost use Rattle.intentions.specs.Left.{StoreIs};
-ghost use Rattle.intentions.specs.Store.{StoreHas};
-ghost use Rattle.special_files.specs.Drafting.{IsOpen};
 ghost use Rattle.special_files.specs.Refusal.{has_met_damage, top_of};
-ghost use Rattle.ufs_model.specs.Graph.{Graph, object_at};
+ghost use Rattle.special_files.specs.View.{DraftSeen};
 ghost use Rattle.ufs_model.specs.Plain.{IsPlainReply};
 ghost use Rattle.ufs_model.specs.State.{State, draft_of};
 ghost use Rattle.ufs_model.specs.declared.asked.Ref.TheVariants as refs;
 ghost use Rattle.ufs_model.specs.declared.asked.Request.TheVariants as asks;
 ghost use Rattle.ufs_model.specs.declared.asked.Wanted.TheVariants.{AFile};
 ghost use Rattle.ufs_model.specs.declared.change.Change.TheVariants.{Overwrite, SetSize};
-ghost use Rattle.ufs_model.specs.declared.object.Draft as drafts;
 ghost use Rattle.ufs_model.specs.declared.object.File.{File};
 ghost use Rattle.ufs_model.specs.declared.object.Object.TheVariants as objects;
-ghost use Rattle.ufs_model.specs.declared.object.Object.{Object};
-ghost use Rattle.vol_owners.specs.Account.{Opened};
 
 use crate::changing::done;
 use crate::finishing::{finish, since};
@@ -55,15 +46,10 @@ fn content<D: Disk>(
     count: u64,
 ) -> Result<Reply, Refused>
     requires { draft.now.at < D.blocks disk.old }
-    ensures exact { (graph : Graph) (ds : List Opened) (space : Kept) (id : Puid) (o : Object) (d : drafts.Draft)
-        (f : File)
-        → StoreIs D.Disk graph ds disk.old space → object_at graph id ≡ Some o → IsOpen ds id draft.now d
-        → d.object ≡ objects.File f → length f.bytes ≡ draft.now.root.size
-        → IfOk result (λ reply. reply ≡ content_reply f offset count) }
+    ensures exact { (v : DraftSeen D.Disk disk.old draft.now) (f : File) → v.draft.object ≡ objects.File f
+        → length f.bytes ≡ draft.now.root.size → IfOk result (λ reply. reply ≡ content_reply f offset count) }
     ensures plain { IfOk result IsPlainReply }
-    ensures sound { (graph : Graph) (ds : List Opened) (space : Kept) (id : Puid) (o : Object) (d : drafts.Draft)
-        → StoreIs D.Disk graph ds disk.old space → object_at graph id ≡ Some o → IsOpen ds id draft.now d
-        → IfErr result (λ e. has_met_damage e ≡ false) }
+    ensures sound { DraftSeen D.Disk disk.old draft.now → IfErr result (λ e. has_met_damage e ≡ false) }
     ensures cause { IfErr result (IsDraftCause D.Disk (top_of draft.now) disk.old disk.new) }
     ensures reads { OnlyReads D.Disk 18 disk.old disk.new }
 {

@@ -1,13 +1,15 @@
 //! Requests on an index through a grant with a draft.
-ghost use Rattle.std.specs.Prelude.{◌≡◌, ◌≢◌, ◌+◌, ◌*◌, ◌/◌, ◌<◌, ◌≤◌, ℕ, Some, false, nat_lt, IfSome, IsSome, length};
+ghost use Rattle.std.specs.Prelude.{◌≡◌, ◌≢◌, ◌+◌, ◌*◌, ◌/◌, ◌<◌, ◌≤◌, ℕ, Some, false, nat_lt, IsSome, length};
 ghost use Rattle.cfs_core.specs.Calls.{Tries};
-ghost use Rattle.cfs_core.specs.Drafts.{ChangesDraft, HasGrant, IsDrafted, LooksInDraft, MakesInDraft};
+ghost use Rattle.cfs_core.specs.Drafts.{ChangesDraft, HasGrant, IsDrafted, LooksInDraft};
 ghost use Rattle.cfs_core.specs.Drafts.{TriesMakingWith, TriesThroughWith};
-ghost use Rattle.cfs_core.specs.Handles.{drafting_at};
+ghost use Rattle.cfs_core.specs.Handles.{HoldsDraft, drafting_at};
 ghost use Rattle.cfs_core.specs.Makes.{IsMaking};
-ghost use Rattle.index_ops.specs.Creates.{MayBeMade, made_of};
+ghost use Rattle.index_drafts.specs.Creates.{CreatesIn};
 ghost use Rattle.leaf_changes.specs.Bytes.{IsSlot};
+ghost use Rattle.special_files.specs.Creates.{MayBeMade, made_of};
 ghost use Rattle.special_files.specs.Drafting.{Drafting};
+ghost use Rattle.ufs_model.specs.Limits.{reserve};
 ghost use Rattle.ufs_model.specs.Next.{is_direct_delete};
 ghost use Rattle.ufs_model.specs.declared.asked.Ref.TheVariants as refs;
 ghost use Rattle.ufs_model.specs.declared.asked.Request as asked;
@@ -80,8 +82,8 @@ pub(crate) fn make_in<D: Disk>(
     requires size { D.blocks disk.old ≡ 64 * length space.old.free }
     requires within { 8 * slot + 8 ≤ draft.old.root.size }
     requires made { MayBeMade kind fill size }
-    ensures { MakesInDraft D.Disk slot kind fill size word disk.old disk.new space.old space.new draft.old draft.new
-        result }
+    ensures { CreatesIn D.Disk slot (made_of kind fill size) word reserve disk.old disk.new space.old space.new draft.old
+        draft.new result }
 {
     create_in(draft, disk, space, slot, kind, fill, size, word, RESERVE)
 }
@@ -187,8 +189,7 @@ impl<D: Disk> Core<D> {
 
     /// Makes a slot of a draft hold this, or nothing.
     fn put_drafted(&mut self, grant: Tuid, slot: u64, what: Option<Puid>) -> Result<Reply, Refused>
-        requires has { IsSome (drafting_at self.old.handles grant.draw) }
-        requires within { IfSome (drafting_at self.old.handles grant.draw) (λ d. 8 * slot + 8 ≤ d.root.size) }
+        requires has { HoldsDraft self.old.handles grant.draw (8 * slot + 8) }
         requires slot { IsSlot what }
         ensures { (who : ℕ) (request : asked.Request) → HasGrant self.old who grant → is_direct_delete request ≡ false
             → TriesThroughWith D.Disk self.old.space.left self.old self.new who grant (Fill slot what) request result }
@@ -257,8 +258,7 @@ impl<D: Disk> Core<D> {
         size: u64,
     ) -> Result<Reply, Refused>
         requires words { self.old.words.drawn < 4294967295 }
-        requires has { IsSome (drafting_at self.old.handles grant.draw) }
-        requires within { IfSome (drafting_at self.old.handles grant.draw) (λ d. 8 * slot + 8 ≤ d.root.size) }
+        requires has { HoldsDraft self.old.handles grant.draw (8 * slot + 8) }
         requires made { MayBeMade kind fill size }
         ensures { (who : ℕ) (request : asked.Request) → IsMaking request slot (made_of kind fill size)
             → HasGrant self.old who grant

@@ -1,15 +1,17 @@
 //! The grants of all sessions, with the drafts of special files and indices that are open for writing.
-ghost use Rattle.std.specs.Prelude.{◌≡◌, ◌+◌, ◌*◌, ◌<◌, ◌≤◌, ◌++◌, [], ◌∷◌, IfOk, IfSome, IsSome, None};
-ghost use Rattle.std.specs.Prelude.{OnErr, OnOk, Some, IsTrue, length, option_copied, true, false};
+ghost use Rattle.std.specs.Prelude.{◌≡◌, ◌+◌, ◌*◌, ◌≤◌, ◌++◌, [], ◌∷◌, IfOk, IsTrue, None, OnErr, OnOk, Some, length};
+ghost use Rattle.std.specs.Prelude.{option_copied, true, false};
 ghost use Rattle.std.specs.List.{list_any};
-ghost use Rattle.cfs_core.specs.Drafts.{ChangesDraft, MakesInDraft};
+ghost use Rattle.cfs_core.specs.Drafts.{ChangesDraft};
 ghost use Rattle.cfs_core.specs.Kernel.{grants_in};
-ghost use Rattle.cfs_core.specs.Handles.{drafting_at, have_draft, is_at, is_drawn, handles_but, root_at, with_drafting};
+ghost use Rattle.cfs_core.specs.Handles.{ChangesHeld, HoldsDraft, IsOnDisk, drafting_at, have_draft, is_at, is_drawn, handles_but};
+ghost use Rattle.cfs_core.specs.Handles.{root_at, with_drafting};
 ghost use Rattle.open_table.specs.Grants.{fault_of, first_grant, session_grant, is_session_grant, is_grant_table};
 ghost use Rattle.open_table.specs.Grants.{open_mode};
-ghost use Rattle.index_ops.specs.Creates.{MayBeMade};
+ghost use Rattle.index_drafts.specs.Creates.{CreatesIn};
 ghost use Rattle.leaf_changes.specs.Bytes.{IsSlot};
-ghost use Rattle.special_files.specs.Drafting.{Drafting};
+ghost use Rattle.special_files.specs.Creates.{MayBeMade, made_of};
+ghost use Rattle.ufs_model.specs.Limits.{reserve};
 ghost use Rattle.ufs_model.specs.declared.change.Change.TheVariants.{Fill, Overwrite, SetSize};
 
 use crate::drafting::{overwrite, set_size};
@@ -158,14 +160,12 @@ impl Handles {
         offset: u64,
         bytes: &[u8],
     ) -> Result<(), Refused>
-        requires has { IsSome (drafting_at self.old.handles draw) }
-        requires within { IfSome (drafting_at self.old.handles draw) (λ d. (d.at < D.blocks disk.old)
-            × (offset + length bytes.now ≤ d.root.size)) }
+        requires has { HoldsDraft self.old.handles draw (offset + length bytes.now) }
+        requires on_disk { IsOnDisk self.old.handles draw (D.blocks disk.old) }
         requires most { length bytes.now ≤ 4096 }
         requires size { D.blocks disk.old ≡ 64 * length space.old.free }
-        ensures { IfSome (drafting_at self.old.handles draw) (λ was. (now : Drafting)
-            × (self.new.handles ≡ with_drafting draw (Some now) self.old.handles)
-            × ChangesDraft D.Disk (Overwrite offset bytes.now) disk.old disk.new space.old space.new was now result) }
+        ensures { ChangesHeld draw self.old.handles self.new.handles
+            (λ was now. ChangesDraft D.Disk (Overwrite offset bytes.now) disk.old disk.new space.old space.new was now result) }
     {
         match self.drafts.get_mut(&draw) {
             Some(draft) => overwrite(draft, disk, space, offset, bytes),
@@ -181,13 +181,12 @@ impl Handles {
         space: &mut Space,
         size: u64,
     ) -> Result<(), Refused>
-        requires has { IsSome (drafting_at self.old.handles draw) }
-        requires on_disk { IfSome (drafting_at self.old.handles draw) (λ d. d.at < D.blocks disk.old) }
+        requires has { HoldsDraft self.old.handles draw 0 }
+        requires on_disk { IsOnDisk self.old.handles draw (D.blocks disk.old) }
         requires limit { size ≤ 7864320 }
         requires size { D.blocks disk.old ≡ 64 * length space.old.free }
-        ensures { IfSome (drafting_at self.old.handles draw) (λ was. (now : Drafting)
-            × (self.new.handles ≡ with_drafting draw (Some now) self.old.handles)
-            × ChangesDraft D.Disk (SetSize size) disk.old disk.new space.old space.new was now result) }
+        ensures { ChangesHeld draw self.old.handles self.new.handles
+            (λ was now. ChangesDraft D.Disk (SetSize size) disk.old disk.new space.old space.new was now result) }
     {
         match self.drafts.get_mut(&draw) {
             Some(draft) => set_size(draft, disk, space, size),
@@ -204,14 +203,12 @@ impl Handles {
         slot: u64,
         what: Option<Puid>,
     ) -> Result<(), Refused>
-        requires has { IsSome (drafting_at self.old.handles draw) }
-        requires within { IfSome (drafting_at self.old.handles draw) (λ d. (d.at < D.blocks disk.old)
-            × (8 * slot + 8 ≤ d.root.size)) }
+        requires has { HoldsDraft self.old.handles draw (8 * slot + 8) }
+        requires on_disk { IsOnDisk self.old.handles draw (D.blocks disk.old) }
         requires slot { IsSlot what }
         requires size { D.blocks disk.old ≡ 64 * length space.old.free }
-        ensures { IfSome (drafting_at self.old.handles draw) (λ was. (now : Drafting)
-            × (self.new.handles ≡ with_drafting draw (Some now) self.old.handles)
-            × ChangesDraft D.Disk (Fill slot what) disk.old disk.new space.old space.new was now result) }
+        ensures { ChangesHeld draw self.old.handles self.new.handles
+            (λ was now. ChangesDraft D.Disk (Fill slot what) disk.old disk.new space.old space.new was now result) }
     {
         match self.drafts.get_mut(&draw) {
             Some(draft) => put_slot(draft, disk, space, slot, what),
@@ -231,14 +228,13 @@ impl Handles {
         size: u64,
         word: u32,
     ) -> Result<Puid, Refused>
-        requires has { IsSome (drafting_at self.old.handles draw) }
-        requires within { IfSome (drafting_at self.old.handles draw) (λ d. (d.at < D.blocks disk.old)
-            × (8 * slot + 8 ≤ d.root.size)) }
+        requires has { HoldsDraft self.old.handles draw (8 * slot + 8) }
+        requires on_disk { IsOnDisk self.old.handles draw (D.blocks disk.old) }
         requires made { MayBeMade kind fill size }
         requires size { D.blocks disk.old ≡ 64 * length space.old.free }
-        ensures { IfSome (drafting_at self.old.handles draw) (λ was. (now : Drafting)
-            × (self.new.handles ≡ with_drafting draw (Some now) self.old.handles)
-            × MakesInDraft D.Disk slot kind fill size word disk.old disk.new space.old space.new was now result) }
+        ensures { ChangesHeld draw self.old.handles self.new.handles
+            (λ was now. CreatesIn D.Disk slot (made_of kind fill size) word reserve disk.old disk.new space.old space.new
+            was now result) }
     {
         match self.drafts.get_mut(&draw) {
             Some(draft) => make_in(draft, disk, space, slot, kind, fill, size, word),

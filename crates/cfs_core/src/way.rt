@@ -1,5 +1,5 @@
 //! How a request goes to what it names.
-ghost use Rattle.std.specs.Prelude.{◌≡◌, ◌≢◌, ◌<◌, ◌&&◌, ℕ, [], false, IfErr, IfOk, None, Some, if◌then◌else◌, is_none};
+ghost use Rattle.std.specs.Prelude.{◌≡◌, ◌≢◌, ◌<◌, ◌&&◌, ℕ, false, IfErr, IfOk, None, Some, if◌then◌else◌, is_none};
 ghost use Rattle.std.specs.Prelude.{is_some};
 ghost use Rattle.cfs_base.specs.declared.identifier.Puid.{Puid};
 ghost use Rattle.cfs_core.specs.Calls.{Tries};
@@ -17,7 +17,6 @@ ghost use Rattle.ufs_model.specs.declared.asked.Wanted.TheVariants.{AFile, AnInd
 ghost use Rattle.ufs_model.specs.declared.object.File.{File};
 ghost use Rattle.ufs_model.specs.declared.object.Object.{Object};
 ghost use Rattle.ufs_model.specs.declared.object.Object.TheVariants as objects;
-ghost use Rattle.vol_owners.specs.Account.{drafts_of};
 
 use crate::kernel::Core;
 use cfs_base::{Disk, FileKind, Kind, Mode, Puid, Session};
@@ -45,7 +44,6 @@ impl<D: Disk> Core<D> {
         ensures some { IfOk result (λ id. id.block ≢ 0) }
         ensures also { IfOk result (λ id. (also : Puid) → way.also ≡ Some also → also.block ≢ 0) }
     {
-        self.shuts(who, way);
         match self.object_at(who, way, Wanted::AnIndex) {
             Ok((id, _)) => Ok(id),
             Err(reply) => Err(reply),
@@ -65,23 +63,12 @@ impl<D: Disk> Core<D> {
         ensures on_disk { IfOk result (λ two. two.0.block < D.blocks self.now.disk) }
         ensures some { IfOk result (λ two. two.0.block ≢ 0) }
     {
-        self.shuts(who, way);
         match self.object_at(who, way, Wanted::AFile) {
             Ok((id, Kind::Normal)) => Ok((id, FileKind::Normal)),
             Ok((id, Kind::Special)) => Ok((id, FileKind::Special)),
             Ok((_, Kind::Index)) => Err(Reply::NotFile),
             Err(reply) => Err(reply),
         }
-    }
-
-    /// Of what a reference goes to that has no draft, and meets no grant, no grant has a draft. This does nothing: it
-    /// is a law.
-    fn shuts(&self, who: Session, way: Way)
-        ensures { (s : State) (id : Puid) → ServesIs D.Disk self.now s → named s who way.to ≡ Some id
-            → draft_of s who way.to ≡ None → meets_a_grant s way.changes way.to ≡ false
-            → drafts_of (drafts_of_handles self.now.handles s.grants) id ≡ [] }
-    {
-        self.handles.len();
     }
 
     /// The object that a request of a session goes to, and its kind, which is wanted there, or its refusal on the way

@@ -1,6 +1,6 @@
 -- A volume that was tidied has nothing but its objects: each has exactly its blocks, and nothing is open or left over.
-use Rattle.std.proofs.Common.{◌≡◌, ◌⊎◌, inl, inr, ℕ, ◌<◌, Bool, true, false, ◌&&◌, ◌==◌, List, [], length, Option, Some, None, refl, sym, ◌∙◌, ap, subst, arith, is_some}
-use Rattle.cfs_recover.proofs.Words.{Accounts, Allocated, AreCopied, Graph, HasItsBlocks, HasRoot, Holds, Image, IsBlockOf, IsClean, IsHeldIn, IsIn, IsPlaced, IsSome, IsSwept, IsTidied, IsTree, MapEntry, Object, Place, Puid, StandsIn, Tidies, Tree, and_from, and_parts, block_at, block_there, entry_in, eq-eqb, eqb-true, first_or, unheld_entry, has_block, in_image, is_committed, is_fixed, is_had, is_leaving, is_made, is_meant, is_owned_by, is_placed, is_root, is_root_place, is_stray, is_taken, levels_of, no_shadows, object_at, owner_of, part_at, part_of, place_at, reserved, root_placed, same_Some, same_block, sight, source, taken_apart, tidied, tree_in, tree_placed}
+use Rattle.std.proofs.Common.{◌≡◌, ◌⊎◌, inl, inr, ℕ, ◌<◌, Bool, true, false, ◌&&◌, ◌==◌, List, length, Option, Some, None, refl, sym, ◌∙◌, ap, subst, arith, is_some}
+use Rattle.cfs_recover.proofs.Words.{Accounts, Allocated, AreCopied, Graph, HasItsBlocks, HasRoot, Holds, Image, IsBlockOf, IsClean, IsHeldIn, IsIn, IsPlaced, IsSome, IsSwept, IsTidied, IsTree, MapEntry, Object, Place, Puid, StandsIn, Tidies, Tree, and_from, and_parts, block_at, block_there, entry_in, eq-eqb, eqb-true, first_or, unheld_entry, has_block, in_image, is_committed, is_fixed, is_had, is_leaving, is_made, is_meant, is_owned_by, is_placed, is_root, is_root_place, is_stray, is_taken, levels_of, no_shadows, object_at, owner_of, part_at, part_of, place_at, reserved, root_placed, same_Some, same_block, sight, source, taken_apart, tidied, tree_in, tree_placed, no_drafts}
 use Rattle.cfs_base.specs.declared.kind.Place.TheVariants.{Root}
 use Rattle.cfs_recover.proofs.Tidyings.{tidies_hold, tree_same}
 
@@ -116,7 +116,7 @@ module _ (a b : Image) (g : Graph) (held : ℕ → Bool) (holds : Holds a g) (co
       let entry : of.placed.taken.is ≡ e = same_Some _ _ (sym of.placed.taken.here ∙ is) in
       (ap (λ (x : MapEntry). x.owner) (sym entry) ∙ of.placed.taken.owned, ap is_some (ap (λ (x : MapEntry). x.place) (sym entry) ∙ of.placed.place_is))
 
-  pub tidied_accounts : Accounts b g []
+  pub tidied_accounts : Accounts b g no_drafts
   tidied_accounts = record {
     holds = holds_b;
     placed = λ n e is apart. which n (λ x. x ≡ Some e → is_taken e.state ≡ true → is_placed is_taken (Some e) ≡ true)
@@ -133,10 +133,10 @@ module _ (a b : Image) (g : Graph) (held : ℕ → Bool) (holds : Holds a g) (co
         (λ none. cc);
     objects = has_its_blocks;
     drafts = λ id o at n. which n (λ x. is_owned_by is_meant id.block x ≡ false) refl (λ fix. refl) (λ e is apart is_held. refl) refl;
-    on_objects = refl;
-    made = λ c none. cc;
+    on_objects = λ id d none. cc;
+    made = λ c none. (let no : None ≡ Some c = none.makes in cc);
     made_by = λ n is. let no : is_made (entry_in b n) ≡ false = which n (λ x. is_made x ≡ false) refl (λ fix. refl) (λ e was apart is_held. refl) refl in let clash : true ≡ false = sym is ∙ no in cc;
-    made_once = refl;
+    made_once = λ c none y. (let no : None ≡ Some c = none.makes in cc);
   }
 
   pub tidied_is_swept : IsSwept b g

@@ -1,6 +1,6 @@
 -- From what a survey knows of a volume to what recovery makes of it.
-use Rattle.std.proofs.Common.{◌≤◌, ◌≡◌, ◌⊎◌, inl, inr, ℕ, ◌+◌, ◌*◌, ◌/◌, ◌%◌, ◌<◌, Bool, true, false, List, [], length, get_or, Some, refl, sym, ◌∙◌, ap, subst, arith}
-use Rattle.cfs_recover.proofs.Words.{Accounts, AreAllCopies, AreCopied, AreCopies, AreCounts, AreKeptFor, AreMapsOf, AreTidied, Copied, CopiesRoots, Ghosts, Graph, HasCopy, Holds, Image, IsClean, IsHeldIn, IsIn, IsNamedCopy, IsRecovered, IsRootBlock, IsSettled, IsSoundAs, IsSurvey, IsSwept, IsTidied, Kept, IsTidying, Kind, Leads, MapEntry, Object, Puid, Root, StandsIn, Survey, Tidies, Tree, Walk, block_at, carries_settled, entries_read, entry_in, free_count, free_in_cylinder, in_image, is_fixed, directory_kind, directory_kind-kinds_in, object_kind, kinds_of, lists, map_of, nat_tests, object_at, object_there, one_root_block, one_root_index, option_map, shadows, shown_tree, sight, slice_get, slice_get_within, source, tidied, tree_in}
+use Rattle.std.proofs.Common.{◌≤◌, ◌≡◌, ◌⊎◌, inl, inr, ℕ, ◌+◌, ◌*◌, ◌/◌, ◌%◌, ◌<◌, Bool, true, false, List, length, get_or, Some, refl, sym, ◌∙◌, ap, subst, arith}
+use Rattle.cfs_recover.proofs.Words.{Accounts, AreAllCopies, AreCopied, AreCopies, AreCounts, AreKeptFor, AreMapsOf, AreTidied, Copied, CopiesRoots, Ghosts, Graph, HasCopy, Holds, Image, IsClean, IsHeldIn, IsIn, IsNamedCopy, IsRecovered, IsRootBlock, IsSettled, IsSoundAs, IsSurvey, IsSwept, IsTidied, Kept, IsTidying, Kind, Leads, MapEntry, Object, Puid, Root, StandsIn, Survey, Tidies, Tree, Walk, block_at, carries_settled, entries_read, entry_in, free_count, free_in_cylinder, in_image, is_fixed, directory_kind, directory_kind-kinds_in, object_kind, kinds_of, lists, map_of, nat_tests, object_at, object_there, one_root_block, one_root_index, option_map, shadows, shown_tree, sight, slice_get, slice_get_within, source, tidied, tree_in, no_drafts}
 use Rattle.cfs_recover.proofs.Accounted.{tidied_accounts, tidied_is_clean, tidied_is_swept}
 use Rattle.cfs_recover.proofs.InMemory.{entry_is}
 use Rattle.cfs_recover.proofs.Keepings.{leads_as, leads_then}
@@ -191,7 +191,7 @@ module _ (a : Image) (s : Survey) (is : IsSurvey a s) where
             named = is.whole.directory;
             room = omega (arith, is.walked.walk.room, roots.size, tidies.size, sized);
             carries = carries_settled g graph d settled sound.holds;
-            account = subst (λ (i : Image). Accounts i graph []) (sym same) (tidied_accounts b c graph marks holds_b copied tidies is_tidied);
+            account = subst (λ (i : Image). Accounts i graph no_drafts) (sym same) (tidied_accounts b c graph marks holds_b copied tidies is_tidied);
             swept = subst (λ (i : Image). IsSwept i graph) (sym same) (tidied_is_swept b c graph marks holds_b copied tidies is_tidied);
             counts = subst (λ (i : Image). AreCounts i kept) (sym same) (counts size);
             ordered = is.whole.ordered;

@@ -127,6 +127,6 @@ pub use Rattle.vol_owners.proofs.Keys.{block_there, count_owned, owned_sum_by, s
 pub use Rattle.vol_owners.proofs.Owned.{count_with_tree}
 pub use Rattle.vol_owners.proofs.Standing.{levels_all}
 pub use Rattle.vol_owners.proofs.Sums.{count_in, run-suc, sum_each, sum_run}
-pub use Rattle.vol_owners.specs.Account.{Accounts, HasItsBlocks, HasRoot, IsSwept, StandsIn}
+pub use Rattle.vol_owners.specs.Account.{Accounts, HasItsBlocks, HasRoot, IsSwept, StandsIn, no_drafts}
 pub use Rattle.vol_owners.specs.Owner.{is_had, is_leaving, is_made, is_meant, is_owned_by, is_placed, is_root, is_root_place, is_stray, is_taken, owner_of}
 pub use Rattle.vol_owners.specs.Room.{one_of}

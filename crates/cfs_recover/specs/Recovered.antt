@@ -1,5 +1,5 @@
 -- What recovery makes of a volume.
-use Rattle.std.specs.Prelude.{◌≡◌, ◌≢◌, ◌⊎◌, ℕ, zero, suc, ◌+◌, ◌*◌, ◌/◌, ◌≤◌, true, false, cond, nat_eq, List, []}
+use Rattle.std.specs.Prelude.{◌≡◌, ◌≢◌, ◌⊎◌, ℕ, zero, suc, ◌+◌, ◌*◌, ◌/◌, ◌≤◌, true, false, cond, nat_eq, List}
 use Rattle.std.specs.Prelude.{length, slice_get, Some}
 use Rattle.std.specs.Cmp.Lexicographic.{pointwise}
 use Rattle.cfs_base.specs.Calls.{HasFailed}
@@ -21,7 +21,7 @@ use Rattle.vol_image.specs.Run.{Carries}
 use Rattle.vol_image.specs.Sight.{source}
 use Rattle.vol_image.specs.Sound.{IsSoundAs}
 use Rattle.vol_label.specs.declared.label.Label.{Label}
-use Rattle.vol_owners.specs.Account.{Accounts, IsSwept}
+use Rattle.vol_owners.specs.Account.{Accounts, IsSwept, no_drafts}
 use Rattle.cfs_recover.specs.Survey.{IsIn}
 
 -- Beside the maps and the label exactly the blocks of the objects aren't Free. They are Allocated, and no commit bit
@@ -48,7 +48,7 @@ pub record IsRecovered {D : Type 0} (g : Ghosts D) (before : Image) (d : D) (lab
   pub named : directory.named ≡ kinds_of graph
   pub room : directory.room ≡ g.blocks d
   pub carries : Carries g graph d
-  pub account : Accounts (g.content d) graph []
+  pub account : Accounts (g.content d) graph no_drafts
   pub swept : IsSwept (g.content d) graph
   pub counts : AreCounts (g.content d) space
   pub ordered : rises (ids_of graph) ≡ true

@@ -1,5 +1,5 @@
 //! What is proved of what recovery writes, as contracts. None of these calls does anything.
-ghost use Rattle.std.specs.Prelude.{◌≡◌, ◌⊎◌, ℕ, Bool, ◌*◌, ◌<◌, List, [], length, set, Some};
+ghost use Rattle.std.specs.Prelude.{◌≡◌, ◌⊎◌, ℕ, Bool, ◌*◌, ◌<◌, List, length, set, Some};
 ghost use Rattle.cfs_base.specs.Disk.{Image, block_at};
 ghost use Rattle.cfs_base.specs.declared.identifier.Puid.{Puid};
 ghost use Rattle.cyl_map.specs.Volume.{entry_in};
@@ -9,7 +9,7 @@ ghost use Rattle.ufs_model.specs.declared.object.Object.{Object};
 ghost use Rattle.vol_image.specs.Part.{is_fixed};
 ghost use Rattle.vol_image.specs.Sight.{source};
 ghost use Rattle.vol_image.specs.Sound.{Holds, IsSoundAs};
-ghost use Rattle.vol_owners.specs.Account.{Accounts, IsSwept};
+ghost use Rattle.vol_owners.specs.Account.{Accounts, IsSwept, no_drafts};
 ghost use Rattle.cfs_recover.specs.Found.{IsFaultOf};
 ghost use Rattle.cfs_recover.specs.Grounds.{HasNoLabel, HasVersion, IsLabelled, IsOpenFault};
 ghost use Rattle.cfs_recover.specs.Refusals.{NamesDamage, TellsNothing};
@@ -40,7 +40,7 @@ pub fn tidying_keeps_the_reading()
 /// A tidied volume has nothing but its objects, each exactly its blocks.
 pub fn tidied_volumes_have_their_objects_alone()
     ensures accounts { (a b : Image) (g : Graph) (held : ℕ → Bool) → Holds a g → AreCopied a g → Tidies a g b
-        → IsTidied a g held b → Accounts b g [] }
+        → IsTidied a g held b → Accounts b g no_drafts }
     ensures swept { (a b : Image) (g : Graph) (held : ℕ → Bool) → Holds a g → AreCopied a g → Tidies a g b
         → IsTidied a g held b → IsSwept b g }
 {}

@@ -1,13 +1,13 @@
 -- What the sweep of a cylinder does to a disk, from what its calls do.
 use Rattle.std.proofs.Common.{◌≡◌, ℕ, ◌+◌, ◌*◌, ◌/◌, ◌<◌, List, length, set, count_by, refl, sym, ap, ap₂, ◌∙◌, subst, arith, true, false, Ok, Err}
-use Rattle.collector_steps.proofs.Words.{Accounts, AreCounts, Carries, Frames, Ghosts, Graph, HasStopped, Holds, Image, IsDamageTrouble, IsFreeElsewhere, IsMapOf, IsMapTrouble, IsSome, IsSweep, IsSweptOf, Kept, Kind, Leaves, MakesAtMost, MapEntry, Nothing, OnlyReads, Opened, Pass, Puid, Serves, State, Tells, Trouble, carries_on, free_in_cylinder, goes, has_block, has_root_in, kinds_of, makes_then, map_of, map_spelling, reads_make, stopped_after_reads, sweep_goes_on, swept_map, then, trouble_had_tried, wider}
+use Rattle.collector_steps.proofs.Words.{Accounts, AreCounts, Carries, Frames, Ghosts, Graph, HasStopped, Holds, Image, IsDamageTrouble, IsFreeElsewhere, IsMapOf, IsMapTrouble, IsSome, IsSweep, IsSweptOf, Kept, Kind, Leaves, MakesAtMost, MapEntry, Nothing, OnlyReads, Drafts, Pass, Puid, Serves, State, Tells, Trouble, carries_on, free_in_cylinder, goes, has_block, has_root_in, kinds_of, makes_then, map_of, map_spelling, reads_make, stopped_after_reads, sweep_goes_on, swept_map, then, trouble_had_tried, wider}
 use Rattle.cfs_base.specs.declared.refusal.Trouble.TheVariants as trouble
 use Rattle.collector_steps.proofs.Sweeping.{frames, sweeps}
 use Rattle.collector_steps.proofs.Written.{after_of, counted, elsewhere, swept_so}
 
 -- ---- a disk that serves
 
-pub serves_read : {D : Type 0} (g : Ghosts D) (old new : D) (n : ℕ) (directory : List (Puid × Kind)) (s : State) (ds : List Opened) → OnlyReads g n old new → Serves g old directory s ds → Serves g new directory s ds
+pub serves_read : {D : Type 0} (g : Ghosts D) (old new : D) (n : ℕ) (directory : List (Puid × Kind)) (s : State) (ds : Drafts) → OnlyReads g n old new → Serves g old directory s ds → Serves g new directory s ds
 serves_read g old new n directory s ds reads serves = record {
   state = serves.state;
   named = serves.named;
@@ -60,7 +60,7 @@ module _ {D : Type 0} (g : Ghosts D) (directory : List (Puid × Kind)) (pass : P
       calls = calls_read;
     }
       where
-        no_damage : (s : State) (ds : List Opened) → Serves g old directory s ds → (u : Trouble) → IsMapTrouble g old mid (64 * cylinder) u → ¬ IsDamageTrouble u
+        no_damage : (s : State) (ds : Drafts) → Serves g old directory s ds → (u : Trouble) → IsMapTrouble g old mid (64 * cylinder) u → ¬ IsDamageTrouble u
         no_damage s ds serves (trouble.Disk tried) is = λ h. h
         no_damage s ds serves (trouble.Damaged damage) is = λ h.
             let tells = serves.carries.tells in
@@ -81,7 +81,7 @@ module _ {D : Type 0} (g : Ghosts D) (directory : List (Puid × Kind)) (pass : P
           subst (λ (image : Image). IsSweptOf directory pass cylinder (g.content old) (set image (64 * cylinder) block)) (sym reads.content)
           (subst (λ (b : List ℕ). IsSweptOf directory pass cylinder (g.content old) (set (g.content old) (64 * cylinder) b)) (sym spelled) (swept_so directory pass (g.content old) cylinder es (is tells) (inside tells)))
 
-      framed : (s : State) (ds : List Opened) → Serves g old directory s ds → Frames (g.content mid) s.graph (set (g.content mid) (64 * cylinder) block)
+      framed : (s : State) (ds : Drafts) → Serves g old directory s ds → Frames (g.content mid) s.graph (set (g.content mid) (64 * cylinder) block)
       framed s ds serves =
           subst (λ (image : Image). Frames image s.graph (set (g.content mid) (64 * cylinder) block)) (sym reads.content)
           (frames directory s.graph (roots s serves.named) pass cylinder (g.content old) (set (g.content mid) (64 * cylinder) block) (swept_image serves.carries.tells) ds serves.accounts)
@@ -90,7 +90,7 @@ module _ {D : Type 0} (g : Ghosts D) (directory : List (Puid × Kind)) (pass : P
         calls_both : MakesAtMost g 2 1 old new
         calls_both = makes_then g old mid new 1 1 2 0 1 1 (reads_make g old mid 1 reads) makes (omega arith) (omega arith)
 
-        leaves_both : (s : State) (ds : List Opened) → Serves g old directory s ds → Leaves g old new (λ c. Holds c s.graph)
+        leaves_both : (s : State) (ds : Drafts) → Serves g old directory s ds → Leaves g old new (λ c. Holds c s.graph)
         leaves_both s ds serves =
             then g old mid new (λ c. Holds c s.graph) (λ c. Holds c s.graph) (leaves_read (λ c. Holds c s.graph))
             (leaves s.graph (serves_read g old mid 1 directory s ds reads serves).carries (framed s ds serves)) (λ c holds. holds)

@@ -8,7 +8,6 @@ use Rattle.block_tree.specs.Step.{SomeHeld}
 use Rattle.block_tree.specs.Tree.{leaf_count}
 use Rattle.marking.specs.Leaves.{own_part}
 use Rattle.collector_steps.specs.Scan.{HoldsAny, IsFoundIn, after_drafted, after_own, following}
-use Rattle.collector_steps.specs.declared.scan.Found.{Found}
 
 -- ---- where the reading goes on
 

@@ -1,5 +1,5 @@
 -- How much a collection has left: no step adds to it, and each takes from it.
-use Rattle.std.proofs.Common.{◌≡◌, ℕ, zero, suc, ◌+◌, ◌-◌, ◌*◌, ◌/◌, ◌<◌, ◌≤◌, ◌==◌, ◌||◌, nat_lt, Bool, true, false, cond, List, [], ◌∷◌, length, Option, Some, None, refl, sym, ap, ◌∙◌, subst, arith, inl, inr}
+use Rattle.std.proofs.Common.{◌≡◌, ℕ, zero, suc, ◌+◌, ◌*◌, ◌/◌, ◌<◌, ◌≤◌, ◌==◌, ◌||◌, nat_lt, Bool, true, false, cond, List, [], ◌∷◌, length, Option, Some, None, refl, sym, ap, ◌∙◌, subst, arith, inl, inr}
 use Rattle.collector_steps.proofs.Words.{Collecting, Colours, Grey, IfSome, IsPhaseOf, Kind, Listing, Pass, Phase, Puid, Rescue, all_shaded, cases_lt, colours_in, first_grey, first_is, is_listing, directory_kind, left_in, most_steps, moved, nat_tests, next_phase, none_marked, read, reads_left, reads_of, rescued, same_Some, same_puid, shaded, shaded_in, steps_left, sum_by, sum_by-cons, unmarked_below, volume_of, waiting_in}
 use Rattle.std.proofs.lemmas.Bool.{ltb-true}
 use Rattle.marking.specs.Colours.{cursor_of, draft_over, ended_from, is_index, moved_at, shaded_as, with_cursor}

@@ -11,7 +11,7 @@ use Rattle.collector_steps.specs.Scan.{HoldsAny, IsDraftRoot, IsFoundIn, after_d
 use Rattle.collector_steps.specs.declared.scan.Found.{Found}
 use Rattle.collector_steps.proofs.Indices.{alive, draft_step_is, holds_is, own_step_is, sound_index, tree_of_index}
 use Rattle.ufs_model.specs.declared.object.Object.TheVariants as objects
-use Rattle.vol_owners.specs.Account.{Opened}
+use Rattle.vol_owners.specs.Account.{Drafts}
 
 -- a place that is later than one, and not after another
 pub on_weaker : (o : Option ℕ) (a b m n : ℕ) → b ≤ a → m ≤ n → IfSome o (λ next. (a < next) × (next ≤ m))
@@ -35,7 +35,7 @@ module _ (image : Image) (s : State) (id : Puid) where
 -- ---- a step of an index of the state
 
 module _ {D : Type 0} (g : Ghosts D) (old : D) (blocks : AreBlocks (g.content old)) (directory : List (Puid × Kind))
-    (s : State) (ds : List Opened) (serves : Serves g old directory s ds) (id : Puid) (i : Index)
+    (s : State) (ds : Drafts) (serves : Serves g old directory s ds) (id : Puid) (i : Index)
     (at : object_at s.graph id ≡ Some (objects.Index i)) where
   abbrev image : Image
   image = g.content old

@@ -1,6 +1,6 @@
 -- An image of which one cylinder was swept.
 use Rattle.std.proofs.Common.{◌≡◌, inl, inr, ℕ, ◌+◌, ◌/◌, ◌%◌, ◌==◌, ◌<◌, List, length, refl, sym, ap, ◌∙◌, subst, arith, Bool, true, false, cond, not, Option, Some, None}
-use Rattle.collector_steps.proofs.Words.{Accounts, ChangesOnly, Frames, Graph, HasRoot, Holds, Image, IsOpenTo, IsSome, IsSweptOf, Kind, MapEntry, MayBegin, Misses, NoInner, NoStray, Opened, OwnsItself, Pass, Puid, Sweeps, and_from, and_parts, block_there, both_ways, cases_eq, entry_in, eq-eqb, false_from_ne_true, frames_others, unheld_entry, goes, has_block, has_root_in, in_image, is_fixed, is_free_entry, is_had, is_made, is_meant, is_of_pass, is_placed, is_root, is_stray, is_taken, not-true, option_map, or_left, owner_is, owner_of, reserved, root_owner, root_placed, root_real, same_Some, swept, true_from_ne_false}
+use Rattle.collector_steps.proofs.Words.{Accounts, ChangesOnly, Frames, Graph, HasRoot, Holds, Image, IsOpenTo, IsSome, IsSweptOf, Kind, MapEntry, MayBegin, Misses, NoInner, NoStray, Drafts, OwnsItself, Pass, Puid, Sweeps, and_from, and_parts, block_there, both_ways, cases_eq, entry_in, eq-eqb, false_from_ne_true, frames_others, unheld_entry, goes, has_block, has_root_in, in_image, is_fixed, is_free_entry, is_had, is_made, is_meant, is_of_pass, is_placed, is_root, is_stray, is_taken, not-true, option_map, or_left, owner_is, owner_of, reserved, root_owner, root_placed, root_real, same_Some, swept, true_from_ne_false}
 use Rattle.collector_steps.specs.declared.sweep.Pass.TheVariants as passes
 
 -- whether a pass is over roots
@@ -118,7 +118,7 @@ module _ (directory : List (Puid × Kind)) (g : Graph) (roots : (r : ℕ) → ha
 
     -- ---- the accounts
 
-    module _ (ds : List Opened) (had : Accounts a g ds) where
+    module _ (ds : Drafts) (had : Accounts a g ds) where
       -- a block that went is no map block and not the label
       went_apart : (n : ℕ) (old : MapEntry) → entry_in a n ≡ Some old → goes directory pass old ≡ true → is_fixed n ≡ false
       went_apart n old was go = false_from_ne_true _ (λ fixed.

@@ -104,6 +104,6 @@ pub use Rattle.vol_owners.proofs.Entries.{owner_is, root_owner, root_placed, roo
 pub use Rattle.vol_owners.proofs.Kept.{frames_others}
 pub use Rattle.vol_owners.proofs.Keys.{block_there}
 pub use Rattle.vol_owners.proofs.Steps.{sweep_goes_on}
-pub use Rattle.vol_owners.specs.Account.{Accounts, HasRoot, IsSwept, Opened}
+pub use Rattle.vol_owners.specs.Account.{Accounts, Drafts, HasRoot, IsSwept}
 pub use Rattle.vol_owners.specs.Change.{ChangesOnly, IsOpenTo, Misses, Sweeps}
 pub use Rattle.vol_owners.specs.Owner.{is_had, is_made, is_meant, is_placed, is_root, is_root_place, is_stray, is_taken, owner_of}

@@ -12,7 +12,7 @@ use Rattle.marking.specs.Pace.{IsPaced}
 use Rattle.ufs_model.specs.State.{State}
 use Rattle.ufs_model.specs.WellFormed.{IsState}
 use Rattle.puid_space.specs.Kinds.{kinds_of}
-use Rattle.vol_owners.specs.Account.{Accounts, IsSwept, Opened}
+use Rattle.vol_owners.specs.Account.{Accounts, Drafts, IsSwept}
 use Rattle.vol_image.specs.Run.{Carries}
 use Rattle.collector_steps.specs.declared.phase.Phase.{Phase}
 use Rattle.collector_steps.specs.declared.phase.Phase.TheVariants as phases
@@ -49,7 +49,7 @@ pub record IsAsBefore (old new : Collecting) : Type 0 where
 
 -- The disk carries the state's graph, each block has its one use, and the directory has the graph's identifiers.
 pub record Serves {D : Type 0} (g : Ghosts D) (disk : D) (directory : List (Puid × Kind)) (s : State)
-    (ds : List Opened) : Type 0 where
+    (ds : Drafts) : Type 0 where
   pub state : IsState s
   pub named : directory ≡ kinds_of s.graph
   pub carries : Carries g s.graph disk

@@ -14,7 +14,7 @@ use Rattle.cfs_base.specs.Refusals.{trouble_had_tried}
 use Rattle.cyl_alloc.specs.Space.{AreCounts, Kept}
 use Rattle.ufs_model.specs.State.{State}
 use Rattle.vol_image.specs.Sound.{Holds}
-use Rattle.vol_owners.specs.Account.{Opened}
+use Rattle.vol_owners.specs.Account.{Drafts}
 use Rattle.collector_steps.specs.declared.phase.Phase.{Phase}
 use Rattle.collector_steps.specs.declared.phase.Phase.TheVariants as phases
 use Rattle.collector_steps.specs.declared.sweep.Pass.{Pass}
@@ -34,10 +34,10 @@ pub record IsSweep {D : Type 0} (g : Ghosts D) (directory : List (Puid × Kind))
   -- each entry that goes is Free, and no other changed
   pub swept : Tells g old → OnOk result (IsSweptOf directory pass cylinder (g.content old) (g.content new))
   -- what is served is served on
-  pub serves : (s : State) (ds : List Opened) → Serves g old directory s ds → MayBegin pass (g.content old) s.graph
+  pub serves : (s : State) (ds : Drafts) → Serves g old directory s ds → MayBegin pass (g.content old) s.graph
       → OnOk result (Serves g new directory s ds)
   -- done or failed, each image that a crash leaves has the graph
-  pub leaves : (s : State) (ds : List Opened) → Serves g old directory s ds → Leaves g old new (λ c. Holds c s.graph)
+  pub leaves : (s : State) (ds : Drafts) → Serves g old directory s ds → Leaves g old new (λ c. Holds c s.graph)
   -- the counts are again those of the disk
   pub counts : Tells g old → AreCounts (g.content old) before → OnOk result (AreCounts (g.content new) after)
   pub cylinders : length after.free ≡ length before.free
@@ -45,7 +45,7 @@ pub record IsSweep {D : Type 0} (g : Ghosts D) (directory : List (Puid × Kind))
   pub kept : OnErr result (after ≡ before)
   -- a device call failed, or the cylinder's map block is no map, which is not so on a disk that is served
   pub refused : IfErr result (IsMapTrouble g old new (64 * cylinder))
-  pub sound : (s : State) (ds : List Opened) → Serves g old directory s ds → IfErr result (λ t. ¬ IsDamageTrouble t)
+  pub sound : (s : State) (ds : Drafts) → Serves g old directory s ds → IfErr result (λ t. ¬ IsDamageTrouble t)
   pub unless_tried : IfErr result (λ t. trouble_had_tried t ≡ false → OnlyReads g 1 old new)
   pub calls : MakesAtMost g 2 1 old new
 
@@ -82,9 +82,9 @@ next_phase cylinders phases.Swept = phases.Swept
 pub record HasSwept {D : Type 0} (g : Ghosts D) (directory : List (Puid × Kind)) (pass : Pass) (old new : D)
     (before after : Kept) (k l : Collecting) (result : Result (Unit {0}) Trouble) : Type 0 where
   pub sweep : IsSweep g directory pass (cylinder_of k.phase) old new before after result
-  pub serves : (s : State) (ds : List Opened) → Serves g old directory s ds → Collects (g.content old) s k
+  pub serves : (s : State) (ds : Drafts) → Serves g old directory s ds → Collects (g.content old) s k
       → OnOk result (Serves g new directory s ds)
-  pub keeps : (s : State) (ds : List Opened) → Serves g old directory s ds → Collects (g.content old) s k
+  pub keeps : (s : State) (ds : Drafts) → Serves g old directory s ds → Collects (g.content old) s k
       → OnOk result (Collects (g.content new) s l)
   pub phase : OnOk result (l.phase ≡ next_phase (volume_of k / 64) k.phase)
   pub steps : OnOk result (l.steps ≡ count_after k.steps)

@@ -28,7 +28,7 @@ ghost use Rattle.ufs_model.specs.Graph.{object_at};
 ghost use Rattle.ufs_model.specs.State.{State};
 ghost use Rattle.ufs_model.specs.declared.object.Index as index;
 ghost use Rattle.ufs_model.specs.declared.object.Object.TheVariants as objects;
-ghost use Rattle.vol_owners.specs.Account.{Opened};
+ghost use Rattle.vol_owners.specs.Account.{Drafts};
 
 use crate::collector::Collector;
 use crate::leaf::shade_leaf;
@@ -209,14 +209,14 @@ fn read_place<D: Disk>(
     into: &mut Block,
 ) -> Result<Found, Trouble>
     requires { first.id.block < D.blocks disk.old }
-    ensures found { (directory : List (Puid × Kind)) (s : State) (ds : List Opened) (i : index.Index)
+    ensures found { (directory : List (Puid × Kind)) (s : State) (ds : Drafts) (i : index.Index)
         (d : Option index.Index) → Serves D.Disk disk.old directory s ds
         → object_at s.graph first.id ≡ Some (objects.Index i)
         → IsDraftRoot (D.content disk.old) s first.id (option_copied draft.entry) d
         → IfOk result (λ found. (ids_read found.step into.new, found.next) ≡ step_of d i first.cursor) }
     ensures on { IfOk result (λ found. IfSome found.next (λ next. (first.cursor < next) × (next ≤ 2 * own_part))) }
     ensures refused { IfErr result (IsScanTrouble D.Disk disk.old disk.new (option_copied draft.entry) first.id.block) }
-    ensures sound { (directory : List (Puid × Kind)) (s : State) (ds : List Opened) (i : index.Index)
+    ensures sound { (directory : List (Puid × Kind)) (s : State) (ds : Drafts) (i : index.Index)
         (d : Option index.Index) → Serves D.Disk disk.old directory s ds
         → object_at s.graph first.id ≡ Some (objects.Index i)
         → IsDraftRoot (D.content disk.old) s first.id (option_copied draft.entry) d
@@ -269,12 +269,12 @@ impl Collector {
         requires grey { ¬ (self.old.marks.grey ≡ []) }
         requires blocks { directory.now.room ≤ volume_of self.old }
         requires size { D.blocks disk.old ≡ volume_of self.old }
-        ensures scanned { (s : State) (ds : List Opened) (e : grey.Grey) (i : index.Index) (d : Option index.Index)
+        ensures scanned { (s : State) (ds : Drafts) (e : grey.Grey) (i : index.Index) (d : Option index.Index)
             → Serves D.Disk disk.old directory.now.named s ds → first_grey (colours_in self.old) ≡ Some e
             → object_at s.graph e.id ≡ Some (objects.Index i)
             → IsDraftRoot (D.content disk.old) s e.id (option_copied draft.entry) d
             → OnOk result (colours_in self.new ≡ scanned directory.now.named d i e.cursor (colours_in self.old)) }
-        ensures keeps { (s : State) (ds : List Opened) (e : grey.Grey) (d : Option index.Index)
+        ensures keeps { (s : State) (ds : Drafts) (e : grey.Grey) (d : Option index.Index)
             → Serves D.Disk disk.old directory.now.named s ds → first_grey (colours_in self.old) ≡ Some e
             → IsDraftRoot (D.content disk.old) s e.id (option_copied draft.entry) d
             → Collects (D.content disk.old) s self.old → OnOk result (Collects (D.content disk.new) s self.new) }
@@ -287,7 +287,7 @@ impl Collector {
         ensures same { OnErr result (IsAsBefore self.old self.new) }
         ensures refused { (e : grey.Grey) → first_grey (colours_in self.old) ≡ Some e
             → IfErr result (IsScanTrouble D.Disk disk.old disk.new (option_copied draft.entry) e.id.block) }
-        ensures sound { (s : State) (ds : List Opened) (e : grey.Grey) (d : Option index.Index)
+        ensures sound { (s : State) (ds : Drafts) (e : grey.Grey) (d : Option index.Index)
             → Serves D.Disk disk.old directory.now.named s ds → first_grey (colours_in self.old) ≡ Some e
             → IsDraftRoot (D.content disk.old) s e.id (option_copied draft.entry) d
             → Collects (D.content disk.old) s self.old → IfErr result (λ error. ¬ IsDamaged error) }

@@ -1,7 +1,5 @@
 pub mod Words
-mod Begun
+mod Views
+mod InPlace
 mod Exact
 mod Beside
-mod InPlace
-mod Since
-mod Shown

@@ -18,7 +18,6 @@ use Rattle.claims.specs.Claims.{AreClaimed}
 use Rattle.cyl_alloc.specs.Left.{LeftCommit}
 use Rattle.cyl_alloc.specs.Space.{Kept}
 use Rattle.cyl_map.specs.declared.entry.MapEntry.{MapEntry}
-use Rattle.file_ops.specs.Files.{StoreHasFile}
 use Rattle.intentions.specs.Left as commit
 use Rattle.intentions.specs.Left.{StoreIs}
 use Rattle.leaf_changes.specs.Tops.{Top, disk_top}
@@ -28,11 +27,12 @@ use Rattle.normal_files.specs.Order.{claims_of}
 use Rattle.normal_files.specs.Refusal as normal
 use Rattle.normal_files.specs.Standing.{IsPartly}
 use Rattle.normal_files.specs.WriteRefusal.{is_untried, needs}
-use Rattle.special_files.specs.Committing.{IsAtBit, IsNoted, IsOldOrNew, TakesShadow}
-use Rattle.special_files.specs.Drafting.{none_of}
+use Rattle.special_files.specs.Committing.{Committed, IsAtBit, IsNoted, IsOldOrNew, TakesShadow, draft_top}
+use Rattle.special_files.specs.Drafting.{Drafting, none_of}
 use Rattle.special_files.specs.Order.{claims_anew, claims_by_leaf}
 use Rattle.special_files.specs.Refusal as special
 use Rattle.special_files.specs.Refusal.{has_met_damage, is_full_refusal}
+use Rattle.special_files.specs.View.{DraftView, IsShut, ObjectView}
 use Rattle.ufs_model.specs.Graph.{Graph, with_object}
 use Rattle.ufs_model.specs.Numbers.{missing}
 use Rattle.ufs_model.specs.Object.{IsInside, changed_object, leaves_in, resized, written, written_anew}
@@ -41,15 +41,18 @@ use Rattle.ufs_model.specs.declared.change.Change.TheVariants.{Fill, Overwrite, 
 use Rattle.ufs_model.specs.declared.object.File.{File}
 use Rattle.ufs_model.specs.declared.object.Object.TheVariants as objects
 use Rattle.vol_image.specs.Sound.{Holds}
-use Rattle.vol_owners.specs.Account.{Opened}
+use Rattle.vol_owners.specs.Account.{Drafts}
 use Rattle.vol_owners.specs.Change.{ChangesOnly, of_owner}
 
--- the store has this file, it is of the kind, and the place of the change lies within it
-pub record MayChangeFile {D : Type 0} (g : Ghosts D) (at : ℕ) (kind : FileKind) (change : Change) (graph : Graph)
-    (ds : List Opened) (id : Puid) (f : File) (d : D) (space : Kept) : Type 0 where
-  pub has : StoreHasFile g graph ds d space at id f
-  pub kind_is : f.kind ≡ kind
-  pub inside : IsInside change (objects.File f)
+-- the store has a file at this block, of this kind, and no draft of it; the place of the change lies within it
+pub record MayChangeFile {D : Type 0} (g : Ghosts D) (at : ℕ) (kind : FileKind) (change : Change) (d : D)
+    (space : Kept) : Type 0 where
+  pub view : ObjectView g d space at
+  pub shut : IsShut view
+  pub file : File
+  pub is : view.object ≡ objects.File file
+  pub kind_is : file.kind ≡ kind
+  pub inside : IsInside change (objects.File file)
 
 -- How many blocks it takes. A normal file takes the leaves and nodes that it doesn't hold yet, where bytes are written.
 -- A special file takes all that is written anew, and a shadow root.
@@ -70,7 +73,7 @@ IsDurable kinds.Special change f = Unit {0}
 
 -- The object is the changed file now. In the image that is to come nothing changed but blocks of the object or such as
 -- were Free.
-pub record Changed {D : Type 0} (g : Ghosts D) (kind : FileKind) (change : Change) (graph : Graph) (ds : List Opened)
+pub record Changed {D : Type 0} (g : Ghosts D) (kind : FileKind) (change : Change) (graph : Graph) (ds : Drafts)
     (id : Puid) (f : File) (old new : D) (space : Kept) : Type 0 where
   pub store : StoreIs g (with_object graph id (changed_object change (objects.File f))) ds new space
   pub only : ChangesOnly (λ entry. of_owner id.block entry) (g.content old) (commit.final_image g new space)
@@ -169,6 +172,23 @@ IsCommitRefusal g at wrote old new before after (refusals.Damaged damage) =
     special.IsDraftDamage g at old new after damage ⊎ (IsNoneLeft after damage × (after ≡ before))
 IsCommitRefusal g at wrote old new before after refusals.Memory = ⊥
 
+-- how such a commit ends on any disk
+pub record BesideCall {D : Type 0} (g : Ghosts D) (was : Drafting) (wrote : Bool) (old new : D) (before after : Kept)
+    (result : Result (Unit {0}) Refused) : Type 0 where
+  pub refused : IfErr result (IsCommitRefusal g (draft_top was) wrote old new before after)
+  pub untried : IfErr result (λ e. e ≡ refusals.Disk false → (after ≡ before) × OnlyReads g 241 old new)
+  pub cylinders : length after.free ≡ length before.free
+  pub left : OnOk result ((l : LeftCommit) × IsNoted was.at after.left l)
+  pub bit : OnOk result (IsAtBit g old new after.left)
+  pub calls : MakesAtMost g 31207 15485 old new
+
+-- Where the store has a draft of the object: it becomes the object. No damage is met where a block is Free.
+pub record CommitsBeside {D : Type 0} {g : Ghosts D} {old : D} {before : Kept} {was : Drafting}
+    (v : DraftView g old before was) (new : D) (after : Kept) (result : Result (Unit {0}) Refused) : Type 0 where
+  pub done : OnOk result (Committed g v.graph v.ds v.id v.draft.object None old new after)
+  pub leaves : Leaves g old new (IsOldOrNew v.graph v.graph v.id v.draft.object)
+  pub sound : 1 ≤ sum before.free → IfErr result (λ e. has_met_damage e ≡ false)
+
 -- ---- the call
 
 -- a special file's commit is unfinished then; a normal file is changed in place
@@ -188,30 +208,26 @@ pub record EndsChange {D : Type 0} (g : Ghosts D) (at : Top) (kind : FileKind) (
   pub bit : OnOk result (IsAtBit g old new after.left)
   pub calls : MakesAtMost g 62300 30971 old new
 
+-- Where the store has the file: done, it is the changed one, and blocks were taken in their order.
+pub record ChangesSo {D : Type 0} {g : Ghosts D} {at : ℕ} {kind : FileKind} {change : Change} {old : D} {before : Kept}
+    (m : MayChangeFile g at kind change old before) (floor : ℕ) (new : D) (after : Kept)
+    (result : Result (Unit {0}) Refused) : Type 0 where
+  pub done : OnOk result (Changed g kind change m.view.graph m.view.ds m.view.id m.file old new after)
+  pub order : OnOk result (ClaimsFor kind change at m.file (g.content old) (commit.final_image g new after))
+  pub leaves : Leaves g old new (MayLeaveFile kind change m.view.graph m.view.id m.file)
+  -- Full exactly where the need and the floor aren't Free
+  pub room : OnOk result (need_for kind change m.file + floor ≤ sum before.free)
+  pub full : IfErr result (λ e. is_full_refusal e ≡ true →
+      (e ≡ refusals.Full (record { free = sum before.free; need = need_for kind change m.file }))
+      × (sum before.free < need_for kind change m.file + floor))
+  -- where a write was tried they were, or the file stayed as it was
+  pub begun : IfErr result (λ e. e ≡ refusals.Disk true →
+      (need_for kind change m.file + floor ≤ sum before.free) ⊎ Leaves g old new (λ c. Holds c m.view.graph))
+  -- no damage is met
+  pub sound : IfErr result (λ e. has_met_damage e ≡ false)
+
 -- The file of this kind with its root at a block is changed.
 pub record ChangesFile {D : Type 0} (g : Ghosts D) (at : ℕ) (kind : FileKind) (floor : ℕ) (change : Change)
     (old new : D) (before after : Kept) (result : Result (Unit {0}) Refused) : Type 0 where
-  pub done : (graph : Graph) (ds : List Opened) (id : Puid) (f : File)
-      → MayChangeFile g at kind change graph ds id f old before
-      → OnOk result (Changed g kind change graph ds id f old new after)
-  pub order : (graph : Graph) (ds : List Opened) (id : Puid) (f : File)
-      → MayChangeFile g at kind change graph ds id f old before
-      → OnOk result (ClaimsFor kind change at f (g.content old) (commit.final_image g new after))
-  pub leaves : (graph : Graph) (ds : List Opened) (id : Puid) (f : File)
-      → MayChangeFile g at kind change graph ds id f old before → Leaves g old new (MayLeaveFile kind change graph id f)
-  -- Full exactly where the need and the floor aren't Free
-  pub room : (graph : Graph) (ds : List Opened) (id : Puid) (f : File)
-      → MayChangeFile g at kind change graph ds id f old before
-      → OnOk result (need_for kind change f + floor ≤ sum before.free)
-  pub full : (graph : Graph) (ds : List Opened) (id : Puid) (f : File)
-      → MayChangeFile g at kind change graph ds id f old before → IfErr result (λ e. is_full_refusal e ≡ true →
-      (e ≡ refusals.Full (record { free = sum before.free; need = need_for kind change f }))
-      × (sum before.free < need_for kind change f + floor))
-  -- where a write was tried they were, or the file stayed as it was
-  pub begun : (graph : Graph) (ds : List Opened) (id : Puid) (f : File)
-      → MayChangeFile g at kind change graph ds id f old before → IfErr result (λ e. e ≡ refusals.Disk true →
-      (need_for kind change f + floor ≤ sum before.free) ⊎ Leaves g old new (λ c. Holds c graph))
-  -- no damage where the disk holds the file
-  pub sound : (graph : Graph) (ds : List Opened) (id : Puid) (f : File)
-      → MayChangeFile g at kind change graph ds id f old before → IfErr result (λ e. has_met_damage e ≡ false)
+  pub goes : (m : MayChangeFile g at kind change old before) → ChangesSo m floor new after result
   pub ends : EndsChange g (disk_top g at old) kind floor change old new before after result

@@ -1,26 +1,26 @@
--- A file of either kind, as the store has it.
-use Rattle.std.specs.Prelude.{◌≡◌, ℕ, List, [], Some}
+-- A file read.
+use Rattle.std.specs.Prelude.{◌≡◌, ℕ, ◌+◌, ◌≤◌, false, List, length, slice_range, IfErr, IfOk, Result}
+use Rattle.block_tree.specs.Reads.{is_damage}
 use Rattle.cfs_base.specs.Calls.{HasStopped}
 use Rattle.cfs_base.specs.declared.disk.Disk.{Ghosts}
-use Rattle.cfs_base.specs.declared.identifier.Puid.{Puid}
 use Rattle.cfs_base.specs.declared.refusal.Refused.{Refused}
 use Rattle.cfs_base.specs.declared.refusal.Refused.TheVariants as refusals
-use Rattle.cyl_alloc.specs.Space.{Kept}
-use Rattle.intentions.specs.Store.{StoreHas}
+use Rattle.cfs_base.specs.declared.refusal.Trouble.{Trouble}
 use Rattle.leaf_changes.specs.Tops.{Top}
 use Rattle.normal_files.specs.Refusal.{IsDamage}
-use Rattle.ufs_model.specs.Graph.{Graph, object_at}
+use Rattle.special_files.specs.Refusal.{has_met_damage}
 use Rattle.ufs_model.specs.declared.object.File.{File}
-use Rattle.ufs_model.specs.declared.object.Object.TheVariants as objects
-use Rattle.vol_owners.specs.Account.{Opened, drafts_of}
 
--- the store has this file, its root is at the block, and it has no draft
-pub record StoreHasFile {D : Type 0} (g : Ghosts D) (graph : Graph) (ds : List Opened) (d : D) (space : Kept) (at : ℕ)
-    (id : Puid) (f : File) : Type 0 where
-  pub store : StoreHas g graph ds d space
-  pub root : id.block ≡ at
-  pub there : object_at graph id ≡ Some (objects.File f)
-  pub shut : drafts_of ds id ≡ []
+-- its bytes from an offset on; no damage is met
+pub record ReadsFile (f : File) (offset count : ℕ) (result : Result (List ℕ) Refused) : Type 0 where
+  pub bytes : offset + count ≤ length f.bytes
+      → IfOk result (λ bytes. bytes ≡ slice_range f.bytes offset (offset + count))
+  pub sound : IfErr result (λ e. has_met_damage e ≡ false)
+
+-- its size, which is read with something; no damage is met
+pub record MeasuresFile {A : Type 0} (size : A → ℕ) (f : File) (result : Result A Trouble) : Type 0 where
+  pub size_is : IfOk result (λ x. size x ≡ length f.bytes)
+  pub sound : IfErr result (λ trouble. is_damage trouble ≡ false)
 
 -- a read is refused: no memory was there, and no call made; a device call failed; or a block that was read is damaged
 abbrev pub IsReadRefusal : {D : Type 0} → Ghosts D → Top → D → D → Refused → Type 0

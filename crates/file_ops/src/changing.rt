@@ -48,10 +48,7 @@ pub fn write<D: Disk>(
         disk.new space.old space.new result }
 {
     match kind {
-        FileKind::Normal => match normal_files::write(disk, space, at, root, offset, bytes, floor) {
-            Ok(()) => Ok(()),
-            Err(error) => Err(error),
-        },
+        FileKind::Normal => normal_files::write(disk, space, at, root, offset, bytes, floor),
         FileKind::Special => match room {
             Some(room) => write_beside(room, disk, space, at, offset, bytes, floor),
             None => Err(Refused::Memory),
@@ -82,10 +79,7 @@ pub fn resize<D: Disk>(
     ensures memory { is_some room ≡ true → IfErr result (λ e. e ≢ refusals.Memory) }
 {
     match kind {
-        FileKind::Normal => match normal_files::resize(disk, space, at, size, floor) {
-            Ok(()) => Ok(()),
-            Err(error) => Err(error),
-        },
+        FileKind::Normal => normal_files::resize(disk, space, at, size, floor),
         FileKind::Special => match room {
             Some(room) => resize_beside(room, disk, space, at, size, floor),
             None => Err(Refused::Memory),

@@ -1,22 +1,17 @@
 //! A file, read.
-ghost use Rattle.std.specs.Prelude.{◌≡◌, ◌+◌, ◌<◌, ◌≤◌, ℕ, false, List, length, slice_range, IfErr, IfOk};
-ghost use Rattle.block_tree.specs.Reads.{is_damage};
+ghost use Rattle.std.specs.Prelude.{◌≡◌, ◌+◌, ◌<◌, ◌≤◌, false, length, IfErr, IfOk};
+ghost use Rattle.block_tree.specs.declared.root.Root as roots;
 ghost use Rattle.cfs_base.specs.Calls.{OnlyReads};
 ghost use Rattle.cfs_base.specs.Refusals.{had_tried, trouble_had_tried};
 ghost use Rattle.cfs_base.specs.Run.{Tells};
-ghost use Rattle.cfs_base.specs.declared.identifier.Puid.{Puid};
-ghost use Rattle.cyl_alloc.specs.Space.{Kept};
 ghost use Rattle.file_ops.specs.Files as spec;
-ghost use Rattle.intentions.specs.Left.{IsShownAt};
 ghost use Rattle.leaf_changes.specs.Tops.{root_top, still_top};
 ghost use Rattle.normal_files.specs.Refusal.{IsTrouble};
 ghost use Rattle.normal_files.specs.Standing.{IsRootAt};
 ghost use Rattle.normal_files.specs.Touched.{leaves_touched, nodes_touched};
-ghost use Rattle.special_files.specs.Refusal.{has_met_damage};
-ghost use Rattle.ufs_model.specs.Graph.{Graph};
+ghost use Rattle.special_files.specs.View.{ShownView};
 ghost use Rattle.ufs_model.specs.declared.object.File.{File};
 ghost use Rattle.ufs_model.specs.declared.object.Object.TheVariants as objects;
-ghost use Rattle.vol_owners.specs.Account.{Opened};
 
 use block_tree::Root;
 use cfs_base::{BlockNo, Bytes, Disk, NoMemory, Refused, Trouble};
@@ -42,15 +37,9 @@ pub fn read<D: Disk>(
 ) -> Result<Bytes, Refused>
     requires on_disk { at.0 < D.blocks disk.old }
     requires inside { offset + count ≤ 7864320 }
-    ensures read { (graph : Graph) (ds : List Opened) (space : Kept) (id : Puid) (f : File)
-        → IsShownAt D.Disk graph ds disk.old space id (objects.File f) at.0
-        → IsRootAt (D.content disk.old) at.0 root.now → offset + count ≤ length f.bytes
-        → IfOk result (λ bytes. bytes ≡ slice_range f.bytes offset (offset + count)) }
+    ensures read { (v : ShownView D.Disk disk.old at.0) (f : File) → v.object ≡ objects.File f
+        → IsRootAt (D.content disk.old) at.0 root.now → spec.ReadsFile f offset count result }
     ensures long { IfOk result (λ bytes. length bytes ≡ count) }
-    // No damage where the disk holds the file.
-    ensures sound { (graph : Graph) (ds : List Opened) (space : Kept) (id : Puid) (f : File)
-        → IsShownAt D.Disk graph ds disk.old space id (objects.File f) at.0
-        → IsRootAt (D.content disk.old) at.0 root.now → IfErr result (λ e. has_met_damage e ≡ false) }
     ensures refused { IfErr result (spec.IsReadRefusal D.Disk (root_top at.0 root.now) disk.old disk.new) }
     ensures untried { IfErr result (λ e. had_tried e ≡ false) }
     // one read a node, and one a leaf
@@ -71,14 +60,9 @@ pub fn read<D: Disk>(
 pub fn read_root<D: Disk>(disk: &mut D, at: BlockNo) -> Result<Root, Trouble>
     requires { at.0 < D.blocks disk.old }
     ensures root { Tells D.Disk disk.old → IfOk result (IsRootAt (D.content disk.old) at.0) }
-    ensures size { (graph : Graph) (ds : List Opened) (space : Kept) (id : Puid) (f : File)
-        → IsShownAt D.Disk graph ds disk.old space id (objects.File f) at.0
-        → IfOk result (λ root. root.size ≡ length f.bytes) }
+    ensures size { (v : ShownView D.Disk disk.old at.0) (f : File) → v.object ≡ objects.File f
+        → spec.MeasuresFile (λ (root : roots.Root). root.size) f result }
     ensures limit { IfOk result (λ root. root.size ≤ 7864320) }
-    // No damage where the disk holds the file.
-    ensures sound { (graph : Graph) (ds : List Opened) (space : Kept) (id : Puid) (f : File)
-        → IsShownAt D.Disk graph ds disk.old space id (objects.File f) at.0
-        → IfErr result (λ trouble. is_damage trouble ≡ false) }
     ensures refused { IfErr result (IsTrouble D.Disk (still_top at.0) disk.old disk.new) }
     ensures untried { IfErr result (λ trouble. trouble_had_tried trouble ≡ false) }
     ensures reads { OnlyReads D.Disk 1 disk.old disk.new }
@@ -92,14 +76,9 @@ pub fn read_root<D: Disk>(disk: &mut D, at: BlockNo) -> Result<Root, Trouble>
 /// The size of the file that is shown at a block, in bytes. `Damaged` names the block, with code 3, which is none.
 pub fn size<D: Disk>(disk: &mut D, at: BlockNo) -> Result<u64, Trouble>
     requires { at.0 < D.blocks disk.old }
-    ensures size { (graph : Graph) (ds : List Opened) (space : Kept) (id : Puid) (f : File)
-        → IsShownAt D.Disk graph ds disk.old space id (objects.File f) at.0
-        → IfOk result (λ size. size ≡ length f.bytes) }
+    ensures size { (v : ShownView D.Disk disk.old at.0) (f : File) → v.object ≡ objects.File f
+        → spec.MeasuresFile (λ size. size) f result }
     ensures limit { IfOk result (λ size. size ≤ 7864320) }
-    // No damage where the disk holds the file.
-    ensures sound { (graph : Graph) (ds : List Opened) (space : Kept) (id : Puid) (f : File)
-        → IsShownAt D.Disk graph ds disk.old space id (objects.File f) at.0
-        → IfErr result (λ trouble. is_damage trouble ≡ false) }
     ensures refused { IfErr result (IsTrouble D.Disk (still_top at.0) disk.old disk.new) }
     ensures untried { IfErr result (λ trouble. trouble_had_tried trouble ≡ false) }
     ensures reads { OnlyReads D.Disk 1 disk.old disk.new }

@@ -1,23 +1,11 @@
 //! A special file, changed beside itself as one commit.
-ghost use Rattle.std.specs.Prelude.{◌≡◌, ◌≢◌, ◌+◌, ◌*◌, ◌<◌, ◌≤◌, if◌then◌else◌, false, List, length, sum, None, Some};
-ghost use Rattle.std.specs.Prelude.{IfErr, OnOk};
-ghost use Rattle.cfs_base.specs.Calls.{MakesAtMost, OnlyReads};
+ghost use Rattle.std.specs.Prelude.{◌≡◌, ◌≢◌, ◌+◌, ◌*◌, ◌<◌, ◌≤◌, if◌then◌else◌, length, None, IfErr};
 ghost use Rattle.cfs_base.specs.Refusals.{refused_by, trouble_after_try};
-ghost use Rattle.cfs_base.specs.Run.{Leaves};
-ghost use Rattle.cfs_base.specs.declared.identifier.Puid.{Puid};
 ghost use Rattle.cfs_base.specs.declared.kind.FileKind.TheVariants as kinds;
 ghost use Rattle.cfs_base.specs.declared.refusal.Refused.TheVariants as refused;
-ghost use Rattle.cyl_alloc.specs.Left.{LeftCommit};
 ghost use Rattle.file_ops.specs.Changes as spec;
-ghost use Rattle.intentions.specs.Store.{StoreHas};
-ghost use Rattle.special_files.specs.Committing.{Committed, IsAtBit, IsNoted, IsOldOrNew, draft_top};
-ghost use Rattle.special_files.specs.Drafting.{IsOpen};
-ghost use Rattle.special_files.specs.Refusal.{has_met_damage};
-ghost use Rattle.ufs_model.specs.Graph.{Graph, object_at};
+ghost use Rattle.special_files.specs.View.{DraftView};
 ghost use Rattle.ufs_model.specs.declared.change.Change.TheVariants.{Overwrite, SetSize};
-ghost use Rattle.ufs_model.specs.declared.object.Draft as drafts;
-ghost use Rattle.ufs_model.specs.declared.object.Object.{Object};
-ghost use Rattle.vol_owners.specs.Account.{Opened};
 
 use cfs_base::{BlockNo, Damage, Disk, Refused, Trouble, code};
 use cyl_alloc::Space;
@@ -43,23 +31,9 @@ fn commit<D: Disk>(
     requires on_disk { draft.at < D.blocks disk.old }
     requires size { D.blocks disk.old ≡ 64 * length space.old.free }
     requires left { space.old.left ≡ None }
-    ensures done { (graph : Graph) (ds : List Opened) (id : Puid) (o : Object) (d : drafts.Draft)
-        → StoreHas D.Disk graph ds disk.old space.old → object_at graph id ≡ Some o → IsOpen ds id draft d
-        → draft.created ≡ None → OnOk result (Committed D.Disk graph ds id d.object None disk.old disk.new space.new) }
-    ensures leaves { (graph : Graph) (ds : List Opened) (id : Puid) (o : Object) (d : drafts.Draft)
-        → StoreHas D.Disk graph ds disk.old space.old → object_at graph id ≡ Some o → IsOpen ds id draft d
-        → draft.created ≡ None → Leaves D.Disk disk.old disk.new (IsOldOrNew graph graph id d.object) }
-    ensures sound { (graph : Graph) (ds : List Opened) (id : Puid) (o : Object) (d : drafts.Draft)
-        → StoreHas D.Disk graph ds disk.old space.old → object_at graph id ≡ Some o → IsOpen ds id draft d
-        → draft.created ≡ None → 1 ≤ sum space.old.free → IfErr result (λ e. has_met_damage e ≡ false) }
-    ensures refused { IfErr result (spec.IsCommitRefusal D.Disk (draft_top draft) wrote disk.old disk.new space.old
-        space.new) }
-    ensures untried { IfErr result (λ e. e ≡ refused.Disk false
-        → (space.new ≡ space.old) × OnlyReads D.Disk 241 disk.old disk.new) }
-    ensures cylinders { length space.new.free ≡ length space.old.free }
-    ensures left { OnOk result ((l : LeftCommit) × IsNoted draft.at space.new.left l) }
-    ensures bit { OnOk result (IsAtBit D.Disk disk.old disk.new space.new.left) }
-    ensures calls { MakesAtMost D.Disk 31207 15485 disk.old disk.new }
+    ensures commits { (v : DraftView D.Disk disk.old space.old draft) → draft.created ≡ None
+        → spec.CommitsBeside v disk.new space.new result }
+    ensures call { spec.BesideCall D.Disk draft wrote disk.old disk.new space.old space.new result }
 {
     if space.free() == 0 {
         return Err(Refused::Damaged(Damage {

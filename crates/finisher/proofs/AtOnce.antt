@@ -33,7 +33,7 @@ use Rattle.intentions.proofs.Runs.{first_rest, flipped_sets, flips_settle}
 use Rattle.ufs_model.specs.Graph.{Graph}
 use Rattle.ufs_model.specs.Numbers.{has_number}
 use Rattle.vol_image.specs.Sound.{Holds}
-use Rattle.vol_owners.specs.Account.{Accounts, Opened}
+use Rattle.vol_owners.specs.Account.{Accounts, Drafts}
 use Rattle.vol_owners.specs.Change.{of_owners}
 
 opens_then : (T : Option MapEntry → Bool) (xs ys : List Flip) (a : Image) → AreOpen T a (xs ++ ys) → AreOpen T (flipped a xs) ys
@@ -107,7 +107,7 @@ module _ {D : Type 0} (g : Ghosts D) (d0 d1 : D) (k0 k1 : Kept) (r s n i freed :
           counts = subst (λ (a : Image). AreCounts a k1) (sym content) (counts (g.content d0) (flipped (g.content d0) first) has.counts (free (g.content d0) same));
         }
 
-        run_store : (ds : List Opened) (store : HasLeft g graph ds d0 k0 (so_far r s ns)) → store.going ≡ has → HasLeft g graph ds d1 k1 (so_far r s (drop i ns))
+        run_store : (ds : Drafts) (store : HasLeft g graph ds d0 k0 (so_far r s ns)) → store.going ≡ has → HasLeft g graph ds d1 k1 (so_far r s (drop i ns))
         run_store ds store is = record {
           going = run_goes;
           owners = store.owners;

@@ -28,7 +28,7 @@ use Rattle.block_tree.specs.Reads.{is_damage}
 use Rattle.ufs_model.specs.declared.object.Object.{Object}
 use Rattle.ufs_model.specs.Graph.{Graph}
 use Rattle.vol_image.specs.Sound.{Holds}
-use Rattle.vol_owners.specs.Account.{Opened}
+use Rattle.vol_owners.specs.Account.{Drafts}
 use Rattle.cyl_alloc.specs.Left.{LeftCommit}
 use Rattle.intentions.specs.Left.{GoesOn, GoesWith, StoreWith, coming}
 
@@ -41,7 +41,7 @@ pub goes_alike : {D : Type 0} (g : Ghosts D) (graph : Graph) (d : D) (k j : Kept
 goes_alike g graph d k j None same has = (has.0, counts_alike (g.content d) k j same has.1)
 goes_alike g graph d k j (Some l) same has = record { id = has.id; object = has.object; root_is = has.root_is; goes = has.goes; counts = counts_alike (g.content d) k j same has.counts }
 
-pub store_alike : {D : Type 0} (g : Ghosts D) (graph : Graph) (ds : List Opened) (d : D) (k j : Kept) (w : Option LeftCommit) → j.free ≡ k.free → StoreWith g graph ds d k w → StoreWith g graph ds d j w
+pub store_alike : {D : Type 0} (g : Ghosts D) (graph : Graph) (ds : Drafts) (d : D) (k j : Kept) (w : Option LeftCommit) → j.free ≡ k.free → StoreWith g graph ds d k w → StoreWith g graph ds d j w
 store_alike g graph ds d k j None same has = record { carries = has.carries; account = has.account; counts = counts_alike (g.content d) k j same has.counts; ordered = has.ordered }
 store_alike g graph ds d k j (Some l) same has = record {
   going = record { id = has.going.id; object = has.going.object; root_is = has.going.root_is; goes = has.going.goes; counts = counts_alike (g.content d) k j same has.going.counts };
@@ -153,7 +153,7 @@ goes_told g d0 d1 k0 k1 w0 w1 r goes = record {
     tells None graph has = has.0.tells
     tells (Some l) graph has = at l.copied graph has.id has.object l has.goes
 
-    bare : (w : Option LeftCommit) (graph : Graph) (ds : List Opened) → StoreWith g graph ds d0 k0 w → GoesWith g graph d0 k0 w
+    bare : (w : Option LeftCommit) (graph : Graph) (ds : Drafts) → StoreWith g graph ds d0 k0 w → GoesWith g graph d0 k0 w
     bare None graph ds has = (has.carries, has.counts)
     bare (Some l) graph ds has = has.going
 

@@ -47,7 +47,7 @@ use Rattle.intentions.proofs.Flips.{no_damage}
 use Rattle.ufs_model.specs.declared.object.Object.{Object}
 use Rattle.ufs_model.specs.Graph.{Graph}
 use Rattle.vol_image.specs.Sound.{Holds}
-use Rattle.vol_owners.specs.Account.{Accounts, Opened}
+use Rattle.vol_owners.specs.Account.{Accounts, Drafts}
 use Rattle.cyl_alloc.specs.Left.{LeftCommit}
 use Rattle.vol_owners.specs.Change.{of_owners}
 use Rattle.intentions.specs.Left.{AreOpen, HasLeft, IsGoing, coming, how_for, to_flip}
@@ -104,7 +104,7 @@ module _ {D : Type 0} (g : Ghosts D) (graph : Graph) (d0 d1 : D) (k : Kept) (r s
       counts = copy_counts;
     }
 
-pub copy_store : {D : Type 0} (g : Ghosts D) (graph : Graph) (ds : List Opened) (d0 d1 : D) (k : Kept) (r s : ℕ) (rest : List ℕ) (has : HasLeft g graph ds d0 k (before_copy r s rest)) → Copies (g.content d0) (g.content d1) graph has.going.id has.going.object s
+pub copy_store : {D : Type 0} (g : Ghosts D) (graph : Graph) (ds : Drafts) (d0 d1 : D) (k : Kept) (r s : ℕ) (rest : List ℕ) (has : HasLeft g graph ds d0 k (before_copy r s rest)) → Copies (g.content d0) (g.content d1) graph has.going.id has.going.object s
     → g.content d1 ≡ set (g.content d0) r (block_at (g.content d0) s) → IsSettled g d1 → HasLeft g graph ds d1 k (after_copy r s rest)
 copy_store g graph ds d0 d1 k r s rest has copies content settled = record {
   going = copy_goes g graph d0 d1 k r s rest has.going copies content settled;
@@ -165,7 +165,7 @@ module _ {D : Type 0} (g : Ghosts D) (graph : Graph) (d0 d1 : D) (k0 k1 : Kept) 
       counts = counts;
     }
 
-pub flip_store : {D A : Type 0} (g : Ghosts D) (graph : Graph) (ds : List Opened) (d0 d1 : D) (k0 k1 : Kept) (r s n : ℕ) (ns : List ℕ) → HasLeft g graph ds d0 k0 (after_copy r s (n ∷ ns)) → (x : A) → ChangesEntry g n (λ e. changed_entry (how_for (n == s)) e) d0 d1 (Ok x)
+pub flip_store : {D A : Type 0} (g : Ghosts D) (graph : Graph) (ds : Drafts) (d0 d1 : D) (k0 k1 : Kept) (r s n : ℕ) (ns : List ℕ) → HasLeft g graph ds d0 k0 (after_copy r s (n ∷ ns)) → (x : A) → ChangesEntry g n (λ e. changed_entry (how_for (n == s)) e) d0 d1 (Ok x)
     → AreCounts (g.content d1) k1 → HasLeft g graph ds d1 k1 (after_copy r s ns)
 flip_store g graph ds d0 d1 k0 k1 r s n ns has x change counts = record {
   going = flip_goes g graph d0 d1 k0 k1 r s n ns has.going x change counts;
@@ -199,7 +199,7 @@ module _ {D : Type 0} (g : Ghosts D) (graph : Graph) (d0 d1 : D) (k0 : Kept) (r 
       subst (λ (i : Image). AreCounts i k0) (sym (change.put has.goes.2.tells may.0.0 may.0.1)) (counts_same (g.content d0) k0 r may.0.0 (changed_entry ClearBit may.0.0) has.counts may.0.1 may.0.2.entry refl),
     ))
 
-pub clear_store : {D : Type 0} (g : Ghosts D) (graph : Graph) (ds : List Opened) (d0 d1 : D) (k0 : Kept) (r s : ℕ) → HasLeft g graph ds d0 k0 (after_copy r s []) → ChangesBit g r (λ e. changed_entry ClearBit e) d0 d1 (Ok (tt {0})) → StoreHas g graph ds d1 k0
+pub clear_store : {D : Type 0} (g : Ghosts D) (graph : Graph) (ds : Drafts) (d0 d1 : D) (k0 : Kept) (r s : ℕ) → HasLeft g graph ds d0 k0 (after_copy r s []) → ChangesBit g r (λ e. changed_entry ClearBit e) d0 d1 (Ok (tt {0})) → StoreHas g graph ds d1 k0
 clear_store g graph ds d0 d1 k0 r s has change =
     let done = clear_goes g graph d0 d1 k0 r s has.going change in
     record {

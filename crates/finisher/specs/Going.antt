@@ -1,5 +1,5 @@
 -- A commit that is past its bit is carried on.
-use Rattle.std.specs.Prelude.{◌≡◌, ℕ, ◌+◌, ◌*◌, ◌<◌, false, if◌then◌else◌, List, length, Option, Some, None}
+use Rattle.std.specs.Prelude.{◌≡◌, ℕ, ◌+◌, ◌*◌, ◌<◌, false, if◌then◌else◌, length, Option, Some, None}
 use Rattle.std.specs.Prelude.{IfErr, IsSome, OnOk, Ok, Err, Result}
 use Rattle.block_tree.specs.Reads.{is_damage}
 use Rattle.cfs_base.specs.Calls.{HasStopped, HasTried, OnlyReads}
@@ -17,7 +17,7 @@ use Rattle.cyl_map.specs.Volume.{map_of}
 use Rattle.intentions.specs.Left.{GoesWith, StoreWith, coming}
 use Rattle.ufs_model.specs.Graph.{Graph}
 use Rattle.vol_image.specs.Sound.{Holds}
-use Rattle.vol_owners.specs.Account.{Opened}
+use Rattle.vol_owners.specs.Account.{Drafts}
 
 -- ---- what a call does where the store has its objects
 
@@ -31,7 +31,7 @@ pub record GoesFrom {D : Type 0} (g : Ghosts D) (old new : D) (before after : Ke
   pub leaves : (graph : Graph) → GoesWith g graph old before was → Leaves g old new (λ c. Holds c graph)
   pub sound : (graph : Graph) → GoesWith g graph old before was → IfErr result (λ t. is_damage t ≡ false)
   -- each block has its use, as before
-  pub store : (graph : Graph) (drafts : List Opened) → StoreWith g graph drafts old before was
+  pub store : (graph : Graph) (drafts : Drafts) → StoreWith g graph drafts old before was
       → OnOk result (StoreWith g graph drafts new after now)
 
 abbrev pub Goes : {D : Type 0} → Ghosts D → D → D → Kept → Kept → Result (Unit {0}) Trouble → Type 0

@@ -1,14 +1,12 @@
 -- The root of a new object, which is Allocated and written where the least Free block was.
-use Rattle.index_drafts.proofs.Words.{◌≡◌, ◌≢◌, ℕ, ◌%◌, ◌<◌, ◌^◌, List, [], length, set, true, false, Some, inl, inr, ⊎_elim, refl, sym, ◌∙◌, ap, subst, arith, eq-eqb, lt-ltb, Accounts, ChangesOnly, Frames, Free, Graph, HasItsBlocks, Image, IsBareRoot, IsClaimed, IsEntered, IsEntry, IsLeastFree, IsLoose, IsOpenTo, IsRootBlock, MapEntry, Opened, ReadsAs, StandsForNone, bare_has, bare_object, bare_reads, bare_unmeant, block_at, both_ways, changes_content, changes_entry, changes_then, created_of, entry_in, entry_in-set, entry_in-with_entry_other, entry_in-with_entry_same, false_from_ne_true, first_number, frames_begin, free_is, free_is_loose, get_or-set_same, has_block, has_number, ids_of, in_image, is_free_entry, is_had, is_owned_by, is_taken, length-with_entry, loose_entry, made_not_free, puid_at, node_pointers, not_map, object_of_block, of_owner, of_taken, owns_nothing, part_of, pointers_of, rises, root_spelling, same_or_not, sight, with_entry, with_object}
+use Rattle.index_drafts.proofs.Words.{◌≡◌, ◌≢◌, ℕ, ◌%◌, ◌<◌, ◌^◌, List, [], length, set, true, false, Some, inl, inr, ⊎_elim, refl, sym, ◌∙◌, ap, subst, arith, eq-eqb, lt-ltb, Accounts, ChangesOnly, Frames, Free, Graph, HasItsBlocks, Image, IsBareRoot, IsClaimed, IsEntered, IsEntry, IsLeastFree, IsLoose, IsOpenTo, IsRootBlock, MapEntry, ReadsAs, StandsForNone, bare_has, bare_object, bare_reads, bare_unmeant, block_at, both_ways, changes_content, changes_entry, changes_then, entry_in, entry_in-set, entry_in-with_entry_other, entry_in-with_entry_same, false_from_ne_true, first_number, frames_begin, free_is, free_is_loose, get_or-set_same, has_block, ids_of, in_image, is_free_entry, is_had, is_owned_by, is_taken, length-with_entry, loose_entry, made_not_free, puid_at, node_pointers, not_map, object_of_block, of_owner, of_taken, owns_nothing, part_of, pointers_of, rises, root_spelling, same_or_not, sight, with_entry, with_object, Drafts, IsMadeBy}
 use Rattle.block_tree.specs.declared.root.Root as roots
 use Rattle.index_drafts.specs.Creates.{new_root_entry}
-use Rattle.index_ops.specs.Creates.{IsBare, Spells}
+use Rattle.special_files.specs.Creates.{IsBare, Spells}
 use Rattle.index_drafts.proofs.Added.{object_added}
+use Rattle.special_files.proofs.Fresh.{small_image}
 
-pub root_is_entry : (n : ℕ) → n ≢ 0 → n < 2 ^ 32 → IsEntry (new_root_entry n)
-root_is_entry n some small = record { in_table = rw (lt-ltb 0 n (omega (arith, some)), lt-ltb n (2 ^ 32) small) refl }
-
-module _ (a : Image) (graph : Graph) (ds : List Opened) (had : Accounts a graph ds) (c : ℕ) (least : IsLeastFree a c) (is_entry : IsEntry (new_root_entry c)) (root : roots.Root) where
+module _ (a : Image) (graph : Graph) (ds : Drafts) (had : Accounts a graph ds) (c : ℕ) (least : IsLeastFree a c) (root : roots.Root) where
   abbrev pub entered : Image
   entered = with_entry a c (new_root_entry c)
 
@@ -26,6 +24,9 @@ module _ (a : Image) (graph : Graph) (ds : List Opened) (had : Accounts a graph 
 
   real : c % 64 ≢ 0
   real = not_map c loose.apart
+
+  is_entry : IsEntry (new_root_entry c)
+  is_entry = record { in_table = rw (lt-ltb 0 c (omega (arith, real)), lt-ltb c (2 ^ 32) (omega (arith, below, small_image a graph had.holds))) refl }
 
   none_stands : (e : MapEntry) → StandsForNone a graph e
   none_stands e x p found bit = absurd (both_ways _ (had.objects x p found).no_bit bit)
@@ -59,8 +60,8 @@ module _ (a : Image) (graph : Graph) (ds : List Opened) (had : Accounts a graph 
       let x = object_of_block graph ordered c there in
       both_ways _ (owns_nothing a graph ds had c least.free c) (of_taken is_had refl c (entry_in a c) ((subst (HasItsBlocks a) x.3 (had.objects x.0 x.1 x.2)).each c (inl refl))))
 
-  absent : has_number c (created_of ds) ≡ false
-  absent = false_from_ne_true _ (λ there. made_not_free (entry_in a c) (had.made c there).entered least.free)
+  absent : IsMadeBy ds c → ⊥
+  absent there = made_not_free (entry_in a c) (had.made c there).entered least.free
 
   module _ (bare : IsBare root) (spelled : Spells root) where
     is_bare : IsBareRoot written (puid_at c root.word) root

@@ -1,20 +1,18 @@
 -- The words of the crates below that the proofs cite, passed on from one place. Declares nothing.
 pub use Rattle.block_tree.specs.Pointers.{node_pointers, pointers_of}
-pub use Rattle.block_tree.specs.Reads.{is_damage}
 pub use Rattle.block_tree.specs.Root.{IsRootBlock, root_spelling}
 pub use Rattle.cfs_base.proofs.Calls.{makes_then, reads_make, reads_then, reads_within, tried_then}
 pub use Rattle.cfs_base.proofs.Runs.{then, wider}
 pub use Rattle.cfs_base.specs.Calls.{HasStopped, HasTried, MakesAtMost, OnlyReads}
-pub use Rattle.cfs_base.specs.Disk.{Image, Nothing, block_at}
+pub use Rattle.cfs_base.specs.Disk.{Image, block_at}
 pub use Rattle.cfs_base.specs.Refusals.{after_try, refused_by}
 pub use Rattle.cfs_base.specs.Run.{IsSettled, Leaves, left_now}
 pub use Rattle.cfs_base.specs.declared.disk.Disk.{Ghosts}
 pub use Rattle.cfs_base.specs.declared.identifier.BlockNo.{BlockNo}
 pub use Rattle.cfs_base.specs.declared.identifier.Puid.{Puid}
-pub use Rattle.cfs_base.specs.declared.refusal.Need.{Need}
 pub use Rattle.cfs_base.specs.declared.refusal.Refused.{Refused}
 pub use Rattle.cfs_base.specs.declared.refusal.Trouble.{Trouble}
-pub use Rattle.claims.specs.Claims.{AreClaimed, IsClaimed}
+pub use Rattle.claims.specs.Claims.{IsClaimed}
 pub use Rattle.cyl_alloc.proofs.Counted.{counts_content}
 pub use Rattle.cyl_alloc.specs.Enters.{Enters, EntryWritten}
 pub use Rattle.cyl_alloc.specs.Space.{AreCounts, IsLeastFree, Kept}
@@ -24,48 +22,37 @@ pub use Rattle.cyl_map.specs.Volume.{entry_in, is_free_entry, map_of, map_with}
 unfoldable pub use Rattle.cyl_map.specs.Volume.{with_entry}
 pub use Rattle.cyl_map.specs.declared.entry.MapEntry.{MapEntry}
 pub use Rattle.cyl_map.specs.declared.state.BlockState.TheVariants.{Free}
-pub use Rattle.index_ops.specs.Creates.{HasImage, IsOpenMap}
+pub use Rattle.special_files.specs.Creates.{HasImage, IsOpenMap}
 pub use Rattle.intentions.proofs.Flips.{first_number}
-pub use Rattle.intentions.specs.Left.{StoreIs}
 pub use Rattle.intentions.specs.Store.{StoreHas}
 pub use Rattle.leaf_changes.proofs.Given.{index_to_leaves}
 pub use Rattle.special_files.proofs.Amid.{framed_carries, framed_holds, written_framed}
-pub use Rattle.special_files.proofs.Begun.{begun_fresh, store_reads}
 pub use Rattle.special_files.proofs.CommitDone.{makes_more}
-pub use Rattle.special_files.proofs.CommitDraft.{there_still}
-pub use Rattle.special_files.proofs.Endings.{claim_real, ends_err, ends_then_err, ends_then_ok, ends_wider, enters_ends, full_ends, not_untried, stays_itself, still_room, still_sound, under_floor, write_ends}
-pub use Rattle.special_files.proofs.Levels.{length-none}
-pub use Rattle.special_files.proofs.Lists.{first_here}
+pub use Rattle.special_files.proofs.Endings.{ends_err, ends_then_err, ends_then_ok, ends_wider, enters_ends, not_untried, stays_itself, still_room, still_sound, under_floor, write_ends}
 pub use Rattle.special_files.proofs.Made.{bare_has, bare_unmeant}
 pub use Rattle.special_files.proofs.Meant.{free_is}
 pub use Rattle.special_files.proofs.PutCall.{find_sound}
 pub use Rattle.special_files.proofs.Refusals.{refusal_after_reads}
 pub use Rattle.special_files.proofs.WriteLeaf.{ends_as}
-pub use Rattle.special_files.specs.Becomes.{DraftBecomes}
 pub use Rattle.special_files.specs.Calls.{WritesDraftBlock}
-pub use Rattle.special_files.specs.Committing.{CommitEnds, Dropped, IsEntered, as_refused, puid_at}
-pub use Rattle.special_files.specs.Drafting.{Drafting, IsOpen, begun_at, fresh_of, draft_takes, opened_as}
+pub use Rattle.special_files.specs.Committing.{CommitEnds, IsEntered, as_refused, puid_at}
+pub use Rattle.special_files.specs.Drafting.{Drafting, draft_takes}
 pub use Rattle.special_files.specs.Ends.{EndsCall}
-pub use Rattle.special_files.specs.Fills.{filled_draft}
-pub use Rattle.special_files.specs.Leaves.{SameBeside, leaves_below}
-pub use Rattle.special_files.specs.Order.{leaf_claims}
+pub use Rattle.special_files.specs.Leaves.{leaves_below}
 pub use Rattle.special_files.specs.Puts.{StaysBut}
-pub use Rattle.special_files.specs.Refusal.{IsDraftRefusal, IsDraftTrouble, has_met_damage, is_full_refusal}
-pub use Rattle.special_files.specs.Store.{Steps}
+pub use Rattle.special_files.specs.Refusal.{IsDraftRefusal, has_met_damage, is_full_refusal}
 pub use Rattle.special_files.specs.View.{GoesHolding, DraftView}
 pub use Rattle.special_files.specs.declared.fill.Swap.{Swap}
-pub use Rattle.std.proofs.Common.{Bool, Err, IsTrue, List, None, Ok, Option, Some, [], ap, arith, cond, eq-eqb, false, get_or, inl, inr, length, lt-ltb, refl, set, subst, sym, true, ℕ, ⊎_elim, ◌%◌, ◌*◌, ◌+◌, ◌/◌, ◌<◌, ◌^◌, ◌∙◌, ◌∷◌, ◌≡◌, ◌≢◌, ◌≤◌, ◌⊎◌}
-pub use Rattle.std.proofs.lemmas.Bool.{and_from, and_parts, both_ways, cases_lt, eqb-true, false_from_ne_true, ne_eqb, or_cases, or_left, or_right}
+pub use Rattle.std.proofs.Common.{rules, Bool, Err, IsTrue, List, None, Ok, Option, Some, [], ap, arith, cond, eq-eqb, false, inl, inr, length, lt-ltb, refl, set, subst, sym, true, ℕ, ⊎_elim, ◌%◌, ◌+◌, ◌/◌, ◌<◌, ◌^◌, ◌∙◌, ◌∷◌, ◌≡◌, ◌≢◌, ◌≤◌, ◌⊎◌}
+pub use Rattle.std.proofs.lemmas.Bool.{and_parts, both_ways, cases_lt, eqb-true, false_from_ne_true, ne_eqb, or_cases, or_left, or_right}
 pub use Rattle.std.proofs.lemmas.List.{get_or-set_same}
-pub use Rattle.std.specs.List.{list_all}
-pub use Rattle.std.specs.Prelude.{IfErr, IfOk, OnErr, OnOk, Result, is_some, sum, ◌==◌, ◌||◌}
+pub use Rattle.std.specs.Prelude.{IfErr, IfOk, OnErr, Result, is_some, sum, ◌==◌, ◌||◌}
 pub use Rattle.std.specs.Result.{IsErrAnd}
-pub use Rattle.ufs_model.proofs.Graphs.{object_at-with_object, object_there, rises-with_object}
-pub use Rattle.ufs_model.specs.Graph.{Graph, has_block, ids_of, is_there, object_at, with_object}
+pub use Rattle.ufs_model.proofs.Graphs.{object_at-with_object, rises-with_object}
+pub use Rattle.ufs_model.proofs.WellGraphs.{still_there}
+pub use Rattle.ufs_model.specs.Graph.{Graph, has_block, ids_of, object_at, with_object}
 pub use Rattle.ufs_model.specs.Identifier.{rises, same_puid}
 pub use Rattle.ufs_model.specs.Numbers.{has_number}
-pub use Rattle.ufs_model.specs.Object.{slot_of}
-pub use Rattle.ufs_model.specs.declared.object.Index.{Index}
 pub use Rattle.ufs_model.specs.declared.object.Object.{Object}
 pub use Rattle.vol_image.proofs.AtRest.{loose_stays}
 pub use Rattle.vol_image.proofs.AtRoot.{bare_reads}
@@ -73,20 +60,19 @@ pub use Rattle.vol_image.proofs.Carries.{carries_settled}
 pub use Rattle.vol_image.proofs.Changes.{object_put, other_is, others}
 pub use Rattle.vol_image.proofs.Claims.{loose_entry}
 pub use Rattle.vol_image.proofs.Parts.{free_is_loose, in_image}
-pub use Rattle.vol_image.proofs.Reached.{same_puid_is, same_puid_itself}
+pub use Rattle.vol_image.proofs.Reached.{same_puid_is}
 pub use Rattle.vol_image.proofs.Steps.{frames_begin, frames_content, not_map}
 pub use Rattle.vol_image.specs.Frame.{Frames, IsLoose, StandsForNone}
 pub use Rattle.vol_image.specs.Part.{part_of}
 pub use Rattle.vol_image.specs.Reading.{bare_object}
-pub use Rattle.vol_image.specs.Seen.{tree_in}
 pub use Rattle.vol_image.specs.Sight.{sight}
 pub use Rattle.vol_image.specs.Sound.{Holds, IsBareRoot, ReadsAs}
 pub use Rattle.vol_owners.proofs.Changes.{changes_content, changes_entry, changes_then, changes_wider}
 pub use Rattle.vol_owners.proofs.Entries.{made_not_free, of_taken}
 pub use Rattle.vol_owners.proofs.Kept.{frames_others}
-pub use Rattle.vol_owners.proofs.Keys.{block_there, object_of_block}
-pub use Rattle.vol_owners.proofs.Owners.{accounts_go_on, list_misses, object_goes_on, object_stands}
+pub use Rattle.vol_owners.proofs.Keys.{block_there, each_put, object_at_put, object_of_block}
+pub use Rattle.vol_owners.proofs.Owners.{accounts_go_on, list_misses, no_draft, object_goes_on, object_stands}
 pub use Rattle.vol_owners.proofs.Rooms.{owns_nothing}
-pub use Rattle.vol_owners.specs.Account.{Accounts, HasDrafts, HasItsBlocks, Opened, created_of, drafts_of, is_meant_for}
+pub use Rattle.vol_owners.specs.Account.{Accounts, Drafts, HasDraftIf, HasItsBlocks, IsMadeBy, is_meant_for}
 pub use Rattle.vol_owners.specs.Change.{ChangesOnly, IsOpenTo, of_draft, of_owner}
 pub use Rattle.vol_owners.specs.Owner.{is_had, is_leaving, is_meant, is_owned_by, is_placed, is_taken}

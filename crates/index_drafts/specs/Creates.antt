@@ -1,5 +1,5 @@
 -- An object made, and its identifier put into a slot of the draft of an index. The object is in the graph at once.
-use Rattle.std.specs.Prelude.{◌≡◌, ◌⊎◌, ℕ, ◌+◌, ◌/◌, ◌≤◌, ◌||◌, false, List, ◌∷◌, length, sum, Some, IfErr, IfOk}
+use Rattle.std.specs.Prelude.{◌≡◌, ◌⊎◌, ℕ, ◌+◌, ◌/◌, ◌≤◌, ◌||◌, false, ◌∷◌, length, sum, Some, IfErr, IfOk}
 use Rattle.std.specs.Prelude.{IsTrue, OnOk, Result}
 use Rattle.cfs_base.specs.Calls.{MakesAtMost, OnlyReads}
 use Rattle.cfs_base.specs.Run.{Leaves}
@@ -11,21 +11,20 @@ use Rattle.cfs_base.specs.declared.refusal.Refused.TheVariants as refusals
 use Rattle.claims.specs.Claims.{AreClaimed, IsClaimed}
 use Rattle.cyl_alloc.specs.Space.{IsLeastFree, Kept, allocated}
 use Rattle.cyl_map.specs.declared.entry.MapEntry.{MapEntry}
-use Rattle.index_drafts.specs.Puts.{IndexView, IsFullBelow}
-use Rattle.index_ops.specs.Creates.{IsOpenMap}
+use Rattle.index_drafts.specs.Puts.{IndexView, IsFullBelow, slot_need}
 use Rattle.intentions.specs.Store.{StoreHas}
 use Rattle.special_files.specs.Committing.{puid_at}
+use Rattle.special_files.specs.Creates.{IsOpenMap}
 use Rattle.special_files.specs.Drafting.{Drafting, IsOpen, draft_takes, opened_as}
 use Rattle.special_files.specs.Fills.{filled_draft}
 use Rattle.special_files.specs.Order.{leaf_claims}
 use Rattle.special_files.specs.Puts.{StaysBut}
 use Rattle.special_files.specs.Refusal.{IsDraftRefusal, has_met_damage, top_of}
-use Rattle.special_files.specs.Store.{replaced}
 use Rattle.ufs_model.specs.Graph.{Graph, has_block, with_object}
 use Rattle.ufs_model.specs.declared.object.Draft.{Draft}
 use Rattle.ufs_model.specs.declared.object.Object.{Object}
 use Rattle.vol_image.specs.Sound.{Holds}
-use Rattle.vol_owners.specs.Account.{Opened}
+use Rattle.vol_owners.specs.Account.{Drafts, with_opened}
 use Rattle.vol_owners.specs.Change.{ChangesOnly, of_draft, of_owner}
 
 -- the entry of the root of a new object
@@ -36,7 +35,7 @@ new_root_entry n = allocated places.Root n
 
 -- The store has the object besides. The least Free block was claimed for its root, as Allocated, and only this block
 -- changed.
-pub record MakesAlone {D : Type 0} (g : Ghosts D) (graph : Graph) (ds : List Opened) (id : Puid) (made : Object)
+pub record MakesAlone {D : Type 0} (g : Ghosts D) (graph : Graph) (ds : Drafts) (id : Puid) (made : Object)
     (old new : D) (after : Kept) : Type 0 where
   pub fresh : has_block graph.objects id.block ≡ false
   pub store : StoreHas g (with_object graph id made) ds new after
@@ -52,8 +51,8 @@ made_in i slot id = filled_draft i.index slot (Some id) i.view.draft
 
 -- the drafts that stand then
 abbrev pub drafts_then : {D : Type 0} {g : Ghosts D} {old : D} {before : Kept} {was : Drafting}
-    → IndexView g old before was → ℕ → Puid → Drafting → List Opened
-drafts_then i slot id now = replaced (opened_as i.view.id now (made_in i slot id)) i.view.ds
+    → IndexView g old before was → ℕ → Puid → Drafting → Drafts
+drafts_then i slot id now = with_opened i.view.id (opened_as now (made_in i slot id)) i.view.ds
 
 -- The store has the object besides, and the draft has its identifier in the slot. The least Free block was claimed for
 -- the object's root, as Allocated, and then the draft's leaf and node as for any slot. Nothing changed but this, what
@@ -91,3 +90,10 @@ pub record CreateCall {D : Type 0} (g : Ghosts D) (slot floor : ℕ) (old new : 
   pub left : after.left ≡ before.left
   pub takes : sum before.free ≤ sum after.free + (1 + draft_takes was (slot / 64))
   pub calls : MakesAtMost g 13 7 old new
+
+-- how it is made, and its identifier put into a slot of a draft
+pub record CreatesIn {D : Type 0} (g : Ghosts D) (slot : ℕ) (made : Object) (word floor : ℕ) (old new : D)
+    (before after : Kept) (was now : Drafting) (result : Result Puid Refused) : Type 0 where
+  pub creates : (i : IndexView g old before was) → CreateEnds i slot made word new after now result
+  pub need : (i : IndexView g old before was) → draft_takes was (slot / 64) ≡ slot_need slot i.view.draft
+  pub call : CreateCall g slot floor old new before after was now result

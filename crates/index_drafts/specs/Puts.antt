@@ -15,7 +15,7 @@ use Rattle.special_files.specs.Leaves.{SameBeside}
 use Rattle.special_files.specs.Order.{leaf_claims}
 use Rattle.special_files.specs.Puts.{StaysBut}
 use Rattle.special_files.specs.Refusal.{is_full_refusal, top_of}
-use Rattle.special_files.specs.View.{DraftView}
+use Rattle.special_files.specs.View.{DraftView, GoesHolding}
 use Rattle.ufs_model.specs.Numbers.{missing}
 use Rattle.ufs_model.specs.Object.{written_anew}
 use Rattle.ufs_model.specs.declared.change.Change.TheVariants.{Fill}
@@ -62,3 +62,11 @@ pub record PutCall {D : Type 0} (g : Ghosts D) (slot floor : ℕ) (old new : D) 
   pub full : IsFullBelow (draft_takes was (slot / 64)) floor old new before after was now result
   pub ends : EndsCall g (top_of was) floor 8 4 (draft_takes was (slot / 64)) old new before after result
   pub kept : IfErr result (λ e. e ≡ refusals.Disk false → now ≡ was)
+
+-- how a slot of a draft gets this: where the store has the draft, in blocks of the model's need, and on any disk
+pub record PutsIn {D : Type 0} (g : Ghosts D) (slot : ℕ) (what : Option Puid) (floor : ℕ) (old new : D)
+    (before after : Kept) (was now : Drafting) (result : Result (Unit {0}) Refused) : Type 0 where
+  pub puts : (i : IndexView g old before was)
+      → GoesHolding g i.view.graph (PutsInDraft i slot what new after now) old new result
+  pub need : (i : IndexView g old before was) → draft_takes was (slot / 64) ≡ slot_need slot i.view.draft
+  pub call : PutCall g slot floor old new before after was now result

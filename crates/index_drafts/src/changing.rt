@@ -1,9 +1,7 @@
 //! Slots of the draft of an index, filled and emptied.
-ghost use Rattle.std.specs.Prelude.{◌≡◌, ◌≢◌, ◌+◌, ◌*◌, ◌/◌, ◌<◌, ◌≤◌, length, None, Some};
-ghost use Rattle.index_drafts.specs.Puts.{IndexView, PutCall, PutsInDraft, slot_need};
+ghost use Rattle.std.specs.Prelude.{◌≡◌, ◌≢◌, ◌+◌, ◌*◌, ◌<◌, ◌≤◌, length, None, Some};
+ghost use Rattle.index_drafts.specs.Puts.{PutsIn};
 ghost use Rattle.leaf_changes.specs.Bytes.{IsSlot};
-ghost use Rattle.special_files.specs.Drafting.{draft_takes};
-ghost use Rattle.special_files.specs.View.{GoesHolding};
 
 use crate::draft::IndexDraft;
 use cfs_base::{Disk, Puid, Refused};
@@ -11,9 +9,9 @@ use cyl_alloc::Space;
 use special_files::Draft;
 
 /// Makes a slot of a draft, which is an index's, hold this, or nothing. `Full` exactly where fewer blocks are Free than
-/// it takes and the floor: one for the slot's leaf where that isn't fresh, and one for the leaf's node where that isn't;
-/// nothing was done then. `Damaged` names a map block, with code 2, which is none or has no Free block, with code 12, or
-/// a node or the root block, with code 4, where a pointer leads past the disk. Takes no memory.
+/// it takes and the floor: one for the slot's leaf where that isn't fresh, and one for the leaf's node where that
+/// isn't; nothing was done then. `Damaged` names a map block, with code 2, which is none or has no Free block, with
+/// code 12, or a node or the root block, with code 4, where a pointer leads past the disk. Takes no memory.
 pub fn put_in<D: Disk>(
     draft: &mut Draft,
     disk: &mut D,
@@ -26,11 +24,7 @@ pub fn put_in<D: Disk>(
     requires size { D.blocks disk.old ≡ 64 * length space.old.free }
     requires within { 8 * slot + 8 ≤ draft.old.root.size }
     requires slot { IsSlot what }
-    ensures puts { (i : IndexView D.Disk disk.old space.old draft.old) → GoesHolding D.Disk i.view.graph
-        (PutsInDraft i slot what disk.new space.new draft.new) disk.old disk.new result }
-    ensures need { (i : IndexView D.Disk disk.old space.old draft.old)
-        → draft_takes draft.old (slot / 64) ≡ slot_need slot i.view.draft }
-    ensures call { PutCall D.Disk slot floor disk.old disk.new space.old space.new draft.old draft.new result }
+    ensures { PutsIn D.Disk slot what floor disk.old disk.new space.old space.new draft.old draft.new result }
 {
     space.has_room(draft.slot_takes(slot), floor)?;
     draft.fill(disk, space, slot, what)?;
@@ -51,11 +45,7 @@ impl IndexDraft {
         requires size { D.blocks disk.old ≡ 64 * length space.old.free }
         requires within { 8 * slot + 8 ≤ self.old.root.size }
         requires slot { IsSlot what }
-        ensures puts { (i : IndexView D.Disk disk.old space.old self.old) → GoesHolding D.Disk i.view.graph
-            (PutsInDraft i slot what disk.new space.new self.new) disk.old disk.new result }
-        ensures need { (i : IndexView D.Disk disk.old space.old self.old)
-            → draft_takes self.old (slot / 64) ≡ slot_need slot i.view.draft }
-        ensures call { PutCall D.Disk slot floor disk.old disk.new space.old space.new self.old self.new result }
+        ensures { PutsIn D.Disk slot what floor disk.old disk.new space.old space.new self.old self.new result }
     {
         put_in(&mut self.draft, disk, space, slot, what, floor)
     }
@@ -77,11 +67,7 @@ impl IndexDraft {
         requires size { D.blocks disk.old ≡ 64 * length space.old.free }
         requires within { 8 * slot + 8 ≤ self.old.root.size }
         requires id { id.block ≢ 0 }
-        ensures puts { (i : IndexView D.Disk disk.old space.old self.old) → GoesHolding D.Disk i.view.graph
-            (PutsInDraft i slot (Some id) disk.new space.new self.new) disk.old disk.new result }
-        ensures need { (i : IndexView D.Disk disk.old space.old self.old)
-            → draft_takes self.old (slot / 64) ≡ slot_need slot i.view.draft }
-        ensures call { PutCall D.Disk slot floor disk.old disk.new space.old space.new self.old self.new result }
+        ensures { PutsIn D.Disk slot (Some id) floor disk.old disk.new space.old space.new self.old self.new result }
     {
         self.put(disk, space, slot, Some(id), floor)
     }
@@ -97,11 +83,7 @@ impl IndexDraft {
         requires on_disk { self.old.at < D.blocks disk.old }
         requires size { D.blocks disk.old ≡ 64 * length space.old.free }
         requires within { 8 * slot + 8 ≤ self.old.root.size }
-        ensures puts { (i : IndexView D.Disk disk.old space.old self.old) → GoesHolding D.Disk i.view.graph
-            (PutsInDraft i slot None disk.new space.new self.new) disk.old disk.new result }
-        ensures need { (i : IndexView D.Disk disk.old space.old self.old)
-            → draft_takes self.old (slot / 64) ≡ slot_need slot i.view.draft }
-        ensures call { PutCall D.Disk slot floor disk.old disk.new space.old space.new self.old self.new result }
+        ensures { PutsIn D.Disk slot None floor disk.old disk.new space.old space.new self.old self.new result }
     {
         self.put(disk, space, slot, None, floor)
     }

@@ -1,28 +1,25 @@
 //! An object made in the draft of an index.
-ghost use Rattle.std.specs.Prelude.{◌≡◌, ◌≢◌, ◌+◌, ◌*◌, ◌/◌, ◌<◌, ◌≤◌, ℕ, List, false, length, sum, IfErr, OnOk};
+ghost use Rattle.std.specs.Prelude.{◌≡◌, ◌≢◌, ◌+◌, ◌*◌, ◌<◌, ◌≤◌, ℕ, false, length, sum, IfErr, OnOk};
 ghost use Rattle.cfs_base.specs.Calls.{HasTried};
 ghost use Rattle.cyl_alloc.specs.Space.{IsLeastFree};
 ghost use Rattle.index_drafts.specs.Creates as spec;
-ghost use Rattle.index_drafts.specs.Puts.{IndexView, slot_need};
-ghost use Rattle.index_ops.specs.Creates.{IsBare, MayBeMade, made_of};
 ghost use Rattle.intentions.specs.Store.{StoreHas};
 ghost use Rattle.leaf_changes.specs.Tops.{still_top};
 ghost use Rattle.special_files.specs.Committing.{puid_at};
-ghost use Rattle.special_files.specs.Drafting.{draft_takes};
+ghost use Rattle.special_files.specs.Creates.{IsBare, MayBeMade, made_of};
 ghost use Rattle.special_files.specs.Ends.{EndsCall};
 ghost use Rattle.special_files.specs.Refusal.{is_full_refusal};
 ghost use Rattle.special_files.specs.View.{GoesHolding};
 ghost use Rattle.ufs_model.specs.Graph.{Graph};
 ghost use Rattle.vol_image.specs.Reading.{bare_object};
-ghost use Rattle.vol_owners.specs.Account.{Opened};
+ghost use Rattle.vol_owners.specs.Account.{Drafts};
 
 use crate::draft::IndexDraft;
 use block_tree::Root;
 use cfs_base::{BlockNo, Disk, Kind, Place, Puid, Refused};
 use cyl_alloc::Space;
-use index_ops::{bare_root, least, write_root};
 use intentions::barrier;
-use special_files::Draft;
+use special_files::{Draft, bare_root, least, write_root};
 
 /// Makes the least-numbered Free block the root of a new object: it is Allocated and written, and then both outlast a
 /// crash. Until then the block is nobody's, as recovery sees it.
@@ -36,7 +33,7 @@ fn make_at<D: Disk>(
     requires on_disk { block.0 < D.blocks disk.old }
     requires size { D.blocks disk.old ≡ 64 * length space.old.free }
     requires room { 1 ≤ sum space.old.free }
-    ensures makes { (graph : Graph) (ds : List Opened) → StoreHas D.Disk graph ds disk.old space.old
+    ensures makes { (graph : Graph) (ds : Drafts) → StoreHas D.Disk graph ds disk.old space.old
         → IsLeastFree (D.content disk.old) block.0 → IsBare root.now
         → GoesHolding D.Disk graph
         (spec.MakesAlone D.Disk graph ds (puid_at block.0 root.now.word) (bare_object root.now)
@@ -51,12 +48,12 @@ fn make_at<D: Disk>(
     Ok(())
 }
 
-/// Makes an object, and puts its identifier into a slot of a draft, which is an index's, whatever stood there. The object is there at once, with
-/// the least-numbered Free block as its root, and an abort of the draft leaves it there. A file is of size 0; an
-/// index has 8 bytes a slot, one slot or more, and the fill byte 0. `Full` exactly where fewer blocks are Free than
-/// 1 more than `put_in` takes, and the floor; nothing was done then. `Damaged` as in `put_in`, and it names block
-/// 0, with code 2, where that map is Free by what it says itself. Refused once the object is there it answers
-/// `Disk` that had tried: the object may be there then, and its identifier in no slot. Takes no memory.
+/// Makes an object, and puts its identifier into a slot of a draft, which is an index's, whatever stood there. The
+/// object is there at once, with the least-numbered Free block as its root, and an abort of the draft leaves it there.
+/// A file is of size 0; an index has 8 bytes a slot, one slot or more, and the fill byte 0. `Full` exactly where fewer
+/// blocks are Free than 1 more than `put_in` takes, and the floor; nothing was done then. `Damaged` as in `put_in`, and
+/// it names block 0, with code 2, where that map is Free by what it says itself. Refused once the object is there it
+/// answers `Disk` that had tried: the object may be there then, and its identifier in no slot. Takes no memory.
 pub fn create_in<D: Disk>(
     draft: &mut Draft,
     disk: &mut D,
@@ -72,12 +69,8 @@ pub fn create_in<D: Disk>(
     requires size { D.blocks disk.old ≡ 64 * length space.old.free }
     requires within { 8 * slot + 8 ≤ draft.old.root.size }
     requires made { MayBeMade kind fill size }
-    ensures creates { (i : IndexView D.Disk disk.old space.old draft.old)
-        → spec.CreateEnds i slot (made_of kind fill size) word disk.new space.new draft.new result }
-    ensures need { (i : IndexView D.Disk disk.old space.old draft.old)
-        → draft_takes draft.old (slot / 64) ≡ slot_need slot i.view.draft }
-    ensures call { spec.CreateCall D.Disk slot floor disk.old disk.new space.old space.new draft.old draft.new
-        result }
+    ensures { spec.CreatesIn D.Disk slot (made_of kind fill size) word floor disk.old disk.new space.old space.new
+        draft.old draft.new result }
 {
     space.has_room(1 + draft.slot_takes(slot), floor)?;
     let root = bare_root(kind, fill, size, word);
@@ -116,12 +109,8 @@ impl IndexDraft {
         requires size { D.blocks disk.old ≡ 64 * length space.old.free }
         requires within { 8 * slot + 8 ≤ self.old.root.size }
         requires made { MayBeMade kind fill size }
-        ensures creates { (i : IndexView D.Disk disk.old space.old self.old)
-            → spec.CreateEnds i slot (made_of kind fill size) word disk.new space.new self.new result }
-        ensures need { (i : IndexView D.Disk disk.old space.old self.old)
-            → draft_takes self.old (slot / 64) ≡ slot_need slot i.view.draft }
-        ensures call { spec.CreateCall D.Disk slot floor disk.old disk.new space.old space.new self.old self.new
-            result }
+        ensures { spec.CreatesIn D.Disk slot (made_of kind fill size) word floor disk.old disk.new space.old space.new
+            self.old self.new result }
     {
         create_in(
             &mut self.draft,

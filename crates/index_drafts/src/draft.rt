@@ -1,27 +1,18 @@
 //! The draft of an index: begun, read, committed and given up.
-ghost use Rattle.std.specs.Prelude.{◌≡◌, ◌≢◌, ◌+◌, ◌*◌, ◌/◌, ◌<◌, ◌≤◌, ℕ, List, None, false, length, IfErr, IfOk};
-ghost use Rattle.std.specs.Prelude.{OnOk, Some};
-ghost use Rattle.block_tree.specs.Reads.{is_damage};
-ghost use Rattle.cfs_base.specs.Calls.{HasTried, MakesAtMost, OnlyReads};
+ghost use Rattle.std.specs.Prelude.{◌≡◌, ◌≢◌, ◌+◌, ◌*◌, ◌/◌, ◌<◌, ◌≤◌, None, false, length, IfErr};
 ghost use Rattle.cfs_base.specs.Disk.{Image};
-ghost use Rattle.cfs_base.specs.Refusals.{trouble_had_tried};
 ghost use Rattle.cfs_base.specs.declared.identifier.Puid.{Puid};
 ghost use Rattle.cfs_base.specs.declared.refusal.Trouble.TheVariants as troubles;
-ghost use Rattle.cyl_alloc.specs.Left.{LeftCommit};
-ghost use Rattle.cyl_alloc.specs.Space.{Kept};
-ghost use Rattle.index_drafts.specs.Begins.{BeginCall, BeginsDraft, IsShut};
 ghost use Rattle.index_drafts.specs.Puts.{IndexView};
-ghost use Rattle.intentions.specs.Left.{StoreIs};
-ghost use Rattle.special_files.specs.Committing.{AbortEnds, CommitEnds, IsNoted, draft_top};
-ghost use Rattle.special_files.specs.Drafting.{IsOpen, opened_as};
-ghost use Rattle.special_files.specs.Refusal.{IsDraftTrouble, top_of};
-ghost use Rattle.ufs_model.specs.Graph.{Graph, object_at};
-ghost use Rattle.ufs_model.specs.Object.{slot_of};
+ghost use Rattle.special_files.specs.Begins.{BeginCall, BeginsDraft};
+ghost use Rattle.special_files.specs.Committing.{AbortCall, AbortEnds, CommitCall, CommitEnds};
+ghost use Rattle.special_files.specs.Drafting.{opened_as};
+ghost use Rattle.special_files.specs.Looks.{FindsSlot, ReadCall};
+ghost use Rattle.special_files.specs.View.{DraftSeen, GoesTo, ObjectView};
 ghost use Rattle.ufs_model.specs.declared.object.Draft as drafts;
 ghost use Rattle.ufs_model.specs.declared.object.Index.{Index};
 ghost use Rattle.ufs_model.specs.declared.object.Object.TheVariants as objects;
-ghost use Rattle.ufs_model.specs.declared.object.Object.{Object};
-ghost use Rattle.vol_owners.specs.Account.{HasDraft, Opened};
+ghost use Rattle.vol_owners.specs.Account.{HasDraft};
 
 use block_tree::Root;
 use cfs_base::{BlockNo, Disk, Puid, Refused, Trouble};
@@ -47,10 +38,10 @@ impl Model for IndexDraft {
 }
 
 impl IndexDraft {
-    /// Begins a draft of the index whose root is at this block, equal to it, and claims the least-numbered Free
-    /// block as its shadow root. `room` is all memory that the draft will need, so it takes none. `Full` where fewer
-    /// blocks are Free than 1 and the floor; nothing was written then. `Damaged` names the root block, with code 3, which is none, or
-    /// the map in which no Free block was found, with code 2 where it is none, else with code 12.
+    /// Begins a draft of the index whose root is at this block, equal to it, and claims the least-numbered Free block
+    /// as its shadow root. `room` is all memory that the draft will need, so it takes none. `Full` where fewer blocks
+    /// are Free than 1 and the floor; nothing was written then. `Damaged` names the root block, with code 3, which is
+    /// none, or the map in which no Free block was found, with code 2 where it is none, else with code 12.
     pub fn begin<D: Disk>(
         room: Room,
         disk: &mut D,
@@ -61,7 +52,8 @@ impl IndexDraft {
         requires some { at.0 ≢ 0 }
         requires on_disk { at.0 < D.blocks disk.old }
         requires size { D.blocks disk.old ≡ 64 * length space.old.free }
-        ensures begins { (i : IsShut D.Disk disk.old space.old at.0) → BeginsDraft i disk.new space.new result }
+        ensures begins { (v : ObjectView D.Disk disk.old space.old at.0)
+            → GoesTo D.Disk v.graph (BeginsDraft v disk.new space.new) disk.old disk.new result }
         ensures call { BeginCall D.Disk at.0 floor disk.old disk.new space.old space.new result }
     {
         let draft = Draft::begin(room, disk, space, at, floor)?;
@@ -72,7 +64,7 @@ impl IndexDraft {
     pub fn slots(&self) -> u64
         ensures size { result ≡ self.now.root.size / 8 }
         ensures count { (image : Image) (id : Puid) (d : drafts.Draft) (i : Index)
-            → HasDraft image id (opened_as id self.now d) → d.object ≡ objects.Index i → result ≡ length i.slots }
+            → HasDraft image id (opened_as self.now d) → d.object ≡ objects.Index i → result ≡ length i.slots }
     {
         self.draft.size() / 8
     }
@@ -84,31 +76,21 @@ impl IndexDraft {
         self.draft.root()
     }
 
-    /// What a slot holds in the draft, also while another object's commit is unfinished: None where it is empty. `Damaged` names the root block, or a node, with code 4,
-    /// where a pointer of it leads past the disk.
+    /// What a slot holds in the draft, also while another object's commit is unfinished: None where it is empty.
+    /// `Damaged` names the root block, or a node, with code 4, where a pointer of it leads past the disk.
     pub fn retrieve<D: Disk>(&self, disk: &mut D, slot: u64) -> Result<Option<Puid>, Trouble>
         requires on_disk { self.now.at < D.blocks disk.old }
         requires within { 8 * slot + 8 ≤ self.now.root.size }
-        ensures slot { (graph : Graph) (ds : List Opened) (space : Kept) (id : Puid) (o : Object) (d : drafts.Draft)
-            (i : Index)
-            → StoreIs D.Disk graph ds disk.old space → object_at graph id ≡ Some o → IsOpen ds id self.now d
-            → d.object ≡ objects.Index i → IfOk result (λ what. what ≡ slot_of i slot) }
-        ensures refused { (kept : Kept)
-            → IfErr result (IsDraftTrouble D.Disk (top_of self.now) disk.old disk.new kept) }
-        ensures untried { IfErr result (λ trouble. trouble_had_tried trouble ≡ false) }
-        // No damage where the disk holds the index.
-        ensures sound { (graph : Graph) (ds : List Opened) (space : Kept) (id : Puid) (o : Object) (d : drafts.Draft)
-            → StoreIs D.Disk graph ds disk.old space → object_at graph id ≡ Some o → IsOpen ds id self.now d
-            → IfErr result (λ trouble. is_damage trouble ≡ false) }
-        ensures reads { OnlyReads D.Disk 2 disk.old disk.new }
+        ensures looks { (v : DraftSeen D.Disk disk.old self.now) → FindsSlot v slot result }
+        ensures call { ReadCall D.Disk 2 disk.old disk.new self.now result }
     {
         self.draft.slot(disk, slot)
     }
 
     /// Makes the draft its index. Done, all is durable, and once the commit that the space keeps is carried out the
-    /// index's blocks are exactly those of the draft. Where it is refused the draft is gone, and each image that a crash leaves has the index old or new. `Damaged` names a map
-    /// block, with code 2, which is none, or a node or the root block, with code 4, where a pointer leads past the
-    /// disk.
+    /// index's blocks are exactly those of the draft. Where it is refused the draft is gone, and each image that a
+    /// crash leaves has the index old or new. `Damaged` names a map block, with code 2, which is none, or a node or the
+    /// root block, with code 4, where a pointer leads past the disk.
     pub fn commit<D: Disk>(self, disk: &mut D, space: &mut Space) -> Result<(), Trouble>
         requires on_disk { self.at < D.blocks disk.old }
         requires size { D.blocks disk.old ≡ 64 * length space.old.free }
@@ -117,14 +99,9 @@ impl IndexDraft {
         ensures commits { (i : IndexView D.Disk disk.old space.old self)
             → CommitEnds D.Disk i.view.graph i.view.ds i.view.id (objects.Index i.index) None disk.old disk.new
             space.new result }
-        ensures refused { IfErr result (IsDraftTrouble D.Disk (draft_top self) disk.old disk.new space.new) }
+        ensures call { CommitCall D.Disk self disk.old disk.new space.old space.new result }
         // Where a device call failed a write or a barrier was tried.
         ensures tried { IfErr result (λ trouble. trouble ≢ troubles.Disk false) }
-        ensures made { OnOk result (HasTried D.Disk disk.old disk.new) }
-        ensures cylinders { length space.new.free ≡ length space.old.free }
-        // What is left of it is kept.
-        ensures left { OnOk result ((l : LeftCommit) × IsNoted self.at space.new.left l) }
-        ensures calls { MakesAtMost D.Disk 31207 15485 disk.old disk.new }
     {
         self.draft.commit(disk, space)
     }
@@ -136,12 +113,7 @@ impl IndexDraft {
         requires size { D.blocks disk.old ≡ 64 * length space.old.free }
         ensures aborts { (i : IndexView D.Disk disk.old space.old self)
             → AbortEnds D.Disk i.view.graph i.view.ds i.view.id None disk.old disk.new space.new result }
-        ensures refused { IfErr result (IsDraftTrouble D.Disk (draft_top self) disk.old disk.new space.new) }
-        ensures tried { IfErr result (λ trouble. trouble ≢ troubles.Disk false) }
-        ensures made { OnOk result (HasTried D.Disk disk.old disk.new) }
-        ensures cylinders { length space.new.free ≡ length space.old.free }
-        ensures left { space.new.left ≡ space.old.left }
-        ensures calls { MakesAtMost D.Disk 31205 15483 disk.old disk.new }
+        ensures call { AbortCall D.Disk self disk.old disk.new space.old space.new result }
     {
         self.draft.abort(disk, space)
     }

@@ -1,5 +1,5 @@
 pub mod Words
 mod Indices
-mod Putting
-mod NewObjects
-pub mod NewEnds
+mod Begun
+mod Filling
+mod Making

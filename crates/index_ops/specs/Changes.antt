@@ -1,6 +1,6 @@
 -- An index changed as one commit.
 use Rattle.std.specs.Prelude.{◌≡◌, ◌⊎◌, ℕ, ◌+◌, ◌*◌, ◌/◌, ◌<◌, false, List, [], ◌∷◌, length, Option, IfErr, OnErr, OnOk}
-use Rattle.std.specs.Prelude.{IsTrue, Result, None, Some, true}
+use Rattle.std.specs.Prelude.{IsTrue, Result, None, true}
 use Rattle.cfs_base.specs.Calls.{HasStopped, MakesAtMost, OnlyReads}
 use Rattle.cfs_base.specs.Codes.{no_root}
 use Rattle.cfs_base.specs.Disk.{Image, Nothing, block_at}
@@ -18,28 +18,27 @@ use Rattle.cyl_alloc.specs.Left.{LeftCommit}
 use Rattle.cyl_alloc.specs.Space.{Kept, intended}
 use Rattle.cyl_map.specs.declared.entry.MapEntry.{MapEntry}
 use Rattle.intentions.specs.Left.{StoreIs, final_image}
-use Rattle.intentions.specs.Store.{StoreHas}
 use Rattle.special_files.specs.Committing.{IsAtBit, IsNoted, IsOldOrNew, TakesShadow}
 use Rattle.leaf_changes.specs.Tops.{disk_top}
 use Rattle.special_files.specs.Leaves.{SameBeside}
 use Rattle.special_files.specs.Refusal.{IsDraftDamage, has_met_damage}
-use Rattle.ufs_model.specs.Graph.{Graph, object_at, with_object}
+use Rattle.special_files.specs.View.{IsShut, ObjectView}
+use Rattle.ufs_model.specs.Graph.{Graph, with_object}
 use Rattle.ufs_model.specs.Object.{filled}
 use Rattle.ufs_model.specs.declared.object.Index.{Index}
 use Rattle.ufs_model.specs.declared.object.Object.{Object}
 use Rattle.ufs_model.specs.declared.object.Object.TheVariants as objects
 use Rattle.vol_image.specs.Seen.{tree_in}
-use Rattle.vol_owners.specs.Account.{Opened, drafts_of}
+use Rattle.vol_owners.specs.Account.{Drafts}
 use Rattle.vol_owners.specs.Change.{ChangesOnly, of_owner, of_owners}
 
--- the store has this index at the block, no draft of it, and the slot is one of it
-pub record HasSlot {D : Type 0} (g : Ghosts D) (graph : Graph) (ds : List Opened) (d : D) (space : Kept) (at : ℕ)
-    (id : Puid) (i : Index) (slot : ℕ) : Type 0 where
-  pub store : StoreHas g graph ds d space
-  pub root : id.block ≡ at
-  pub there : object_at graph id ≡ Some (objects.Index i)
-  pub shut : drafts_of ds id ≡ []
-  pub inside : slot < length i.slots
+-- the store has an index at this block, no draft of it, and the slot is one of it
+pub record HasSlot {D : Type 0} (g : Ghosts D) (d : D) (space : Kept) (at slot : ℕ) : Type 0 where
+  pub view : ObjectView g d space at
+  pub shut : IsShut view
+  pub index : Index
+  pub is : view.object ≡ objects.Index index
+  pub inside : slot < length index.slots
 
 -- the index with this in the slot
 abbrev pub index_with : Index → ℕ → Option Puid → Object
@@ -47,7 +46,7 @@ index_with i slot what = objects.Index (filled i slot what)
 
 -- The object is this one now. No write waits. In the image that is to come nothing changed but blocks of the object or
 -- such as were Free.
-pub record ChangesIndex {D : Type 0} (g : Ghosts D) (graph : Graph) (ds : List Opened) (id : Puid) (o : Object) (old new : D)
+pub record ChangesIndex {D : Type 0} (g : Ghosts D) (graph : Graph) (ds : Drafts) (id : Puid) (o : Object) (old new : D)
     (space : Kept) : Type 0 where
   pub store : StoreIs g (with_object graph id o) ds new space
   pub settled : IsSettled g new
@@ -112,19 +111,21 @@ IsIndexRefusal g at slot old new kept refusals.Memory = ⊥
 abbrev pub LeavesCommit : ℕ → Option Puid → Option LeftCommit → Type 0
 LeavesCommit at what left = ((what ≡ None) × (left ≡ None)) ⊎ (l : LeftCommit) × IsNoted at left l
 
+-- Where the store has the index: done, it has this in the slot, and the slot's leaf alone changed. Each image that a
+-- crash leaves has it old or new, and no damage is met.
+pub record FillsIndex {D : Type 0} {g : Ghosts D} {old : D} {before : Kept} {at slot : ℕ}
+    (h : HasSlot g old before at slot) (what : Option Puid) (new : D) (after : Kept)
+    (result : Result (Unit {0}) Refused) : Type 0 where
+  pub done : OnOk result
+      (ChangesIndex g h.view.graph h.view.ds h.view.id (index_with h.index slot what) old new after)
+  pub leaf : OnOk result (ChangesLeaf g (slot / 64) at what old new after)
+  pub leaves : Leaves g old new (IsOldOrNew h.view.graph h.view.graph h.view.id (index_with h.index slot what))
+  pub sound : IfErr result (λ e. has_met_damage e ≡ false)
+
 -- A slot of the index at a block gets this, as one commit.
 pub record PutsSlot {D : Type 0} (g : Ghosts D) (at slot : ℕ) (what : Option Puid) (old new : D) (before after : Kept)
     (result : Result (Unit {0}) Refused) : Type 0 where
-  pub done : (graph : Graph) (ds : List Opened) (id : Puid) (i : Index) → HasSlot g graph ds old before at id i slot
-      → OnOk result (ChangesIndex g graph ds id (index_with i slot what) old new after)
-  -- its leaf alone changed
-  pub leaf : (graph : Graph) (ds : List Opened) (id : Puid) (i : Index) → HasSlot g graph ds old before at id i slot
-      → OnOk result (ChangesLeaf g (slot / 64) at what old new after)
-  pub leaves : (graph : Graph) (ds : List Opened) (id : Puid) (i : Index) → HasSlot g graph ds old before at id i slot
-      → Leaves g old new (IsOldOrNew graph graph id (index_with i slot what))
-  -- no damage where the disk holds the index
-  pub sound : (graph : Graph) (ds : List Opened) (id : Puid) (i : Index) → HasSlot g graph ds old before at id i slot
-      → IfErr result (λ e. has_met_damage e ≡ false)
+  pub fills : (h : HasSlot g old before at slot) → FillsIndex h what new after result
   pub refused : IfErr result (IsIndexRefusal g at slot old new after)
   -- before a write or barrier is tried all is as it was
   pub untried : IfErr result (λ e. e ≡ refusals.Disk false → (after ≡ before) × OnlyReads g 9 old new)

@@ -1,10 +1,17 @@
 //! Slots of an index, filled and emptied.
-ghost use Rattle.std.specs.Prelude.{◌≡◌, ◌≢◌, ℕ, ◌+◌, ◌*◌, ◌<◌, ◌≤◌, true, length, sum, Option, None, Some, Err, IfErr};
-ghost use Rattle.std.specs.Prelude.{OnOk};
+ghost use Rattle.std.specs.Prelude.{◌≡◌, ◌≢◌, ◌+◌, ◌*◌, ◌<◌, ◌≤◌, false, length, sum, None, Some, Err, IfErr};
+ghost use Rattle.std.specs.Prelude.{IfOk, OnOk};
+ghost use Rattle.block_tree.specs.Root.{IsRootBlock};
+ghost use Rattle.cfs_base.specs.Calls.{MakesAtMost, OnlyReads};
+ghost use Rattle.cfs_base.specs.Disk.{block_at};
+ghost use Rattle.cfs_base.specs.Run.{Tells};
 ghost use Rattle.cfs_base.specs.declared.refusal.Refused.TheVariants as refused;
 ghost use Rattle.index_ops.specs.Changes as spec;
 ghost use Rattle.leaf_changes.specs.Bytes.{IsSlot};
-ghost use Rattle.special_files.specs.Refusal.{is_full_refusal};
+ghost use Rattle.special_files.specs.Begins.{BeginsDirect};
+ghost use Rattle.special_files.specs.Committing.{IsAtBit};
+ghost use Rattle.special_files.specs.Drafting.{begun_at};
+ghost use Rattle.special_files.specs.View.{GoesTo};
 
 use cfs_base::{BlockNo, Damage, Disk, Puid, Refused, code};
 use cyl_alloc::Space;
@@ -12,13 +19,44 @@ use intentions::barrier;
 use special_files::{Draft, Room};
 
 /// The root at a block has no such slot.
-pub(crate) fn short(index: BlockNo) -> Refused
+fn short(index: BlockNo) -> Refused
     ensures { result ≡ spec.short_at index.0 }
 {
     Refused::Damaged(Damage {
         block: index.0,
         code: code::NO_ROOT,
     })
+}
+
+/// Begins a draft of the index at a block, which has no shadow root. The index has the slot.
+pub(crate) fn begin<D: Disk>(
+    room: Room,
+    disk: &mut D,
+    space: &mut Space,
+    index: BlockNo,
+    slot: u64,
+) -> Result<Draft, Refused>
+    requires some { index.0 ≢ 0 }
+    requires on_disk { index.0 < D.blocks disk.old }
+    requires few { slot < 983040 }
+    ensures begins { (h : spec.HasSlot D.Disk disk.old space.old index.0 slot) → GoesTo D.Disk h.view.graph
+        (BeginsDirect h.view disk.new space.new) disk.old disk.new result }
+    ensures begun { IfOk result (λ draft. draft ≡ begun_at index.0 None draft.own) }
+    ensures within { IfOk result (λ draft. 8 * slot + 8 ≤ draft.root.size) }
+    ensures root { Tells D.Disk disk.old → IfOk result (λ draft.
+        IsRootBlock (block_at (D.content disk.old) index.0) draft.own) }
+    ensures refused { IfErr result (spec.IsIndexRefusal D.Disk index.0 slot disk.old disk.new space.new) }
+    ensures space { space.new ≡ space.old }
+    ensures reads { OnlyReads D.Disk 1 disk.old disk.new }
+{
+    let draft = match Draft::begin_direct(room, disk, space, index) {
+        Ok(draft) => draft,
+        Err(error) => return Err(error),
+    };
+    if draft.size() < 8 * slot + 8 {
+        return Err(short(index));
+    }
+    Ok(draft)
 }
 
 /// Makes a slot of the index at a block hold this, or nothing.
@@ -37,15 +75,21 @@ fn put<D: Disk>(
     requires few { slot < 983040 }
     requires slot { IsSlot what }
     requires room { 3 ≤ sum space.old.free }
-    ensures { spec.PutsSlot D.Disk index.0 slot what disk.old disk.new space.old space.new result }
+    ensures fills { (h : spec.HasSlot D.Disk disk.old space.old index.0 slot)
+        → spec.FillsIndex h what disk.new space.new result }
+    ensures refused { IfErr result (spec.IsIndexRefusal D.Disk index.0 slot disk.old disk.new space.new) }
+    ensures untried { IfErr result (λ e. e ≡ refused.Disk false
+        → (space.new ≡ space.old) × OnlyReads D.Disk 9 disk.old disk.new) }
+    ensures cylinders { length space.new.free ≡ length space.old.free }
+    ensures left { OnOk result (spec.LeavesCommit index.0 what space.new.left) }
+    ensures still { space.new.left ≡ None → OnOk result (D.content disk.new ≡ D.content disk.old) }
+    ensures bit { OnOk result (IsAtBit D.Disk disk.old disk.new space.new.left) }
+    ensures calls { MakesAtMost D.Disk 20 11 disk.old disk.new }
 {
-    let mut draft = match Draft::begin_direct(room, disk, space, index) {
+    let mut draft = match begin(room, disk, space, index, slot) {
         Ok(draft) => draft,
         Err(error) => return Err(error),
     };
-    if draft.size() < 8 * slot + 8 {
-        return Err(short(index));
-    }
     let swap = match draft.fill(disk, space, slot, what) {
         Ok(Some(swap)) => swap,
         Ok(None) => return settle(disk),

@@ -1,124 +1,27 @@
 //! An object made, and its identifier put into a slot of an index.
-ghost use Rattle.std.specs.Prelude.{◌≡◌, ◌≢◌, ◌⊎◌, ℕ, ◌+◌, ◌*◌, ◌<◌, ◌≤◌, List, [], ◌∷◌, false, length, sum, None};
-ghost use Rattle.std.specs.Prelude.{Some, Err, IfErr, IfOk, OnOk};
-ghost use Rattle.block_tree.specs.Root.{root_spelling};
-ghost use Rattle.cfs_base.specs.Calls.{HasTried, MakesAtMost, OnlyReads};
-ghost use Rattle.cfs_base.specs.Run.{Tells};
-ghost use Rattle.cfs_base.specs.declared.identifier.Puid.{Puid};
-ghost use Rattle.cfs_base.specs.declared.kind.Place.TheVariants as places;
+ghost use Rattle.std.specs.Prelude.{◌≡◌, ◌≢◌, ◌⊎◌, ◌+◌, ◌*◌, ◌<◌, ◌≤◌, false, length, sum, None, Err, IfErr, IfOk};
+ghost use Rattle.std.specs.Prelude.{OnOk};
+ghost use Rattle.cfs_base.specs.Calls.{MakesAtMost, OnlyReads};
 ghost use Rattle.cfs_base.specs.declared.refusal.Refused.TheVariants as refusals;
 ghost use Rattle.cyl_alloc.specs.Left.{LeftCommit};
-ghost use Rattle.cyl_alloc.specs.Space.{AreCounts, IsLeastFree, intended};
-ghost use Rattle.cyl_map.specs.Volume.{with_entry};
+ghost use Rattle.cyl_alloc.specs.Space.{IsLeastFree};
+ghost use Rattle.index_ops.specs.Changes.{HasSlot, IsIndexRefusal};
 ghost use Rattle.index_ops.specs.Creates as spec;
-ghost use Rattle.intentions.specs.Store.{StoreHas};
-ghost use Rattle.leaf_changes.specs.Tops.{still_top};
-ghost use Rattle.special_files.specs.Calls.{WritesDraftBlock};
 ghost use Rattle.special_files.specs.Committing.{IsAtBit, IsNoted, puid_at};
-ghost use Rattle.special_files.specs.Drafting.{begun_at, opened_as};
-ghost use Rattle.special_files.specs.Ends.{EndsCall};
-ghost use Rattle.special_files.specs.Refusal.{IsDraftRefusal, has_met_damage, is_full_refusal, top_of};
-ghost use Rattle.ufs_model.specs.Graph.{Graph, object_at};
+ghost use Rattle.special_files.specs.Creates.{IsBare, IsOpenMap, MayBeMade, made_of};
+ghost use Rattle.special_files.specs.Drafting.{begun_at};
+ghost use Rattle.special_files.specs.Refusal.{IsDraftRefusal, is_full_refusal, top_of};
+ghost use Rattle.vol_owners.specs.Account.{without_draft};
+ghost use Rattle.special_files.specs.View.{DraftView};
 ghost use Rattle.ufs_model.specs.declared.object.Index.{Index};
 ghost use Rattle.ufs_model.specs.declared.object.Object.TheVariants as objects;
 ghost use Rattle.vol_image.specs.Reading.{bare_object};
-ghost use Rattle.vol_owners.specs.Account.{Opened, drafts_of};
 
-use crate::changing::short;
+use crate::changing::begin;
 use block_tree::Root;
-use cfs_base::{BlockNo, Damage, Disk, Kind, Place, Puid, Refused, code};
+use cfs_base::{BlockNo, Disk, Kind, Puid, Refused};
 use cyl_alloc::Space;
-use intentions::intend_claim;
-use special_files::{Draft, Room};
-
-/// The least-numbered Free block, which is none where it is the first map.
-pub fn least<D: Disk>(disk: &mut D, space: &Space) -> Result<BlockNo, Refused>
-    requires size { D.blocks disk.old ≡ 64 * length space.now.free }
-    requires room { 1 ≤ sum space.now.free }
-    ensures found { Tells D.Disk disk.old → AreCounts (D.content disk.old) space.now
-        → IfOk result (λ block. IsLeastFree (D.content disk.old) block.0) }
-    ensures some { IfOk result (λ block. (block.0 ≢ 0) × (block.0 < D.blocks disk.old)) }
-    ensures refused { (at : ℕ)
-        → IfErr result (λ e. (IsDraftRefusal D.Disk (still_top at) 0 disk.old disk.new space.now e × (is_full_refusal e ≡ false))
-        ⊎ spec.IsOpenMap D.Disk disk.old space.now e) }
-    ensures sound { (graph : Graph) (ds : List Opened) → StoreHas D.Disk graph ds disk.old space.now
-        → IfErr result (λ e. has_met_damage e ≡ false) }
-    ensures reads { OnlyReads D.Disk 1 disk.old disk.new }
-{
-    let block = match space.find(disk) {
-        Ok(block) => block,
-        Err(error) => return Err(error),
-    };
-    if block.0 == 0 {
-        return Err(Refused::Damaged(Damage {
-            block: 0,
-            code: code::NO_ENTRY,
-        }));
-    }
-    Ok(block)
-}
-
-/// Claims a Free block as the root of a new object, which owns itself.
-fn claim_root<D: Disk>(disk: &mut D, space: &mut Space, block: BlockNo) -> Result<(), Refused>
-    requires some { block.0 ≢ 0 }
-    requires on_disk { block.0 < D.blocks disk.old }
-    requires size { D.blocks disk.old ≡ 64 * length space.old.free }
-    ensures claims { (graph : Graph) (ds : List Opened) → StoreHas D.Disk graph ds disk.old space.old
-        → IsLeastFree (D.content disk.old) block.0 → spec.RootEnds D.Disk graph disk.old disk.new space.new
-        (with_entry (D.content disk.old) block.0 (intended places.Root block.0)) result }
-    ensures tried { OnOk result (HasTried D.Disk disk.old disk.new) }
-    ensures spare { IfErr result (λ e. is_full_refusal e ≡ false) }
-    ensures ends { (at : ℕ) → EndsCall D.Disk (still_top at) 0 2 1 1 disk.old disk.new space.old space.new result }
-{
-    match intend_claim(disk, block, Place::Root, block.0) {
-        Ok(()) => {
-            space.took(block);
-            Ok(())
-        }
-        Err(trouble) => Err(Refused::from(trouble)),
-    }
-}
-
-/// Writes the root of a new object.
-pub fn write_root<D: Disk>(disk: &mut D, block: BlockNo, root: &Root) -> Result<(), Refused>
-    requires { block.0 < D.blocks disk.old }
-    ensures writes { WritesDraftBlock D.Disk block.0 (root_spelling root.now) disk.old disk.new result }
-    ensures spelled { spec.Spells root.now }
-{
-    match disk.write(block, &root.encode()) {
-        Ok(()) => Ok(()),
-        Err(_) => Err(Refused::Disk { tried: true }),
-    }
-}
-
-/// Claims the root of a new object, and writes it.
-fn make_root<D: Disk>(
-    disk: &mut D,
-    space: &mut Space,
-    block: BlockNo,
-    root: &Root,
-) -> Result<(), Refused>
-    requires some { block.0 ≢ 0 }
-    requires on_disk { block.0 < D.blocks disk.old }
-    requires size { D.blocks disk.old ≡ 64 * length space.old.free }
-    ensures made { (graph : Graph) (ds : List Opened) → StoreHas D.Disk graph ds disk.old space.old
-        → IsLeastFree (D.content disk.old) block.0 → spec.RootEnds D.Disk graph disk.old disk.new space.new
-        (spec.with_root (D.content disk.old) block.0 root.now) result }
-    ensures spelled { OnOk result (spec.Spells root.now) }
-    ensures tried { OnOk result (HasTried D.Disk disk.old disk.new) }
-    ensures spare { IfErr result (λ e. is_full_refusal e ≡ false) }
-    ensures ends { (at : ℕ) → EndsCall D.Disk (still_top at) 0 3 2 1 disk.old disk.new space.old space.new result }
-{
-    match claim_root(disk, space, block) {
-        Ok(()) => write_root(disk, block, root),
-        Err(error) => Err(error),
-    }
-}
-
-/// A word has 32 bits. Does nothing.
-fn fits(word: u32)
-    ensures { word < 4294967296 }
-{}
+use special_files::{Draft, Room, bare_root, least};
 
 /// Makes the object with this root at a Free block, fills the slot with it, and commits both.
 fn make_at<D: Disk>(
@@ -137,11 +40,9 @@ fn make_at<D: Disk>(
     requires room { 4 ≤ sum space.old.free }
     requires within { 8 * slot + 8 ≤ draft.root.size }
     requires begun { draft ≡ begun_at draft.at None draft.own }
-    ensures makes { (graph : Graph) (ds : List Opened) (id : Puid) (i : Index)
-        → StoreHas D.Disk graph (opened_as id draft (spec.begun_of i) ∷ ds) disk.old space.old
-        → object_at graph id ≡ Some (objects.Index i) → id.block ≡ draft.at → drafts_of ds id ≡ []
-        → IsLeastFree (D.content disk.old) block.0 → spec.IsBare root.now
-        → spec.MakeEnds D.Disk graph ds id i slot (puid_at block.0 root.now.word)
+    ensures makes { (v : DraftView D.Disk disk.old space.old draft) (i : Index) → v.draft.object ≡ objects.Index i
+        → IsLeastFree (D.content disk.old) block.0 → IsBare root.now
+        → spec.MakeEnds D.Disk v.graph (without_draft v.id v.ds) v.id i slot (puid_at block.0 root.now.word)
         (bare_object root.now) disk.old disk.new space.new result }
     ensures value { IfOk result (λ p. p ≡ puid_at block.0 root.now.word) }
     ensures refused { IfErr result (λ e. IsDraftRefusal D.Disk (top_of draft) 0 disk.old disk.new space.new e
@@ -153,20 +54,13 @@ fn make_at<D: Disk>(
     ensures bit { OnOk result (IsAtBit D.Disk disk.old disk.new space.new.left) }
     ensures calls { MakesAtMost D.Disk 22 13 disk.old disk.new }
 {
-    match make_root(disk, space, block, root) {
-        Ok(()) => {}
+    let swap = match draft.create(disk, space, slot, block, root) {
+        Ok(swap) => swap,
         Err(error) => return Err(error),
-    }
-    draft.adopt(block);
-    fits(root.word);
+    };
     let made = Puid {
         block: block.0,
         word: root.word,
-    };
-    let swap = match draft.fill(disk, space, slot, Some(made)) {
-        Ok(Some(swap)) => swap,
-        Ok(None) => unreachable!(),
-        Err(error) => return Err(error.after_try()),
     };
     match draft.commit_swap(disk, space, swap) {
         Ok(()) => Ok(made),
@@ -189,36 +83,25 @@ fn make<D: Disk>(
     requires left { space.old.left ≡ None }
     requires few { slot < 983040 }
     requires room { 4 ≤ sum space.old.free }
-    requires root { spec.IsBare root.now }
-    ensures { spec.PutsObject D.Disk index.0 slot (bare_object root.now) root.now.word disk.old disk.new space.old
-        space.new result }
+    requires root { IsBare root.now }
+    ensures places { (h : HasSlot D.Disk disk.old space.old index.0 slot)
+        → spec.PlacesIn h (bare_object root.now) root.now.word disk.new space.new result }
+    ensures refused { IfErr result (λ e. IsIndexRefusal D.Disk index.0 slot disk.old disk.new space.new e
+        ⊎ IsOpenMap D.Disk disk.old space.old e) }
+    ensures untried { IfErr result (λ e. e ≡ refusals.Disk false → (space.new ≡ space.old)
+        × OnlyReads D.Disk 9 disk.old disk.new) }
+    ensures cylinders { length space.new.free ≡ length space.old.free }
+    ensures left { OnOk result ((l : LeftCommit) × IsNoted index.0 space.new.left l) }
+    ensures bit { OnOk result (IsAtBit D.Disk disk.old disk.new space.new.left) }
+    ensures calls { MakesAtMost D.Disk 24 13 disk.old disk.new }
 {
-    let draft = match Draft::begin_direct(room, disk, space, index) {
+    let draft = match begin(room, disk, space, index, slot) {
         Ok(draft) => draft,
         Err(error) => return Err(error),
     };
-    if draft.size() < 8 * slot + 8 {
-        return Err(short(index));
-    }
     match least(disk, space) {
         Ok(block) => make_at(draft, disk, space, slot, block, root),
         Err(error) => Err(error),
-    }
-}
-
-/// The root of a new object, which holds nothing.
-pub fn bare_root(kind: Kind, fill: u8, size: u64, word: u32) -> Root
-    requires { spec.MayBeMade kind fill size }
-    ensures root { spec.IsBare result }
-    ensures object { bare_object result ≡ spec.made_of kind fill size }
-    ensures word { result.word ≡ word }
-{
-    Root {
-        kind,
-        fill,
-        word,
-        size,
-        nodes: [0; 120],
     }
 }
 
@@ -244,13 +127,13 @@ pub fn create<D: Disk>(
     // No commit is unfinished.
     requires left { space.old.left ≡ None }
     requires few { slot < 983040 }
-    requires made { spec.MayBeMade kind fill size }
+    requires made { MayBeMade kind fill size }
     // Full exactly where 4 and 4 blocks aren't Free; nothing was done then.
     ensures full { sum space.old.free < 4 + 4
         → (result ≡ Err (refusals.Full (record { free = sum space.old.free; need = 4 })))
         × (disk.new ≡ disk.old) × (space.new ≡ space.old) }
     ensures makes { 4 + 4 ≤ sum space.old.free
-        → spec.PutsObject D.Disk index.0 slot (spec.made_of kind fill size) word disk.old disk.new space.old space.new
+        → spec.PutsObject D.Disk index.0 slot (made_of kind fill size) word disk.old disk.new space.old space.new
         result }
 {
     match space.has_room(4, 4) {

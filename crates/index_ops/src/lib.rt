@@ -8,5 +8,5 @@ mod creating;
 mod reading;
 
 pub use changing::{delete, retain};
-pub use creating::{bare_root, create, least, write_root};
+pub use creating::create;
 pub use reading::{retrieve, slots};

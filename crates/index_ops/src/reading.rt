@@ -1,20 +1,20 @@
 //! An index, read.
-ghost use Rattle.std.specs.Prelude.{◌≡◌, ◌≢◌, ◌*◌, ◌/◌, ◌<◌, ◌≤◌, ℕ, List, false, length, IfErr, IfOk, OnOk};
+ghost use Rattle.std.specs.Prelude.{◌≡◌, ◌<◌, ◌≤◌, IfErr, IfOk};
 ghost use Rattle.block_tree.specs.Pointers.{leaf_limit};
-ghost use Rattle.block_tree.specs.Reads.{IsRootTrouble, is_damage};
+ghost use Rattle.block_tree.specs.Reads.{IsRootTrouble};
 ghost use Rattle.block_tree.specs.Root.{root_spelling};
 ghost use Rattle.block_tree.specs.Tree.{bytes_in, leaf_block};
 ghost use Rattle.cfs_base.specs.Calls.{OnlyReads};
 ghost use Rattle.cfs_base.specs.Run.{Tells};
-ghost use Rattle.cfs_base.specs.declared.identifier.Puid as puids;
 ghost use Rattle.cyl_alloc.specs.Space.{Kept};
 ghost use Rattle.index_ops.specs.Causes as causes;
-ghost use Rattle.intentions.specs.Left.{IsShownAt, StoreIs};
+ghost use Rattle.index_ops.specs.Reads as spec;
+ghost use Rattle.intentions.specs.Left.{StoreIs};
+ghost use Rattle.special_files.specs.View.{ShownView};
 ghost use Rattle.ufs_model.specs.Graph.{Graph};
-ghost use Rattle.ufs_model.specs.Object.{slot_of};
 ghost use Rattle.ufs_model.specs.declared.object.Index.{Index};
 ghost use Rattle.ufs_model.specs.declared.object.Object.TheVariants as objects;
-ghost use Rattle.vol_owners.specs.Account.{Opened};
+ghost use Rattle.vol_owners.specs.Account.{Drafts};
 
 use block_tree::{Root, TreeFault, leaf_at, node_of, read_block, read_root};
 use cfs_base::{Block, BlockNo, Damage, Disk, Puid, Trouble, code};
@@ -70,16 +70,11 @@ fn read_leaf<D: Disk>(
 /// block.
 pub fn slots<D: Disk>(disk: &mut D, index: BlockNo) -> Result<u64, Trouble>
     requires { index.0 < D.blocks disk.old }
-    ensures count { (graph : Graph) (ds : List Opened) (space : Kept) (id : puids.Puid) (i : Index)
-        → IsShownAt D.Disk graph ds disk.old space id (objects.Index i) index.0
-        → IfOk result (λ count. count ≡ length i.slots) }
+    ensures counts { (v : ShownView D.Disk disk.old index.0) (i : Index) → v.object ≡ objects.Index i
+        → spec.CountsSlots i result }
     ensures most { IfOk result (λ count. count ≤ 983040) }
     ensures refused { IfErr result (IsRootTrouble D.Disk index.0 disk.old disk.new) }
-    // No damage where the disk holds the index.
-    ensures sound { (graph : Graph) (ds : List Opened) (space : Kept) (id : puids.Puid) (i : Index)
-        → IsShownAt D.Disk graph ds disk.old space id (objects.Index i) index.0
-        → IfErr result (λ trouble. is_damage trouble ≡ false) }
-    ensures store { (graph : Graph) (ds : List Opened) (space : Kept) → StoreIs D.Disk graph ds disk.old space
+    ensures store { (graph : Graph) (ds : Drafts) (space : Kept) → StoreIs D.Disk graph ds disk.old space
         → StoreIs D.Disk graph ds disk.new space }
     ensures reads { OnlyReads D.Disk 1 disk.old disk.new }
 {
@@ -95,14 +90,10 @@ pub fn slots<D: Disk>(disk: &mut D, index: BlockNo) -> Result<u64, Trouble>
 pub fn retrieve<D: Disk>(disk: &mut D, index: BlockNo, slot: u64) -> Result<Option<Puid>, Trouble>
     requires on_disk { index.0 < D.blocks disk.old }
     requires few { slot < 983040 }
-    ensures slot { (graph : Graph) (ds : List Opened) (space : Kept) (id : puids.Puid) (i : Index)
-        → IsShownAt D.Disk graph ds disk.old space id (objects.Index i) index.0
-        → slot < length i.slots → IfOk result (λ what. what ≡ slot_of i slot) }
+    ensures finds { (v : ShownView D.Disk disk.old index.0) (i : Index) → v.object ≡ objects.Index i
+        → spec.FindsIn i slot result }
     ensures refused { IfErr result (causes.IsSlotTrouble D.Disk index.0 slot disk.old disk.new) }
-    ensures sound { (graph : Graph) (ds : List Opened) (space : Kept) (id : puids.Puid) (i : Index)
-        → IsShownAt D.Disk graph ds disk.old space id (objects.Index i) index.0
-        → IfErr result (λ trouble. is_damage trouble ≡ false) }
-    ensures store { (graph : Graph) (ds : List Opened) (space : Kept) → StoreIs D.Disk graph ds disk.old space
+    ensures store { (graph : Graph) (ds : Drafts) (space : Kept) → StoreIs D.Disk graph ds disk.old space
         → StoreIs D.Disk graph ds disk.new space }
     ensures reads { OnlyReads D.Disk 3 disk.old disk.new }
 {

@@ -1,12 +1,10 @@
 -- The images of a commit: with the bit, and with the root copied.
-use Rattle.std.proofs.Common.{◌≡◌, ◌≢◌, inl, inr, ℕ, List, [], length, length-set, set, Bool, cond, Result, Some, refl, sym, ◌∙◌, ap, subst}
-use Rattle.intentions.proofs.Words.{Carries, ChangesBit, Commits, Copies, Ghosts, Graph, Held, Holds, Image, IsCommitted, IsDraft, IsPlaced, IsSettled, IsToFinish, IsTree, Leaves, MapEntry, Object, OnOk, Puid, ReadsAs, Root, SameAt, Settles, Tree, Trouble, Written, below_apart, block_at, with_commit_bit, committed_holds, copied_holds, entry_in, entry_in-set, entry_in-with_entry_other, entry_in_table, first_or, get_or-set_other, get_or-set_same, hold_fewer, in_image, left_now, not_map, object_at, object_at-with_object, part_of, read_by, root_placed, same_Some, same_or_not, same_puid_itself, same_shadows, same_tree, settles_begins, shadow_taken, sight, source, stands_for, taken_apart, tree_in, wider, with_bit, with_bit_at, with_entry, with_object}
+use Rattle.std.proofs.Common.{◌≡◌, ◌≢◌, inl, inr, ℕ, List, [], length, length-set, set, Result, Some, refl, sym, ◌∙◌, ap, subst}
+use Rattle.intentions.proofs.Words.{Carries, ChangesBit, Commits, Copies, Ghosts, Graph, Held, Holds, Image, IsCommitted, IsDraft, IsPlaced, IsSettled, IsToFinish, IsTree, Leaves, MapEntry, Object, OnOk, Puid, ReadsAs, Root, SameAt, Settles, Tree, Trouble, Written, below_apart, block_at, with_commit_bit, committed_holds, copied_holds, entry_in, entry_in-set, entry_in-with_entry_other, entry_in_table, first_or, get_or-set_other, get_or-set_same, hold_fewer, in_image, left_now, not_map, object_at, part_of, read_by, root_placed, same_Some, same_or_not, same_shadows, same_tree, settles_begins, shadow_taken, sight, source, stands_for, taken_apart, tree_in, wider, with_bit, with_bit_at, with_entry, with_object}
 use Rattle.intentions.proofs.Changes.{on_ok}
 use Rattle.intentions.proofs.Courses.{put_again}
 use Rattle.intentions.proofs.Valid.{bit_valid}
-
-pub object_at_put : (g : Graph) (id : Puid) (o : Object) → object_at (with_object g id o) id ≡ Some o
-object_at_put g id o = object_at-with_object g id o id ∙ ap (λ (b : Bool). cond b (Some o) (object_at g id)) (same_puid_itself id)
+pub use Rattle.vol_owners.proofs.Keys.{object_at_put}
 
 -- ---- the bit
 

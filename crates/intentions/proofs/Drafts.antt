@@ -19,7 +19,7 @@ use Rattle.vol_owners.proofs.Changes.{changes_begin, changes_entry, changes_then
 use Rattle.vol_owners.proofs.Entries.{owner_is, taken_of}
 use Rattle.vol_owners.proofs.Kept.{draft_kept}
 use Rattle.vol_owners.proofs.Owners.{list_misses}
-use Rattle.vol_owners.specs.Account.{HasDraft, HasDrafts, Opened, drafts_of}
+use Rattle.vol_owners.specs.Account.{Drafts, HasDraft, HasDraftIf, Opened}
 use Rattle.vol_owners.specs.Change.{ChangesOnly, IsOpenTo, of_owners}
 use Rattle.vol_owners.specs.Owner.{is_had, is_meant, is_owned_by, is_placed, is_taken}
 
@@ -105,16 +105,16 @@ module _ {D : Type 0} (g : Ghosts D) (graph : Graph) (d : D) (l : LeftCommit) (i
       (subst (λ (i : Image). ChangesOnly Mine i image) c_is copied)
 
 -- so each draft that stands is on the disk
-pub draft_there : {D : Type 0} (g : Ghosts D) (graph : Graph) (ds : List Opened) (d : D) (k : Kept) → StoreIs g graph ds d k → (x : Puid) (o : Object) (e : Opened) → object_at graph x ≡ Some o → drafts_of ds x ≡ e ∷ [] → HasDraft (g.content d) x e
+pub draft_there : {D : Type 0} (g : Ghosts D) (graph : Graph) (ds : Drafts) (d : D) (k : Kept) → StoreIs g graph ds d k → (x : Puid) (o : Object) (e : Opened) → object_at graph x ≡ Some o → ds x ≡ Some e → HasDraft (g.content d) x e
 draft_there g graph ds d k is x o e at alone = with_left k.left is
   where
     with_left : (w : Option LeftCommit) → StoreWith g graph ds d k w → HasDraft (g.content d) x e
-    with_left None store = subst (HasDrafts (g.content d) x) alone (store.account.drafts x o at)
+    with_left None store = subst (HasDraftIf (g.content d) x) alone (store.account.drafts x o at)
     with_left (Some l) has =
         let go = has.going in
         let end = coming (g.content d) (Some l) in
         let back = left_back g graph d l go.id go.object go.root_is has.owners has.own l.copied go.goes has.opens in
-        let apart : has_number x.block has.owners ≡ false = elim (cases_Bool (has_number x.block has.owners)) [ inl there ↦ (let none : [] ≡ e ∷ [] = sym (has.shut x there) ∙ alone in cc) | inr no_one ↦ no_one ] in
+        let apart : has_number x.block has.owners ≡ false = elim (cases_Bool (has_number x.block has.owners)) [ inl there ↦ (let none : None ≡ Some e = sym (has.shut x there) ∙ alone in cc) | inr no_one ↦ no_one ] in
         draft_kept (λ f. of_owners has.owners f) end (g.content d) graph ds has.account back x o at
         (list_misses is_taken is_had has.owners x.block apart) (list_misses is_taken is_meant has.owners x.block apart) e
-        (subst (HasDrafts end x) alone (has.account.drafts x o at))
+        (subst (HasDraftIf end x) alone (has.account.drafts x o at))

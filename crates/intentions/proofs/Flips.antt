@@ -1,7 +1,7 @@
 -- Images with entries changed one after another.
 use Rattle.std.proofs.Common.{◌≡◌, ◌≢◌, inl, inr, ℕ, ◌+◌, ◌<◌, ◌%◌, Bool, true, false, List, [], ◌∷◌, ◌++◌, length, Option, Some, None, refl, sym, ◌∙◌, ap, subst, arith}
 use Rattle.std.specs.Prelude.{◌==◌, ◌||◌, IsSome, option_to_list}
-use Rattle.std.proofs.lemmas.Bool.{and_parts, both_ways, cases_Bool, eq-eqb, eqb-false, eqb-true, not-true, or_cases}
+use Rattle.std.proofs.lemmas.Bool.{and_parts, both_ways, cases_Bool, eq-eqb, eqb-false, eqb-true, not-true}
 use Rattle.block_tree.specs.Reads.{is_damage}
 use Rattle.cfs_base.specs.Refusals.{trouble_after_try}
 use Rattle.cfs_base.specs.declared.refusal.Trouble.TheVariants as trouble
@@ -12,6 +12,7 @@ use Rattle.intentions.specs.Entries.{changed_entry}
 use Rattle.intentions.specs.Flips.{Flip, MayFlip, flip, flip_in, flipped, flips}
 use Rattle.intentions.specs.declared.change.Change.{Change}
 use Rattle.ufs_model.specs.Numbers.{has_number}
+pub use Rattle.vol_owners.proofs.Keys.{option_is}
 use Rattle.vol_owners.specs.Account.{numbers_differ}
 
 -- ---- one
@@ -104,11 +105,6 @@ first_number n ns = rw (eq-eqb n n refl) refl
 
 pub more_numbers : (n m : ℕ) (ns : List ℕ) → has_number m ns ≡ true → has_number m (n ∷ ns) ≡ true
 more_numbers n m ns there = elim (cases_Bool (n == m)) [ inl is ↦ rw is refl | inr not ↦ rw not there ]
-
--- the block that there is, if there is one
-pub option_is : (x : Option ℕ) (n : ℕ) → has_number n (option_to_list x) ≡ true → x ≡ Some n
-option_is None n h = cc
-option_is (Some m) n h = elim (or_cases (m == n) false h) [ inl same ↦ ap Some (eqb-true m n same) | inr never ↦ cc ]
 
 pub option_has : (x : Option ℕ) (n : ℕ) → x ≡ Some n → has_number n (option_to_list x) ≡ true
 option_has x n is = subst (λ (y : Option ℕ). has_number n (option_to_list y) ≡ true) (sym is) (first_number n [])

@@ -1,5 +1,5 @@
 -- What is left of a commit stays through calls that only read.
-use Rattle.std.proofs.Common.{⊎_elim, ℕ, Bool, true, false, List, Option, Some, None, sym, ◌∙◌, subst}
+use Rattle.std.proofs.Common.{⊎_elim, ℕ, Bool, true, false, Option, Some, None, sym, ◌∙◌, subst}
 use Rattle.cfs_base.specs.Calls.{OnlyReads}
 use Rattle.cfs_base.specs.Disk.{Image}
 use Rattle.cfs_base.specs.Run.{IsSettled, left_now}
@@ -15,7 +15,7 @@ use Rattle.intentions.specs.Flips.{MayFlip}
 use Rattle.ufs_model.specs.declared.object.Object.{Object}
 use Rattle.ufs_model.specs.Graph.{Graph}
 use Rattle.vol_image.proofs.Carries.{carries_on}
-use Rattle.vol_owners.specs.Account.{Accounts, Opened}
+use Rattle.vol_owners.specs.Account.{Accounts, Drafts}
 use Rattle.cyl_alloc.specs.Left.{LeftCommit}
 use Rattle.vol_owners.specs.Change.{of_owners}
 use Rattle.intentions.specs.Left.{AreOpen, GoesOn, GoesWith, HasLeft, IsGoing, StoreWith, coming, copied_if, plan}
@@ -53,7 +53,7 @@ module _ {D : Type 0} (g : Ghosts D) (graph : Graph) (d0 d1 : D) (k : Kept) (n :
   going_reads None has = (carries_on g graph d0 d1 has.0 only.content only.told only.images only.same, subst (λ (i : Image). AreCounts i k) (sym only.content) has.1)
   going_reads (Some l) has = left_goes l has
 
-  pub left_reads : (ds : List Opened) (l : LeftCommit) → HasLeft g graph ds d0 k l → HasLeft g graph ds d1 k l
+  pub left_reads : (ds : Drafts) (l : LeftCommit) → HasLeft g graph ds d0 k l → HasLeft g graph ds d1 k l
   left_reads ds l has = record {
     going = left_goes l has.going;
     owners = has.owners;
@@ -64,7 +64,7 @@ module _ {D : Type 0} (g : Ghosts D) (graph : Graph) (d0 d1 : D) (k : Kept) (n :
     ordered = has.ordered;
   }
 
-  pub store_reads : (ds : List Opened) (w : Option LeftCommit) → StoreWith g graph ds d0 k w → StoreWith g graph ds d1 k w
+  pub store_reads : (ds : Drafts) (w : Option LeftCommit) → StoreWith g graph ds d0 k w → StoreWith g graph ds d1 k w
   store_reads ds None store = record {
     carries = carries_on g graph d0 d1 store.carries only.content only.told only.images only.same;
     account = subst (λ (i : Image). Accounts i graph ds) (sym only.content) store.account;

@@ -22,7 +22,7 @@ use Rattle.vol_image.proofs.AtRoot.{no_shadows}
 use Rattle.vol_image.proofs.Graphs.{object_at-without}
 use Rattle.vol_image.specs.Part.{is_committed, part_at}
 use Rattle.vol_image.specs.Sight.{shadows, sight}
-use Rattle.vol_owners.specs.Account.{Opened}
+use Rattle.vol_owners.specs.Account.{Drafts}
 
 -- the block has the content by which the object with root block r is read
 abbrev ShowsAt : Image → (r at : ℕ) → Type 0
@@ -86,7 +86,7 @@ module _ {D : Type 0} (g : Ghosts D) (graph : Graph) (d : D) (l : LeftCommit) (i
 
 -- ---- of the store
 
-module _ {D : Type 0} (g : Ghosts D) (graph : Graph) (ds : List Opened) (d : D) (space : Kept) where
+module _ {D : Type 0} (g : Ghosts D) (graph : Graph) (ds : Drafts) (d : D) (space : Kept) where
   pub store_tells : StoreIs g graph ds d space → Tells g d
   store_tells = with_left space.left
     where
@@ -172,7 +172,7 @@ module _ {D : Type 0} (g : Ghosts D) (graph : Graph) (ds : List Opened) (d : D) 
 
 -- ---- what is read
 
-module _ {D : Type 0} {g : Ghosts D} {graph : Graph} {ds : List Opened} {d : D} {space : Kept} {id : Puid} {o : Object} {at : ℕ} (is : IsShownAt g graph ds d space id o at) where
+module _ {D : Type 0} {g : Ghosts D} {graph : Graph} {ds : Drafts} {d : D} {space : Kept} {id : Puid} {o : Object} {at : ℕ} (is : IsShownAt g graph ds d space id o at) where
   pub shown_tells : Tells g d
   shown_tells = store_tells g graph ds d space is.store
 

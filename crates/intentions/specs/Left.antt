@@ -20,7 +20,7 @@ use Rattle.ufs_model.specs.Identifier.{rises}
 use Rattle.ufs_model.specs.Numbers.{has_number}
 use Rattle.ufs_model.specs.declared.object.Object.{Object}
 use Rattle.vol_image.specs.Run.{Carries}
-use Rattle.vol_owners.specs.Account.{Accounts, Opened, drafts_of}
+use Rattle.vol_owners.specs.Account.{Accounts, Drafts}
 use Rattle.vol_owners.specs.Change.{IsOpenTo, of_owners}
 
 -- ---- what is to come
@@ -80,23 +80,23 @@ GoesWith g graph disk space (Some l) = IsGoing g graph disk space l
 -- ---- with the blocks of all objects and drafts
 
 -- The store has these objects and drafts. Each block of the image that is to come has its use.
-pub record HasLeft {D : Type 0} (g : Ghosts D) (graph : Graph) (drafts : List Opened) (disk : D) (space : Kept)
+pub record HasLeft {D : Type 0} (g : Ghosts D) (graph : Graph) (drafts : Drafts) (disk : D) (space : Kept)
     (l : LeftCommit) : Type 0 where
   pub going : IsGoing g graph disk space l
   -- Of this object, and one that is made with it, are all entries that are still to be changed, and no draft is theirs.
   pub owners : List ℕ
   pub own : has_number going.id.block owners ≡ true
   pub opens : AreOpen (λ e. of_owners owners e) (copied_if l.copied l (g.content disk)) (plan l)
-  pub shut : (x : Puid) → has_number x.block owners ≡ true → drafts_of drafts x ≡ []
+  pub shut : (x : Puid) → has_number x.block owners ≡ true → drafts x ≡ None
   pub account : Accounts (coming (g.content disk) (Some l)) graph drafts
   pub ordered : rises (ids_of graph) ≡ true
 
 -- what stands between two calls, with what is left of one commit or with none
-abbrev pub StoreWith : {D : Type 0} → Ghosts D → Graph → List Opened → D → Kept → Option LeftCommit → Type 0
+abbrev pub StoreWith : {D : Type 0} → Ghosts D → Graph → Drafts → D → Kept → Option LeftCommit → Type 0
 StoreWith g graph drafts disk space None = StoreHas g graph drafts disk space
 StoreWith g graph drafts disk space (Some l) = HasLeft g graph drafts disk space l
 
-abbrev pub StoreIs : {D : Type 0} → Ghosts D → Graph → List Opened → D → Kept → Type 0
+abbrev pub StoreIs : {D : Type 0} → Ghosts D → Graph → Drafts → D → Kept → Type 0
 StoreIs g graph drafts disk space = StoreWith g graph drafts disk space space.left
 
 -- the image to which it comes
@@ -107,7 +107,7 @@ final_image g disk space = coming (g.content disk) space.left
 
 -- The store has this object. The block is that by which it is read: its root, or the shadow root that stands in for it
 -- until it is copied.
-pub record IsShownAt {D : Type 0} (g : Ghosts D) (graph : Graph) (drafts : List Opened) (disk : D) (space : Kept)
+pub record IsShownAt {D : Type 0} (g : Ghosts D) (graph : Graph) (drafts : Drafts) (disk : D) (space : Kept)
     (id : Puid) (o : Object) (at : ℕ) : Type 0 where
   pub store : StoreIs g graph drafts disk space
   pub there : object_at graph id ≡ Some o

@@ -1,5 +1,5 @@
 -- A file written, or set to a size, from what the store has of it.
-use Rattle.normal_files.proofs.Words.{◌≡◌, inl, inr, ℕ, ◌+◌, ◌<◌, ◌≤◌, true, false, List, [], length, Some, refl, sym, ◌∙◌, ap, subst, arith, Ok, Err, set, sum, IfErr, OnOk, Result, OnlyReads, then, wider, AreBlocks, Image, block_at, Leaves, IsSettled, left_now, refused_by, Ghosts, Puid, Refused, Trouble, stopped_after_reads, IsRootBlock, IsGoodRoot, IsRoot, root_spelling, one_root, AreCounts, Kept, file_to_leaves, File, Graph, object_at, with_object, tree_in, IsTree, carries_on, Accounts, Opened, drafts_of, ChangesOnly, of_owner, IsNode, leaves_in, resized, AreClaimed, node_pointers, leaf_limit, size_limit, IsNear, is_damage, HasStoppedBy}
+use Rattle.normal_files.proofs.Words.{◌≡◌, inl, inr, ℕ, ◌+◌, ◌<◌, ◌≤◌, true, false, List, length, None, Some, refl, sym, ◌∙◌, ap, subst, arith, Ok, Err, set, sum, IfErr, OnOk, Result, OnlyReads, then, wider, AreBlocks, Image, block_at, Leaves, IsSettled, left_now, refused_by, Ghosts, Puid, Refused, Trouble, stopped_after_reads, IsRootBlock, IsGoodRoot, IsRoot, root_spelling, one_root, AreCounts, Kept, file_to_leaves, File, Graph, object_at, with_object, tree_in, IsTree, carries_on, Accounts, Drafts, ChangesOnly, of_owner, IsNode, leaves_in, resized, AreClaimed, node_pointers, leaf_limit, size_limit, IsNear, is_damage, HasStoppedBy}
 use Rattle.normal_files.specs.Calls.{Handed}
 use Rattle.normal_files.specs.Ends.{is_damaged, IsStop}
 use Rattle.normal_files.specs.Cuts.{IsCutRoot, IsEnd, IsReadEnd, MayTrim, first_gone, last_node, trimmed}
@@ -45,7 +45,7 @@ images_read {g = g} {old = old} {mid = mid} reads P = wider g old mid _ P reads.
 pub by_block : (id : Puid) (at : ℕ) → id.block ≡ at → id ≡ id_at at id.word
 by_block id at here = ap (λ (block : ℕ). id_at block id.word) here
 
-pub has_file : (a : Image) (graph : Graph) (ds : List Opened) (id : Puid) (f : File) (root : roots.Root) → Accounts a graph ds → object_at graph id ≡ Some (objects.File f) → AreBlocks a → IsRootBlock (block_at a id.block) root → HasFile a graph id f root
+pub has_file : (a : Image) (graph : Graph) (ds : Drafts) (id : Puid) (f : File) (root : roots.Root) → Accounts a graph ds → object_at graph id ≡ Some (objects.File f) → AreBlocks a → IsRootBlock (block_at a id.block) root → HasFile a graph id f root
 has_file a graph ds id f root account there blocks is =
     let r = rooted_is a id (objects.File f) (account.objects id (objects.File f) there).no_bit (account.holds.objects id (objects.File f) there) in
     let same : r.0 ≡ root = one_root r.0 root r.1.laid.good is.good (sym r.1.here ∙ is.spelled) in
@@ -95,7 +95,7 @@ module _ {D : Type 0} {n : ℕ} {g : Ghosts D} {old mid : D} (reads : OnlyReads 
       record { inside = inside; low_is = subst (λ (i : Image). IsPart i root low) (sym reads.content) low_is; high_is = subst (λ (i : Image). IsPart i root high) (sym reads.content) high_is }
 
 -- the file by its root block
-pub file_of : (image : Image) (graph : Graph) (ds : List Opened) (id : Puid) (f : File) (at : ℕ) → Accounts image graph ds → object_at graph id ≡ Some (objects.File f) → id.block ≡ at → IsFileAt image at f
+pub file_of : (image : Image) (graph : Graph) (ds : Drafts) (id : Puid) (f : File) (at : ℕ) → Accounts image graph ds → object_at graph id ≡ Some (objects.File f) → id.block ≡ at → IsFileAt image at f
 file_of image graph ds id f at account there here =
     let r = rooted_is image id (objects.File f) (account.objects id (objects.File f) there).no_bit (account.holds.objects id (objects.File f) there) in
     let content = block_at image id.block in
@@ -115,7 +115,7 @@ module _ {D : Type 0} {g : Ghosts D} {at : ℕ} {disk : D} {kept : Kept} (h : Ha
     file = h.file;
     store = h.store;
     has = has_file (g.content disk) h.graph h.drafts (id_at at h.id.word) h.file root h.store.account (subst (λ x. object_at h.graph x ≡ Some (objects.File h.file)) (by_block h.id at h.here) h.there) blocks is;
-    no_draft = subst (λ x. drafts_of h.drafts x ≡ []) (by_block h.id at h.here) h.no_draft;
+    no_draft = subst (λ x. h.drafts x ≡ None) (by_block h.id at h.here) h.no_draft;
   }
 
   -- told of the identifier that was handed

@@ -1,10 +1,10 @@
 -- The root written with a greater size, and then a barrier.
-use Rattle.normal_files.proofs.Words.{◌≡◌, inl, ◌≤◌, ℕ, List, Ok, set, refl, sym, ◌∙◌, ap, subst, arith, length, Result, Image, Nothing, block_at, IsSettled, Leaves, Ghosts, Puid, Trouble, on, wider, IsGoodRoot, root_spelling, AreCounts, Kept, bytes_held, grown_fit, grown_object, SetSize, File, with_object, changed_object, resized, entry_in, rises-with_object, Frames, Holds, carries_settled, frames_begin, Accounts, HasDrafts, ChangesOnly, of_owner, is_meant, is_owned_by, object_changes_on, size_limit}
+use Rattle.normal_files.proofs.Words.{◌≡◌, inl, ◌≤◌, ℕ, List, Ok, set, refl, sym, ◌∙◌, ap, subst, arith, length, Result, Image, Nothing, block_at, IsSettled, Leaves, Ghosts, Puid, Trouble, on, wider, IsGoodRoot, root_spelling, AreCounts, Kept, bytes_held, grown_fit, grown_object, SetSize, File, with_object, changed_object, resized, entry_in, rises-with_object, Frames, Holds, carries_settled, frames_begin, Accounts, HasDraftIf, ChangesOnly, of_owner, is_meant, is_owned_by, changes_in_place, size_limit}
 use Rattle.normal_files.specs.Frees.{TakesNone}
 use Rattle.normal_files.specs.Laid.{leaves_of}
 use Rattle.normal_files.specs.Standing.{BecomesFile, IsPartly}
 use Rattle.normal_files.specs.Steps.{WritesBlock}
-use Rattle.normal_files.proofs.Owned.{IsOwn, all_there, block_from_own, blocks_stay}
+use Rattle.normal_files.proofs.Owned.{IsOwn, block_from_own, blocks_stay}
 use Rattle.normal_files.proofs.Trimmed.{IsEitherWay, IsLed, KeepsEntries, a_file, either_begin, entries_begin, gives, pointer_stays, set_content, shrunk_holds, shrunk_partly, shrunk_reads, shrunk_rooted}
 use Rattle.normal_files.proofs.Trees.{each_leaf, stands_at}
 use Rattle.normal_files.specs.View.{FileView, id_at}
@@ -84,12 +84,11 @@ module _ {D : Type 0} {g : Ghosts D} {r : ℕ} {root : roots.Root} {start : D} {
           store = record {
             carries = carries_settled g (with_object v.graph id (objects.File new_file)) end settled (subst (λ (i : Image). Holds i (with_object v.graph id (objects.File new_file))) (sym content_is)
                 (shrunk_holds v.has led (way a frames) (as_a a frames)));
-            account = subst (λ (i : Image). Accounts i (with_object v.graph id (objects.File new_file)) v.drafts) (sym content_is) (object_changes_on a (set a r spelt) v.graph v.drafts v.drafts id (objects.File v.file) (objects.File new_file) v.store.account v.has.at
+            account = subst (λ (i : Image). Accounts i (with_object v.graph id (objects.File new_file)) v.drafts) (sym content_is) (changes_in_place a (set a r spelt) v.graph v.drafts id (objects.File v.file) (objects.File new_file) v.store.account v.has.at v.no_draft
                 (shrunk_reads v.has led (way a frames) (as_a a frames))
                 (blocks_stay a (set a r spelt) id root next v.has.rooted (shrunk_rooted v.has led (way a frames) (as_a a frames)) (λ n. refl)
                 (pointer_stays v.has led (way a frames) (as_a a frames)) contents.entries (v.store.account.objects id (objects.File v.file) v.has.at))
-                (subst (HasDrafts (set a r spelt) id) (sym v.no_draft) (λ m. ap (is_owned_by is_meant r) (contents.entries m) ∙ subst (HasDrafts a id) v.no_draft (v.store.account.drafts id (objects.File v.file) v.has.at) m))
-                (λ x other. refl) contents.only refl (all_there v.graph id (objects.File new_file) v.drafts v.store.account.on_objects));
+                (λ m. ap (is_owned_by is_meant r) (contents.entries m) ∙ subst (HasDraftIf a id) v.no_draft (v.store.account.drafts id (objects.File v.file) v.has.at) m) contents.only);
             counts = subst (λ (i : Image). AreCounts i kept) (sym content_is) contents.counts;
             ordered = rises-with_object v.graph id (objects.File new_file) v.store.ordered;
           };

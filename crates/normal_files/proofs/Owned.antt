@@ -1,5 +1,5 @@
 -- The blocks of a file that is read by its root: the root, and the nodes and leaves to which the pointers lead.
-use Rattle.normal_files.proofs.Words.{◌≡◌, ◌≢◌, ◌⊎◌, inl, inr, ℕ, ◌<◌, List, [], ◌∷◌, Some, refl, sym, ◌∙◌, ap, subst, true, Image, Puid, IsRootBlock, root_spelling, entry_in, IsBlockOf, tree_in, first_or, sight, no_shadows, read_by_root, held, HasItsBlocks, Opened, is_had, is_leaving, is_owned_by, list_all, and_from, and_parts, Object, Graph, is_there, with_object, still_there, leaf_pointers}
+use Rattle.normal_files.proofs.Words.{◌≡◌, ◌≢◌, ◌⊎◌, inl, inr, ℕ, ◌<◌, List, [], ◌∷◌, Some, refl, sym, ◌∙◌, ap, subst, Image, Puid, IsRootBlock, root_spelling, entry_in, IsBlockOf, tree_in, first_or, sight, no_shadows, read_by_root, held, HasItsBlocks, is_had, is_leaving, is_owned_by, leaf_pointers}
 use Rattle.normal_files.specs.Laid.{IsRooted, leaf_of, node_of}
 use Rattle.normal_files.proofs.Laid.{each, leaf_there, node_there}
 use Rattle.block_tree.specs.declared.root.Root as roots
@@ -55,12 +55,3 @@ blocks_stay a b id root next one two nodes same entries has = record {
     forth m (inl is) = inl is
     forth m (inr (inl (n, real, is))) = inr (inl (n, λ none. real (sym (nodes n) ∙ none), is ∙ sym (nodes n)))
     forth m (inr (inr (n, k, small, real, is))) = inr (inr (n, k, small, λ none. real (sym (same n k) ∙ none), is ∙ sym (same n k)))
-
--- ---- drafts of objects, one of which is changed
-
--- drafts are still on objects that are there
-pub all_there : (graph : Graph) (id : Puid) (o : Object) (ds : List Opened) → list_all (λ d. is_there graph d.id) ds ≡ true → list_all (λ d. is_there (with_object graph id o) d.id) ds ≡ true
-all_there graph id o [] there = refl
-all_there graph id o (e ∷ es) there =
-    let two = and_parts (is_there graph e.id) (list_all (λ d. is_there graph d.id) es) there in
-    and_from _ _ (still_there graph id o e.id two.0) (all_there graph id o es two.1)

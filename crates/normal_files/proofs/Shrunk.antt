@@ -1,5 +1,5 @@
 -- A file that was set to less: what its root no longer leads to becomes Free, and then the store has the file.
-use Rattle.normal_files.proofs.Words.{◌≡◌, ◌≢◌, ◌⊎◌, inl, inr, ℕ, ◌+◌, ◌*◌, ◌<◌, ◌≤◌, Bool, true, false, cond, List, [], length, set, get_or, Some, refl, sym, ◌∙◌, ap, subst, get_or-set_other, arith, nat_lt, length-set, both_ways, cases_eq, cases_lt, get_or_past, Image, block_at, IsSettled, left_now, Ghosts, Puid, Place, Leaf, Node, Root, node_spelling, root_spelling, AreCounts, Kept, entry_in, BlockState, Free, File, Object, Graph, object_at, with_object, same_puid, leaves_in, resized, filter-rises, object_at-with_object, rises-with_object, same_puid_is, same_puid_itself, Frames, IsBlockOf, IsLoose, BelongsTo, is_committed, part_at, part_of, sight, Holds, ReadsAs, carried, other_at, others, owned_is_loose, frames_hold, framed_sight, same_blocks, placed, begins, HasDrafts, HasItsBlocks, ChangesOnly, of_owner, is_had, is_leaving, is_meant, is_owned_by, changes_begin, changes_then, free_unowned, object_changes_on, leaf_pointers, node_pointers, leaf_limit, leaves_at, zeros}
+use Rattle.normal_files.proofs.Words.{◌≡◌, ◌≢◌, ◌⊎◌, inl, inr, ℕ, ◌+◌, ◌*◌, ◌<◌, ◌≤◌, Bool, true, false, cond, List, [], length, set, get_or, Some, refl, sym, ◌∙◌, ap, subst, get_or-set_other, arith, nat_lt, length-set, both_ways, cases_eq, cases_lt, get_or_past, Image, block_at, IsSettled, left_now, Ghosts, Puid, Place, Leaf, Node, Root, node_spelling, root_spelling, AreCounts, Kept, entry_in, BlockState, Free, File, Object, Graph, object_at, with_object, same_puid, leaves_in, resized, filter-rises, object_at-with_object, rises-with_object, same_puid_is, same_puid_itself, Frames, IsBlockOf, IsLoose, BelongsTo, is_committed, part_at, part_of, sight, Holds, ReadsAs, carried, other_at, others, owned_is_loose, frames_hold, framed_sight, same_blocks, placed, begins, HasDraftIf, HasItsBlocks, ChangesOnly, of_owner, is_had, is_leaving, is_meant, is_owned_by, changes_begin, changes_then, free_unowned, changes_in_place, leaf_pointers, node_pointers, leaf_limit, leaves_at, zeros}
 use Rattle.normal_files.specs.Cuts.{MayTrim, last_node, put_at, trimmed}
 use Rattle.normal_files.specs.Frees.{Drops, IsDropped, IsFreed, IsFreeing, TakesNone, FreedLeaf, FreedNode}
 use Rattle.normal_files.specs.Laid.{IsRooted, leaf_of, leaves_of, node_of}
@@ -9,7 +9,7 @@ use Rattle.normal_files.proofs.Among.{places_differ}
 use Rattle.normal_files.proofs.Ended.{either_e, either_left, gone_stays, is_trimmed, put_none, put_some, stay_before, x_own, y_own, IsCut}
 use Rattle.normal_files.proofs.Laid.{tree_of_laid}
 use Rattle.normal_files.proofs.Partly.{held_rises}
-use Rattle.normal_files.proofs.Owned.{IsOwn, all_there, block_from_own, own_from_block}
+use Rattle.normal_files.proofs.Owned.{IsOwn, block_from_own, own_from_block}
 use Rattle.normal_files.proofs.Trees.{near, same_leaves}
 use Rattle.normal_files.proofs.Trimmed.{IsEitherWay, IsLed, IsTrimmed, KeepsEntries, either_partly, entries_begin, gives, led, set_content, shrunk_holds, shrunk_own, shrunk_partly, shrunk_parts, shrunk_rooted}
 use Rattle.normal_files.proofs.Places.{one_leaf, one_node}
@@ -267,9 +267,8 @@ module _ {D : Type 0} {g : Ghosts D} {r : ℕ} {root : roots.Root} {start : D} {
     shrunk_stores = record {
       store = record {
         carries = carried g after b mid now b_holds was.within;
-        account = object_changes_on a c v.graph v.drafts v.drafts id (objects.File v.file) (objects.File new_file) v.store.account v.has.at reads_now (has_now (v.store.account.objects id (objects.File v.file) v.has.at))
-            (subst (HasDrafts c id) (sym v.no_draft) (none_of is_meant refl (subst (HasDrafts a id) v.no_draft (v.store.account.drafts id (objects.File v.file) v.has.at)))) (λ x other. refl)
-            (changes_then _ a b c contents.only was.only) refl (all_there v.graph id (objects.File new_file) v.drafts v.store.account.on_objects);
+        account = changes_in_place a c v.graph v.drafts id (objects.File v.file) (objects.File new_file) v.store.account v.has.at v.no_draft reads_now (has_now (v.store.account.objects id (objects.File v.file) v.has.at))
+            (none_of is_meant refl (subst (HasDraftIf a id) v.no_draft (v.store.account.drafts id (objects.File v.file) v.has.at))) (changes_then _ a b c contents.only was.only);
         counts = was.counts;
         ordered = rises-with_object v.graph id (objects.File new_file) v.store.ordered;
       };

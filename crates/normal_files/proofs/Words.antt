@@ -61,14 +61,13 @@ pub use Rattle.std.proofs.lemmas.List.Elements.{All-from_get_or, All-replicate, 
 pub use Rattle.std.proofs.lemmas.List.FromFn.{length-map-range_with_len}
 pub use Rattle.std.proofs.lemmas.List.Sums.{length-filter, sum_by-cons}
 pub use Rattle.std.proofs.lemmas.Option.{same_Some}
-pub use Rattle.std.specs.List.{All, list_all, range_with_len}
+pub use Rattle.std.specs.List.{All, range_with_len}
 pub use Rattle.std.specs.Prelude.{IfErr, IfOk, IsSome, OnOk, Result, count_by, filter, if◌then◌else◌, map, max, min, nat_le, nat_lt, not, slice_index, slice_range, sum, ◌&&◌, ◌==◌, ◌||◌}
 pub use Rattle.std.specs.Result.{IsErrAnd}
 pub use Rattle.ufs_model.proofs.Graphs.{object_at-with_object, rises-with_object}
 pub use Rattle.ufs_model.proofs.Reached.{same_puid_is, same_puid_itself}
 pub use Rattle.ufs_model.proofs.Rising.{filter-rises, here, in_filter, in_map, in_numbers, in_withs, numbers-rise, same_numbers, to_filter, to_map, to_numbers, to_withs, with_numbers-rise}
-pub use Rattle.ufs_model.proofs.WellGraphs.{still_there}
-pub use Rattle.ufs_model.specs.Graph.{Graph, is_there, object_at, with_object}
+pub use Rattle.ufs_model.specs.Graph.{Graph, object_at, with_object}
 pub use Rattle.ufs_model.specs.Identifier.{same_puid}
 pub use Rattle.ufs_model.specs.Numbers.{branches, has_number, lacking, missing, numbers_rise, parents}
 pub use Rattle.ufs_model.specs.Object.{changed_object, held_levels, leaves_in, resized, touched, written}
@@ -98,7 +97,7 @@ pub use Rattle.vol_image.specs.Sound.{Holds, ReadsAs}
 pub use Rattle.vol_image.specs.Survives.{leaf_of_file}
 pub use Rattle.vol_owners.proofs.Changes.{changes_begin, changes_content, changes_entry, changes_then}
 pub use Rattle.vol_owners.proofs.Entries.{free_unowned, taken_of}
-pub use Rattle.vol_owners.proofs.Steps.{object_changes_on}
-pub use Rattle.vol_owners.specs.Account.{Accounts, HasDrafts, HasItsBlocks, Opened, drafts_of, is_meant_for}
+pub use Rattle.vol_owners.proofs.Steps.{changes_in_place}
+pub use Rattle.vol_owners.specs.Account.{Accounts, Drafts, HasDraftIf, HasItsBlocks, is_meant_for}
 pub use Rattle.vol_owners.specs.Change.{ChangesOnly, IsOpenTo, of_owner}
 pub use Rattle.vol_owners.specs.Owner.{is_had, is_leaving, is_meant, is_owned_by, is_placed, is_taken, owner_of}

@@ -1,5 +1,5 @@
 -- A write, from the first leaf to the last pointer.
-use Rattle.normal_files.proofs.Words.{◌≡◌, ◌≢◌, ◌⊎◌, inl, inr, ℕ, zero, suc, ◌+◌, ◌-◌, ◌*◌, ◌/◌, ◌%◌, ◌<◌, ◌≤◌, Bool, true, false, List, [], length, get_or, Option, Some, None, refl, sym, ◌∙◌, ap, subst, arith, ◌&&◌, ◌==◌, is_some, not, both_ways, cases_eq, cases_lt, Image, block_at, IsSettled, Ghosts, Puid, Place, Leaf, Node, Root, root_spelling, AreClaimed, claims_then, AreCounts, Kept, allocated, BlockState, Allocated, Free, IntendAllocate, IntendDeallocate, MapEntry, entry_in, LeavesFit, bytes_held, Graph, with_object, has_number, parents, leaves_in, written, rises-with_object, BelongsTo, part_at, part_of, Held, held_at, sight, Holds, ReadsAs, carries_settled, object_put, placed, taken_apart, held_there, held, not_map, Accounts, HasDrafts, HasItsBlocks, is_meant_for, ChangesOnly, of_owner, is_had, is_leaving, is_meant, is_owned_by, is_taken, taken_of, object_changes_on, leaf_pointers, leaves_at}
+use Rattle.normal_files.proofs.Words.{◌≡◌, ◌≢◌, ◌⊎◌, inl, inr, ℕ, zero, suc, ◌+◌, ◌-◌, ◌*◌, ◌/◌, ◌%◌, ◌<◌, ◌≤◌, Bool, true, false, List, [], length, get_or, Option, Some, None, refl, sym, ◌∙◌, ap, subst, arith, ◌&&◌, ◌==◌, is_some, not, both_ways, cases_eq, cases_lt, Image, block_at, IsSettled, Ghosts, Puid, Place, Leaf, Node, Root, root_spelling, AreClaimed, claims_then, AreCounts, Kept, allocated, BlockState, Allocated, Free, IntendAllocate, IntendDeallocate, MapEntry, entry_in, LeavesFit, bytes_held, Graph, with_object, has_number, parents, leaves_in, written, rises-with_object, BelongsTo, part_at, part_of, Held, held_at, sight, Holds, ReadsAs, carries_settled, object_put, placed, taken_apart, held_there, held, not_map, Accounts, HasDraftIf, HasItsBlocks, is_meant_for, ChangesOnly, of_owner, is_had, is_leaving, is_meant, is_owned_by, is_taken, taken_of, changes_in_place, leaf_pointers, leaves_at}
 use Rattle.normal_files.specs.Among.{leaf_after}
 use Rattle.normal_files.specs.Laid.{IsAt, IsRooted, leaf_of, leaves_of, node_of}
 use Rattle.normal_files.specs.Links.{linked_image, linked_root}
@@ -15,7 +15,7 @@ use Rattle.normal_files.proofs.Laid.{rooted_reads}
 use Rattle.normal_files.proofs.Patched.{last_file, mixed_fits, mixed_partly, next_held, next_untouched, untouched, whole}
 use Rattle.normal_files.proofs.NeedOf.{held_is, node_held, told_leaf}
 use Rattle.normal_files.proofs.Orders.{not_is, now_other}
-use Rattle.normal_files.proofs.Owned.{IsOwn, all_there, block_from_own, own_from_block}
+use Rattle.normal_files.proofs.Owned.{IsOwn, block_from_own, own_from_block}
 use Rattle.normal_files.proofs.Ready.{IsReady}
 use Rattle.normal_files.proofs.Stages.{Comes, IsStage, begin, end, steps}
 use Rattle.normal_files.proofs.TakeRun.{content_stays, new_stays, some_block}
@@ -330,14 +330,13 @@ module _ {D : Type 0} {g : Ghosts D} {r : ℕ} {root : roots.Root} {start : D} {
 
   pub stores_now : (now : D) → g.content now ≡ c2 → IsSettled g now → BecomesFile g v.graph v.drafts id (written v.file offset bytes) start now kept
   stores_now now content settled =
-      let none = subst (HasDrafts a id) v.no_draft (v.store.account.drafts id (objects.File v.file) v.has.at) in
+      let none = subst (HasDraftIf a id) v.no_draft (v.store.account.drafts id (objects.File v.file) v.has.at) in
       let has = v.store.account.objects id (objects.File v.file) v.has.at in
       let new = objects.File (written v.file offset bytes) in
       record {
         store = record {
           carries = carries_settled g (with_object v.graph id new) now settled (subst (λ (i : Image). Holds i (with_object v.graph id new)) (sym content) (object_put a c2 v.graph id new v.has.holds comes2.stage.frames reads_now));
-          account = subst (λ (i : Image). Accounts i (with_object v.graph id new) v.drafts) (sym content) (object_changes_on a c2 v.graph v.drafts v.drafts id (objects.File v.file) new v.store.account v.has.at reads_now (has_now has none)
-              (subst (HasDrafts c2 id) (sym v.no_draft) (none_meant has none)) (λ x other. refl) comes2.stage.only refl (all_there v.graph id new v.drafts v.store.account.on_objects));
+          account = subst (λ (i : Image). Accounts i (with_object v.graph id new) v.drafts) (sym content) (changes_in_place a c2 v.graph v.drafts id (objects.File v.file) new v.store.account v.has.at v.no_draft reads_now (has_now has none) (none_meant has none) comes2.stage.only);
           counts = subst (λ (i : Image). AreCounts i kept) (sym content) comes2.stage.counts;
           ordered = rises-with_object v.graph id new v.store.ordered;
         };

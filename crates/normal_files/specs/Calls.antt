@@ -1,5 +1,5 @@
 -- What a call that changes a file is handed, and what it did.
-use Rattle.std.specs.Prelude.{◌≡◌, ℕ, ◌+◌, ◌≤◌, false, true, List, [], Some, Result, IfErr, OnOk, length, sum}
+use Rattle.std.specs.Prelude.{◌≡◌, ℕ, ◌+◌, ◌≤◌, false, true, List, None, Some, Result, IfErr, OnOk, length, sum}
 use Rattle.cfs_base.specs.Run.{IsSettled, Leaves}
 use Rattle.cfs_base.specs.declared.disk.Disk.{Ghosts}
 use Rattle.cfs_base.specs.declared.identifier.Puid.{Puid}
@@ -17,17 +17,17 @@ use Rattle.ufs_model.specs.Graph.{Graph, object_at}
 use Rattle.ufs_model.specs.Object.{resized, written}
 use Rattle.ufs_model.specs.declared.object.File.{File}
 use Rattle.ufs_model.specs.declared.object.Object.TheVariants as objects
-use Rattle.vol_owners.specs.Account.{Opened, drafts_of}
+use Rattle.vol_owners.specs.Account.{Drafts}
 
 -- the store has a file without a draft, and its root is in this block
 pub record Handed {D : Type 0} (g : Ghosts D) (at : ℕ) (disk : D) (space : Kept) : Type 0 where
   pub graph : Graph
-  pub drafts : List Opened
+  pub drafts : Drafts
   pub id : Puid
   pub file : File
   pub store : StoreHas g graph drafts disk space
   pub there : object_at graph id ≡ Some (objects.File file)
-  pub no_draft : drafts_of drafts id ≡ []
+  pub no_draft : drafts id ≡ None
   pub here : id.block ≡ at
 
 -- A write of bytes at an offset. Done, the store has the file with them, and that outlasts a crash. Each touched leaf

@@ -1,5 +1,5 @@
 -- A file as it stands on a disk.
-use Rattle.std.specs.Prelude.{◌≡◌, ◌⊎◌, ℕ, true, List, length, OnOk, Result}
+use Rattle.std.specs.Prelude.{◌≡◌, ◌⊎◌, ℕ, true, length, OnOk, Result}
 use Rattle.cfs_base.specs.Disk.{Image, block_at}
 use Rattle.cfs_base.specs.declared.disk.Disk.{Ghosts}
 use Rattle.cfs_base.specs.declared.identifier.Puid.{Puid}
@@ -13,7 +13,7 @@ use Rattle.vol_image.specs.Reading.{IsTree}
 use Rattle.vol_image.specs.Seen.{tree_in}
 use Rattle.vol_image.specs.Sound.{Holds}
 use Rattle.vol_image.specs.Survives.{IsBetween}
-use Rattle.vol_owners.specs.Account.{Opened}
+use Rattle.vol_owners.specs.Account.{Drafts}
 use Rattle.normal_files.specs.View.{FileView, id_at}
 use Rattle.vol_owners.specs.Change.{ChangesOnly, of_owner}
 use Rattle.cfs_base.specs.Run.{Leaves}
@@ -31,7 +31,7 @@ abbrev pub IsRootAt : Image → (at : ℕ) → roots.Root → Type 0
 IsRootAt image at root = IsRootBlock (block_at image at) root
 
 -- The store has this file in the place of the old one, and nothing changed but blocks of it or such as were Free.
-pub record BecomesFile {D : Type 0} (g : Ghosts D) (graph : Graph) (ds : List Opened) (id : Puid) (f : File)
+pub record BecomesFile {D : Type 0} (g : Ghosts D) (graph : Graph) (ds : Drafts) (id : Puid) (f : File)
     (old new : D) (space : Kept) : Type 0 where
   pub store : StoreHas g (with_object graph id (objects.File f)) ds new space
   pub only : ChangesOnly (λ entry. of_owner id.block entry) (g.content old) (g.content new)

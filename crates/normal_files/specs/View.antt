@@ -1,5 +1,5 @@
 -- What a call on a file is handed: the store that has it, and how it stands.
-use Rattle.std.specs.Prelude.{◌≡◌, ℕ, List, [], Some}
+use Rattle.std.specs.Prelude.{◌≡◌, ℕ, None, Some}
 use Rattle.cfs_base.specs.Disk.{AreBlocks, Image}
 use Rattle.cfs_base.specs.declared.disk.Disk.{Ghosts}
 use Rattle.cfs_base.specs.declared.identifier.Puid.{Puid}
@@ -8,7 +8,7 @@ use Rattle.intentions.specs.Store.{StoreHas}
 use Rattle.ufs_model.specs.declared.object.File.{File}
 use Rattle.ufs_model.specs.Graph.{Graph, object_at}
 use Rattle.vol_image.specs.Sound.{Holds}
-use Rattle.vol_owners.specs.Account.{Opened, drafts_of}
+use Rattle.vol_owners.specs.Account.{Drafts}
 use Rattle.normal_files.specs.Laid.{IsRooted, object_laid}
 use Rattle.block_tree.specs.declared.root.Root as roots
 use Rattle.ufs_model.specs.declared.object.Object.TheVariants as objects
@@ -28,12 +28,12 @@ pub record HasFile (a : Image) (graph : Graph) (id : Puid) (f : File) (root : ro
 -- the store has a file without a draft, with this root in this block
 pub record FileView {D : Type 0} (g : Ghosts D) (block : ℕ) (root : roots.Root) (disk : D) (kept : Kept) : Type 0 where
   pub graph : Graph
-  pub drafts : List Opened
+  pub drafts : Drafts
   pub word : ℕ
   pub file : File
   pub store : StoreHas g graph drafts disk kept
   pub has : HasFile (g.content disk) graph (id_at block word) file root
-  pub no_draft : drafts_of drafts (id_at block word) ≡ []
+  pub no_draft : drafts (id_at block word) ≡ None
 
 -- a change of a file in place is on its way: the disk at its start holds the file, with its root in this block
 pub record Way {D : Type 0} (g : Ghosts D) (block : ℕ) : Type 0 where

@@ -1,6 +1,6 @@
 -- A disk in the middle of a step of a draft: each object stands in every image, and only blocks of the draft changed.
 use Rattle.std.proofs.Common.{◌≡◌, ◌≢◌, inl, ⊎_elim, ℕ, ◌<◌, IsTrue, true, List, length, set, Ok, Some, sym, subst, arith}
-use Rattle.special_files.proofs.Words.{AreCounts, BlockNo, Carries, ChangesOnly, Enters, EntryWritten, Frames, Ghosts, Graph, Holds, IfOk, Image, IsEntry, IsLeastFree, IsSameDisk, Kept, Leaves, MapEntry, Nothing, Object, OnOk, OnlyReads, Opened, Puid, Refused, Result, Root, StoreHas, Written, carries_on, changes_begin, changes_then, frames_back, frames_hold, frames_then, frames_write, is_free_in, is_meant, is_meant_for, is_owned_by, left_now, map_in_image, map_of, map_with, not_map, object_at, of_draft, still_tells, taken_apart, then, wider, with_entry}
+use Rattle.special_files.proofs.Words.{AreCounts, BlockNo, Carries, ChangesOnly, Drafts, Enters, EntryWritten, Frames, Ghosts, Graph, Holds, IfOk, Image, IsEntry, IsLeastFree, IsSameDisk, Kept, Leaves, MapEntry, Nothing, Object, OnOk, OnlyReads, Puid, Refused, Result, Root, StoreHas, Written, carries_on, changes_begin, changes_then, frames_back, frames_hold, frames_then, frames_write, is_free_in, is_meant, is_meant_for, is_owned_by, left_now, map_in_image, map_of, map_with, not_map, object_at, of_draft, still_tells, taken_apart, then, wider, with_entry}
 use Rattle.special_files.proofs.Meant.{claim_changes, claim_framed, free_is, meant_changes, meant_is, meant_written}
 use Rattle.cyl_alloc.proofs.Counted.{counts_content}
 
@@ -30,7 +30,7 @@ pub record IsAmid {D : Type 0} (g : Ghosts D) (graph : Graph) (id : Puid) (start
   pub only : ChangesOnly (λ e. of_draft id.block e) (g.content start) (g.content now)
   pub leaves : Leaves g start now (λ c. Holds c graph)
 
-module _ {D : Type 0} (g : Ghosts D) (graph : Graph) (ds : List Opened) (id : Puid) (o : Object) (start : D) (space : Kept) (store : StoreHas g graph ds start space) (at : object_at graph id ≡ Some o) where
+module _ {D : Type 0} (g : Ghosts D) (graph : Graph) (ds : Drafts) (id : Puid) (o : Object) (start : D) (space : Kept) (store : StoreHas g graph ds start space) (at : object_at graph id ≡ Some o) where
   pub amid_begins : IsAmid g graph id start start space
   amid_begins = record {
     carries = store.carries;

@@ -1,9 +1,8 @@
 -- A draft that is begun equals its object.
-use Rattle.std.proofs.Common.{◌≡◌, inl, inr, ℕ, zero, suc, Bool, true, false, List, [], ◌∷◌, length, take, get_or, Option, Some, None, refl, sym, ◌∙◌, ap, subst}
-use Rattle.special_files.proofs.Words.{Accounts, AreCounts, ChangesOnly, Ghosts, Graph, HasDraft, HasDrafts, HasItsBlocks, Held, Holds, Image, IsBlockOf, IsRootBlock, IsTree, Kept, Object, OnlyReads, Opened, Puid, ReadsAs, StoreHas, Tree, and_parts, begun_at, block_at, both_ways, carries_on, changes_begin, draft_goes_on, drafts_of, entry_in, false_from_ne_true, filter, first_or, fresh_of, had_not_meant, is_meant_for, levels_of, levels_standing, no_shadows, object_at, of_draft, one_root, opened_as, passes, path_to, range_with_len, root_spelling, sight, source, stands_for, tree_in, width}
+use Rattle.std.proofs.Common.{◌≡◌, inl, inr, ℕ, zero, suc, Bool, IsTrue, true, false, List, [], ◌∷◌, length, take, get_or, Option, Some, None, refl, sym, ◌∙◌, ap, subst}
+use Rattle.special_files.proofs.Words.{Accounts, AreCounts, BeginsDirect, Drafts, Ghosts, Graph, HasDraft, HasDraftIf, HasItsBlocks, Held, Holds, Image, IsBlockOf, IsRootBlock, IsSameDisk, IsTree, Kept, Leaves, Nothing, Object, ObjectView, OnlyReads, Opened, Puid, ReadsAs, StoreHas, Tree, and_parts, begun_at, block_at, both_ways, carries_on, changes_begin, created_if, draft_goes_on, entry_in, false_from_ne_true, filter, first_or, fresh_of, had_not_meant, is_meant_for, levels_of, levels_standing, no_shadows, object_at, one_root, opened_as, passes, path_to, range_with_len, root_spelling, sight, source, stands_for, tree_in, width}
 use Rattle.block_tree.specs.declared.root.Root as roots
 use Rattle.special_files.proofs.Levels.{none_in}
-use Rattle.special_files.proofs.Lists.{first_created, first_here, first_others, first_there}
 
 -- in memory nothing is fresh either
 pub begun_fresh : (at : ℕ) (shadow : Option ℕ) (own : roots.Root) (k : ℕ) → get_or [] k [] ≡ get_or (fresh_of (begun_at at shadow own)) k []
@@ -39,7 +38,7 @@ own_tree image size id own o has reads is =
     subst (λ (r : roots.Root). IsTree size id.block (tree_in image (root_spelling own)) r o) same fits
 
 abbrev pub begun_as : Puid → Option ℕ → Object → roots.Root → Opened
-begun_as id shadow o own = opened_as id (begun_at id.block shadow own) (record { object = o; fresh = [] })
+begun_as id shadow o own = opened_as (begun_at id.block shadow own) (record { object = o; fresh = [] })
 
 -- ---- with its shadow root, and without
 
@@ -72,38 +71,35 @@ module _ (image : Image) (g : Graph) (holds : Holds image g) (id : Puid) (o : Ob
     no_other = λ n meant. inl (only n meant);
   }
 
--- a draft that is begun between two images of the object's own changes
-pub begun_accounts : (a b : Image) (g : Graph) (ds : List Opened) (id : Puid) (o : Object) (own : roots.Root) (shadow : Option ℕ) → Accounts a g ds → object_at g id ≡ Some o → drafts_of ds id ≡ []
-    → ChangesOnly (λ e. of_draft id.block e) a b → HasDraft b id (begun_as id shadow o own) → Accounts b g (begun_as id shadow o own ∷ ds)
-begun_accounts a b g ds id o own shadow had at none only draft =
-    let begun = begun_as id shadow o own in
-    draft_goes_on a b g ds (begun ∷ ds) id o had at (subst (HasDrafts b id) (sym (first_here begun ds none)) draft) (first_others begun ds) (first_there begun ds g o at had.on_objects) only (first_created begun ds refl)
-
--- the root block of an object that the disk holds
-pub own_root : (image : Image) (g : Graph) → Holds image g → (id : Puid) (o : Object) → object_at g id ≡ Some o → (own : roots.Root) × IsRootBlock (block_at image id.block) own
+-- the root block of an object that the store has
+pub own_root : {D : Type 0} {g : Ghosts D} {disk : D} {space : Kept} {at : ℕ} (v : ObjectView g disk space at) → (own : roots.Root) × IsRootBlock (block_at (g.content disk) at) own
 unfolding sight
-own_root image g holds id o at = let reads = holds.objects id o at in (reads.root, reads.spelled)
+own_root {g = g} {disk} v = let reads = v.store.carries.holds.objects v.id v.object v.there in (reads.root, subst (λ (n : ℕ). IsRootBlock (block_at (g.content disk) n) reads.root) v.root reads.spelled)
 
 -- ---- the store
 
-module _ {D : Type 0} (g : Ghosts D) (graph : Graph) where
-  pub store_reads : (ds : List Opened) (old new : D) (space : Kept) (n : ℕ) → StoreHas g graph ds old space → OnlyReads g n old new → StoreHas g graph ds new space
-  store_reads ds old new space n store reads = record {
-    carries = carries_on g graph old new store.carries reads.content reads.told reads.images reads.same;
-    account = subst (λ (i : Image). Accounts i graph ds) (sym reads.content) store.account;
-    counts = subst (λ (i : Image). AreCounts i space) (sym reads.content) store.counts;
-    ordered = store.ordered;
-  }
+-- after calls that changed nothing
+pub store_still : {D : Type 0} {g : Ghosts D} {graph : Graph} {ds : Drafts} {old new : D} {space : Kept} → StoreHas g graph ds old space → g.content new ≡ g.content old → ((n : ℕ) → IsTrue (g.told old n) → IsTrue (g.told new n)) → Leaves g old new Nothing → IsSameDisk g.blocks g.honest g.tells_images old new → StoreHas g graph ds new space
+store_still {g = g} {graph} {ds} {old} {new} {space} store content told images same = record {
+  carries = carries_on g graph old new store.carries content told images same;
+  account = subst (λ (i : Image). Accounts i graph ds) (sym content) store.account;
+  counts = subst (λ (i : Image). AreCounts i space) (sym content) store.counts;
+  ordered = store.ordered;
+}
 
-  pub store_begins : (ds : List Opened) (old : D) (space : Kept) (id : Puid) (o : Object) (own : roots.Root) → StoreHas g graph ds old space → object_at graph id ≡ Some o → drafts_of ds id ≡ []
-      → IsRootBlock (block_at (g.content old) id.block) own → StoreHas g graph (begun_as id None o own ∷ ds) old space
-  store_begins ds old space id o own store at none is = record {
-    carries = store.carries;
-    account = begun_accounts (g.content old) (g.content old) graph ds id o own None store.account at none (changes_begin _ (g.content old) graph store.account.holds)
-        (begun_draft (g.content old) graph store.account.holds id o at (store.account.objects id o at) own is None (λ s stands. cc) (λ n meant. absurd (both_ways _ (nothing n) meant)));
-    counts = store.counts;
-    ordered = store.ordered;
-  }
-    where
-      nothing : (n : ℕ) → is_meant_for (g.content old) id.block n ≡ false
-      nothing = subst (HasDrafts (g.content old) id) none (store.account.drafts id o at)
+pub store_reads : {D : Type 0} (g : Ghosts D) (graph : Graph) (ds : Drafts) (old new : D) (space : Kept) (n : ℕ) → StoreHas g graph ds old space → OnlyReads g n old new → StoreHas g graph ds new space
+store_reads g graph ds old new space n store reads = store_still store reads.content reads.told reads.images reads.same
+
+-- without a shadow root nothing is written
+pub direct_begins : {D : Type 0} {g : Ghosts D} {old new : D} {space : Kept} {at n : ℕ} (v : ObjectView g old space at) → OnlyReads g n old new → (own : roots.Root) → IsRootBlock (block_at (g.content old) at) own → BeginsDirect v new space (begun_at at None own)
+direct_begins {g = g} {old} {new} {space} {n = n} v reads own is none = store_reads g v.graph _ old new space n (record {
+  carries = v.store.carries;
+  account = draft_goes_on (g.content old) (g.content old) v.graph v.ds v.id v.object (Some (begun_as v.id None v.object own)) v.store.account v.there
+      (begun_draft (g.content old) v.graph v.store.account.holds v.id v.object v.there (v.store.account.objects v.id v.object v.there) own (subst (λ (k : ℕ). IsRootBlock (block_at (g.content old) k) own) (sym v.root) is) None (λ s stands. cc) (λ k meant. absurd (both_ways _ (nothing k) meant)))
+      (changes_begin _ (g.content old) v.graph v.store.account.holds) (sym (ap created_if none));
+  counts = v.store.counts;
+  ordered = v.store.ordered;
+}) reads
+  where
+    nothing : (k : ℕ) → is_meant_for (g.content old) v.id.block k ≡ false
+    nothing = subst (HasDraftIf (g.content old) v.id) none (v.store.account.drafts v.id v.object v.there)

@@ -1,18 +1,18 @@
--- A draft whose root was written to its shadow root, and the drafts of the others.
-use Rattle.std.proofs.Common.{◌≡◌, ◌≢◌, inl, inr, ⊎_elim, ℕ, ◌%◌, ◌<◌, Bool, true, false, cond, IsTrue, List, [], ◌∷◌, ◌++◌, length, length-set, get_or, set, Option, Some, None, Ok, Err, refl, sym, ◌∙◌, ap, subst, arith, not}
-use Rattle.special_files.proofs.Words.{All, AreOnDisk, Drafting, CommitFails, FarRoot, Ghosts, Graph, HasDraft, HasItsBlocks, HasTried, Holds, IfErr, Image, IsChanged, IsOpen, IsPlaced, IsReady, IsRootBlock, IsSameDisk, IsTree, IsDraftTrouble, Kept, Leaves, MakesAtMost, MapEntry, Object, Opened, Puid, Result, Root, SameAt, SameOthers, ShadowRoot, StandsIn, StoreHas, Tells, Tree, Trouble, Written, and_from, and_parts, block_at, both_ways, content_of, created_of, drafts_of, entry_in, entry_in-set, false≢true, far_root, fun_ext, had_not_meant, in_image, is_damage, is_meant, is_meant_for, is_owned_by, is_some, is_there, left_now, levels_of, levels_standing, list_all, not_map, object_at, object_at-with_object, one_root_block, opened_as, option_to_list, part_of, root_placed, root_spelling, same_Some, same_or_not, same_puid, same_puid_is, same_tree, shadow_apart, shadow_taken, stands_for, stands_meant, taken_apart, tree_in, trouble_after_try, with_object, without_draft, Top, still_top}
+-- A draft whose root was written to its shadow root.
+use Rattle.std.proofs.Common.{◌≡◌, ◌≢◌, inl, inr, ⊎_elim, ℕ, ◌%◌, ◌<◌, true, false, List, [], length, get_or, Some, None, Ok, Err, refl, sym, ◌∙◌, ap, subst, length-set}
+use Rattle.special_files.proofs.Words.{All, AreOnDisk, CommitFails, DraftView, Drafting, Drafts, Ghosts, Graph, HasDraft, HasItsBlocks, HasTried, Holds, IfErr, Image, IsChanged, IsDraftTrouble, IsLeastFree, IsPlaced, IsReady, IsRootBlock, IsTree, Kept, Leaves, MakesAtMost, MapEntry, Object, OnlyReads, Opened, Puid, Result, Root, SameAt, ShadowRoot, StandsIn, StoreHas, Tells, Top, Tree, Trouble, WritesDraftBlock, Written, and_parts, block_at, both_ways, content_of, entry_in, entry_in-set, false≢true, far_root, fun_ext, had_not_meant, in_image, is_damage, is_meant, is_meant_for, is_owned_by, left_now, levels_of, levels_standing, not_map, object_at, one_root_block, opened_as, part_of, root_placed, root_spelling, same_Some, same_or_not, same_tree, shadow_apart, shadow_taken, stands_for, stands_meant, still_top, taken_apart, tree_in, trouble_after_try}
 use Rattle.std.proofs.lemmas.List.{get_or-set_other, get_or-set_same}
 use Rattle.cfs_base.specs.declared.refusal.Trouble.TheVariants as trouble
-use Rattle.special_files.proofs.Amid.{IsAmid, amid_begins, write_leaves, wrote}
-use Rattle.special_files.proofs.Lists.{replaced_same}
-use Rattle.special_files.proofs.PutStore.{store_goes_on, the_draft}
+use Rattle.special_files.proofs.Amid.{IsAmid, amid_begins, amid_reads, write_leaves, wrote}
+use Rattle.vol_owners.proofs.Drafts.{with_same}
+use Rattle.special_files.proofs.PutStore.{store_goes_on}
 use Rattle.block_tree.specs.declared.root.Root as roots
-use Rattle.ufs_model.specs.declared.object.Draft as models
 use Rattle.special_files.proofs.Begun.{own_tree}
-use Rattle.special_files.proofs.CommitRuns.{fails_after}
-use Rattle.special_files.proofs.CommitWhole.{IsInner, tree_inner}
-use Rattle.special_files.proofs.Lists.{differs}
+pub use Rattle.special_files.proofs.Endings.{makes_none as nothing_made}
+use Rattle.special_files.proofs.commit.CommitRuns.{fails_after}
+use Rattle.special_files.proofs.commit.CommitWhole.{IsInner, tree_inner}
 use Rattle.special_files.proofs.Refusals.{still_as}
+use Rattle.special_files.proofs.View.{draft_of}
 
 -- ---- from the draft in memory to that on the disk
 
@@ -87,55 +87,6 @@ module _ (a b : Image) (g : Graph) (id : Puid) (was : Object) (d : Opened) (s : 
   pub ready_with : IsReady b g id was d.draft.object s taken dropped None × (tree_in b (block_at b s) ≡ tree_in a (content_of d))
   ready_with = (ready, new_tree)
 
--- ---- the drafts of the others
-
-pub without_none : (id : Puid) (ds : List Opened) → drafts_of ds id ≡ [] → without_draft id ds ≡ ds
-without_none id [] none = refl
-without_none id (f ∷ ds) none = elim (same_puid f.id id) as (λ b. same_puid f.id id ≡ b → cond b (f ∷ drafts_of ds id) (drafts_of ds id) ≡ [] → cond (not b) (f ∷ without_draft id ds) (without_draft id ds) ≡ f ∷ ds) [
-  | true ↦ λ is empty. cc
-  | false ↦ λ apart empty. ap (λ (es : List Opened). f ∷ es) (without_none id ds empty)
-] refl none
-
-pub without_here : (id : Puid) (ds : List Opened) → drafts_of (without_draft id ds) id ≡ []
-without_here id [] = refl
-without_here id (f ∷ ds) = elim (same_puid f.id id) as (λ b. same_puid f.id id ≡ b → drafts_of (cond (not b) (f ∷ without_draft id ds) (without_draft id ds)) id ≡ []) [
-  | true ↦ λ is. without_here id ds
-  | false ↦ λ apart. rw apart (without_here id ds)
-] refl
-
-pub without_others : (id : Puid) (ds : List Opened) → SameOthers id ds (without_draft id ds)
-without_others id [] = λ x other. refl
-without_others id (f ∷ ds) = λ x other. elim (same_puid f.id id) as (λ b. same_puid f.id id ≡ b → drafts_of (cond (not b) (f ∷ without_draft id ds) (without_draft id ds)) x ≡ drafts_of (f ∷ ds) x) [
-  | true ↦ λ is. without_others id ds x other ∙ sym (ap (λ (b : Bool). cond b (f ∷ drafts_of ds x) (drafts_of ds x)) (ap (λ (y : Puid). same_puid y x) (same_puid_is f.id id is) ∙ differs x id other))
-  | false ↦ λ apart. ap (λ (es : List Opened). cond (same_puid f.id x) (f ∷ es) es) (without_others id ds x other)
-] refl
-
-pub without_created : (id : Puid) (d : Opened) (ds : List Opened) → drafts_of ds id ≡ d ∷ [] → d.created ≡ None → created_of (without_draft id ds) ≡ created_of ds
-without_created id d [] alone none = refl
-without_created id d (f ∷ ds) alone none = elim (same_puid f.id id) as (λ b. same_puid f.id id ≡ b → cond b (f ∷ drafts_of ds id) (drafts_of ds id) ≡ d ∷ [] → created_of (cond (not b) (f ∷ without_draft id ds) (without_draft id ds)) ≡ created_of (f ∷ ds)) [
-  | true ↦ λ is here.
-      let one : f ≡ d = cc in
-      let rest : drafts_of ds id ≡ [] = cc in
-      ap created_of (without_none id ds rest) ∙ ap (λ (o : Option ℕ). option_to_list o ++ created_of ds) (sym (ap (λ (x : Opened). x.created) one ∙ none))
-  | false ↦ λ apart here. ap (λ (ns : List ℕ). option_to_list f.created ++ ns) (without_created id d ds here none)
-] refl alone
-
-pub there_still : (g : Graph) (id : Puid) (o : Object) (x : Puid) → is_there g x ≡ true → is_there (with_object g id o) x ≡ true
-there_still g id o x there = ap (λ (r : Option Object). is_some r) (object_at-with_object g id o x) ∙ by (same_puid x id)
-  where
-    by : (b : Bool) → is_some (cond b (Some o) (object_at g x)) ≡ true
-    by true = refl
-    by false = there
-
-pub without_there : (g : Graph) (id : Puid) (o : Object) (ds : List Opened) → list_all (λ f. is_there g f.id) ds ≡ true → list_all (λ f. is_there (with_object g id o) f.id) (without_draft id ds) ≡ true
-without_there g id o [] all = refl
-without_there g id o (f ∷ ds) all =
-    let two = and_parts (is_there g f.id) (list_all (λ h. is_there g h.id) ds) all in
-    elim (same_puid f.id id) as (λ b. list_all (λ h. is_there (with_object g id o) h.id) (cond (not b) (f ∷ without_draft id ds) (without_draft id ds)) ≡ true) [
-      | true ↦ without_there g id o ds two.1
-      | false ↦ and_from _ _ (there_still g id o f.id two.0) (without_there g id o ds two.1)
-    ]
-
 -- ---- the root written to the shadow root
 
 module _ (a b : Image) (id : Puid) (d : Opened) (draft : HasDraft a id d) (size : length b ≡ length a) (entries : (m : ℕ) → entry_in b m ≡ entry_in a m) (root : block_at b id.block ≡ block_at a id.block) (tree : tree_in b (content_of d) ≡ tree_in a (content_of d)) where
@@ -153,82 +104,103 @@ module _ (a b : Image) (id : Puid) (d : Opened) (draft : HasDraft a id d) (size 
     no_other = λ n meant. ⊎_elim (λ is. inl is) (λ at. inr (subst (λ (t : Tree). StandsIn t n) (sym tree) at)) (draft.no_other n (ap (is_owned_by is_meant id.block) (sym (entries n)) ∙ meant));
   }
 
-module _ {D : Type 0} (g : Ghosts D) (graph : Graph) (ds : List Opened) (id : Puid) (o : Object) (d0 d1 d2 : D) (k0 : Kept) (drafting : Drafting) (m : models.Draft) (s : ℕ) (block : List ℕ)
-    (store : StoreHas g graph ds d0 k0) (at : object_at graph id ≡ Some o) (opened : IsOpen ds id drafting m) (stood : drafting.shadow ≡ Some s) where
-  draft : HasDraft (g.content d0) id (opened_as id drafting m)
-  draft = the_draft (g.content d0) ds id drafting m opened (store.account.drafts id o at)
+-- The draft's root stands in the shadow root s, which was claimed where the draft had none. These are the blocks that its commit takes and drops.
+pub record AtShadow {D : Type 0} {g : Ghosts D} {d0 : D} {k0 : Kept} {was : Drafting} (v : DraftView g d0 k0 was) (s : ℕ) (taken dropped : List ℕ) (d1 : D) (k1 : Kept) : Type 0 where
+  pub amid : IsAmid g v.graph v.id d0 d1 k1
+  pub ready : IsReady (g.content d1) v.graph v.id v.object v.draft.object s taken dropped None
+  pub spelled : block_at (g.content d1) s ≡ root_spelling was.root
+  pub tree : tree_in (g.content d1) (block_at (g.content d1) s) ≡ tree_in (g.content d0) (root_spelling was.root)
+  pub claim : was.shadow ≡ None → IsLeastFree (g.content d0) s × (s % 64 ≢ 0) × (s ≢ v.id.block)
 
-  stands : stands_for id.block (entry_in (g.content d0) s) ≡ true
+-- still so after reads
+pub shadow_reads : {D : Type 0} {g : Ghosts D} {d0 d1 d2 : D} {k0 k1 : Kept} {was : Drafting} {v : DraftView g d0 k0 was} {s n : ℕ} {taken dropped : List ℕ} → AtShadow v s taken dropped d1 k1 → OnlyReads g n d1 d2 → AtShadow v s taken dropped d2 k1
+shadow_reads {g = g} {d0} {d1} {d2} {k0} {k1} {v = v} {s} {n} {taken} {dropped} at reads = record {
+  amid = amid_reads g v.graph v.ds v.id v.object d0 k0 v.store v.at d1 d2 k1 n at.amid reads;
+  ready = subst (λ (i : Image). IsReady i v.graph v.id v.object v.draft.object s taken dropped None) (sym reads.content) at.ready;
+  spelled = ap (λ (i : Image). block_at i s) reads.content ∙ at.spelled;
+  tree = ap (λ (i : Image). tree_in i (block_at i s)) reads.content ∙ at.tree;
+  claim = at.claim;
+}
+
+-- ---- a draft that has its shadow root
+
+module _ {D : Type 0} {g : Ghosts D} {d0 : D} {k0 : Kept} {was : Drafting} (v : DraftView g d0 k0 was) {s : ℕ} (stood : was.shadow ≡ Some s) where
+  draft : HasDraft (g.content d0) v.id (opened_as was v.draft)
+  draft = draft_of v
+
+  stands : stands_for v.id.block (entry_in (g.content d0) s) ≡ true
   stands = draft.shadow s stood
 
-  shadow_is : IsPlaced (g.content d0) s id.block ShadowRoot
-  shadow_is = shadow_taken (g.content d0) id.block s stands
+  shadow_is : IsPlaced (g.content d0) s v.id.block ShadowRoot
+  shadow_is = shadow_taken (g.content d0) v.id.block s stands
 
-  meant : is_meant_for (g.content d0) id.block s ≡ true
-  meant = stands_meant id.block (entry_in (g.content d0) s) stands
+  meant : is_meant_for (g.content d0) v.id.block s ≡ true
+  meant = stands_meant v.id.block (entry_in (g.content d0) s) stands
 
   below : s < length (g.content d0)
-  below = in_image (g.content d0) graph store.account.holds s shadow_is.taken.is shadow_is.taken.here
+  below = in_image (g.content d0) v.graph v.store.account.holds s shadow_is.taken.is shadow_is.taken.here
 
   real : s % 64 ≢ 0
-  real = not_map s (taken_apart (g.content d0) graph store.account.holds s id.block shadow_is.taken)
+  real = not_map s (taken_apart (g.content d0) v.graph v.store.account.holds s v.id.block shadow_is.taken)
 
   -- no node or leaf is the shadow root, and the root isn't either
-  inner_apart : (n : ℕ) → IsInner (g.content d0) id.block n → n ≢ s
+  inner_apart : (n : ℕ) → IsInner (g.content d0) v.id.block n → n ≢ s
   inner_apart n is same = is.no_shadow (ap (λ (e : MapEntry). e.place) (same_Some _ _ (sym is.taken.here ∙ ap (entry_in (g.content d0)) same ∙ shadow_is.taken.here)) ∙ shadow_is.place_is)
 
-  root_apart : id.block ≢ s
+  root_apart : v.id.block ≢ s
   root_apart same =
-      let root = root_placed (g.content d0) (length (g.content d0)) id o (store.account.holds.objects id o at) in
+      let root = root_placed (g.content d0) (length (g.content d0)) v.id v.object (v.store.account.holds.objects v.id v.object v.at) in
       let no : Some Root ≡ Some ShadowRoot = sym root.place_is ∙ ap (λ (e : MapEntry). e.place) (same_Some _ _ (sym root.taken.here ∙ ap (entry_in (g.content d0)) same ∙ shadow_is.taken.here)) ∙ shadow_is.place_is in cc
 
-  module _ (images : Leaves g d0 d1 (Written (left_now g d0) s block)) where
-    pub shadow_leaves : Leaves g d0 d1 (λ c. Holds c graph)
-    shadow_leaves = write_leaves g graph ds id o d0 k0 store at d0 d1 k0 s block (amid_begins g graph ds id o d0 k0 store at) meant below images
+  pub shadow_leaves : {d1 : D} {block : List ℕ} → Leaves g d0 d1 (Written (left_now g d0) s block) → Leaves g d0 d1 (λ c. Holds c v.graph)
+  shadow_leaves {d1} {block} images = write_leaves g v.graph v.ds v.id v.object d0 k0 v.store v.at d0 d1 k0 s block (amid_begins g v.graph v.ds v.id v.object d0 k0 v.store v.at) meant below images
 
-    module _ (content : g.content d1 ≡ set (g.content d0) s block) (told : (n : ℕ) → IsTrue (g.told d0 n) → IsTrue (g.told d1 n)) (same : IsSameDisk g.blocks g.honest g.tells_images d0 d1) where
-      pub amid1 : IsAmid g graph id d0 d1 k0
-      amid1 = wrote g graph ds id o d0 k0 store at d0 d1 k0 s block (amid_begins g graph ds id o d0 k0 store at) meant below images content told same
+  module _ {d1 : D} {block : List ℕ} (write : WritesDraftBlock g s block d0 d1 (Ok (tt {0}))) where
+    amid1 : IsAmid g v.graph v.id d0 d1 k0
+    amid1 = wrote g v.graph v.ds v.id v.object d0 k0 v.store v.at d0 d1 k0 s block (amid_begins g v.graph v.ds v.id v.object d0 k0 v.store v.at) meant below write.images write.written write.told write.calls.same
 
-      entries : (n : ℕ) → entry_in (g.content d1) n ≡ entry_in (g.content d0) n
-      entries n = ap (λ (i : Image). entry_in i n) content ∙ entry_in-set (g.content d0) s block n real
+    entries : (n : ℕ) → entry_in (g.content d1) n ≡ entry_in (g.content d0) n
+    entries n = ap (λ (i : Image). entry_in i n) write.written ∙ entry_in-set (g.content d0) s block n real
 
-      others : (n : ℕ) → n ≢ s → block_at (g.content d1) n ≡ block_at (g.content d0) n
-      others n other = ap (λ (i : Image). block_at i n) content ∙ get_or-set_other (g.content d0) s n block [] other
+    others : (n : ℕ) → n ≢ s → block_at (g.content d1) n ≡ block_at (g.content d0) n
+    others n other = ap (λ (i : Image). block_at i n) write.written ∙ get_or-set_other (g.content d0) s n block [] other
 
-      size : length (g.content d1) ≡ length (g.content d0)
-      size = ap (length {A = List ℕ}) content ∙ length-set (g.content d0) s block
+    size : length (g.content d1) ≡ length (g.content d0)
+    size = ap (length {A = List ℕ}) write.written ∙ length-set (g.content d0) s block
 
-      tree : tree_in (g.content d1) (root_spelling drafting.root) ≡ tree_in (g.content d0) (root_spelling drafting.root)
-      tree = same_tree (g.content d0) (g.content d1) (root_spelling drafting.root) (λ path h there. record {
-        part = ap part_of (entries h.block);
-        content = others h.block (inner_apart h.block (tree_inner (g.content d0) (length (g.content d0)) id.block (root_spelling drafting.root) drafting.root m.object draft.tree h.block (record { path = path; held = h; there = there; is = refl })));
-      })
+    tree : tree_in (g.content d1) (root_spelling was.root) ≡ tree_in (g.content d0) (root_spelling was.root)
+    tree = same_tree (g.content d0) (g.content d1) (root_spelling was.root) (λ path h there. record {
+      part = ap part_of (entries h.block);
+      content = others h.block (inner_apart h.block (tree_inner (g.content d0) (length (g.content d0)) v.id.block (root_spelling was.root) was.root v.draft.object draft.tree h.block (record { path = path; held = h; there = there; is = refl })));
+    })
 
-      draft1 : HasDraft (g.content d1) id (opened_as id drafting m)
-      draft1 = draft_same (g.content d0) (g.content d1) id (opened_as id drafting m) draft size entries (others id.block root_apart) tree
+    draft1 : HasDraft (g.content d1) v.id (opened_as was v.draft)
+    draft1 = draft_same (g.content d0) (g.content d1) v.id (opened_as was v.draft) draft size entries (others v.id.block root_apart) tree
 
-      pub store1 : StoreHas g graph ds d1 k0
-      store1 = subst (λ (es : List Opened). StoreHas g graph es d1 k0) (replaced_same (opened_as id drafting m) ds opened.alone) (store_goes_on g graph ds id o d0 d1 k0 k0 drafting drafting m m store at opened amid1 draft1 refl)
+    pub store1 : StoreHas g v.graph v.ds d1 k0
+    store1 = subst (λ (es : Drafts). StoreHas g v.graph es d1 k0) (with_same v.id (Some (opened_as was v.draft)) v.ds v.opened.alone) (store_goes_on g v.graph v.ds v.id v.object d0 d1 k0 k0 was was v.draft v.draft v.store v.at v.opened amid1 draft1 refl)
 
-      -- the shadow root has what was written
-      pub shadow_has : block_at (g.content d1) s ≡ block
-      shadow_has = ap (λ (i : Image). block_at i s) content ∙ get_or-set_same (g.content d0) s block [] below
+    -- the draft on that disk
+    abbrev pub shadow_view : DraftView g d1 k0 was
+    shadow_view = record { graph = v.graph; ds = v.ds; id = v.id; object = v.object; draft = v.draft; store = store1; at = v.at; opened = v.opened }
 
-      pub ready1 : (taken dropped : List ℕ) → block ≡ root_spelling drafting.root → IsChanged (g.content d1) id (opened_as id drafting m) taken dropped → IsReady (g.content d1) graph id o m.object s taken dropped None
-      ready1 taken dropped spelled lists = (
-          ready_with (g.content d1) (g.content d1) graph id o (opened_as id drafting m) s taken dropped store1.account.holds at (store1.account.objects id o at) draft1 lists (store1.account.objects id o at) refl
-          (λ n other. refl) (λ n is other. refl) (ap (stands_for id.block) (entries s) ∙ stands)
+    -- the shadow root has what was written
+    shadow_has : block_at (g.content d1) s ≡ block
+    shadow_has = ap (λ (i : Image). block_at i s) write.written ∙ get_or-set_same (g.content d0) s block [] below
+
+    pub shadow_stands : (taken dropped : List ℕ) → block ≡ root_spelling was.root → IsChanged (g.content d1) v.id (opened_as was v.draft) taken dropped → AtShadow v s taken dropped d1 k0
+    shadow_stands taken dropped spelled lists = record {
+      amid = amid1;
+      ready = (ready_with (g.content d1) (g.content d1) v.graph v.id v.object (opened_as was v.draft) s taken dropped store1.account.holds v.at (store1.account.objects v.id v.object v.at) draft1 lists (store1.account.objects v.id v.object v.at) refl
+          (λ n other. refl) (λ n is other. refl) (ap (stands_for v.id.block) (entries s) ∙ stands)
           (shadow_has ∙ spelled)
           (λ n is. same_Some _ _ (sym is ∙ stood))
           (λ n is. inner_apart n (record { taken = record { is = is.taken.is; here = sym (entries n) ∙ is.taken.here; taken = is.taken.taken; placed = is.taken.placed; owned = is.taken.owned }; no_root = is.no_root; no_shadow = is.no_shadow }))
-          store1.account.holds).0
-
-      pub root1 : block ≡ root_spelling drafting.root → block_at (g.content d1) s ≡ root_spelling drafting.root
-      root1 spelled = shadow_has ∙ spelled
-
-      pub tree1 : block ≡ root_spelling drafting.root → tree_in (g.content d1) (block_at (g.content d1) s) ≡ tree_in (g.content d0) (root_spelling drafting.root)
-      tree1 spelled = ap (tree_in (g.content d1)) (root1 spelled) ∙ tree
+          store1.account.holds).0;
+      spelled = shadow_has ∙ spelled;
+      tree = ap (tree_in (g.content d1)) (shadow_has ∙ spelled) ∙ tree;
+      claim = λ none. (let no : Some s ≡ None = sym stood ∙ none in cc);
+    }
 
 -- ---- ends
 
@@ -251,9 +223,6 @@ finish_tried g at old mid new kept n t m s first on second tried (Err e) is = st
 
 -- ---- nothing is done
 
-pub nothing_made : {D : Type 0} (g : Ghosts D) (d : D) (n t : ℕ) → MakesAtMost g n t d d
-nothing_made g d n t = record { later = omega arith; keeps = λ k c le was. was; same = record { size = refl; honesty = refl; telling = refl }; faults = omega arith; calls = omega arith; tries = omega arith; no_fewer = omega arith }
-
 -- no failure tells that nothing was tried, where something was
 pub tried_apart : (t : Trouble) → trouble_after_try t ≢ trouble.Disk false
 tried_apart (trouble.Disk tried) same = cc
@@ -265,9 +234,6 @@ finish_apart g at old new kept (Err (trouble.Disk true)) is = λ same. cc
 finish_apart g at old new kept (Err (trouble.Disk false)) is = λ same. (let no : false ≡ true = is.0 in cc)
 finish_apart g at old new kept (Err (trouble.Damaged damage)) is = λ same. cc
 
-pub far_trouble : {D : Type 0} (g : Ghosts D) (at : Top) (d : D) (kept : Kept) (t : Trouble) → at.IsFar (g.blocks d) → t ≡ far_root at.block → IsDraftTrouble g at d d kept t
-far_trouble g at d kept t far is = subst (IsDraftTrouble g at d d kept) (sym is) (FarRoot refl refl far)
-
 -- ---- a call that failed had tried a write or a barrier
 
 pub far_apart : (at : ℕ) (t : Trouble) → t ≡ far_root at → t ≢ trouble.Disk false
@@ -277,16 +243,7 @@ pub known_apart : (t : Trouble) → t ≡ trouble.Disk true → t ≢ trouble.Di
 known_apart t is = λ same. let both : trouble.Disk true ≡ trouble.Disk false = sym is ∙ same in cc
 
 -- a shadow root is a block of the image
-pub shadow_below : {D : Type 0} (g : Ghosts D) (graph : Graph) (ds : List Opened) (id : Puid) (o : Object) (d0 : D) (k0 : Kept) (drafting : Drafting) (m : models.Draft) (s : ℕ) → StoreHas g graph ds d0 k0 → object_at graph id ≡ Some o → IsOpen ds id drafting m → drafting.shadow ≡ Some s → s < length (g.content d0)
-shadow_below g graph ds id o d0 k0 drafting m s store at opened stood =
-    let is = shadow_taken (g.content d0) id.block s ((the_draft (g.content d0) ds id drafting m opened (store.account.drafts id o at)).shadow s stood) in
-    in_image (g.content d0) graph store.account.holds s is.taken.is is.taken.here
-
-pub without_stay : (g : Graph) (id : Puid) (ds : List Opened) → list_all (λ f. is_there g f.id) ds ≡ true → list_all (λ f. is_there g f.id) (without_draft id ds) ≡ true
-without_stay g id [] all = refl
-without_stay g id (f ∷ ds) all =
-    let two = and_parts (is_there g f.id) (list_all (λ h. is_there g h.id) ds) all in
-    elim (same_puid f.id id) as (λ b. list_all (λ h. is_there g h.id) (cond (not b) (f ∷ without_draft id ds) (without_draft id ds)) ≡ true) [
-      | true ↦ without_stay g id ds two.1
-      | false ↦ and_from _ _ two.0 (without_stay g id ds two.1)
-    ]
+pub shadow_below : {D : Type 0} {g : Ghosts D} {disk : D} {space : Kept} {was : Drafting} (v : DraftView g disk space was) (s : ℕ) → was.shadow ≡ Some s → s < length (g.content disk)
+shadow_below {g = g} {disk} v s stood =
+    let is = shadow_taken (g.content disk) v.id.block s ((draft_of v).shadow s stood) in
+    in_image (g.content disk) v.graph v.store.account.holds s is.taken.is is.taken.here

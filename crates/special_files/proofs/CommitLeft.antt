@@ -21,8 +21,8 @@ use Rattle.intentions.specs.Flips.{Flip, MayFlip, flipped, flips}
 use Rattle.intentions.specs.Left.{IsGoing, coming, how_for, plan, to_flip}
 use Rattle.intentions.specs.declared.change.Change.TheVariants.{ClearBit, Finish, Release, SetBit, Undo}
 use Rattle.special_files.proofs.Begun.{own_tree}
-use Rattle.special_files.proofs.CommitWhole as whole
-use Rattle.special_files.proofs.CommitWhole.{IsInner, tree_inner}
+use Rattle.special_files.proofs.commit.CommitWhole as whole
+use Rattle.special_files.proofs.commit.CommitWhole.{IsInner, tree_inner}
 use Rattle.special_files.proofs.Made.{made_root}
 use Rattle.special_files.specs.Committing.{IsAtBit, IsReady, bit_set, settling}
 use Rattle.ufs_model.specs.Graph.{Graph, with_object}

@@ -1,6 +1,6 @@
 -- The fresh blocks of a draft, level by level, and the flags that tell them.
 use Rattle.std.proofs.Common.{◌≡◌, ◌≢◌, ◌⊎◌, inl, inr, ℕ, zero, suc, ◌+◌, ◌-◌, ◌/◌, ◌%◌, ◌<◌, ◌≤◌, Bool, true, false, not, cond, List, [], ◌∷◌, length, get_or, replicate, set, refl, sym, ◌∙◌, ap, subst, get_or-set_other, get_or-set_same, arith}
-use Rattle.special_files.proofs.Words.{Draft, Drafting, IsOpen, Opened, Puid, SetsFresh, Tree, both_ways, cases_Bool, cases_lt, count_by, div-one, eqb-false, eqb-true, filter, fresh_of, fun_ext, get_or-replicate, get_or_past, has_number, in_filter, is_count_by, length-replicate, levels_of, levels_standing, none_of, one_unless, passes, path_is, path_to, range_with_len, same_sums, set_in, standing_at, sum_by, sum_by-cons, to_filter, to_numbers, unset_in, ◌==◌}
+use Rattle.special_files.proofs.Words.{Draft, Drafting, Drafts, IsOpen, Puid, SetsFresh, Tree, both_ways, cases_Bool, cases_lt, count_by, div-one, eqb-false, eqb-true, filter, fresh_of, fun_ext, get_or-replicate, get_or_past, has_number, in_filter, is_count_by, length-replicate, levels_of, levels_standing, none_of, one_unless, passes, path_is, path_to, range_with_len, same_sums, set_in, standing_at, sum_by, sum_by-cons, to_filter, to_numbers, unset_in, ◌==◌}
 
 -- ---- numbers that pass
 
@@ -154,7 +154,7 @@ counted_some [] some = absurd (omega (arith, some))
 counted_some (true ∷ flags) some = (0, refl)
 counted_some (false ∷ flags) some = let more = counted_some flags some in (suc more.0, more.1)
 
-pub fresh_counted : (ds : List Opened) (id : Puid) (was : Drafting) (d : Draft) → IsOpen ds id was d → sum_by length d.fresh ≡ count_by (λ b. b) was.leaves + count_by (λ b. b) was.nodes
+pub fresh_counted : (ds : Drafts) (id : Puid) (was : Drafting) (d : Draft) → IsOpen ds id was d → sum_by length d.fresh ≡ count_by (λ b. b) was.leaves + count_by (λ b. b) was.nodes
 fresh_counted ds id was d opened =
     omega (
       arith,

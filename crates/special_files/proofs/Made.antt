@@ -1,10 +1,10 @@
 -- The root of an object that is made with a commit.
 use Rattle.std.proofs.Common.{◌≡◌, ◌≢◌, inl, inr, ⊎_elim, ℕ, true, false, List, Option, Some, None, refl, sym, ◌∙◌, ap, subst, eq-eqb}
-use Rattle.special_files.proofs.Words.{Accounts, ChangesOnly, Graph, HasItsBlocks, Image, IntendAllocate, IsBareRoot, IsEntered, IsMadeRoot, IsOpenTo, IsPlaced, IsRootBlock, Leaf, MapEntry, Node, Opened, Place, Puid, Root, RootsOwnThemselves, SameAt, ShadowRoot, and_from, and_parts, below_none, block_at, both_ways, entry_in, false_from_ne_true, free_unowned, had_not_meant, has_block, ids_of, is_committed, is_fixed, is_had, is_leaving, is_made, is_meant, is_meant_for, is_owned_by, is_placed, is_root_place, is_taken, node_pointers, none-some, object_of_block, of_draft, of_taken, owner_is, owner_of, part_at, pointers_of, rises, root_owner, same_Some}
+use Rattle.special_files.proofs.Words.{Accounts, ChangesOnly, Drafts, Graph, HasItsBlocks, Image, IntendAllocate, IsBareRoot, IsEntered, IsMadeRoot, IsOpenTo, IsPlaced, IsRootBlock, Leaf, MapEntry, Node, Opened, Place, Puid, Root, RootsOwnThemselves, SameAt, ShadowRoot, and_from, and_parts, below_none, block_at, both_ways, created_if, entry_in, false_from_ne_true, free_unowned, had_not_meant, is_committed, is_fixed, is_had, is_leaving, is_made, is_meant, is_meant_for, is_owned_by, is_placed, is_root_place, is_taken, node_pointers, none-some, of_draft, of_taken, owner_is, owner_of, part_at, pointers_of, root_owner, same_Some}
 use Rattle.block_tree.specs.declared.root.Root as roots
 use Rattle.vol_owners.proofs.Entries.{root_placed}
 use Rattle.intentions.proofs.Flips.{option_is}
-use Rattle.special_files.proofs.CommitRoles.{block_stands, had_not_leaving}
+use Rattle.special_files.proofs.commit.CommitRoles.{block_stands, had_not_leaving}
 use Rattle.special_files.proofs.Meant.{meant_is}
 
 root_is : (p : Option Place) → is_root_place p ≡ true → p ≡ Some Root
@@ -58,11 +58,9 @@ module _ (a : Image) (own : RootsOwnThemselves a) (c : ℕ) (made : IsMadeRoot a
     pub content_kept : is_fixed c ≡ false → block_at b c ≡ block_at a c
     content_kept loose = ⊎_elim (λ same. same) (λ open_to. absurd (other (open_owner c (entry_in a c) taken open_to))) (only.contents c loose)
 
--- no object has this root block yet
-pub no_object : (a : Image) (g : Graph) (ds : List Opened) → Accounts a g ds → rises (ids_of g) ≡ true → (c : ℕ) → IsMadeRoot a c → has_block g.objects c ≡ false
-no_object a g ds had ordered c made = false_from_ne_true _ (λ there.
-    let x = object_of_block g ordered c there in
-    made_apart a had.holds.own c made c (subst (HasItsBlocks a) x.3 (had.objects x.0 x.1 x.2)) refl)
+-- the root that an object's draft makes
+pub draft_made : (a : Image) (g : Graph) (ds : Drafts) → Accounts a g ds → (id : Puid) (d : Opened) → ds id ≡ Some d → (c : ℕ) → d.created ≡ Some c → IsMadeRoot a c
+draft_made a g ds had id d alone c is = had.made c (record { id = id; makes = ap created_if alone ∙ is })
 
 -- ---- once it is there
 

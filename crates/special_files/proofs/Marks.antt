@@ -1,6 +1,6 @@
 -- Flags that are set one after another, and what they make of the model's fresh blocks.
 use Rattle.std.proofs.Common.{◌≡◌, ◌⊎◌, inl, inr, ℕ, zero, suc, ◌+◌, ◌/◌, ◌%◌, ◌<◌, ◌≤◌, Bool, true, false, List, [], ◌∷◌, length, get_or, set, Option, Some, None, refl, sym, ◌∙◌, ap, subst, get_or-set_other, get_or-set_same, arith}
-use Rattle.special_files.proofs.Words.{Draft, Drafting, HasDraft, Held, Image, IsOpen, Object, Opened, Overwrite, Puid, Tree, all-rise, blocks_counted, both_ways, cases_Bool, cases_lt, changed_object, div-one, eqb-false, eqb-true, filter-rises, first_level, fresh_after, fresh_of, get_or_past, has_number, held_at_depth, held_leaves, held_levels, held_nodes, in_all, in_filter, in_map, in_touched, in_withs, is_meant_for, is_some, leaves_in, levels_held, levels_of, map, next_levels, numbers-rise, numbers_rise, opened_as, parents, passes, path_is, path_to, range_with_len, root_spelling, same_numbers, set_in, shared, to_all, to_filter, to_map, to_numbers, to_touched, to_withs, touched, tree_in, with_numbers, within, ◌==◌}
+use Rattle.special_files.proofs.Words.{Draft, Drafting, Drafts, HasDraft, Held, Image, IsOpen, Object, Overwrite, Puid, Tree, all-rise, blocks_counted, both_ways, cases_Bool, cases_lt, changed_object, div-one, eqb-false, eqb-true, filter-rises, first_level, fresh_after, fresh_of, get_or_past, has_number, held_at_depth, held_leaves, held_levels, held_nodes, in_all, in_filter, in_map, in_touched, in_withs, is_meant_for, is_some, leaves_in, levels_held, levels_of, map, next_levels, numbers-rise, numbers_rise, opened_as, parents, passes, path_is, path_to, range_with_len, root_spelling, same_numbers, set_in, shared, to_all, to_filter, to_map, to_numbers, to_touched, to_withs, touched, tree_in, with_numbers, within, ◌==◌}
 use Rattle.special_files.proofs.Levels.{Tell, set_is}
 use Rattle.special_files.proofs.PutStore.{flags_of}
 
@@ -82,7 +82,7 @@ pub below_flags : (flags : List Bool) (w x : ℕ) → length flags ≡ w → get
 below_flags flags w x long is = elim (cases_lt x (length flags)) [ inl below ↦ omega (arith, below, long) | inr past ↦ absurd (both_ways _ (get_or_past flags x false past) is) ]
 
 -- what is fresh is held
-module _ (b : Image) (id : Puid) (es : List Opened) (is : Drafting) (e : Draft) (now : IsOpen es id is e) (draft : HasDraft b id (opened_as id is e)) where
+module _ (b : Image) (id : Puid) (es : Drafts) (is : Drafting) (e : Draft) (now : IsOpen es id is e) (draft : HasDraft b id (opened_as is e)) where
   abbrev tree : Tree
   tree = tree_in b (root_spelling is.root)
 
@@ -110,7 +110,7 @@ module _ (b : Image) (id : Puid) (es : List Opened) (is : Drafting) (e : Draft) 
   node_held x below flag = ap (has_number x) held_second ∙ to_filter (λ n. is_some (tree.below (n / 1 ∷ []))) x (range_with_len 0 120)
       (ap (λ (m : ℕ). is_some (tree.below (m ∷ []))) (div-one x) ∙ some_passed (is_meant_for b id.block) (tree.below (x ∷ [])) (sym (tell.node x below) ∙ flag)) (to_numbers x 0 120 (omega arith) (omega (arith, below)))
 
-module _ (b : Image) (id : Puid) (ds es : List Opened) (was is : Drafting) (d e : Draft) (opened : IsOpen ds id was d) (now : IsOpen es id is e) (draft : HasDraft b id (opened_as id is e))
+module _ (b : Image) (id : Puid) (ds es : Drafts) (was is : Drafting) (d e : Draft) (opened : IsOpen ds id was d) (now : IsOpen es id is e) (draft : HasDraft b id (opened_as is e))
     (offset : ℕ) (bytes : List ℕ) (leaves : Marks (λ l. l) (offset / 512) (leaves_in (offset + length bytes)) was.leaves is.leaves) (nodes : Marks (λ l. l / 128) (offset / 512) (leaves_in (offset + length bytes)) was.nodes is.nodes)
     (object : changed_object (Overwrite offset bytes) d.object ≡ e.object) where
   abbrev T : List ℕ

@@ -1,6 +1,6 @@
 -- What the entry of a block says that is meant for an object, and what may be written there.
 use Rattle.std.proofs.Common.{◌≡◌, ◌≢◌, inl, inr, ℕ, true, List, [], ◌∷◌, set, Option, Some, None, refl, sym, ◌∙◌, ap, subst}
-use Rattle.special_files.proofs.Words.{Accounts, Allocated, BlockState, ChangesOnly, Frames, Free, Graph, HasItsBlocks, Holds, Image, IntendAllocate, IntendDeallocate, IsEntry, IsLoose, IsOpenTo, IsTaken, MapEntry, Object, Opened, Place, Puid, Root, StandsForNone, and_from, and_parts, at_rest, blocks_kept, both_ways, changes_content, changes_entry, drafts_miss, entry_in, eqb-true, frames_begin, frames_content, free_is_loose, has_number, here, is_free_entry, is_free_in, is_had, is_leaving, is_meant, is_meant_for, is_owned_by, is_some, is_taken, loose_entry, object_at, of_draft, rest_loose, taken_apart, the_entry, with_entry, ◌&&◌, ◌==◌}
+use Rattle.special_files.proofs.Words.{Accounts, Allocated, BlockState, ChangesOnly, Drafts, Frames, Free, Graph, HasItsBlocks, Holds, Image, IntendAllocate, IntendDeallocate, IsEntry, IsLoose, IsOpenTo, IsTaken, MapEntry, Object, Place, Puid, Root, StandsForNone, and_from, and_parts, at_rest, blocks_kept, both_ways, changes_content, changes_entry, drafts_miss, entry_in, eqb-true, frames_begin, frames_content, free_is_loose, has_number, here, is_free_entry, is_free_in, is_had, is_leaving, is_meant, is_meant_for, is_owned_by, is_some, is_taken, loose_entry, object_at, of_draft, rest_loose, taken_apart, the_entry, with_entry, ◌&&◌, ◌==◌}
 
 -- ---- entries
 
@@ -52,7 +52,7 @@ meant_open r (Some e) meant =
 
 -- ---- what may be written while a draft is changed
 
-module _ (a b : Image) (g : Graph) (ds : List Opened) (id : Puid) (o : Object) (had : Accounts a g ds) (at : object_at g id ≡ Some o) (only : ChangesOnly (λ e. of_draft id.block e) a b) where
+module _ (a b : Image) (g : Graph) (ds : Drafts) (id : Puid) (o : Object) (had : Accounts a g ds) (at : object_at g id ≡ Some o) (only : ChangesOnly (λ e. of_draft id.block e) a b) where
   pub still_has : (x : Puid) (p : Object) → object_at g x ≡ Some p → HasItsBlocks b x.block
   still_has x p there = blocks_kept (λ e. of_draft id.block e) a b g ds had only x p there (drafts_miss is_had refl (id.block ∷ []) x.block) (drafts_miss is_leaving refl (id.block ∷ []) x.block)
 

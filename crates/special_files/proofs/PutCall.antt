@@ -12,11 +12,11 @@ use Rattle.special_files.proofs.Amid.{IsAmid, amid_begins, write_leaves, wrote}
 use Rattle.special_files.proofs.Endings.{ends_err, ends_then_err, ends_then_ok, enters_ends, gets_ends, write_ends, stays_itself, still_sound, still_room, claim_real, ends_wider}
 use Rattle.special_files.proofs.Fresh.{node_of_fresh}
 use Rattle.special_files.proofs.Levels.{Tell}
-use Rattle.special_files.proofs.PutLeaf.{IsReadFor, fresh_below, node_again, put_again}
+use Rattle.special_files.proofs.leaf.PutLeaf.{IsReadFor, fresh_below, node_again, put_again}
 use Rattle.special_files.proofs.Meant.{meant_is}
-use Rattle.special_files.proofs.PutRun.{amid4, claim1, run_order, run_puts, leaf_claim_leaves, leaf_write_leaves, node_claim_leaves, node_write_leaves}
+use Rattle.special_files.proofs.leaf.PutRun.{amid4, claim1, run_order, run_puts, leaf_claim_leaves, leaf_write_leaves, node_claim_leaves, node_write_leaves}
 use Rattle.special_files.proofs.PutStore.{flags_of, leaf_put, the_draft}
-use Rattle.special_files.proofs.Puts.{LeafPut, node_is}
+use Rattle.special_files.proofs.leaf.Puts.{LeafPut, node_is}
 use Rattle.special_files.proofs.Refusals.{if_err, on_ok}
 use Rattle.special_files.proofs.WriteLeaf.{leaf_refused}
 use Rattle.std.proofs.lemmas.Bool.{cases_eq}
@@ -57,7 +57,7 @@ module _ {D : Type 0} {g : Ghosts D} {d0 : D} {k0 : Kept} {was : Drafting} (v : 
   abbrev has : HasItsBlocks a v.id.block
   has = v.store.account.objects v.id v.object v.at
 
-  draft : HasDraft a v.id (opened_as v.id was v.draft)
+  draft : HasDraft a v.id (opened_as was v.draft)
   draft = the_draft a v.ds v.id was v.draft v.opened (v.store.account.drafts v.id v.object v.at)
 
   tell : Tell (is_meant_for a v.id.block) (tree_in a (root_spelling was.root)) was.leaves was.nodes
@@ -91,13 +91,13 @@ module _ {D : Type 0} {g : Ghosts D} {d0 : D} {k0 : Kept} {was : Drafting} (v : 
     sets : SetsFresh leaf was was
     sets = record {
       leaves = set_again was.leaves leaf fresh;
-      nodes = set_again was.nodes (leaf / 128) (read_for.node_flag ∙ node_of_fresh a v.graph holds v.id v.object v.at has (opened_as v.id was v.draft) draft (leaf / 128) (leaf % 128) (sym read_for.leaf_flag ∙ fresh));
+      nodes = set_again was.nodes (leaf / 128) (read_for.node_flag ∙ node_of_fresh a v.graph holds v.id v.object v.at has (opened_as was v.draft) draft (leaf / 128) (leaf % 128) (sym read_for.leaf_flag ∙ fresh));
     }
 
     again_puts : FitsLeaf was.root leaf content → (result : Result (Unit {0}) Refused) → WritesDraftBlock g x content d0 d1 result → OnOk result (PutsLeaf g v.graph v.ds v.id leaf content d0 d1 k0 was was read)
     again_puts fits (Err e) writes = tt
     again_puts fits (Ok t) writes =
-        let puts = subst (λ (i : Image). LeafPut a i v.id (opened_as v.id was v.draft) was.root leaf x (pointer_to_node was.root (leaf / 128)) content) (sym writes.written) (put_again a v.graph holds v.id v.object v.at has was v.draft draft leaves leaf read_for some content most fresh) in
+        let puts = subst (λ (i : Image). LeafPut a i v.id (opened_as was v.draft) was.root leaf x (pointer_to_node was.root (leaf / 128)) content) (sym writes.written) (put_again a v.graph holds v.id v.object v.at has was v.draft draft leaves leaf read_for some content most fresh) in
         let mid = wrote g v.graph v.ds v.id v.object d0 k0 v.store v.at d0 d1 k0 x content amid mine.0 mine.1 writes.images writes.written writes.told writes.calls.same in
         leaf_put v read leaf x (pointer_to_node was.root (leaf / 128)) content fits most mid puts (stays_itself was) sets
         (λ below. node_again a v.graph holds v.id v.object v.at has was v.draft draft leaves leaf read_for some content most fresh
@@ -135,8 +135,8 @@ module _ {D : Type 0} {g : Ghosts D} {d0 : D} {k0 : Kept} {was : Drafting} (v : 
         second_goes e writes = record { done = tt; leaves = node_write_leaves v d1 d2 k1 k2 leaves leaf most x enters y gets read_for d3 d4 content node first (Err e) writes; sound = ap has_met_damage writes.refused }
 
         module _ (stale : is_fresh_leaf was leaf ≡ false) (now : Drafting) (second : WritesDraftBlock g y.0 node d3 d4 (Ok (tt {0}))) (pointers : set leaves (leaf % 128) x.0 ≡ pointers_of leaf_pointers node) (stays : StaysBut was now) (adds : Adds leaf y.0 was now) where
-          puts : LeafPut a (g.content d4) v.id (opened_as v.id was v.draft) now.root leaf x.0 y.0 content
-          puts = subst (λ (r : roots.Root). LeafPut a (g.content d4) v.id (opened_as v.id was v.draft) r leaf x.0 y.0 content) (sym adds.root)
+          puts : LeafPut a (g.content d4) v.id (opened_as was v.draft) now.root leaf x.0 y.0 content
+          puts = subst (λ (r : roots.Root). LeafPut a (g.content d4) v.id (opened_as was v.draft) r leaf x.0 y.0 content) (sym adds.root)
               (run_puts v d1 d2 k1 k2 leaves leaf most x enters y gets read_for d3 d4 content node first second stale (sym pointers) (omega (arith, long)))
 
           read_there : set leaves (leaf % 128) x.0 ≡ leaves_at (g.content d4) (pointer_to_node now.root read.number)
@@ -144,7 +144,7 @@ module _ {D : Type 0} {g : Ghosts D} {d0 : D} {k0 : Kept} {was : Drafting} (v : 
               let long : length (g.content d4) ≡ length (g.content d3) = ap (length {A = List ℕ}) second.written ∙ length-set (g.content d3) y.0 node in
               let below : y.0 < length (g.content d3) = omega (arith, puts.y_below, long) in
               let here : block_at (g.content d4) y.0 ≡ node = ap (λ (i : Image). block_at i y.0) second.written ∙ get_or-set_same (g.content d3) y.0 node [] below in
-              let root : pointer_to_node now.root read.number ≡ y.0 = ap (pointer_to_node now.root) number ∙ node_is a (g.content d4) v.graph holds v.id (opened_as v.id was v.draft) now.root leaf x.0 y.0 content draft puts most in
+              let root : pointer_to_node now.root read.number ≡ y.0 = ap (pointer_to_node now.root) number ∙ node_is a (g.content d4) v.graph holds v.id (opened_as was v.draft) now.root leaf x.0 y.0 content draft puts most in
               pointers ∙ ap (pointers_of leaf_pointers) (sym here) ∙ sym (leaves_there (g.content d4) y.0 puts.y_some) ∙ ap (leaves_at (g.content d4)) (sym root)
 
           pub new_goes : FitsLeaf was.root leaf content → GoesHolding {A = Unit {0}} g v.graph (PutsLeaf g v.graph v.ds v.id leaf content d0 d4 k2 was now (record { number = read.number; node = record { leaves = set leaves (leaf % 128) x.0 } })) d0 d4 (Ok tt)

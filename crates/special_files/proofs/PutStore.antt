@@ -1,34 +1,29 @@
 -- The store after a leaf was put into a draft.
-use Rattle.std.proofs.Common.{◌≡◌, ℕ, ◌/◌, ◌<◌, Bool, true, List, [], ◌∷◌, length, Some, refl, sym, ◌∙◌, ap, subst, get_or}
-use Rattle.special_files.proofs.Words.{AreClaimed, Drafting, FitsLeaf, Ghosts, Graph, HasDraft, HasDrafts, Image, IsOpen, Kept, NodeRead, Object, Opened, Puid, PutsLeaf, SetsFresh, StaysBut, StoreHas, DraftView, draft_goes_on, draft_in, drafts_of, fresh_of, is_meant_for, is_some, leaf_claims, leaves_at, pointer_to_node, object_at, opened_as, replaced, root_spelling, tree_in, DraftBecomes}
+use Rattle.std.proofs.Common.{◌≡◌, ℕ, ◌/◌, ◌<◌, Bool, true, List, [], length, Some, refl, sym, ◌∙◌, ap, subst, get_or}
+use Rattle.special_files.proofs.Words.{AreClaimed, DraftBecomes, DraftView, Drafting, Drafts, FitsLeaf, Ghosts, Graph, HasDraft, HasDraftIf, Image, IsOpen, Kept, NodeRead, Object, Opened, Puid, PutsLeaf, SetsFresh, StaysBut, StoreHas, created_if, draft_goes_on, draft_in, fresh_of, is_meant_for, leaf_claims, leaves_at, object_at, opened_as, pointer_to_node, root_spelling, tree_in, with_opened}
 use Rattle.std.proofs.Math.ListN.{length-set}
 use Rattle.ufs_model.specs.declared.object.Draft as models
 use Rattle.special_files.proofs.Amid.{IsAmid}
 use Rattle.special_files.proofs.Levels.{Tell, flags_tell, tell_more, told_levels}
-use Rattle.special_files.proofs.Lists.{replaced_created, replaced_here, replaced_others, replaced_there}
-use Rattle.special_files.proofs.Puts.{LeafPut, leaf_now, leaf_puts, node_now, other_leaves, other_nodes, put_beside, put_draft_stands}
+use Rattle.vol_owners.proofs.Drafts.{with_here}
+use Rattle.special_files.proofs.leaf.Puts.{LeafPut, leaf_now, leaf_puts, node_now, other_leaves, other_nodes, put_beside, put_draft_stands}
 
 -- the draft of an object that has one
-pub the_draft : (image : Image) (ds : List Opened) (id : Puid) (drafting : Drafting) (m : models.Draft) → IsOpen ds id drafting m → HasDrafts image id (drafts_of ds id) → HasDraft image id (opened_as id drafting m)
-the_draft image ds id drafting m is has = subst (HasDrafts image id) is.alone has
+pub the_draft : (image : Image) (ds : Drafts) (id : Puid) (drafting : Drafting) (m : models.Draft) → IsOpen ds id drafting m → HasDraftIf image id (ds id) → HasDraft image id (opened_as drafting m)
+the_draft image ds id drafting m is has = subst (HasDraftIf image id) is.alone has
 
--- ---- one draft replaced in the account
+-- ---- a draft in place of one
 
-module _ {D : Type 0} (g : Ghosts D) (graph : Graph) (ds : List Opened) (id : Puid) (o : Object) (old new : D) (before after : Kept) (was now : Drafting) (m next : models.Draft)
+module _ {D : Type 0} (g : Ghosts D) (graph : Graph) (ds : Drafts) (id : Puid) (o : Object) (old new : D) (before after : Kept) (was now : Drafting) (m next : models.Draft)
     (store : StoreHas g graph ds old before) (at : object_at graph id ≡ Some o) (opened : IsOpen ds id was m) (amid : IsAmid g graph id old new after) where
   abbrev now_open : Opened
-  now_open = opened_as id now next
-
-  pub alone_now : drafts_of (replaced now_open ds) id ≡ now_open ∷ []
-  alone_now = replaced_here now_open (opened_as id was m) ds opened.alone
+  now_open = opened_as now next
 
   -- a draft that goes on
-  pub store_goes_on : HasDraft (g.content new) id now_open → now.created ≡ was.created → StoreHas g graph (replaced now_open ds) new after
+  pub store_goes_on : HasDraft (g.content new) id now_open → now.created ≡ was.created → StoreHas g graph (with_opened id now_open ds) new after
   store_goes_on draft created = record {
     carries = amid.carries;
-    account = draft_goes_on (g.content old) (g.content new) graph ds (replaced now_open ds) id o store.account at (subst (HasDrafts (g.content new) id) (sym alone_now) draft)
-        (replaced_others now_open (opened_as id was m) ds) (replaced_there now_open (opened_as id was m) graph ds (ap is_some at) store.account.on_objects) amid.only
-        (replaced_created now_open (opened_as id was m) ds (λ f es is. let same = sym opened.alone ∙ is in (let none : [] ≡ es = cc in sym none, (let one : opened_as id was m ≡ f = cc in ap (λ (d : Opened). d.created) (sym one) ∙ sym created))));
+    account = draft_goes_on (g.content old) (g.content new) graph ds id o (Some now_open) store.account at draft amid.only (created ∙ sym (ap created_if opened.alone));
     counts = amid.counts;
     ordered = store.ordered;
   }
@@ -36,17 +31,17 @@ module _ {D : Type 0} (g : Ghosts D) (graph : Graph) (ds : List Opened) (id : Pu
   pub becomes_now : HasDraft (g.content new) id now_open → now.at ≡ was.at → now.created ≡ was.created → length now.leaves ≡ 15360 → length now.nodes ≡ 120 → ((k : ℕ) → get_or next.fresh k [] ≡ get_or (fresh_of now) k []) → DraftBecomes g graph ds id next old new after now
   becomes_now draft same_at created leaves nodes fresh = record {
     steps = record { store = store_goes_on draft created; only = amid.only };
-    is_open = record { at = opened.at ∙ sym same_at; alone = alone_now; leaf_flags = leaves; node_flags = nodes; fresh = fresh };
+    is_open = record { at = opened.at ∙ sym same_at; alone = with_here id (Some now_open) ds; leaf_flags = leaves; node_flags = nodes; fresh = fresh };
   }
 
 -- ---- a leaf put
 
 -- what the flags of a draft tell
-pub flags_of : (image : Image) (ds : List Opened) (id : Puid) (was : Drafting) (m : models.Draft) → IsOpen ds id was m → HasDraft image id (opened_as id was m) → Tell (is_meant_for image id.block) (tree_in image (root_spelling was.root)) was.leaves was.nodes
+pub flags_of : (image : Image) (ds : Drafts) (id : Puid) (was : Drafting) (m : models.Draft) → IsOpen ds id was m → HasDraft image id (opened_as was m) → Tell (is_meant_for image id.block) (tree_in image (root_spelling was.root)) was.leaves was.nodes
 flags_of image ds id was m opened draft = flags_tell (is_meant_for image id.block) (tree_in image (root_spelling was.root)) was m.fresh opened.leaf_flags opened.node_flags draft.fresh opened.fresh
 
 module _ {D : Type 0} {g : Ghosts D} {old new : D} {before after : Kept} {was now : Drafting} (v : DraftView g old before was) (read : NodeRead) (leaf x y : ℕ) (content : List ℕ) (fits : FitsLeaf was.root leaf content) (most : leaf < 15360)
-    (amid : IsAmid g v.graph v.id old new after) (put : LeafPut (g.content old) (g.content new) v.id (opened_as v.id was v.draft) now.root leaf x y content) (stays : StaysBut was now) (sets : SetsFresh leaf was now) where
+    (amid : IsAmid g v.graph v.id old new after) (put : LeafPut (g.content old) (g.content new) v.id (opened_as was v.draft) now.root leaf x y content) (stays : StaysBut was now) (sets : SetsFresh leaf was now) where
   abbrev a : Image
   a = g.content old
 
@@ -56,7 +51,7 @@ module _ {D : Type 0} {g : Ghosts D} {old new : D} {before after : Kept} {was no
   abbrev later : models.Draft
   later = draft_in b now
 
-  draft : HasDraft a v.id (opened_as v.id was v.draft)
+  draft : HasDraft a v.id (opened_as was v.draft)
   draft = the_draft a v.ds v.id was v.draft v.opened (v.store.account.drafts v.id v.object v.at)
 
   long_leaves : length now.leaves ≡ 15360
@@ -68,16 +63,16 @@ module _ {D : Type 0} {g : Ghosts D} {old new : D} {before after : Kept} {was no
   tell : Tell (is_meant_for b v.id.block) (tree_in b (root_spelling now.root)) now.leaves now.nodes
   tell = tell_more (is_meant_for a v.id.block) (is_meant_for b v.id.block) (tree_in a (root_spelling was.root)) (tree_in b (root_spelling now.root)) leaf was now v.opened.leaf_flags v.opened.node_flags
       (flags_of a v.ds v.id was v.draft v.opened draft) sets
-      (leaf_now a b v.graph v.store.account.holds v.id (opened_as v.id was v.draft) now.root leaf x y content draft put most)
-      (node_now a b v.graph v.store.account.holds v.id (opened_as v.id was v.draft) now.root leaf x y content draft put most)
-      (other_leaves a b v.graph v.store.account.holds v.id (opened_as v.id was v.draft) now.root leaf x y content draft put most)
-      (other_nodes a b v.graph v.store.account.holds v.id (opened_as v.id was v.draft) now.root leaf x y content draft put most)
+      (leaf_now a b v.graph v.store.account.holds v.id (opened_as was v.draft) now.root leaf x y content draft put most)
+      (node_now a b v.graph v.store.account.holds v.id (opened_as was v.draft) now.root leaf x y content draft put most)
+      (other_leaves a b v.graph v.store.account.holds v.id (opened_as was v.draft) now.root leaf x y content draft put most)
+      (other_nodes a b v.graph v.store.account.holds v.id (opened_as was v.draft) now.root leaf x y content draft put most)
 
-  stands : HasDraft b v.id (opened_as v.id now later)
+  stands : HasDraft b v.id (opened_as now later)
   stands =
-      let same : record (opened_as v.id was v.draft) { root = now.root; draft = later } ≡ opened_as v.id now later =
-      λ i. record { id = v.id; shadow = sym stays.shadow i; own = sym stays.own i; root = now.root; draft = later; created = sym stays.created i } in
-      subst (HasDraft b v.id) same (put_draft_stands a b v.graph v.store.account.holds v.id (opened_as v.id was v.draft) now.root leaf x y content draft put most v.object v.at fits.within fits.filled (fresh_of now)
+      let same : record (opened_as was v.draft) { root = now.root; draft = later } ≡ opened_as now later =
+      λ i. record { shadow = sym stays.shadow i; own = sym stays.own i; root = now.root; draft = later; created = sym stays.created i } in
+      subst (HasDraft b v.id) same (put_draft_stands a b v.graph v.store.account.holds v.id (opened_as was v.draft) now.root leaf x y content draft put most v.object v.at fits.within fits.filled (fresh_of now)
       (told_levels (is_meant_for b v.id.block) (tree_in b (root_spelling now.root)) now long_leaves long_nodes tell))
 
   now_is : DraftBecomes g v.graph v.ds v.id later old new after now
@@ -88,8 +83,8 @@ module _ {D : Type 0} {g : Ghosts D} {old new : D} {before after : Kept} {was no
     steps = now_is.steps;
     is_open = now_is.is_open;
     sets = sets;
-    leaves = leaf_puts a b v.graph v.store.account.holds v.id (opened_as v.id was v.draft) now.root leaf x y content draft put most;
+    leaves = leaf_puts a b v.graph v.store.account.holds v.id (opened_as was v.draft) now.root leaf x y content draft put most;
     read_is = node;
     order = order;
-    beside = put_beside a b v.graph v.store.account.holds v.id (opened_as v.id was v.draft) now.root leaf x y content draft put most;
+    beside = put_beside a b v.graph v.store.account.holds v.id (opened_as was v.draft) now.root leaf x y content draft put most;
   }

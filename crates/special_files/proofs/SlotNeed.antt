@@ -3,7 +3,7 @@ use Rattle.std.proofs.Common.{◌≡◌, ℕ, ◌+◌, ◌*◌, ◌/◌, ◌%◌
 use Rattle.special_files.proofs.Words.{Drafting, Fill, Ghosts, Kept, DraftView, cases_Bool, first_level, has_number, is_fresh_leaf, is_fresh_node, lacking, draft_takes, missing, next_levels, one_unless, opened_as, written_anew}
 use Rattle.special_files.proofs.Fresh.{node_of_fresh}
 use Rattle.special_files.proofs.Marks.{first_is, next_is}
-use Rattle.special_files.proofs.Needs.{has_is}
+use Rattle.special_files.proofs.write.Needs.{has_is}
 use Rattle.special_files.proofs.PutStore.{flags_of}
 use Rattle.special_files.proofs.View.{draft_of}
 
@@ -40,4 +40,4 @@ slot_need_is {g = g} {d0} {was = was} v slot inside = elim (cases_Bool (is_fresh
     node_fresh fresh =
         let tell = flags_of (g.content d0) v.ds v.id was v.draft v.opened (draft_of v) in
         tell.node (slot / 64 / 128) (omega (arith, few))
-        ∙ node_of_fresh (g.content d0) v.graph v.store.account.holds v.id v.object v.at (v.store.account.objects v.id v.object v.at) (opened_as v.id was v.draft) (draft_of v) (slot / 64 / 128) (slot / 64 % 128) (sym (tell.leaf (slot / 64) few) ∙ fresh)
+        ∙ node_of_fresh (g.content d0) v.graph v.store.account.holds v.id v.object v.at (v.store.account.objects v.id v.object v.at) (opened_as was v.draft) (draft_of v) (slot / 64 / 128) (slot / 64 % 128) (sym (tell.leaf (slot / 64) few) ∙ fresh)

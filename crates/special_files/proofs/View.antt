@@ -1,22 +1,21 @@
 -- A draft that the store has, before and after reads.
-use Rattle.std.proofs.Common.{◌≡◌, ℕ, List, Some, ◌≢◌, length, sym, ◌∙◌, Option, subst}
+use Rattle.std.proofs.Common.{Ok, Err, false, ap, ◌≡◌, ℕ, Some, ◌≢◌, length, sym, ◌∙◌, Option, subst}
 use Rattle.intentions.proofs.Drafts.{draft_there}
 use Rattle.intentions.proofs.Shown.{store_tells}
-use Rattle.intentions.specs.Left.{StoreIs}
-use Rattle.special_files.specs.View.{HasTree}
-use Rattle.special_files.proofs.Words.{Draft, Drafting, Ghosts, Image, IsTree, root_spelling, tells_on, tree_in, Graph, HasDraft, IsOpen, Kept, Object, OnlyReads, Opened, Puid, StoreHas, DraftView, object_at, opened_as, File, Held, FileKind, kind_of, object_with, file_to_leaves}
+use Rattle.special_files.proofs.Words.{Draft, DraftSeen, DraftView, Drafting, Drafts, File, FileKind, Ghosts, GoesTo, Graph, HasDraft, HasTree, Held, Image, IsErrAnd, IsOpen, IsTree, Kept, Leaves, Nothing, Object, OnlyReads, Puid, Refused, Result, StoreHas, Trouble, file_to_leaves, has_met_damage, is_damage, kind_of, object_at, object_with, opened_as, refused_by, root_spelling, tells_on, tree_in, wider}
 use Rattle.special_files.proofs.Begun.{store_reads}
 use Rattle.cfs_base.specs.declared.kind.Kind.TheVariants as kinds
 use Rattle.cfs_base.specs.declared.kind.FileKind.TheVariants as file_kinds
 use Rattle.ufs_model.specs.declared.object.Object.TheVariants as objects
 use Rattle.block_tree.specs.declared.root.Root as roots
 use Rattle.special_files.proofs.PutStore.{the_draft}
+use Rattle.special_files.proofs.Refusals.{damaged_by}
 
-abbrev pub view : {D : Type 0} {g : Ghosts D} {graph : Graph} {ds : List Opened} {id : Puid} {o : Object} {d : Draft} {disk : D} {space : Kept} {was : Drafting} → StoreHas g graph ds disk space → object_at graph id ≡ Some o → IsOpen ds id was d → DraftView g disk space was
+abbrev pub view : {D : Type 0} {g : Ghosts D} {graph : Graph} {ds : Drafts} {id : Puid} {o : Object} {d : Draft} {disk : D} {space : Kept} {was : Drafting} → StoreHas g graph ds disk space → object_at graph id ≡ Some o → IsOpen ds id was d → DraftView g disk space was
 view {graph} {ds} {id} {o} {d} store at opened = record { graph = graph; ds = ds; id = id; object = o; draft = d; store = store; at = at; opened = opened }
 
 module _ {D : Type 0} {g : Ghosts D} {d0 : D} {space : Kept} {was : Drafting} (v : DraftView g d0 space was) where
-  pub draft_of : HasDraft (g.content d0) v.id (opened_as v.id was v.draft)
+  pub draft_of : HasDraft (g.content d0) v.id (opened_as was v.draft)
   draft_of = the_draft (g.content d0) v.ds v.id was v.draft v.opened (v.store.account.drafts v.id v.object v.at)
 
   abbrev pub view_reads : {d1 : D} {n : ℕ} → OnlyReads g n d0 d1 → DraftView g d1 space was
@@ -28,8 +27,13 @@ pub view_tree : {D : Type 0} {g : Ghosts D} {disk : D} {space : Kept} {was : Dra
 view_tree v = record { tells = v.store.carries.tells; owner = v.id.block; object = v.draft.object; tree = (draft_of v).tree }
 
 -- also while a commit is unfinished, which is of another object
-abbrev pub draft_tree : {D : Type 0} (g : Ghosts D) (graph : Graph) (ds : List Opened) (disk : D) (space : Kept) {id : Puid} {o : Object} {d : Draft} {was : Drafting} → StoreIs g graph ds disk space → object_at graph id ≡ Some o → IsOpen ds id was d → HasTree g disk was
-draft_tree g graph ds disk space {id} {o} {d} {was} store at opened = record { tells = store_tells g graph ds disk space store; owner = id.block; object = d.object; tree = (draft_there g graph ds disk space store id o (opened_as id was d) at opened.alone).tree }
+abbrev pub seen_tree : {D : Type 0} {g : Ghosts D} {disk : D} {was : Drafting} → DraftSeen g disk was → HasTree g disk was
+seen_tree {g = g} {disk} {was} v = record {
+  tells = store_tells g v.graph v.ds disk v.space v.store;
+  owner = v.id.block;
+  object = v.draft.object;
+  tree = (draft_there g v.graph v.ds disk v.space v.store v.id v.object (opened_as was v.draft) v.at v.opened.alone).tree;
+}
 
 abbrev pub tree_reads : {D : Type 0} {g : Ghosts D} {was : Drafting} {d0 d1 : D} {n : ℕ} → HasTree g d0 was → OnlyReads g n d0 d1 → HasTree g d1 was
 tree_reads {g} {was} {d0} {d1} {n} t reads = record {
@@ -48,3 +52,13 @@ no_index root leaves f gives is = by f.kind ((file_to_leaves root leaves f gives
     by : (k : FileKind) → root.kind ≡ kind_of k → ⊥
     by file_kinds.Normal same = (let no : kinds.Normal ≡ kinds.Index = sym same ∙ is in cc)
     by file_kinds.Special same = (let no : kinds.Special ≡ kinds.Index = sym same ∙ is in cc)
+
+-- ---- a call that only read
+
+pub read_leaves : {D : Type 0} {g : Ghosts D} {P : Image → Type 0} {d0 d1 : D} {n : ℕ} → OnlyReads g n d0 d1 → Leaves g d0 d1 P
+read_leaves {g = g} {d0 = d0} {d1} reads = wider g d0 d1 Nothing _ reads.images (λ c none. absurd none)
+
+-- it was refused, by what a `?` makes of a trouble
+pub read_refused : {D A : Type 0} {g : Ghosts D} {graph : Graph} {P : A → Type 0} {d0 d1 : D} {n : ℕ} → OnlyReads g n d0 d1 → (result : Result A Refused) (t : Trouble) → IsErrAnd result (λ e. e ≡ refused_by t) → is_damage t ≡ false → GoesTo g graph P d0 d1 result
+read_refused reads (Ok x) t is sound = absurd is
+read_refused reads (Err e) t is sound = record { done = tt; leaves = read_leaves reads; sound = ap has_met_damage is ∙ damaged_by t sound }

@@ -1,8 +1,8 @@
 -- What lemmas of this crate name of the crates below, and of its own definitions.
 pub use Rattle.block_tree.proofs.Spellings.{nodes_of, one_root}
 pub use Rattle.block_tree.proofs.Trees.{end_is, node_block, path_is}
-pub use Rattle.block_tree.proofs.Nodes.{leaves_there, length-leaves, nothing_below, pointed, two_levels, zeros}
-pub use Rattle.block_tree.specs.Pointers.{leaf_limit, leaf_pointers, node_pointers, number_at, width}
+pub use Rattle.block_tree.proofs.Nodes.{leaves_there, length-leaves, nothing_below, pointed, two_levels}
+pub use Rattle.block_tree.specs.Pointers.{leaf_pointers, node_pointers, number_at, width}
 unfoldable pub use Rattle.block_tree.specs.Pointers.{pointers_of}
 pub use Rattle.block_tree.specs.Root.{Fits, IsGoodRoot, IsRoot, IsRootBlock, root_spelling}
 pub use Rattle.block_tree.specs.Tree.{bytes_in, end_of, pointer, tree_of}
@@ -31,7 +31,6 @@ pub use Rattle.cyl_alloc.proofs.Miscounts.{miscounted_as}
 pub use Rattle.cyl_alloc.specs.Enters.{Enters, EntryWritten}
 pub use Rattle.cyl_alloc.specs.Refusals.{IsFindRefusal, IsMapTrouble}
 pub use Rattle.cyl_alloc.specs.Space.{AreCounts, IsBadMap, IsLeastFree, IsMiscounted, Kept, after_giving, after_taking, unheld_entry, intended}
-unfoldable pub use Rattle.cyl_alloc.specs.Space.{free_in_cylinder}
 pub use Rattle.cyl_map.proofs.Volumes.{block_at-with_entry, entry_in-set, entry_in-with_entry_other, entry_in-with_entry_same, entry_in_table, length-with_entry, map_in_image, same_or_not}
 pub use Rattle.cyl_map.specs.Entry.{IsEntry}
 pub use Rattle.cyl_map.specs.Map.{is_free, is_free_state}
@@ -42,14 +41,14 @@ pub use Rattle.cyl_map.specs.declared.state.BlockState.{BlockState}
 pub use Rattle.cyl_map.specs.declared.state.BlockState.TheVariants.{Allocated, Free, IntendAllocate, IntendDeallocate}
 pub use Rattle.intentions.proofs.Changes.{all_ok, on_ok}
 pub use Rattle.intentions.proofs.Committed.{commits, copied_settles, copies, object_at_put, still_to_finish}
-pub use Rattle.intentions.proofs.Courses.{carries_ended, carries_framed, keeps_frame, keeps_settled, on_entry, on_holds}
+pub use Rattle.intentions.proofs.Courses.{carries_framed, keeps_frame, on_entry}
 pub use Rattle.intentions.proofs.Settling.{may_clear, may_finish, may_finish_made, may_release, may_take_back, may_undo}
 pub use Rattle.intentions.proofs.Valid.{bit_valid, finished_part, no_shadow_stands, released_keeps, undone_stands, undone_valid}
 pub use Rattle.intentions.specs.Calls.{ChangesBit, ChangesEntry}
-pub use Rattle.intentions.specs.Commit.{Commits, Copies, IsCommitted, IsToFinish}
+pub use Rattle.intentions.specs.Commit.{Commits, Copies, IsToFinish}
 pub use Rattle.intentions.specs.Course.{Course, Frame, IsCourse, IsOn, Keeps, MayPut, Settling}
 pub use Rattle.intentions.specs.Entries.{changed_entry, finished, finished_in, released, released_at, released_in, undone, undone_in, with_bit, with_bit_at, without_bit}
-pub use Rattle.intentions.specs.Flips.{Flip, MayFlip, flip, flip_in, flipped, flips}
+pub use Rattle.intentions.specs.Flips.{Flip, MayFlip, flip, flipped, flips}
 pub use Rattle.intentions.specs.Store.{StoreHas}
 pub use Rattle.intentions.specs.declared.change.Change.{Change}
 pub use Rattle.intentions.specs.declared.change.Change.TheVariants.{ClearBit, Finish, Release, SetBit, Undo}
@@ -69,44 +68,46 @@ pub use Rattle.leaf_changes.specs.Changes.{SetsSize}
 pub use Rattle.leaf_changes.specs.Gives.{GivesIndex, kind_of}
 pub use Rattle.leaf_changes.specs.Leaves.{FillsSlot, IsReadTo, LeavesFit, Shrinks, WritesTo, bytes_held, cut_held}
 pub use Rattle.special_files.specs.Becomes.{DraftBecomes}
+pub use Rattle.special_files.specs.Begins.{BeginsDirect, BeginsDraft}
 pub use Rattle.special_files.specs.Calls.{Claims, GetsDraftNode, Had, SetsFlags, SetsFresh, WritesDraftBlock}
 pub use Rattle.special_files.specs.Changed.{AreDropped, AreOnDisk, AreTaken, IsChanged, in_node, pointer_table, unlike}
 unfoldable pub use Rattle.special_files.specs.Changed.{all_unlike}
-pub use Rattle.special_files.specs.Committing.{AbortEnds, AreDraftParts, Decided, CommitEnds, Committed, Dropped, CommitFails, FinishesCommit, Flips, FlipsRun, IsEntered, IsOldOrNew, IsReady, Makes, Making, TakesShadow, bit_set, far_root, given_all, puid_at, making_root, settling, undoing, with_making, FarMade, FarRoots, FarShadow, IsFar, IsFarPart, draft_top, made_top, parts_top}
+pub use Rattle.special_files.specs.Committing.{AbortCall, AbortEnds, AreDraftParts, Decided, CommitEnds, Committed, Dropped, CommitCall, CommitFails, CommitsSo, FinishesCommit, Flips, FlipsRun, IsEntered, IsNoted, IsOldOrNew, IsReady, Makes, Making, TakesShadow, bit_set, far_root, given_all, puid_at, making_root, settling, undoing, with_making, FarMade, FarRoots, FarShadow, draft_top, parts_top}
 pub use Rattle.special_files.specs.Drafting.{Drafting, HasNoneFresh, IsOpen, begun_at, fresh_of, is_fresh_leaf, is_fresh_node, draft_takes, leaves_take, need_beside, pointer_to_node, number_if, one_unless, opened_as, shadow_count, shadow_need}
 unfoldable pub use Rattle.special_files.specs.Drafting.{none_of, set_in, unset_in}
 pub use Rattle.special_files.specs.Ends.{EndsCall}
-pub use Rattle.special_files.specs.Fills.{IsNearSwap, IsSwapped, dropped_by, filled_draft, is_empty_already}
+pub use Rattle.special_files.specs.Fills.{FillCall, FillsDraft, FillsIfIndex, IsNearSwap, IsSwapped, dropped_by, filled_draft, is_empty_already}
 pub use Rattle.special_files.specs.Leaves.{PutsAt, SameBeside, draft_in, leaves_below, object_below}
 pub use Rattle.special_files.specs.Nodes.{IsRead, IsSafe}
 pub use Rattle.special_files.specs.Order.{ClaimsAndDrops, claims_anew, claims_by_leaf, leaf_claims, node_claims}
 pub use Rattle.special_files.specs.Puts.{FitsLeaf, LeafCall, PutsLeaf, StaysBut, drafts_with}
-pub use Rattle.block_tree.specs.Reads.{HasStoppedBy, Far, FarLeaf, IsNear, IsNodeTrouble, IsRootTrouble, is_damage, leaves_at}
+pub use Rattle.block_tree.specs.Reads.{Far, FarLeaf, IsNear, IsNodeTrouble, IsRootTrouble, is_damage, leaves_at}
 pub use Rattle.special_files.specs.Refusal.{FarNode, FarRoot, IsDraftDamage, IsDraftRefusal, IsDraftTrouble, NoMap, NoRoot, OpenMap, OtherCount, has_met_damage, is_full_refusal, nodes_top, roots_top, refusal_after, top_of}
 pub use Rattle.leaf_changes.specs.Tops.{IsFarRoot, Top, root_top, still_top}
 pub use Rattle.special_files.specs.Shed.{AreShed, Cuts, CutsIf, DropCall, DropsFrom, Forgets, HasParts, IsBorder, IsCutHere, IsFullFor, IsPathPast, IsPlan, IsReadIn, IsShed, IsShortNode, IsToldByNodes, KeepsOne, NoBlock, NoWrite, Put, PutsWithin, ResizeCall, Resized, Spares, Whole, Within, border_claims, border_takes, cut_takes, is_stale_cut, last_draft_node, list_if, plan_needs, shrink_takes, sized}
 unfoldable pub use Rattle.special_files.specs.Shed.{fresh_in}
-pub use Rattle.special_files.specs.Store.{Steps, replaced, without_draft}
-pub use Rattle.special_files.specs.View.{GoesHolding, DraftView}
+pub use Rattle.special_files.specs.Store.{Steps}
+pub use Rattle.special_files.specs.View.{DraftSeen, DraftView, GoesHolding, GoesTo, HasTree, ObjectView}
+pub use Rattle.special_files.specs.Writes.{WriteCall, WritesDraft, leaves_written, write_need}
 pub use Rattle.special_files.specs.declared.fill.Swap.{Swap}
 pub use Rattle.special_files.specs.declared.node.NodeRead.{NodeRead}
 pub use Rattle.special_files.specs.declared.shrink.Plan.{Plan}
 pub use Rattle.std.proofs.Math.Nat.{div-one}
 pub use Rattle.std.proofs.Math.Path.{fun_ext}
-pub use Rattle.std.proofs.Math.Seq.{drop-length, take-length}
-pub use Rattle.std.proofs.lemmas.Bool.{and_from, and_left, and_parts, both_ways, cases_Bool, cases_lt, eqb-false, eqb-true, false_from_ne_true, false≢true, le-leb, leb-true, lt-ltb, ltb-false, ltb-true, ne_eqb, not-true, or_cases, or_left, or_right}
+pub use Rattle.std.proofs.Math.Seq.{drop-length}
+pub use Rattle.std.proofs.lemmas.Bool.{and_from, and_left, and_parts, both_ways, cases_Bool, cases_lt, eqb-false, eqb-true, false_from_ne_true, false≢true, le-leb, leb-true, lt-ltb, ltb-false, ltb-true, ne_eqb, or_cases, or_left, or_right}
 pub use Rattle.std.proofs.lemmas.Bool.Decides.{nat_tests}
 pub use Rattle.std.proofs.lemmas.List.{append-nil, at_drop_more, drop_all, get_or-append_right, get_or-replicate, get_or_past, length-replicate, length-take, replicate-append-replicate, set-append_left, set-get_or, take-append-drop, take_more}
-pub use Rattle.std.proofs.lemmas.List.Elements.{All-append, All-cons, All-from_get_or, All-get_or, All-nil, All-replicate, All-set}
+pub use Rattle.std.proofs.lemmas.List.Elements.{All-append, All-cons, All-from_get_or, All-get_or, All-nil, All-set}
 pub use Rattle.std.proofs.lemmas.List.FromFn.{length-map-range_with_len}
 pub use Rattle.std.proofs.lemmas.List.Recursion.{is_count_by}
 pub use Rattle.std.proofs.lemmas.List.Sums.{sum_by-cons}
 pub use Rattle.std.proofs.lemmas.Option.{none-some, same_Some}
-pub use Rattle.std.specs.List.{All, count_by, list_all, range_with_len, sum_by}
+pub use Rattle.std.specs.List.{All, count_by, range_with_len, sum_by}
 pub use Rattle.std.specs.Prelude.{IfErr, IfOk, IsSome, OnOk, Result, filter, is_none, is_some, map, nat_le, nat_lt, option_to_list, slice_index, sum, ◌&&◌, ◌==◌, ◌||◌}
 pub use Rattle.std.specs.Result.{IsErrAnd}
 pub use Rattle.ufs_model.proofs.Graphs.{rises-with_object}
-pub use Rattle.ufs_model.specs.Graph.{Graph, has_block, ids_of, is_there, object_at, with_object}
+pub use Rattle.ufs_model.specs.Graph.{Graph, object_at, with_object}
 pub use Rattle.ufs_model.specs.Identifier.{rises, same_puid}
 pub use Rattle.ufs_model.specs.Numbers.{branches, first_level, has_number, lacking, merged, missing, next_levels, numbers_rise, parents, shared, with_numbers, within}
 pub use Rattle.ufs_model.specs.Object.{changed_object, cut_leaf, filled, fresh_after, held_leaves, held_levels, held_nodes, inner_levels, leaves_in, resize_anew, size_of, slot_of, touched, written_anew}
@@ -127,7 +128,7 @@ pub use Rattle.vol_image.proofs.Law.{frames_hold}
 pub use Rattle.vol_image.proofs.Parts.{IsPlaced, below_apart, free_is_loose, in_image, is_inner, place_inner, root_placed, shadow_taken, taken_apart, tree_placed}
 pub use Rattle.vol_image.proofs.Paths.{held_there}
 pub use Rattle.vol_image.proofs.Places.{below_is_path, leaf_place, node_place, one_path, same_levels}
-pub use Rattle.vol_image.proofs.Reached.{same_puid_is, same_puid_itself}
+pub use Rattle.vol_image.proofs.Reached.{same_puid_is}
 pub use Rattle.vol_image.proofs.Rising.{filter-rises, here, in_cons, in_filter, in_map, in_numbers, in_withs, numbers-rise, same_numbers, to_filter, to_map, to_numbers, to_withs, with_numbers-rise}
 pub use Rattle.vol_image.proofs.Steps.{frames_back, frames_begin, frames_content, frames_then, frames_write, not_label, not_map}
 pub use Rattle.vol_image.proofs.Unique.{one_root_block}
@@ -147,11 +148,10 @@ pub use Rattle.vol_owners.proofs.Changes.{changes_begin, changes_content, change
 pub use Rattle.vol_owners.proofs.Differ.{Differ, append_differ, has-append}
 pub use Rattle.vol_owners.proofs.Differing.{at_rest, meant_differs, not_meant_is_own, own_tree, stands_some}
 pub use Rattle.vol_owners.proofs.Entries.{free_unowned, had_not_meant, had_or_meant, of_taken, owner_is, placed_taken, root_owner, stands_meant, taken_of, the_entry}
-pub use Rattle.vol_owners.proofs.Kept.{block_kept, blocks_kept, frames_others}
-pub use Rattle.vol_owners.proofs.Keys.{object_of_block}
+pub use Rattle.vol_owners.proofs.Kept.{block_kept, blocks_kept}
 pub use Rattle.vol_owners.proofs.Owned.{same_sums, shadow_apart}
 pub use Rattle.vol_owners.proofs.Owners.{drafts_miss}
-pub use Rattle.vol_owners.proofs.Steps.{creation_goes_on, draft_goes_on, making_goes_on, object_changes_on}
-pub use Rattle.vol_owners.specs.Account.{Accounts, HasDraft, HasDrafts, HasItsBlocks, IsMadeRoot, Opened, StandsIn, content_of, created_of, drafts_of, is_meant_for, levels_standing, numbers_differ, passes, standing_at}
-pub use Rattle.vol_owners.specs.Change.{ChangesOnly, IsOpenTo, OwnsNothing, SameBut, SameOthers, of_draft, of_drafts, of_owners}
+pub use Rattle.vol_owners.proofs.Steps.{creation_goes_on, draft_goes_on, making_begins, making_ends, object_changes_on}
+pub use Rattle.vol_owners.specs.Account.{Accounts, Drafts, HasDraft, HasDraftIf, HasItsBlocks, IsMadeRoot, Opened, StandsIn, content_of, created_if, is_meant_for, levels_standing, no_drafts, numbers_differ, passes, standing_at, with_opened, without_draft}
+pub use Rattle.vol_owners.specs.Change.{ChangesOnly, IsOpenTo, OwnsNothing, of_draft, of_drafts, of_owners}
 pub use Rattle.vol_owners.specs.Owner.{is_had, is_leaving, is_made, is_meant, is_owned_by, is_placed, is_root_place, is_taken, owner_of}

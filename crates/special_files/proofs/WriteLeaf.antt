@@ -1,11 +1,11 @@
 -- Bytes written into one leaf of a draft: what was read is laid under them, and they are put.
 use Rattle.std.proofs.Common.{◌≡◌, ℕ, ◌+◌, ◌-◌, ◌*◌, ◌/◌, ◌%◌, ◌<◌, ◌≤◌, List, ◌++◌, length, get_or, take, replicate, slice_range, Err, refl, sym, ◌∙◌, ap, subst, arith, false, Ok}
-use Rattle.special_files.proofs.Words.{AreClaimed, DraftBecomes, ChangesOnly, Drafting, EndsCall, FitsLeaf, Ghosts, GoesHolding, Graph, HasDraft, Holds, Image, IsNear, IsRead, IsDraftTrouble, Kept, LeafCall, Leaves, LeavesFit, NodeRead, Nothing, OnlyReads, Opened, Puid, PutsAt, PutsLeaf, Refused, Result, SameBeside, Tells, Trouble, DraftView, cut, drop_all, get_or-append_right, get_or-replicate, is_damage, has_met_damage, is_full_refusal, leaf_claims, leaf_content, draft_takes, leaves_at, leaves_in, leaves_below, length-leaf_content, length-take, makes_then, pointer_to_node, of_draft, opened_as, over_byte, over_past, overlaid, past_size, patched, reads_make, reads_then, reads_within, refused_by, root_spelling, sum, then, then_tried, tree_in, wider, Top, top_of}
+use Rattle.special_files.proofs.Words.{AreClaimed, ChangesOnly, DraftBecomes, DraftView, Drafting, Drafts, EndsCall, FitsLeaf, Ghosts, GoesHolding, Graph, HasDraft, Image, IsDraftTrouble, IsNear, IsRead, Kept, LeafCall, Leaves, LeavesFit, NodeRead, OnlyReads, Puid, PutsAt, PutsLeaf, Refused, Result, SameBeside, Tells, Top, Trouble, cut, draft_takes, drop_all, get_or-append_right, get_or-replicate, has_met_damage, is_damage, is_full_refusal, leaf_claims, leaf_content, leaves_at, leaves_below, leaves_in, length-leaf_content, length-take, makes_then, of_draft, opened_as, over_byte, over_past, overlaid, past_size, patched, pointer_to_node, reads_make, reads_then, reads_within, refused_by, root_spelling, sum, then, then_tried, top_of, tree_in}
 use Rattle.block_tree.specs.declared.root.Root as roots
 use Rattle.ufs_model.specs.declared.object.Draft as models
-use Rattle.special_files.proofs.ReadLeaves.{node_near}
+use Rattle.special_files.proofs.read.ReadLeaves.{node_near}
 use Rattle.special_files.specs.View.{HasTree}
-use Rattle.special_files.proofs.View.{view_reads}
+use Rattle.special_files.proofs.View.{read_leaves, view_reads}
 use Rattle.special_files.proofs.Endings.{makes_none, stays_itself}
 use Rattle.cfs_base.specs.declared.refusal.Trouble.TheVariants as trouble
 use Rattle.special_files.proofs.Refusals.{refusal_after_reads, refusal_of, damaged_by, on_ok, if_err}
@@ -24,7 +24,7 @@ covered leaf offset bytes xs ys long_xs long_ys from to =
     ∙ sym (λ i. take (none i) ys ++ slice_range bytes (512 * leaf - offset) (512 * leaf + length ys - offset) ++ past_ys i)
 
 -- bytes within the size leave fill bytes past it
-pub patched_fits : (image : Image) (id : Puid) (was : Drafting) (d : models.Draft) → HasDraft image id (opened_as id was d) → (leaf offset : ℕ) (bytes : List ℕ) → leaf < leaves_in was.root.size → offset + length bytes ≤ was.root.size
+pub patched_fits : (image : Image) (id : Puid) (was : Drafting) (d : models.Draft) → HasDraft image id (opened_as was d) → (leaf offset : ℕ) (bytes : List ℕ) → leaf < leaves_in was.root.size → offset + length bytes ≤ was.root.size
     → FitsLeaf was.root leaf (patched leaf offset bytes (leaf_content was.root.fill (leaves_below image was.root leaf)))
 patched_fits image id was d draft leaf offset bytes inside within =
     let content = leaf_content was.root.fill (leaves_below image was.root leaf) in
@@ -53,17 +53,13 @@ cut_fits root size content long less = record {
 pub read_since : {D : Type 0} {g : Ghosts D} {d0 d1 : D} {n : ℕ} (reads : OnlyReads g n d0 d1) (was : Drafting) (read : NodeRead) → IsRead (g.content d0) was read → IsRead (g.content d1) was read
 read_since {g} reads was read is = λ few. is few ∙ ap (λ (i : Image). leaves_at i (pointer_to_node was.root read.number)) (sym reads.content)
 
--- reads leave nothing more
-pub leaves_read : {D : Type 0} (g : Ghosts D) (graph : Graph) (n : ℕ) (d0 d1 : D) → OnlyReads g n d0 d1 → Leaves g d0 d1 (λ c. Holds c graph)
-leaves_read g graph n d0 d1 reads = wider g d0 d1 Nothing (λ c. Holds c graph) reads.images (λ c none. absurd none)
-
 -- a refusal that was a trouble isn't Full
 pub not_full : (t : Trouble) → is_full_refusal (refused_by t) ≡ false
 not_full (trouble.Disk tried) = refl
 not_full (trouble.Damaged damage) = refl
 
 module _ {D : Type 0} {g : Ghosts D} {d0 d1 : D} {n : ℕ} (reads : OnlyReads g n d0 d1) where
-  pub puts_since : {d2 : D} {graph : Graph} {ds : List Opened} {id : Puid} {leaf : ℕ} {content : List ℕ} {after : Kept} {was now : Drafting} {read : NodeRead} → PutsLeaf g graph ds id leaf content d1 d2 after was now read → PutsLeaf g graph ds id leaf content d0 d2 after was now read
+  pub puts_since : {d2 : D} {graph : Graph} {ds : Drafts} {id : Puid} {leaf : ℕ} {content : List ℕ} {after : Kept} {was now : Drafting} {read : NodeRead} → PutsLeaf g graph ds id leaf content d1 d2 after was now read → PutsLeaf g graph ds id leaf content d0 d2 after was now read
   puts_since {d2} {id = id} {leaf = leaf} {content = content} {was = was} {now = now} puts = record {
     steps = record { store = puts.steps.store; only = subst (λ (i : Image). ChangesOnly (λ e. of_draft id.block e) i (g.content d2)) reads.content puts.steps.only };
     is_open = puts.is_open;
@@ -74,11 +70,11 @@ module _ {D : Type 0} {g : Ghosts D} {d0 d1 : D} {n : ℕ} (reads : OnlyReads g 
     beside = subst (λ (i : Image). SameBeside leaf (tree_in i (root_spelling was.root)) (tree_in (g.content d2) (root_spelling now.root))) reads.content puts.beside;
   }
 
-  pub becomes_since : {d2 : D} {graph : Graph} {ds : List Opened} {id : Puid} {e : models.Draft} {k2 : Kept} {now : Drafting} → DraftBecomes g graph ds id e d1 d2 k2 now → DraftBecomes g graph ds id e d0 d2 k2 now
+  pub becomes_since : {d2 : D} {graph : Graph} {ds : Drafts} {id : Puid} {e : models.Draft} {k2 : Kept} {now : Drafting} → DraftBecomes g graph ds id e d1 d2 k2 now → DraftBecomes g graph ds id e d0 d2 k2 now
   becomes_since {d2} {id = id} is = record { steps = record { store = is.steps.store; only = subst (λ (i : Image). ChangesOnly (λ e. of_draft id.block e) i (g.content d2)) reads.content is.steps.only }; is_open = is.is_open }
 
   pub images_since : (d2 : D) (P : Image → Type 0) → Leaves g d1 d2 P → Leaves g d0 d2 P
-  images_since d2 P images = then g d0 d1 d2 P P (wider g d0 d1 Nothing P reads.images (λ c none. absurd none)) images (λ c h. h)
+  images_since d2 P images = then g d0 d1 d2 P P (read_leaves reads) images (λ c h. h)
 
   -- the call goes on
   pub goes_since : {A : Type 0} {graph : Graph} {P Q : Type 0} {d2 : D} {r : Result A Refused} → (P → Q) → GoesHolding g graph P d1 d2 r → GoesHolding g graph Q d0 d2 r
@@ -86,7 +82,7 @@ module _ {D : Type 0} {g : Ghosts D} {d0 d1 : D} {n : ℕ} (reads : OnlyReads g 
 
   -- the call stopped there
   pub goes_stopped : {A : Type 0} {graph : Graph} {P : Type 0} (t : Trouble) (e : Refused) → e ≡ refused_by t → is_damage t ≡ false → GoesHolding {A = A} g graph P d0 d1 (Err e)
-  goes_stopped {graph = graph} t e is sound = record { done = tt; leaves = leaves_read g graph n d0 d1 reads; sound = ap has_met_damage is ∙ damaged_by t sound }
+  goes_stopped {graph = graph} t e is sound = record { done = tt; leaves = read_leaves reads; sound = ap has_met_damage is ∙ damaged_by t sound }
 
   pub ends_since : {A : Type 0} {at : Top} {floor m t k : ℕ} {d2 : D} {k1 k2 : Kept} {r : Result A Refused} (most : ℕ) → EndsCall g at floor m t k d1 d2 k1 k2 r → n + m ≤ most → EndsCall g at floor most t k d0 d2 k1 k2 r
   ends_since {at = at} {floor = floor} {m = m} {t = t} {d2 = d2} {k2 = k2} {r = r} most is le = record {

@@ -2,7 +2,7 @@
 use Rattle.std.specs.Prelude.{◌≡◌, ◌⊎◌, ℕ, ◌+◌, ◌≤◌, ◌≢◌, ◌%◌, true, false, List, [], ◌∷◌, ◌++◌, set, IfErr, OnOk}
 use Rattle.std.specs.Prelude.{Ok, Err, Result, IsSome, Option, Some, None, drop, length, option_to_list, take}
 use Rattle.cfs_base.specs.Codes.{past_disk}
-use Rattle.cfs_base.specs.Calls.{HasFailed, HasTried, MakesAtMost}
+use Rattle.cfs_base.specs.Calls.{HasFailed, HasTried, MakesAtMost, OnlyReads}
 use Rattle.cfs_base.specs.Disk.{Image, block_at}
 use Rattle.cfs_base.specs.Refusals.{refused_by}
 use Rattle.cfs_base.specs.declared.refusal.Refused.{Refused}
@@ -31,16 +31,15 @@ use Rattle.vol_image.specs.Reading.{bare_object}
 use Rattle.vol_image.specs.Sound.{Holds, IsBareRoot}
 use Rattle.intentions.specs.Left.{AreOpen, IsGoing, StoreIs, copied_if, final_image, plan}
 use Rattle.intentions.specs.Store.{StoreHas}
-use Rattle.vol_owners.specs.Account.{HasItsBlocks, IsMadeRoot, Opened, StandsIn, content_of, drafts_of, is_meant_for}
-use Rattle.vol_owners.specs.Account.{numbers_differ}
+use Rattle.vol_owners.specs.Account.{Drafts, HasItsBlocks, IsMadeRoot, Opened, StandsIn, content_of, is_meant_for}
+use Rattle.vol_owners.specs.Account.{numbers_differ, without_draft}
 use Rattle.vol_owners.specs.Change.{ChangesOnly, of_drafts, of_owners}
 use Rattle.vol_owners.specs.Owner.{is_had, is_owned_by, is_taken}
 use Rattle.block_tree.specs.declared.root.Root as roots
 use Rattle.special_files.specs.Drafting.{Drafting}
 use Rattle.block_tree.specs.Reads.{is_damage}
 use Rattle.leaf_changes.specs.Tops.{IsFarRoot, Top, still_top}
-use Rattle.special_files.specs.Refusal.{IsDraftDamage}
-use Rattle.special_files.specs.Store.{without_draft}
+use Rattle.special_files.specs.Refusal.{IsDraftDamage, IsDraftTrouble}
 
 -- ---- entries changed
 
@@ -215,7 +214,7 @@ pub record TakesShadow (at : ℕ) (a b : Image) : Type 0 where
 
 -- The store has this object in place of its draft, and the one that is made with it. Nothing waits. In the image that
 -- is to come only blocks of these and Free ones changed.
-pub record Committed {D : Type 0} (g : Ghosts D) (graph : Graph) (ds : List Opened) (id : Puid) (o : Object)
+pub record Committed {D : Type 0} (g : Ghosts D) (graph : Graph) (ds : Drafts) (id : Puid) (o : Object)
     (made : Option Making) (old new : D) (space : Kept) : Type 0 where
   pub store : StoreIs g (with_object (with_making graph made) id o) (without_draft id ds) new space
   pub settled : IsSettled g new
@@ -223,17 +222,17 @@ pub record Committed {D : Type 0} (g : Ghosts D) (graph : Graph) (ds : List Open
       (final_image g new space)
   -- the object's tree is the draft's: each node and leaf stands where it stood, in the same block, with its part and
   -- content
-  pub tree : (d : Opened) → drafts_of ds id ≡ d ∷ [] → tree_in (final_image g new space)
+  pub tree : (d : Opened) → ds id ≡ Some d → tree_in (final_image g new space)
       (block_at (final_image g new space) id.block) ≡ tree_in (g.content old) (content_of d)
   -- a draft without a shadow root took the least Free block for it, and gave it back
-  pub order : (d : Opened) → drafts_of ds id ≡ d ∷ [] → d.shadow ≡ None
+  pub order : (d : Opened) → ds id ≡ Some d → d.shadow ≡ None
       → TakesShadow id.block (g.content old) (final_image g new space)
   -- the object's root is the draft's
-  pub root : (d : Opened) → drafts_of ds id ≡ d ∷ []
+  pub root : (d : Opened) → ds id ≡ Some d
       → block_at (final_image g new space) id.block ≡ root_spelling d.root
 
 -- how a commit ends where the store has the draft
-pub record CommitEnds {D : Type 0} (g : Ghosts D) (graph : Graph) (ds : List Opened) (id : Puid) (o : Object)
+pub record CommitEnds {D : Type 0} (g : Ghosts D) (graph : Graph) (ds : Drafts) (id : Puid) (o : Object)
     (made : Option Making) (old new : D) (space : Kept) (result : Result (Unit {0}) Trouble) : Type 0 where
   pub done : OnOk result (Committed g graph ds id o made old new space)
   pub leaves : Leaves g old new (IsOldOrNew graph (with_making graph made) id o)
@@ -261,14 +260,14 @@ undoing taken shadow made = flips Undo taken ++ (flips Undo (option_to_list shad
 
 -- The store has no draft of the object any more. Only blocks that were meant for it changed, and the root of the object
 -- that was to be made with it, which is Free.
-pub record Dropped {D : Type 0} (g : Ghosts D) (graph : Graph) (ds : List Opened) (id : Puid) (created : Option ℕ)
+pub record Dropped {D : Type 0} (g : Ghosts D) (graph : Graph) (ds : Drafts) (id : Puid) (created : Option ℕ)
     (old new : D) (space : Kept) : Type 0 where
   pub store : StoreHas g graph (without_draft id ds) new space
   pub freed : (c : ℕ) → created ≡ Some c → is_free_in (g.content new) c ≡ true
   pub only : ChangesOnly (λ entry. of_drafts (id.block ∷ option_to_list created) entry) (g.content old) (g.content new)
 
 -- how an abort ends where the store has the draft
-pub record AbortEnds {D : Type 0} (g : Ghosts D) (graph : Graph) (ds : List Opened) (id : Puid) (created : Option ℕ)
+pub record AbortEnds {D : Type 0} (g : Ghosts D) (graph : Graph) (ds : Drafts) (id : Puid) (created : Option ℕ)
     (old new : D) (space : Kept) (result : Result (Unit {0}) Trouble) : Type 0 where
   pub done : OnOk result (Dropped g graph ds id created old new space)
   pub leaves : Leaves g old new (λ c. Holds c graph)
@@ -298,3 +297,40 @@ made_top at created = record { block = at; IsFar = λ size. IsFar size created }
 
 abbrev pub draft_top : Drafting → Top
 draft_top was = parts_top was.at was.shadow was.own was.root was.created
+
+-- ---- how they end on any disk
+
+-- A commit: it had tried something where it is done. Past its bit no write waits, of whatever disk that tells its
+-- content, and what is left of it is kept.
+pub record CommitsSo {D : Type 0} (g : Ghosts D) (at : Top) (n t : ℕ) (old new : D) (before after : Kept)
+    (result : Result (Unit {0}) Trouble) : Type 0 where
+  pub refused : IfErr result (IsDraftTrouble g at old new after)
+  pub made : OnOk result (HasTried g old new)
+  pub settled : Tells g old → OnOk result (IsSettled g new)
+  pub cylinders : length after.free ≡ length before.free
+  pub left : OnOk result ((l : LeftCommit) × IsNoted at.block after.left l)
+  pub calls : MakesAtMost g n t old new
+
+-- of a draft
+pub record CommitCall {D : Type 0} (g : Ghosts D) (was : Drafting) (old new : D) (before after : Kept)
+    (result : Result (Unit {0}) Trouble) : Type 0 where
+  pub ends : CommitsSo g (draft_top was) 31207 15485 old new before after result
+  -- of one that has a shadow root, where a device call failed a write or a barrier was tried
+  pub tried : was.shadow ≢ None → IfErr result (λ t. t ≢ trouble.Disk false)
+  -- where one failed before the first try, only reads were made
+  pub untried : IfErr result (λ t. t ≡ trouble.Disk false → (after ≡ before) × OnlyReads g 241 old new)
+
+-- of one that equalled its object until one slot was filled
+abbrev pub SwapCall : {D : Type 0} → Ghosts D → Drafting → D → D → Kept → Kept → Result (Unit {0}) Trouble → Type 0
+SwapCall g was old new before after result =
+    CommitsSo g (made_top was.at was.created) 11 7 old new before after result
+
+-- an abort: where a device call failed a write or a barrier was tried
+pub record AbortCall {D : Type 0} (g : Ghosts D) (was : Drafting) (old new : D) (before after : Kept)
+    (result : Result (Unit {0}) Trouble) : Type 0 where
+  pub refused : IfErr result (IsDraftTrouble g (draft_top was) old new after)
+  pub tried : IfErr result (λ t. t ≢ trouble.Disk false)
+  pub made : OnOk result (HasTried g old new)
+  pub cylinders : length after.free ≡ length before.free
+  pub left : after.left ≡ before.left
+  pub calls : MakesAtMost g 31205 15483 old new

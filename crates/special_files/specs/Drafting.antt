@@ -9,7 +9,7 @@ use Rattle.ufs_model.specs.declared.object.Draft.{Draft}
 use Rattle.ufs_model.specs.Numbers.{missing}
 use Rattle.ufs_model.specs.Object.{written_anew}
 use Rattle.ufs_model.specs.declared.change.Change.{Change}
-use Rattle.vol_owners.specs.Account.{Opened, drafts_of}
+use Rattle.vol_owners.specs.Account.{Drafts, Opened}
 
 -- where its object's root is, its shadow root if it has one, the object's root and the root that it is to get, which
 -- leaves and which nodes are fresh, and the root block of the object that it makes, if it makes one
@@ -53,11 +53,10 @@ set_in flags = filter (λ n. get_or flags n false) (range_with_len 0 (length fla
 abbrev pub fresh_of : Drafting → List (List ℕ)
 fresh_of drafting = set_in drafting.leaves ∷ set_in drafting.nodes ∷ []
 
--- the same as the draft of this object on a disk, which is this draft of the model
-abbrev pub opened_as : Puid → Drafting → Draft → Opened
-opened_as id drafting d =
+-- the same as a draft on a disk, which is this draft of the model
+abbrev pub opened_as : Drafting → Draft → Opened
+opened_as drafting d =
     record {
-      id = id;
       shadow = drafting.shadow;
       own = drafting.own;
       root = drafting.root;
@@ -66,9 +65,9 @@ opened_as id drafting d =
     }
 
 -- among these drafts it is the one of the object with this identifier, and has the model's fresh blocks, level by level
-pub record IsOpen (ds : List Opened) (id : Puid) (drafting : Drafting) (d : Draft) : Type 0 where
+pub record IsOpen (ds : Drafts) (id : Puid) (drafting : Drafting) (d : Draft) : Type 0 where
   pub at : id.block ≡ drafting.at
-  pub alone : drafts_of ds id ≡ opened_as id drafting d ∷ []
+  pub alone : ds id ≡ Some (opened_as drafting d)
   pub leaf_flags : length drafting.leaves ≡ 15360
   pub node_flags : length drafting.nodes ≡ 120
   pub fresh : (k : ℕ) → get_or d.fresh k [] ≡ get_or (fresh_of drafting) k []

@@ -1,11 +1,14 @@
 pub mod Becomes
+pub mod Begins
 pub mod Calls
 pub mod Changed
 pub mod Committing
+pub mod Creates
 pub mod Drafting
 pub mod Ends
 pub mod Fills
 pub mod Leaves
+pub mod Looks
 pub mod Nodes
 pub mod Order
 pub mod Puts
@@ -13,3 +16,4 @@ pub mod Refusal
 pub mod Shed
 pub mod Store
 pub mod View
+pub mod Writes

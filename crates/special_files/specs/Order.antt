@@ -24,7 +24,8 @@ leaf_claims at leaves nodes leaf =
 abbrev pub claims_by_leaf : (at : ℕ) → (leaves nodes : List Bool) → (leaf count : ℕ) → List MapEntry
 claims_by_leaf at leaves nodes leaf zero = []
 claims_by_leaf at leaves nodes leaf (suc n) =
-    leaf_claims at leaves nodes leaf ++ claims_by_leaf at (set leaves leaf true) (set nodes (leaf / 128) true) (leaf + 1) n
+    leaf_claims at leaves nodes leaf
+    ++ claims_by_leaf at (set leaves leaf true) (set nodes (leaf / 128) true) (leaf + 1) n
 
 -- the leaves of a draft from one on and before another
 abbrev pub claims_between : Drafting → (from to : ℕ) → List MapEntry

@@ -16,7 +16,6 @@ use Rattle.ufs_model.specs.Graph.{Graph}
 use Rattle.ufs_model.specs.Object.{leaves_in}
 use Rattle.vol_image.specs.Reading.{leaf_content}
 use Rattle.vol_image.specs.Seen.{tree_in}
-use Rattle.vol_owners.specs.Account.{Opened}
 use Rattle.special_files.specs.Calls.{SetsFlags, SetsFresh}
 use Rattle.special_files.specs.Drafting.{Drafting, IsOpen, draft_takes, opened_as}
 use Rattle.special_files.specs.Ends.{EndsCall}
@@ -25,8 +24,9 @@ use Rattle.special_files.specs.Nodes.{IsRead, IsSafe}
 use Rattle.special_files.specs.Order.{leaf_claims}
 use Rattle.leaf_changes.specs.Tops.{IsFarRoot}
 use Rattle.special_files.specs.Refusal.{is_full_refusal, top_of}
-use Rattle.special_files.specs.Store.{Steps, replaced}
+use Rattle.special_files.specs.Store.{Steps}
 use Rattle.special_files.specs.declared.node.NodeRead.{NodeRead}
+use Rattle.vol_owners.specs.Account.{Drafts, with_opened}
 
 -- of a draft only its root's pointers and what is fresh may have changed
 pub record StaysBut (was now : Drafting) : Type 0 where
@@ -43,11 +43,11 @@ pub record FitsLeaf (root : roots.Root) (leaf : ℕ) (content : List ℕ) : Type
   pub filled : (i : ℕ) → i < 512 → root.size ≤ 512 * leaf + i → get_or content i 0 ≡ root.fill
 
 -- the drafts that stand afterwards
-abbrev pub drafts_with : Image → List Opened → Puid → Drafting → List Opened
-drafts_with image ds id now = replaced (opened_as id now (draft_in image now)) ds
+abbrev pub drafts_with : Image → Drafts → Puid → Drafting → Drafts
+drafts_with image ds id now = with_opened id (opened_as now (draft_in image now)) ds
 
 -- a leaf of this content was put into the draft
-pub record PutsLeaf {D : Type 0} (g : Ghosts D) (graph : Graph) (ds : List Opened) (id : Puid) (leaf : ℕ)
+pub record PutsLeaf {D : Type 0} (g : Ghosts D) (graph : Graph) (ds : Drafts) (id : Puid) (leaf : ℕ)
     (content : List ℕ) (old new : D) (after : Kept) (was now : Drafting) (read : NodeRead) : Type 0 where
   pub steps : Steps g graph id (drafts_with (g.content new) ds id now) old new after
   pub is_open : IsOpen (drafts_with (g.content new) ds id now) id now (draft_in (g.content new) now)
@@ -59,7 +59,7 @@ pub record PutsLeaf {D : Type 0} (g : Ghosts D) (graph : Graph) (ds : List Opene
       (tree_in (g.content new) (root_spelling now.root))
 
 -- the leaf within which a size ends was cut there
-abbrev pub CutsLeaf : {D : Type 0} → Ghosts D → Graph → List Opened → Puid → ℕ → D → D → Kept → Drafting → Drafting
+abbrev pub CutsLeaf : {D : Type 0} → Ghosts D → Graph → Drafts → Puid → ℕ → D → D → Kept → Drafting → Drafting
     → NodeRead → Type 0
 CutsLeaf g graph ds id size old new after was now read =
     PutsLeaf g graph ds id (size / 512)

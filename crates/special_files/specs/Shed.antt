@@ -24,7 +24,9 @@ use Rattle.ufs_model.specs.Object.{leaves_in, written_anew}
 use Rattle.ufs_model.specs.State.{changed_draft}
 use Rattle.ufs_model.specs.declared.change.Change.TheVariants.{SetSize}
 use Rattle.ufs_model.specs.declared.object.Draft.{Draft}
-use Rattle.vol_owners.specs.Account.{Opened, content_of, is_meant_for, numbers_differ}
+use Rattle.ufs_model.specs.declared.object.File.{File}
+use Rattle.ufs_model.specs.declared.object.Object.TheVariants as objects
+use Rattle.vol_owners.specs.Account.{Drafts, Opened, content_of, is_meant_for, numbers_differ}
 use Rattle.special_files.specs.Becomes.{DraftBecomes}
 use Rattle.special_files.specs.Calls.{GetsDraftNode, WritesDraftBlock}
 use Rattle.special_files.specs.Drafting.{Drafting, HasNoneFresh, IsOpen, is_fresh_leaf, is_fresh_node, draft_takes}
@@ -100,7 +102,7 @@ abbrev pub border_claims : Drafting → ℕ → List MapEntry
 border_claims was from = if from % 128 == 0 then [] else node_claims was.at was.nodes (from / 128)
 
 -- the same of the store, and of the draft that the model has then
-pub record DropsFrom {D : Type 0} (g : Ghosts D) (graph : Graph) (ds : List Opened) (id : Puid) (from : ℕ)
+pub record DropsFrom {D : Type 0} (g : Ghosts D) (graph : Graph) (ds : Drafts) (id : Puid) (from : ℕ)
     (old new : D) (after : Kept) (was now : Drafting) : Type 0 where
   pub steps : Steps g graph id (drafts_with (g.content new) ds id now) old new after
   pub is_open : IsOpen (drafts_with (g.content new) ds id now) id now (draft_in (g.content new) now)
@@ -247,12 +249,19 @@ plan_needs size was plan = shrink_takes was plan.cut plan.from (size / 512) (las
 
 -- The draft is the model's of another size. Its blocks were claimed in their order, each the least Free, what it
 -- dropped of its own is Free, and what it needed was Free beside the floor.
-pub record Resized {D : Type 0} (g : Ghosts D) (graph : Graph) (ds : List Opened) (id : Puid) (d : Draft)
+pub record Resized {D : Type 0} (g : Ghosts D) (graph : Graph) (ds : Drafts) (id : Puid) (d : Draft)
     (size floor : ℕ) (old new : D) (before after : Kept) (was now : Drafting) : Type 0 where
   pub becomes : DraftBecomes g graph ds id (changed_draft (SetSize size) d) old new after now
   pub order : ClaimsAndDrops id.block
       (claims_anew was.at (written_anew (SetSize size) d.object d.fresh) d.fresh) (g.content old) (g.content new)
   pub room : need_beside (SetSize size) d was + floor ≤ sum before.free
+
+-- of a file
+abbrev pub ResizesIfFile : {D : Type 0} {g : Ghosts D} {old : D} {before : Kept} {was : Drafting}
+    → DraftView g old before was → (size floor : ℕ) → D → Kept → Drafting → Type 0
+ResizesIfFile {g = g} {old = old} {before = before} {was = was} v size floor new after now = (f : File)
+    → v.draft.object ≡ objects.File f
+    → Resized g v.graph v.ds v.id v.draft size floor old new before after was now
 
 -- the refusal of a resize where fewer blocks are Free than the model's need and the floor
 pub record IsFullFor (size floor : ℕ) (d : Draft) (space : Kept) (was : Drafting) (e : Refused) : Type 0 where

@@ -1,23 +1,12 @@
 //! A draft given up.
-ghost use Rattle.std.specs.Prelude.{◌≡◌, ◌≢◌, ◌<◌, ◌+◌, ◌*◌, ℕ, List, false, length, option_to_list, Some, IfErr, OnOk};
+ghost use Rattle.std.specs.Prelude.{◌≡◌, ◌<◌, ◌+◌, ◌*◌, ℕ, length, option_to_list, Some, IfErr};
 ghost use Rattle.std.specs.List.{All};
-ghost use Rattle.cfs_base.specs.Calls.{HasTried, MakesAtMost};
-ghost use Rattle.cfs_base.specs.Run.{Leaves};
-ghost use Rattle.cfs_base.specs.declared.identifier.Puid.{Puid};
-ghost use Rattle.cfs_base.specs.declared.refusal.Trouble.TheVariants as troubles;
-ghost use Rattle.intentions.specs.Store.{StoreHas};
+ghost use Rattle.cfs_base.specs.Calls.{MakesAtMost};
 ghost use Rattle.special_files.specs.Changed.{AreTaken};
 ghost use Rattle.special_files.specs.Committing as spec;
-ghost use Rattle.special_files.specs.Drafting.{Drafting, IsOpen, number_if, opened_as};
-ghost use Rattle.block_tree.specs.Reads.{is_damage};
+ghost use Rattle.special_files.specs.Drafting.{Drafting, number_if, opened_as};
 ghost use Rattle.leaf_changes.specs.Tops.{still_top};
-ghost use Rattle.special_files.specs.Refusal.{IsDraftTrouble};
 ghost use Rattle.special_files.specs.View.{DraftView};
-ghost use Rattle.ufs_model.specs.Graph.{Graph, object_at};
-ghost use Rattle.ufs_model.specs.declared.object.Draft as drafts;
-ghost use Rattle.ufs_model.specs.declared.object.Object.{Object};
-ghost use Rattle.vol_image.specs.Sound.{Holds};
-ghost use Rattle.vol_owners.specs.Account.{Opened};
 
 use crate::becoming::part_on_disk;
 use crate::blocks::Blocks;
@@ -76,7 +65,7 @@ fn give_up<D: Disk>(
     requires created_on_disk { (n : ℕ) → number_if created ≡ Some n → n < D.blocks disk.old }
     ensures ends { (was : Drafting) (v : DraftView D.Disk disk.old space.old was)
         → was.shadow ≡ number_if shadow → was.created ≡ number_if created
-        → AreTaken (D.content disk.old) v.id (opened_as v.id was v.draft) taken.now
+        → AreTaken (D.content disk.old) v.id (opened_as was v.draft) taken.now
         → spec.AbortEnds D.Disk v.graph v.ds v.id was.created disk.old disk.new space.new result }
     ensures fails { (at : ℕ) → IfErr result (spec.CommitFails D.Disk (still_top at) disk.old disk.new space.new) }
     ensures cylinders { length space.new.free ≡ length space.old.free }
@@ -111,13 +100,9 @@ fn abort_parts<D: Disk>(
     ensures ends { (was : Drafting) (v : DraftView D.Disk disk.old space.old was)
         → spec.AreDraftParts was at.0 (number_if shadow) own.now root.now (number_if created)
         → spec.AbortEnds D.Disk v.graph v.ds v.id was.created disk.old disk.new space.new result }
-    ensures refused { IfErr result (IsDraftTrouble D.Disk (spec.parts_top at.0 (number_if shadow) own.now root.now
-        (number_if created)) disk.old disk.new space.new) }
-    ensures tried { IfErr result (λ t. t ≢ troubles.Disk false) }
-    ensures made { OnOk result (HasTried D.Disk disk.old disk.new) }
-    ensures cylinders { length space.new.free ≡ length space.old.free }
-    ensures left { space.new.left ≡ space.old.left }
-    ensures calls { MakesAtMost D.Disk 31205 15483 disk.old disk.new }
+    ensures call { (was : Drafting)
+        → spec.AreDraftParts was at.0 (number_if shadow) own.now root.now (number_if created)
+        → spec.AbortCall D.Disk was disk.old disk.new space.old space.new result }
 {
     match part_on_disk(disk, at, shadow) {
         Ok(()) => {}
@@ -146,24 +131,9 @@ impl Draft {
         requires on_disk { self.at < D.blocks disk.old }
         requires size { D.blocks disk.old ≡ 64 * length space.old.free }
         // The store has no draft of the object, and makes none with it.
-        ensures done { (graph : Graph) (ds : List Opened) (id : Puid) (o : Object) (d : drafts.Draft)
-            → StoreHas D.Disk graph ds disk.old space.old → object_at graph id ≡ Some o → IsOpen ds id self d
-            → OnOk result (spec.Dropped D.Disk graph ds id self.created disk.old disk.new space.new) }
-        // Each image that a crash leaves on the way holds all objects as they were.
-        ensures leaves { (graph : Graph) (ds : List Opened) (id : Puid) (o : Object) (d : drafts.Draft)
-            → StoreHas D.Disk graph ds disk.old space.old → object_at graph id ≡ Some o → IsOpen ds id self d
-            → Leaves D.Disk disk.old disk.new (λ c. Holds c graph) }
-        // No damage where the disk holds the object.
-        ensures sound { (graph : Graph) (ds : List Opened) (id : Puid) (o : Object) (d : drafts.Draft)
-            → StoreHas D.Disk graph ds disk.old space.old → object_at graph id ≡ Some o → IsOpen ds id self d
-            → IfErr result (λ t. is_damage t ≡ false) }
-        ensures refused { IfErr result (IsDraftTrouble D.Disk (spec.draft_top self) disk.old disk.new space.new) }
-        // Where a call of the disk failed a write or a barrier was tried.
-        ensures tried { IfErr result (λ t. t ≢ troubles.Disk false) }
-        ensures made { OnOk result (HasTried D.Disk disk.old disk.new) }
-        ensures cylinders { length space.new.free ≡ length space.old.free }
-        ensures left { space.new.left ≡ space.old.left }
-        ensures calls { MakesAtMost D.Disk 31205 15483 disk.old disk.new }
+        ensures aborts { (v : DraftView D.Disk disk.old space.old self)
+            → spec.AbortEnds D.Disk v.graph v.ds v.id self.created disk.old disk.new space.new result }
+        ensures call { spec.AbortCall D.Disk self disk.old disk.new space.old space.new result }
     {
         let draft = &mut self;
         abort_parts(

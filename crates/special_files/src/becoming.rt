@@ -1,23 +1,13 @@
 //! A draft becomes its object.
-ghost use Rattle.std.specs.Prelude.{◌≡◌, ◌≢◌, ◌<◌, ◌≤◌, ◌*◌, ◌++◌, ℕ, List, false, length, sum, Option, None, Some};
+ghost use Rattle.std.specs.Prelude.{◌≡◌, ◌≢◌, ◌<◌, ◌≤◌, ◌*◌, ◌++◌, ℕ, false, length, sum, Option, None, Some};
 ghost use Rattle.std.specs.Prelude.{IfErr, OnOk};
-ghost use Rattle.cfs_base.specs.Calls.{HasTried, MakesAtMost, OnlyReads};
-ghost use Rattle.cfs_base.specs.Run.{IsSettled, Leaves, Tells};
-ghost use Rattle.cfs_base.specs.declared.identifier.Puid.{Puid};
+ghost use Rattle.cfs_base.specs.Calls.{OnlyReads};
 ghost use Rattle.cfs_base.specs.declared.refusal.Trouble.TheVariants as troubles;
-ghost use Rattle.cyl_alloc.specs.Left.{LeftCommit};
-ghost use Rattle.intentions.specs.Store.{StoreHas};
 ghost use Rattle.special_files.specs.Changed.{unlike};
 ghost use Rattle.special_files.specs.Committing as spec;
-ghost use Rattle.special_files.specs.Drafting.{Drafting, IsOpen, number_if};
+ghost use Rattle.special_files.specs.Drafting.{Drafting, number_if};
 ghost use Rattle.special_files.specs.Fills.{IsNearSwap, IsSwapped};
-ghost use Rattle.block_tree.specs.Reads.{is_damage};
-ghost use Rattle.special_files.specs.Refusal.{IsDraftTrouble};
 ghost use Rattle.special_files.specs.View.{DraftView};
-ghost use Rattle.ufs_model.specs.Graph.{Graph, object_at};
-ghost use Rattle.ufs_model.specs.declared.object.Draft as drafts;
-ghost use Rattle.ufs_model.specs.declared.object.Object.{Object};
-ghost use Rattle.vol_owners.specs.Account.{Opened};
 
 use crate::blocks::Blocks;
 use crate::changed::add_unlike;
@@ -79,16 +69,11 @@ fn commit_parts<D: Disk>(
         → spec.AreDraftParts was at.0 (number_if shadow) own.now root.now (number_if created)
         → spec.Makes (D.content disk.old) (number_if created) made
         → spec.CommitEnds D.Disk v.graph v.ds v.id v.draft.object made disk.old disk.new space.new result }
-    ensures refused { IfErr result (IsDraftTrouble D.Disk (spec.parts_top at.0 (number_if shadow) own.now root.now
-        (number_if created)) disk.old disk.new space.new) }
-    ensures made { OnOk result (HasTried D.Disk disk.old disk.new) }
+    ensures ends { spec.CommitsSo D.Disk (spec.parts_top at.0 (number_if shadow) own.now root.now (number_if created))
+        31207 15485 disk.old disk.new space.old space.new result }
     ensures tried { number_if shadow ≢ None → IfErr result (λ t. t ≢ troubles.Disk false) }
     ensures untried { IfErr result (λ t. t ≡ troubles.Disk false
         → (space.new ≡ space.old) × OnlyReads D.Disk 241 disk.old disk.new) }
-    ensures settled { Tells D.Disk disk.old → OnOk result (IsSettled D.Disk disk.new) }
-    ensures cylinders { length space.new.free ≡ length space.old.free }
-    ensures left { OnOk result ((l : LeftCommit) × spec.IsNoted at.0 space.new.left l) }
-    ensures calls { MakesAtMost D.Disk 31207 15485 disk.old disk.new }
 {
     match part_on_disk(disk, at, created) {
         Ok(()) => {}
@@ -125,33 +110,10 @@ impl Draft {
         // No commit is kept.
         requires left { space.old.left ≡ None }
         // The store has the object, and the one that is made with it, and nothing waits.
-        ensures done { (graph : Graph) (ds : List Opened) (id : Puid) (o : Object) (d : drafts.Draft)
-            (made : Option spec.Making) → StoreHas D.Disk graph ds disk.old space.old → object_at graph id ≡ Some o
-            → IsOpen ds id self d → spec.Makes (D.content disk.old) self.created made
-            → OnOk result (spec.Committed D.Disk graph ds id d.object made disk.old disk.new space.new) }
-        // Each image that a crash leaves on the way holds all as it was, or this object new and the one that is made.
-        ensures leaves { (graph : Graph) (ds : List Opened) (id : Puid) (o : Object) (d : drafts.Draft)
-            (made : Option spec.Making) → StoreHas D.Disk graph ds disk.old space.old → object_at graph id ≡ Some o
-            → IsOpen ds id self d → spec.Makes (D.content disk.old) self.created made
-            → Leaves D.Disk disk.old disk.new (spec.IsOldOrNew graph (spec.with_making graph made) id d.object) }
-        // No damage where the disk holds the object.
-        ensures sound { (graph : Graph) (ds : List Opened) (id : Puid) (o : Object) (d : drafts.Draft)
-            (made : Option spec.Making) → StoreHas D.Disk graph ds disk.old space.old → object_at graph id ≡ Some o
-            → IsOpen ds id self d → spec.Makes (D.content disk.old) self.created made
-            → IfErr result (λ t. is_damage t ≡ false) }
-        ensures refused { IfErr result (IsDraftTrouble D.Disk (spec.draft_top self) disk.old disk.new space.new) }
-        ensures made { OnOk result (HasTried D.Disk disk.old disk.new) }
-        // Of a draft that has a shadow root, where a call of the disk failed a write or a barrier was tried.
-        ensures tried { self.shadow ≢ None → IfErr result (λ t. t ≢ troubles.Disk false) }
-        // Where a device call failed before the first try, only reads were made.
-        ensures untried { IfErr result (λ t. t ≡ troubles.Disk false
-            → (space.new ≡ space.old) × OnlyReads D.Disk 241 disk.old disk.new) }
-        // Past its bit no write waits, of whatever disk that tells its content.
-        ensures settled { Tells D.Disk disk.old → OnOk result (IsSettled D.Disk disk.new) }
-        ensures cylinders { length space.new.free ≡ length space.old.free }
-        // What is left of it is kept.
-        ensures left { OnOk result ((l : LeftCommit) × spec.IsNoted self.at space.new.left l) }
-        ensures calls { MakesAtMost D.Disk 31207 15485 disk.old disk.new }
+        ensures commits { (v : DraftView D.Disk disk.old space.old self) (made : Option spec.Making)
+            → spec.Makes (D.content disk.old) self.created made
+            → spec.CommitEnds D.Disk v.graph v.ds v.id v.draft.object made disk.old disk.new space.new result }
+        ensures call { spec.CommitCall D.Disk self disk.old disk.new space.old space.new result }
     {
         let taken = self.taken;
         commit_parts(
@@ -181,20 +143,11 @@ impl Draft {
         requires left { space.old.left ≡ None }
         requires direct { self.shadow ≡ None }
         requires near { IsNearSwap (D.blocks disk.old) self swap }
-        ensures commits { (graph : Graph) (ds : List Opened) (id : Puid) (o : Object) (d : drafts.Draft)
-            (made : Option spec.Making) → StoreHas D.Disk graph ds disk.old space.old → object_at graph id ≡ Some o
-            → IsOpen ds id self d → spec.Makes (D.content disk.old) self.created made
-            → IsSwapped (D.content disk.old) id self d swap
-            → spec.CommitEnds D.Disk graph ds id d.object made disk.old disk.new space.new result }
-        ensures refused { IfErr result (IsDraftTrouble D.Disk (spec.made_top self.at self.created) disk.old disk.new
-            space.new) }
-        ensures made { OnOk result (HasTried D.Disk disk.old disk.new) }
-        // Past its bit no write waits, of whatever disk that tells its content.
-        ensures settled { Tells D.Disk disk.old → OnOk result (IsSettled D.Disk disk.new) }
-        ensures cylinders { length space.new.free ≡ length space.old.free }
-        // What is left of it is kept.
-        ensures left { OnOk result ((l : LeftCommit) × spec.IsNoted self.at space.new.left l) }
-        ensures calls { MakesAtMost D.Disk 11 7 disk.old disk.new }
+        ensures commits { (v : DraftView D.Disk disk.old space.old self) (made : Option spec.Making)
+            → spec.Makes (D.content disk.old) self.created made
+            → IsSwapped (D.content disk.old) v.id self v.draft swap
+            → spec.CommitEnds D.Disk v.graph v.ds v.id v.draft.object made disk.old disk.new space.new result }
+        ensures call { spec.SwapCall D.Disk self disk.old disk.new space.old space.new result }
     {
         let mut taken = self.taken;
         match part_on_disk(disk, self.at, self.created) {

@@ -1,25 +1,9 @@
 //! A draft begun.
-ghost use Rattle.std.specs.Prelude.{◌≡◌, ◌≢◌, ◌<◌, ◌≤◌, ℕ, ◌+◌, ◌*◌, true, false, length, sum, List, [], ◌∷◌, Some};
-ghost use Rattle.std.specs.Prelude.{None, IfErr, IfOk};
+ghost use Rattle.std.specs.Prelude.{◌≡◌, ◌≢◌, ◌<◌, ◌≤◌, ◌*◌, length};
 ghost use Rattle.block_tree.specs.Pointers.{leaf_limit, node_pointers};
-ghost use Rattle.block_tree.specs.Root.{IsRootBlock};
-ghost use Rattle.cfs_base.specs.Calls.{MakesAtMost, OnlyReads};
-ghost use Rattle.cfs_base.specs.Disk.{block_at};
-ghost use Rattle.cfs_base.specs.Refusals.{had_tried, trouble_had_tried};
-ghost use Rattle.cfs_base.specs.Run.{Leaves, Tells};
-ghost use Rattle.cfs_base.specs.declared.refusal.Refused.TheVariants as refused;
-ghost use Rattle.cfs_base.specs.declared.identifier.Puid.{Puid};
-ghost use Rattle.cyl_alloc.specs.Space.{IsLeastFree, Kept};
-ghost use Rattle.intentions.specs.Store.{StoreHas};
-ghost use Rattle.special_files.specs.Drafting.{begun_at, none_of, number_if, opened_as};
-ghost use Rattle.block_tree.specs.Reads.{is_damage};
-ghost use Rattle.leaf_changes.specs.Tops.{still_top};
-ghost use Rattle.special_files.specs.Refusal.{IsDraftRefusal, IsDraftTrouble, has_met_damage, is_full_refusal};
-ghost use Rattle.special_files.specs.Store.{Steps};
-ghost use Rattle.vol_image.specs.Sound.{Holds};
-ghost use Rattle.ufs_model.specs.Graph.{Graph, object_at};
-ghost use Rattle.ufs_model.specs.declared.object.Object.{Object};
-ghost use Rattle.vol_owners.specs.Account.{Opened, drafts_of};
+ghost use Rattle.special_files.specs.Begins.{BeginCall, BeginsDirect, BeginsDraft, DirectCall};
+ghost use Rattle.special_files.specs.Drafting.{begun_at, none_of, number_if};
+ghost use Rattle.special_files.specs.View.{GoesTo, ObjectView};
 
 use crate::blocks::Blocks;
 use crate::draft::Draft;
@@ -100,37 +84,9 @@ impl Draft {
         requires some { at.0 ≢ 0 }
         requires on_disk { at.0 < D.blocks disk.old }
         requires size { D.blocks disk.old ≡ 64 * length space.old.free }
-        // It equals its object, and has a shadow root.
-        ensures begun { IfOk result (λ draft. (s : ℕ) × (draft ≡ begun_at at.0 (Some s) draft.own)) }
-        ensures root { Tells D.Disk disk.old → IfOk result (λ draft.
-            IsRootBlock (block_at (D.content disk.old) at.0) draft.own) }
-        ensures steps { (graph : Graph) (ds : List Opened) (id : Puid) (o : Object)
-            → StoreHas D.Disk graph ds disk.old space.old → id.block ≡ at.0 → object_at graph id ≡ Some o
-            → drafts_of ds id ≡ [] → IfOk result (λ draft.
-            Steps D.Disk graph id (opened_as id draft (record { object = o; fresh = [] }) ∷ ds)
-            disk.old disk.new space.new) }
-        ensures least { (graph : Graph) (ds : List Opened) (id : Puid) (o : Object)
-            → StoreHas D.Disk graph ds disk.old space.old
-            → id.block ≡ at.0 → object_at graph id ≡ Some o → drafts_of ds id ≡ [] → IfOk result (λ draft. (s : ℕ)
-            × (draft.shadow ≡ Some s) × IsLeastFree (D.content disk.old) s) }
-        // Each image that a crash leaves on the way holds all objects as they were.
-        ensures leaves { (graph : Graph) (ds : List Opened) (id : Puid) (o : Object)
-            → StoreHas D.Disk graph ds disk.old space.old
-            → id.block ≡ at.0 → object_at graph id ≡ Some o → Leaves D.Disk disk.old disk.new (λ c. Holds c graph) }
-        // The floor is kept: where it is begun that many blocks were Free beside its own.
-        ensures floor { IfOk result (λ draft. 1 + floor ≤ sum space.old.free) }
-        ensures full { IfErr result (λ e. is_full_refusal e ≡ true
-            → (e ≡ refused.Full (record { free = sum space.old.free; need = 1 })) × (sum space.old.free < 1 + floor)
-            × (disk.new ≡ disk.old)) }
-        ensures refused { IfErr result (IsDraftRefusal D.Disk (still_top at.0) floor disk.old disk.new space.new) }
-        ensures untried { IfErr result (λ e. had_tried e ≡ false
-            → (space.new ≡ space.old) × OnlyReads D.Disk 2 disk.old disk.new) }
-        ensures sound { (graph : Graph) (ds : List Opened) (id : Puid) (o : Object)
-            → StoreHas D.Disk graph ds disk.old space.old
-            → id.block ≡ at.0 → object_at graph id ≡ Some o → IfErr result (λ e. has_met_damage e ≡ false) }
-        ensures cylinders { length space.new.free ≡ length space.old.free }
-        ensures left { space.new.left ≡ space.old.left }
-        ensures calls { MakesAtMost D.Disk 3 1 disk.old disk.new }
+        ensures begins { (v : ObjectView D.Disk disk.old space.old at.0)
+            → GoesTo D.Disk v.graph (BeginsDraft v disk.new space.new) disk.old disk.new result }
+        ensures call { BeginCall D.Disk at.0 floor disk.old disk.new space.old space.new result }
     {
         space.has_room(1, floor)?;
         let root = read_root(disk, at)?;
@@ -150,23 +106,9 @@ impl Draft {
     ) -> Result<Draft, Refused>
         requires some { at.0 ≢ 0 }
         requires on_disk { at.0 < D.blocks disk.old }
-        // It equals its object.
-        ensures begun { IfOk result (λ draft. draft ≡ begun_at at.0 None draft.own) }
-        ensures root { Tells D.Disk disk.old → IfOk result (λ draft.
-            IsRootBlock (block_at (D.content disk.old) at.0) draft.own) }
-        ensures store { (graph : Graph) (ds : List Opened) (id : Puid) (o : Object)
-            → StoreHas D.Disk graph ds disk.old space.old
-            → id.block ≡ at.0 → object_at graph id ≡ Some o → drafts_of ds id ≡ [] → IfOk result (λ draft.
-            StoreHas D.Disk graph (opened_as id draft (record { object = o; fresh = [] }) ∷ ds) disk.new space.new) }
-        ensures refused { IfErr result (IsDraftRefusal D.Disk (still_top at.0) 0 disk.old disk.new space.new) }
-        ensures spare { IfErr result (λ error. is_full_refusal error ≡ false) }
-        ensures untried { IfErr result (λ error. had_tried error ≡ false) }
-        // No damage where the disk holds the object.
-        ensures sound { (graph : Graph) (ds : List Opened) (id : Puid) (o : Object)
-            → StoreHas D.Disk graph ds disk.old space.old
-            → id.block ≡ at.0 → object_at graph id ≡ Some o → IfErr result (λ error. has_met_damage error ≡ false) }
-        ensures space { space.new ≡ space.old }
-        ensures reads { OnlyReads D.Disk 1 disk.old disk.new }
+        ensures begins { (v : ObjectView D.Disk disk.old space.old at.0)
+            → GoesTo D.Disk v.graph (BeginsDirect v disk.new space.new) disk.old disk.new result }
+        ensures call { DirectCall D.Disk at.0 disk.old disk.new space.old space.new result }
     {
         let root = read_root(disk, at)?;
         Ok(room.draft(at, None, root))

@@ -29,8 +29,8 @@ pub(crate) fn add_unlike(list: &mut Blocks, block: u32, other: u32)
 /// Lists a node and its leaves, but for those that the other node has at the same place.
 fn add_node(list: &mut Blocks, block: u32, node: &Node, other: u32, other_node: &Node)
     requires { length list.old + 129 ≤ 15480 }
-    ensures { list.new ≡ list.old
-        ++ spec.all_unlike (spec.pointer_table block node.now.leaves) (spec.pointer_table other other_node.now.leaves) 129 }
+    ensures { list.new ≡ list.old ++ spec.all_unlike (spec.pointer_table block node.now.leaves)
+        (spec.pointer_table other other_node.now.leaves) 129 }
 {
     add_unlike(list, block, other);
     for leaf in 0..128 {
@@ -121,7 +121,7 @@ pub(crate) fn changed<D: Disk>(
     requires { 0 < D.blocks disk.old }
     ensures changed { (space : Kept) (was : Drafting) (v : DraftView D.Disk disk.old space was)
         → was.own ≡ own.now → was.root ≡ root.now
-        → OnOk result (spec.IsChanged (D.content disk.old) v.id (opened_as v.id was v.draft) taken.new dropped.new) }
+        → OnOk result (spec.IsChanged (D.content disk.old) v.id (opened_as was v.draft) taken.new dropped.new) }
     // On any disk there are no more than a draft has room for, and each is a block of the disk.
     ensures room { OnOk result ((length taken.new ≤ 15480) × (length dropped.new ≤ 15480)) }
     ensures on_disk { OnOk result (spec.AreOnDisk (D.blocks disk.old) taken.new

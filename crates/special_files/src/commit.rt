@@ -1,16 +1,15 @@
 //! A draft committed.
 ghost use Rattle.std.specs.Prelude.{◌≡◌, ◌≢◌, ◌<◌, ◌≤◌, ◌+◌, ◌*◌, ◌++◌, ◌∷◌, [], ℕ, false, length, option_to_list};
-ghost use Rattle.std.specs.Prelude.{Option, None, Some, IfErr, IsErr, OnOk};
+ghost use Rattle.std.specs.Prelude.{Option, None, Some, IfErr, OnOk};
 ghost use Rattle.std.specs.List.{All};
-ghost use Rattle.cfs_base.specs.Calls.{HasTried, MakesAtMost};
+ghost use Rattle.cfs_base.specs.Calls.{MakesAtMost};
 ghost use Rattle.cyl_alloc.specs.Left.{LeftCommit};
 ghost use Rattle.cfs_base.specs.Run.{IsSettled, Tells};
-ghost use Rattle.cfs_base.specs.declared.refusal.Refused.TheVariants as refused;
 ghost use Rattle.cfs_base.specs.declared.refusal.Trouble.TheVariants as troubles;
 ghost use Rattle.special_files.specs.Committing as spec;
 ghost use Rattle.special_files.specs.Drafting.{Drafting, number_if};
 ghost use Rattle.leaf_changes.specs.Tops.{still_top};
-ghost use Rattle.special_files.specs.Refusal.{IsDraftTrouble, roots_top};
+ghost use Rattle.special_files.specs.Refusal.{roots_top};
 ghost use Rattle.special_files.specs.View.{DraftView};
 
 use crate::blocks::Blocks;
@@ -64,7 +63,6 @@ pub(crate) fn finish<D: Disk>(
     ensures settled { Tells D.Disk disk.old → OnOk result (IsSettled D.Disk disk.new) }
     ensures cylinders { length space.new.free ≡ length space.old.free }
     ensures left { OnOk result ((l : LeftCommit) × spec.IsNoted at.0 space.new.left l) }
-    ensures kept { IsErr result → space.new ≡ space.old }
     ensures calls { MakesAtMost D.Disk (2 * length dropped.now + 4) (length dropped.now + 3) disk.old disk.new }
 {
     match decide(disk, space.known(), at, dropped) {
@@ -96,16 +94,10 @@ pub(crate) fn commit_begun<D: Disk>(
         → spec.AreDraftParts was at.0 (Some shadow.0) own.now root.now (number_if created)
         → spec.Makes (D.content disk.old) (number_if created) made
         → spec.CommitEnds D.Disk v.graph v.ds v.id v.draft.object made disk.old disk.new space.new result }
-    ensures refused { IfErr result
-        (IsDraftTrouble D.Disk (roots_top at.0 own.now root.now) disk.old disk.new space.new) }
-    ensures made { HasTried D.Disk disk.old disk.new }
+    ensures ends { spec.CommitsSo D.Disk (roots_top at.0 own.now root.now) 31205 15484 disk.old disk.new space.old
+        space.new result }
     // No device call comes before the first try.
     ensures untried { IfErr result (λ t. t ≢ troubles.Disk false) }
-    ensures settled { Tells D.Disk disk.old → OnOk result (IsSettled D.Disk disk.new) }
-    ensures cylinders { length space.new.free ≡ length space.old.free }
-    ensures left { OnOk result ((l : LeftCommit) × spec.IsNoted at.0 space.new.left l) }
-    ensures kept { IsErr result → space.new ≡ space.old }
-    ensures calls { MakesAtMost D.Disk 31205 15484 disk.old disk.new }
 {
     let content = root.encode();
     match write_own(disk, shadow, &content) {

@@ -1,21 +1,19 @@
 //! A draft committed that has no shadow root yet.
 ghost use Rattle.std.specs.Prelude.{◌≡◌, ◌≢◌, ◌<◌, ◌≤◌, ◌+◌, ◌*◌, ℕ, false, length, sum, Option, None, Some};
-ghost use Rattle.std.specs.Prelude.{IfErr, OnOk};
+ghost use Rattle.std.specs.Prelude.{IfErr};
 ghost use Rattle.std.specs.List.{All};
-ghost use Rattle.cfs_base.specs.Calls.{HasTried, MakesAtMost, OnlyReads};
+ghost use Rattle.cfs_base.specs.Calls.{OnlyReads};
 ghost use Rattle.cfs_base.specs.Refusals.{refused_by};
-ghost use Rattle.cfs_base.specs.Run.{IsSettled, Tells};
 ghost use Rattle.cfs_base.specs.declared.kind.Place.TheVariants.{ShadowRoot};
 ghost use Rattle.cfs_base.specs.declared.refusal.Refused.TheVariants as refused;
 ghost use Rattle.cfs_base.specs.declared.refusal.Trouble.TheVariants as troubles;
 ghost use Rattle.cyl_alloc.specs.Enters.{Enters};
-ghost use Rattle.cyl_alloc.specs.Left.{LeftCommit};
 ghost use Rattle.cyl_alloc.specs.Space.{intended};
 ghost use Rattle.special_files.specs.Changed.{IsChanged};
 ghost use Rattle.special_files.specs.Committing as spec;
 ghost use Rattle.special_files.specs.Drafting.{Drafting, number_if, opened_as};
 ghost use Rattle.leaf_changes.specs.Tops.{still_top};
-ghost use Rattle.special_files.specs.Refusal.{IsDraftTrouble, is_full_refusal, roots_top};
+ghost use Rattle.special_files.specs.Refusal.{is_full_refusal, roots_top};
 ghost use Rattle.special_files.specs.View.{DraftView};
 
 use crate::blocks::Blocks;
@@ -76,16 +74,12 @@ pub(crate) fn commit_listed<D: Disk>(
     ensures commits { (was : Drafting) (v : DraftView D.Disk disk.old space.old was) (made : Option spec.Making)
         → spec.AreDraftParts was at.0 None was.own root.now (number_if created)
         → spec.Makes (D.content disk.old) (number_if created) made
-        → IsChanged (D.content disk.old) v.id (opened_as v.id was v.draft) taken dropped.now
+        → IsChanged (D.content disk.old) v.id (opened_as was v.draft) taken dropped.now
         → spec.CommitEnds D.Disk v.graph v.ds v.id v.draft.object made disk.old disk.new space.new result }
-    ensures refused { IfErr result (IsDraftTrouble D.Disk (still_top at.0) disk.old disk.new space.new) }
-    ensures made { OnOk result (HasTried D.Disk disk.old disk.new) }
+    ensures ends { spec.CommitsSo D.Disk (still_top at.0) (2 * length dropped.now + 7) (length dropped.now + 5) disk.old
+        disk.new space.old space.new result }
     ensures untried { IfErr result (λ t. t ≡ troubles.Disk false
         → (space.new ≡ space.old) × OnlyReads D.Disk 1 disk.old disk.new) }
-    ensures settled { Tells D.Disk disk.old → OnOk result (IsSettled D.Disk disk.new) }
-    ensures cylinders { length space.new.free ≡ length space.old.free }
-    ensures left { OnOk result ((l : LeftCommit) × spec.IsNoted at.0 space.new.left l) }
-    ensures calls { MakesAtMost D.Disk (2 * length dropped.now + 7) (length dropped.now + 5) disk.old disk.new }
 {
     let shadow = match claim_shadow(disk, space, at) {
         Ok(block) => block,
@@ -120,15 +114,10 @@ pub(crate) fn commit_direct<D: Disk>(
         → spec.AreDraftParts was at.0 None own.now root.now (number_if created)
         → spec.Makes (D.content disk.old) (number_if created) made
         → spec.CommitEnds D.Disk v.graph v.ds v.id v.draft.object made disk.old disk.new space.new result }
-    ensures refused { IfErr result
-        (IsDraftTrouble D.Disk (roots_top at.0 own.now root.now) disk.old disk.new space.new) }
-    ensures made { OnOk result (HasTried D.Disk disk.old disk.new) }
+    ensures ends { spec.CommitsSo D.Disk (roots_top at.0 own.now root.now) 31207 15485 disk.old disk.new space.old
+        space.new result }
     ensures untried { IfErr result (λ t. t ≡ troubles.Disk false
         → (space.new ≡ space.old) × OnlyReads D.Disk 241 disk.old disk.new) }
-    ensures settled { Tells D.Disk disk.old → OnOk result (IsSettled D.Disk disk.new) }
-    ensures cylinders { length space.new.free ≡ length space.old.free }
-    ensures left { OnOk result ((l : LeftCommit) × spec.IsNoted at.0 space.new.left l) }
-    ensures calls { MakesAtMost D.Disk 31207 15485 disk.old disk.new }
 {
     match changed(disk, at, own, root, &mut taken, dropped) {
         Ok(()) => {}

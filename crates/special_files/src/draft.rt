@@ -1,11 +1,11 @@
 //! The draft of an object.
-ghost use Rattle.std.specs.Prelude.{◌≡◌, ◌+◌, ◌<◌, ℕ, List, true, false, length, is_some};
+ghost use Rattle.std.specs.Prelude.{◌≡◌, ◌+◌, ◌<◌, ℕ, true, false, length, is_some};
 ghost use Rattle.std.specs.List.{sum_by};
 ghost use Rattle.cfs_base.specs.declared.identifier.Puid.{Puid};
 ghost use Rattle.special_files.specs.Drafting.{IsOpen, shadow_count, shadow_need, is_fresh_leaf, is_fresh_node};
 ghost use Rattle.special_files.specs.Refusal.{refusal_after};
 ghost use Rattle.ufs_model.specs.declared.object.Draft as drafts;
-ghost use Rattle.vol_owners.specs.Account.{Opened};
+ghost use Rattle.vol_owners.specs.Account.{Drafts};
 
 use crate::blocks::Blocks;
 use crate::flags::Flags;
@@ -78,7 +78,7 @@ impl Draft {
 
     /// How many blocks the draft has of its own: fresh leaves and nodes, and the shadow root once it is taken.
     pub fn fresh_count(&self) -> u32
-        ensures { (ds : List Opened) (id : Puid) (d : drafts.Draft) → IsOpen ds id self.now d
+        ensures { (ds : Drafts) (id : Puid) (d : drafts.Draft) → IsOpen ds id self.now d
             → result ≡ sum_by length d.fresh + shadow_count self.now }
     {
         self.leaves.count() + self.nodes.count() + self.shadow_count()

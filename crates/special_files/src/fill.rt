@@ -1,31 +1,9 @@
 //! A slot of an index filled or emptied in a draft.
-ghost use Rattle.std.specs.Prelude.{◌≡◌, ◌+◌, ◌*◌, ◌/◌, ◌<◌, ◌≤◌, ◌&&◌, ℕ, true, false, is_none, is_some, length, sum};
-ghost use Rattle.std.specs.Prelude.{List, None, Some, IfErr, IfOk, IfSome, OnOk};
-ghost use Rattle.block_tree.specs.Root.{root_spelling};
-ghost use Rattle.cfs_base.specs.Calls.{HasTried, OnlyReads};
-ghost use Rattle.cfs_base.specs.Run.{Leaves};
-ghost use Rattle.cfs_base.specs.declared.identifier.Puid.{Puid};
-ghost use Rattle.cfs_base.specs.declared.refusal.Refused.TheVariants as refused;
-ghost use Rattle.claims.specs.Claims.{AreClaimed};
-ghost use Rattle.intentions.specs.Store.{StoreHas};
+ghost use Rattle.std.specs.Prelude.{◌≡◌, ◌+◌, ◌*◌, ◌/◌, ◌<◌, ◌≤◌, ◌&&◌, is_none, length};
 ghost use Rattle.leaf_changes.specs.Bytes.{IsSlot};
-ghost use Rattle.special_files.specs.Becomes.{DraftBecomes};
-ghost use Rattle.special_files.specs.Drafting.{IsOpen, draft_takes};
-ghost use Rattle.special_files.specs.Ends.{EndsCall};
-ghost use Rattle.special_files.specs.Fills.{IsNearSwap, IsSwapped, filled_draft};
-ghost use Rattle.special_files.specs.Leaves.{SameBeside};
-ghost use Rattle.special_files.specs.Order.{leaf_claims};
-ghost use Rattle.special_files.specs.Puts.{StaysBut};
-ghost use Rattle.special_files.specs.Refusal.{has_met_damage, is_full_refusal, top_of};
-ghost use Rattle.ufs_model.specs.Graph.{Graph, object_at};
-ghost use Rattle.ufs_model.specs.declared.object.Draft as drafts;
-ghost use Rattle.ufs_model.specs.declared.object.Index.{Index};
-ghost use Rattle.ufs_model.specs.declared.object.Object.TheVariants as objects;
-ghost use Rattle.ufs_model.specs.declared.object.Object.{Object};
+ghost use Rattle.special_files.specs.Fills.{FillCall, FillsIfIndex};
+ghost use Rattle.special_files.specs.View.{DraftView, GoesTo};
 ghost use Rattle.vol_image.specs.Reading.{slot_in};
-ghost use Rattle.vol_image.specs.Seen.{tree_in};
-ghost use Rattle.vol_image.specs.Sound.{Holds};
-ghost use Rattle.vol_owners.specs.Account.{Opened};
 
 use crate::draft::Draft;
 use crate::node::NodeRead;
@@ -65,47 +43,9 @@ impl Draft {
         requires size { D.blocks disk.old ≡ 64 * length space.old.free }
         requires within { 8 * slot + 8 ≤ self.old.root.size }
         requires slot { IsSlot what }
-        // The draft is that of the model with this in the slot.
-        ensures filled { (graph : Graph) (ds : List Opened) (id : Puid) (o : Object) (d : drafts.Draft) (i : Index)
-            → StoreHas D.Disk graph ds disk.old space.old → object_at graph id ≡ Some o → IsOpen ds id self.old d
-            → d.object ≡ objects.Index i → OnOk result
-            (DraftBecomes D.Disk graph ds id (filled_draft i slot what d) disk.old disk.new space.new self.new) }
-        // Its leaf takes the least Free block where it isn't fresh, and after it its node.
-        ensures order { (graph : Graph) (ds : List Opened) (id : Puid) (o : Object) (d : drafts.Draft) (i : Index)
-            → StoreHas D.Disk graph ds disk.old space.old → object_at graph id ≡ Some o → IsOpen ds id self.old d
-            → d.object ≡ objects.Index i → IfOk result (λ put. is_some put ≡ true
-            → AreClaimed (leaf_claims self.old.at self.old.leaves self.old.nodes (slot / 64)) (D.content disk.old)
-            (D.content disk.new)) }
-        // Where the draft was its object its commit takes the leaf and its node that are put, and drops those that
-        // stood.
-        ensures swaps { (graph : Graph) (ds : List Opened) (id : Puid) (o : Object) (d : drafts.Draft) (i : Index)
-            → StoreHas D.Disk graph ds disk.old space.old → object_at graph id ≡ Some o → IsOpen ds id self.old d
-            → d.object ≡ objects.Index i → self.old.root ≡ self.old.own → IfOk result (λ put.
-            IfSome put (IsSwapped (D.content disk.new) id self.new (filled_draft i slot what d))) }
-        ensures near { self.old.root ≡ self.old.own
-            → IfOk result (λ put. IfSome put (IsNearSwap (D.blocks disk.new) self.new)) }
-        // Of the draft's tree that leaf and its node alone are others then.
-        ensures beside { (graph : Graph) (ds : List Opened) (id : Puid) (o : Object) (d : drafts.Draft) (i : Index)
-            → StoreHas D.Disk graph ds disk.old space.old → object_at graph id ≡ Some o → IsOpen ds id self.old d
-            → d.object ≡ objects.Index i → OnOk result (SameBeside (slot / 64)
-            (tree_in (D.content disk.old) (root_spelling self.old.root))
-            (tree_in (D.content disk.new) (root_spelling self.new.root))) }
-        ensures leaves { (graph : Graph) (ds : List Opened) (id : Puid) (o : Object) (d : drafts.Draft)
-            → StoreHas D.Disk graph ds disk.old space.old → object_at graph id ≡ Some o → IsOpen ds id self.old d
-            → Leaves D.Disk disk.old disk.new (λ c. Holds c graph) }
-        ensures stays { StaysBut self.old self.new }
-        ensures ends { EndsCall D.Disk (top_of self.old) 0 8 4 (draft_takes self.old (slot / 64))
-            disk.old disk.new space.old space.new result }
-        ensures done { IfOk result (λ put. is_some put ≡ true → HasTried D.Disk disk.old disk.new) }
-        ensures spared { IfOk result (λ put. put ≡ None
-            → (self.new ≡ self.old) × (space.new ≡ space.old) × OnlyReads D.Disk 2 disk.old disk.new) }
-        ensures empty { IfOk result (λ put. put ≡ None → what ≡ None) }
-        ensures kept { IfErr result (λ e. e ≡ refused.Disk false → self.new ≡ self.old) }
-        // Never Full where the blocks that it takes are Free.
-        ensures room { draft_takes self.old (slot / 64) ≤ sum space.old.free → IfErr result (λ e. is_full_refusal e ≡ false) }
-        ensures sound { (graph : Graph) (ds : List Opened) (id : Puid) (o : Object) (d : drafts.Draft)
-            → StoreHas D.Disk graph ds disk.old space.old → object_at graph id ≡ Some o → IsOpen ds id self.old d
-            → IfErr result (λ e. has_met_damage e ≡ false) }
+        ensures goes { (v : DraftView D.Disk disk.old space.old self.old) → GoesTo D.Disk v.graph
+            (FillsIfIndex v slot what disk.new space.new self.new) disk.old disk.new result }
+        ensures call { FillCall D.Disk slot what disk.old disk.new space.old space.new self.old self.new result }
     {
         prove!(self.root.size <= SIZE_LIMIT);
         let leaf = (slot / 64) as u32;

@@ -101,7 +101,7 @@ pub(crate) fn list_from<D: Disk>(
     requires safe { spec.IsSafeIn (D.blocks disk.old) root.now read.now }
     ensures listed { (space : Kept) (was : Drafting) (v : DraftView D.Disk disk.old space was)
         → spec.HasParts was root.now leaves.now nodes.now → spec.IsReadIn (D.content disk.old) root.now read.now
-        → OnOk result (spec.AreShed (D.content disk.old) v.id (opened_as v.id was v.draft) from list.new) }
+        → OnOk result (spec.AreShed (D.content disk.old) v.id (opened_as was v.draft) from list.new) }
     // On any disk there are no more than a draft has room for, and each is a block of the disk.
     ensures room { OnOk result (length list.new ≤ 15480) }
     ensures on_disk { OnOk result (All (λ n. n < D.blocks disk.old) list.new) }

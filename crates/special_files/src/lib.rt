@@ -10,6 +10,7 @@ mod blocks;
 mod changed;
 mod commit;
 mod commit_bit;
+mod creating;
 mod direct;
 mod draft;
 mod fill;
@@ -25,5 +26,6 @@ mod slot;
 mod write;
 
 pub use begin::Room;
+pub use creating::{bare_root, least, write_root};
 pub use draft::Draft;
 pub use fill::Swap;

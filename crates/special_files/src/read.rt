@@ -1,25 +1,15 @@
 //! A draft that is read.
-ghost use Rattle.std.specs.Prelude.{◌≡◌, ◌+◌, ◌-◌, ◌*◌, ◌/◌, ◌<◌, ◌≤◌, false, length, slice_range, List, Some, IfErr};
-ghost use Rattle.std.specs.Prelude.{IfOk, OnOk};
-ghost use Rattle.cfs_base.specs.Calls.{OnlyReads};
-ghost use Rattle.cfs_base.specs.Refusals.{trouble_had_tried};
-ghost use Rattle.cfs_base.specs.declared.identifier.Puid.{Puid};
+ghost use Rattle.std.specs.Prelude.{◌≡◌, ◌+◌, ◌-◌, ◌*◌, ◌/◌, ◌<◌, ◌≤◌, length, IfOk};
 ghost use Rattle.cyl_alloc.specs.Space.{Kept};
 ghost use Rattle.intentions.specs.Left.{StoreIs};
-ghost use Rattle.special_files.specs.Drafting.{IsOpen};
 ghost use Rattle.special_files.specs.Leaves.{leaves_below};
+ghost use Rattle.special_files.specs.Looks.{ReadCall, ReadsDraft};
 ghost use Rattle.special_files.specs.Nodes.{IsRead, IsSafe, TurnsTo};
-ghost use Rattle.block_tree.specs.Reads.{is_damage};
-ghost use Rattle.special_files.specs.Refusal.{IsDraftTrouble, top_of};
-ghost use Rattle.special_files.specs.View.{HasTree};
-ghost use Rattle.ufs_model.specs.Graph.{Graph, object_at};
+ghost use Rattle.special_files.specs.View.{DraftSeen, HasTree};
+ghost use Rattle.ufs_model.specs.Graph.{Graph};
 ghost use Rattle.ufs_model.specs.Object as spec;
-ghost use Rattle.ufs_model.specs.declared.object.Draft as drafts;
-ghost use Rattle.ufs_model.specs.declared.object.File.{File};
-ghost use Rattle.ufs_model.specs.declared.object.Object.TheVariants as objects;
-ghost use Rattle.ufs_model.specs.declared.object.Object.{Object};
 ghost use Rattle.vol_image.specs.Reading.{leaf_content};
-ghost use Rattle.vol_owners.specs.Account.{Opened};
+ghost use Rattle.vol_owners.specs.Account.{Drafts};
 
 use crate::draft::Draft;
 use crate::node::NodeRead;
@@ -59,24 +49,13 @@ impl Draft {
     pub fn read<D: Disk>(&self, disk: &mut D, offset: u64, into: &mut [u8]) -> Result<(), Trouble>
         requires on_disk { self.now.at < D.blocks disk.old }
         requires within { offset + length into.old ≤ self.now.root.size }
-        // The part has the bytes of the draft of the model.
-        ensures bytes { (graph : Graph) (ds : List Opened) (space : Kept) (id : Puid) (o : Object) (d : drafts.Draft)
-            (f : File)
-            → StoreIs D.Disk graph ds disk.old space → object_at graph id ≡ Some o → IsOpen ds id self.now d
-            → d.object ≡ objects.File f
-            → OnOk result (into.new ≡ slice_range f.bytes offset (offset + length into.old)) }
+        ensures reads { (v : DraftSeen D.Disk disk.old self.now)
+            → ReadsDraft v offset into.old into.new result }
         ensures long { length into.new ≡ length into.old }
-        ensures store { (graph : Graph) (ds : List Opened) (space : Kept) → StoreIs D.Disk graph ds disk.old space
+        ensures store { (graph : Graph) (ds : Drafts) (space : Kept) → StoreIs D.Disk graph ds disk.old space
             → StoreIs D.Disk graph ds disk.new space }
-        ensures refused { (kept : Kept)
-            → IfErr result (IsDraftTrouble D.Disk (top_of self.now) disk.old disk.new kept) }
-        ensures untried { IfErr result (λ trouble. trouble_had_tried trouble ≡ false) }
-        // No damage where the disk holds the object.
-        ensures sound { (graph : Graph) (ds : List Opened) (space : Kept) (id : Puid) (o : Object) (d : drafts.Draft)
-            → StoreIs D.Disk graph ds disk.old space → object_at graph id ≡ Some o → IsOpen ds id self.now d
-            → IfErr result (λ trouble. is_damage trouble ≡ false) }
-        ensures reads { OnlyReads D.Disk
-            (2 * (spec.leaves_in (offset + length into.old) - offset / 512)) disk.old disk.new }
+        ensures call { ReadCall D.Disk (2 * (spec.leaves_in (offset + length into.old) - offset / 512)) disk.old
+            disk.new self.now result }
     {
         prove!(self.root.size <= SIZE_LIMIT);
         let mut read = NodeRead::nothing();

@@ -7,7 +7,7 @@ ghost use Rattle.special_files.specs.Drafting.{shadow_need};
 ghost use Rattle.special_files.specs.Leaves.{leaves_below};
 ghost use Rattle.special_files.specs.Nodes.{IsRead, IsSafe, TurnsTo};
 ghost use Rattle.special_files.specs.Puts.{CutsLeaf, LeafCall};
-ghost use Rattle.special_files.specs.Shed.{IsFullFor, Resized, sized};
+ghost use Rattle.special_files.specs.Shed.{IsFullFor, ResizesIfFile, sized};
 ghost use Rattle.special_files.specs.View.{GoesHolding, DraftView};
 ghost use Rattle.ufs_model.specs.declared.object.File.{File};
 ghost use Rattle.ufs_model.specs.declared.object.Object.TheVariants as objects;
@@ -30,10 +30,8 @@ impl Draft {
     ) -> Result<(), Refused>
         requires more { self.old.root.size ≤ size }
         requires limit { size ≤ 7864320 }
-        ensures resized { (v : DraftView D.Disk _disk.now space.now self.old) (f : File)
-            → v.draft.object ≡ objects.File f
-            → OnOk result (Resized D.Disk v.graph v.ds v.id v.draft size floor _disk.now _disk.now space.now space.now
-            self.old self.new) }
+        ensures resized { (v : DraftView D.Disk _disk.now space.now self.old)
+            → OnOk result (ResizesIfFile v size floor _disk.now space.now self.new) }
         ensures full { (v : DraftView D.Disk _disk.now space.now self.old) (f : File) → v.draft.object ≡ objects.File f
             → IfErr result (IsFullFor size floor v.draft space.now self.old) }
         ensures only_size { OnOk result (self.new ≡ sized self.old size) }

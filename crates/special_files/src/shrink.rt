@@ -1,31 +1,14 @@
 //! The size of a draft set to less, and to any.
 ghost use Rattle.std.specs.Prelude.{◌≡◌, ◌≢◌, ◌+◌, ◌*◌, ◌/◌, ◌%◌, ◌<◌, ◌≤◌, ℕ, true, false, length, slice_index, sum};
-ghost use Rattle.std.specs.Prelude.{List, Some, Err, IfErr, IfOk, OnOk};
-ghost use Rattle.cfs_base.specs.Calls.{OnlyReads};
-ghost use Rattle.cfs_base.specs.Run.{Leaves};
-ghost use Rattle.cfs_base.specs.declared.identifier.Puid.{Puid};
-ghost use Rattle.cfs_base.specs.declared.refusal.Refused.TheVariants as refused;
-ghost use Rattle.intentions.specs.Store.{StoreHas};
+ghost use Rattle.std.specs.Prelude.{Err, IfErr, IfOk};
 ghost use Rattle.leaf_changes.specs.Bytes as changes;
-ghost use Rattle.special_files.specs.Becomes.{DraftBecomes};
-ghost use Rattle.special_files.specs.Drafting.{HasNoneFresh, IsOpen, need_beside, pointer_to_node, shadow_need};
-ghost use Rattle.special_files.specs.Ends.{EndsCall};
+ghost use Rattle.special_files.specs.Drafting.{pointer_to_node, shadow_need};
 ghost use Rattle.special_files.specs.Nodes.{IsRead, IsSafe};
-ghost use Rattle.special_files.specs.Order.{ClaimsAndDrops, claims_anew};
-ghost use Rattle.leaf_changes.specs.Tops.{IsFarRoot};
-ghost use Rattle.special_files.specs.Refusal.{has_met_damage, is_full_refusal, top_of};
+ghost use Rattle.special_files.specs.Refusal.{is_full_refusal};
 ghost use Rattle.special_files.specs.Shed as spec;
 ghost use Rattle.special_files.specs.View.{GoesHolding, DraftView};
-ghost use Rattle.ufs_model.specs.Graph.{Graph, object_at};
-ghost use Rattle.ufs_model.specs.Object.{written_anew};
-ghost use Rattle.ufs_model.specs.State.{changed_draft};
-ghost use Rattle.ufs_model.specs.declared.change.Change.TheVariants.{SetSize};
-ghost use Rattle.ufs_model.specs.declared.object.Draft as drafts;
 ghost use Rattle.ufs_model.specs.declared.object.File.{File};
 ghost use Rattle.ufs_model.specs.declared.object.Object.TheVariants as objects;
-ghost use Rattle.ufs_model.specs.declared.object.Object.{Object};
-ghost use Rattle.vol_image.specs.Sound.{Holds};
-ghost use Rattle.vol_owners.specs.Account.{Opened};
 
 use crate::draft::{Draft, after};
 use crate::flips::give_all;
@@ -297,8 +280,7 @@ impl Draft {
         requires size { D.blocks disk.old ≡ 64 * length space.old.free }
         requires less { size < self.old.root.size }
         ensures goes { (v : DraftView D.Disk disk.old space.old self.old) → GoesHolding D.Disk v.graph
-            ((f : File) → v.draft.object ≡ objects.File f → spec.Resized D.Disk v.graph v.ds v.id v.draft size floor
-            disk.old disk.new space.old space.new self.old self.new) disk.old disk.new result }
+            (spec.ResizesIfFile v size floor disk.new space.new self.new) disk.old disk.new result }
         ensures full { (v : DraftView D.Disk disk.old space.old self.old) (f : File) → v.draft.object ≡ objects.File f
             → IfErr result (λ e. is_full_refusal e ≡ true → spec.IsFullFor size floor v.draft space.old self.old e) }
         ensures calls { spec.ResizeCall D.Disk size floor disk.old disk.new space.old space.new self.old self.new
@@ -334,48 +316,15 @@ impl Draft {
         requires on_disk { self.old.at < D.blocks disk.old }
         requires size { D.blocks disk.old ≡ 64 * length space.old.free }
         requires limit { size ≤ 7864320 }
-        // The draft is that of the model with this size.
-        ensures resized { (graph : Graph) (ds : List Opened) (id : Puid) (o : Object) (d : drafts.Draft) (f : File)
-            → StoreHas D.Disk graph ds disk.old space.old → object_at graph id ≡ Some o → IsOpen ds id self.old d
-            → d.object ≡ objects.File f → OnOk result
-            (DraftBecomes D.Disk graph ds id (changed_draft (SetSize size) d) disk.old disk.new space.new self.new) }
-        // Its blocks are claimed in their order, each the least Free; what it drops of its own is Free then.
-        ensures order { (graph : Graph) (ds : List Opened) (id : Puid) (o : Object) (d : drafts.Draft) (f : File)
-            → StoreHas D.Disk graph ds disk.old space.old → object_at graph id ≡ Some o → IsOpen ds id self.old d
-            → d.object ≡ objects.File f → OnOk result (ClaimsAndDrops id.block (claims_anew self.old.at
-            (written_anew (SetSize size) d.object d.fresh) d.fresh) (D.content disk.old) (D.content disk.new)) }
-        ensures leaves { (graph : Graph) (ds : List Opened) (id : Puid) (o : Object) (d : drafts.Draft)
-            → StoreHas D.Disk graph ds disk.old space.old → object_at graph id ≡ Some o → IsOpen ds id self.old d
-            → Leaves D.Disk disk.old disk.new (λ c. Holds c graph) }
-        ensures stays { spec.Resizes size self.old self.new result }
+        ensures goes { (v : DraftView D.Disk disk.old space.old self.old) → GoesHolding D.Disk v.graph
+            (spec.ResizesIfFile v size floor disk.new space.new self.new) disk.old disk.new result }
         // Full exactly where the model's need and the floor aren't Free.
-        ensures full { (graph : Graph) (ds : List Opened) (id : Puid) (o : Object) (d : drafts.Draft) (f : File)
-            → StoreHas D.Disk graph ds disk.old space.old → object_at graph id ≡ Some o → IsOpen ds id self.old d
-            → d.object ≡ objects.File f → IfErr result (λ e. is_full_refusal e ≡ true → (e ≡ refused.Full (record {
-              free = sum space.old.free;
-              need = need_beside (SetSize size) d self.old;
-            }))
-            × (sum space.old.free < need_beside (SetSize size) d self.old + floor)) }
-        // Nothing but a node was read then.
-        ensures spared { IfErr result (λ e. is_full_refusal e ≡ true
-            → OnlyReads D.Disk 1 disk.old disk.new × (space.new ≡ space.old) × (self.new ≡ self.old)) }
-        ensures room { (graph : Graph) (ds : List Opened) (id : Puid) (o : Object) (d : drafts.Draft) (f : File)
-            → StoreHas D.Disk graph ds disk.old space.old → object_at graph id ≡ Some o → IsOpen ds id self.old d
-            → d.object ≡ objects.File f → OnOk result
-            (need_beside (SetSize size) d self.old + floor ≤ sum space.old.free) }
-        // Of a draft that had no fresh block it tells whether a write was tried.
-        ensures told { HasNoneFresh self.old
-            → OnOk result (spec.IsToldByNodes D.Disk disk.old disk.new space.old space.new self.new) }
-        // Each pointer of its root that leads past the disk did before.
-        ensures near { IsFarRoot (D.blocks disk.new) self.new.root → IsFarRoot (D.blocks disk.new) self.old.root }
-        ensures ends { EndsCall D.Disk (top_of self.old) floor 31092 15486 (sum space.old.free)
-            disk.old disk.new space.old space.new result }
+        ensures full { (v : DraftView D.Disk disk.old space.old self.old) (f : File) → v.draft.object ≡ objects.File f
+            → IfErr result (λ e. is_full_refusal e ≡ true → spec.IsFullFor size floor v.draft space.old self.old e) }
+        ensures call { spec.ResizeCall D.Disk size floor disk.old disk.new space.old space.new self.old self.new
+            result }
         // To no less than it is, the disk isn't touched.
         ensures grown { self.old.root.size ≤ size → (disk.new ≡ disk.old) × (space.new ≡ space.old) }
-        ensures kept { IfErr result (λ e. e ≡ refused.Disk false → self.new ≡ self.old) }
-        ensures sound { (graph : Graph) (ds : List Opened) (id : Puid) (o : Object) (d : drafts.Draft)
-            → StoreHas D.Disk graph ds disk.old space.old → object_at graph id ≡ Some o → IsOpen ds id self.old d
-            → IfErr result (λ e. has_met_damage e ≡ false) }
     {
         if self.root.size <= size {
             return self.grow(disk, space, size, floor);

@@ -1,36 +1,16 @@
 //! Bytes written into a draft.
-ghost use Rattle.std.specs.Prelude.{◌≡◌, ◌+◌, ◌-◌, ◌*◌, ◌/◌, ◌<◌, ◌≤◌, true, false, length, sum, List, Some, IfErr};
-ghost use Rattle.std.specs.Prelude.{IfOk, OnOk};
-ghost use Rattle.cfs_base.specs.Calls.{HasTried};
-ghost use Rattle.cfs_base.specs.Run.{Leaves};
-ghost use Rattle.cfs_base.specs.declared.identifier.Puid.{Puid};
-ghost use Rattle.cfs_base.specs.declared.refusal.Refused.TheVariants as refused;
-ghost use Rattle.claims.specs.Claims.{AreClaimed};
+ghost use Rattle.std.specs.Prelude.{◌≡◌, ◌+◌, ◌-◌, ◌*◌, ◌/◌, ◌<◌, ◌≤◌, length, IfOk};
 ghost use Rattle.cyl_alloc.specs.Space.{Kept};
-ghost use Rattle.intentions.specs.Store.{StoreHas};
 ghost use Rattle.leaf_changes.specs.Bytes as changes;
-ghost use Rattle.special_files.specs.Becomes.{DraftBecomes};
 ghost use Rattle.special_files.specs.Drafting as drafting;
-ghost use Rattle.special_files.specs.Drafting.{IsOpen, leaves_take, need_beside, shadow_need};
-ghost use Rattle.special_files.specs.Ends.{EndsCall};
+ghost use Rattle.special_files.specs.Drafting.{leaves_take, shadow_need};
 ghost use Rattle.special_files.specs.Leaves.{leaves_below};
 ghost use Rattle.special_files.specs.Nodes.{IsRead, IsSafe, TurnsTo};
-ghost use Rattle.special_files.specs.Order.{claims_between};
-ghost use Rattle.special_files.specs.Puts.{PutsLeaf, StaysBut, LeafCall};
-ghost use Rattle.leaf_changes.specs.Tops.{IsFarRoot};
-ghost use Rattle.special_files.specs.Refusal.{has_met_damage, is_full_refusal, top_of};
+ghost use Rattle.special_files.specs.Puts.{PutsLeaf, LeafCall};
 ghost use Rattle.special_files.specs.View.{GoesHolding, DraftView};
-ghost use Rattle.ufs_model.specs.Graph.{Graph, object_at};
+ghost use Rattle.special_files.specs.Writes.{WriteCall, WritesDraft};
 ghost use Rattle.ufs_model.specs.Object as spec;
-ghost use Rattle.ufs_model.specs.State.{changed_draft};
-ghost use Rattle.ufs_model.specs.declared.change.Change.TheVariants.{Overwrite};
-ghost use Rattle.ufs_model.specs.declared.object.Draft as drafts;
-ghost use Rattle.ufs_model.specs.declared.object.File.{File};
-ghost use Rattle.ufs_model.specs.declared.object.Object.TheVariants as objects;
-ghost use Rattle.ufs_model.specs.declared.object.Object.{Object};
 ghost use Rattle.vol_image.specs.Reading.{leaf_content};
-ghost use Rattle.vol_image.specs.Sound.{Holds};
-ghost use Rattle.vol_owners.specs.Account.{Opened};
 
 use crate::draft::{Draft, after};
 use crate::node::NodeRead;
@@ -134,46 +114,10 @@ impl Draft {
         requires on_disk { self.old.at < D.blocks disk.old }
         requires size { D.blocks disk.old ≡ 64 * length space.old.free }
         requires within { offset + length bytes.now ≤ self.old.root.size }
-        // The draft is that of the model with the bytes written.
-        ensures written { (graph : Graph) (ds : List Opened) (id : Puid) (o : Object) (d : drafts.Draft) (f : File)
-            → StoreHas D.Disk graph ds disk.old space.old → object_at graph id ≡ Some o → IsOpen ds id self.old d
-            → d.object ≡ objects.File f → OnOk result
-            (DraftBecomes D.Disk graph ds id (changed_draft (Overwrite offset bytes.now) d)
-            disk.old disk.new space.new self.new) }
-        // Each leaf that isn't fresh takes the least Free block, and after it its node: in increasing order.
-        ensures order { (graph : Graph) (ds : List Opened) (id : Puid) (o : Object) (d : drafts.Draft)
-            → StoreHas D.Disk graph ds disk.old space.old → object_at graph id ≡ Some o → IsOpen ds id self.old d
-            → OnOk result (AreClaimed (claims_between self.old (offset / 512) (spec.leaves_in (offset + length bytes.now)))
-            (D.content disk.old) (D.content disk.new)) }
-        ensures leaves { (graph : Graph) (ds : List Opened) (id : Puid) (o : Object) (d : drafts.Draft)
-            → StoreHas D.Disk graph ds disk.old space.old → object_at graph id ≡ Some o → IsOpen ds id self.old d
-            → Leaves D.Disk disk.old disk.new (λ c. Holds c graph) }
-        ensures stays { StaysBut self.old self.new }
-        // Full exactly where the model's need and the floor aren't Free; on any disk all is as it was then.
-        ensures full { IfErr result (λ e. is_full_refusal e ≡ true
-            → (disk.new ≡ disk.old) × (space.new ≡ space.old) × (self.new ≡ self.old)
-            × ((ds : List Opened) (id : Puid) (d : drafts.Draft) → IsOpen ds id self.old d
-            → (e ≡ refused.Full (record {
-              free = sum space.old.free;
-              need = need_beside (Overwrite offset bytes.now) d self.old;
-            }))
-            × (sum space.old.free < need_beside (Overwrite offset bytes.now) d self.old + floor))) }
-        ensures room { (ds : List Opened) (id : Puid) (d : drafts.Draft) → IsOpen ds id self.old d
-            → OnOk result (need_beside (Overwrite offset bytes.now) d self.old + floor ≤ sum space.old.free) }
-        ensures ends { EndsCall D.Disk (top_of self.old) floor
-            (8 * (spec.leaves_in (offset + length bytes.now) - offset / 512))
-            (4 * (spec.leaves_in (offset + length bytes.now) - offset / 512))
-            (sum space.old.free) disk.old disk.new space.old space.new result }
-        // A block is left for a shadow root.
-        ensures spare { OnOk result (shadow_need self.old ≤ sum space.new.free) }
-        // Each pointer of its root that leads past the disk did before.
-        ensures near { IsFarRoot (D.blocks disk.new) self.new.root → IsFarRoot (D.blocks disk.new) self.old.root }
-        // Where there are bytes a leaf is written.
-        ensures tried { 1 ≤ length bytes.now → OnOk result (HasTried D.Disk disk.old disk.new) }
-        ensures kept { IfErr result (λ e. e ≡ refused.Disk false → self.new ≡ self.old) }
-        ensures sound { (graph : Graph) (ds : List Opened) (id : Puid) (o : Object) (d : drafts.Draft)
-            → StoreHas D.Disk graph ds disk.old space.old → object_at graph id ≡ Some o → IsOpen ds id self.old d
-            → IfErr result (λ e. has_met_damage e ≡ false) }
+        ensures goes { (v : DraftView D.Disk disk.old space.old self.old) → GoesHolding D.Disk v.graph
+            (WritesDraft v offset bytes.now disk.new space.new self.new) disk.old disk.new result }
+        ensures call { WriteCall D.Disk offset bytes.now floor disk.old disk.new space.old space.new self.old self.new
+            result }
     {
         prove!(self.root.size <= SIZE_LIMIT);
         let from = (offset / 512) as u32;

@@ -1,7 +1,7 @@
 //! A small volume in memory, with the calls of the store on it.
 ghost use Rattle.std.specs.Prelude.{◌≡◌, ◌*◌, ◌<◌, ◌≤◌, true, length, sum, None};
 ghost use Rattle.cfs_fakes.specs.Memory.{contents};
-ghost use Rattle.index_ops.specs.Creates.{MayBeMade};
+ghost use Rattle.special_files.specs.Creates.{MayBeMade};
 
 use crate::laid::{LEAF_ENTRY, NODE_ENTRY, RESERVED, ROOT_ENTRY, block_of, get, put};
 use cfs_base::{

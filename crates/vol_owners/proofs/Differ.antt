@@ -1,6 +1,6 @@
 -- Lists of different numbers, and runs in which exactly these pass a test.
-use Rattle.std.proofs.Common.{◌≡◌, inl, inr, ℕ, zero, suc, ◌+◌, ◌<◌, ◌≤◌, List, [], ◌∷◌, ◌++◌, length, Bool, true, false, not, ◌||◌, refl, sym, ◌∙◌, ap, subst, arith, ◌==◌}
-use Rattle.vol_owners.proofs.Words.{above, and_parts, both_ways, cases_eq, eq-eqb, false_from_ne_true, has_number, here, in_map, later, list_any-append, map, ne_eqb, not-true, numbers_differ, numbers_rise, one_of, or_cases, range_with_len}
+use Rattle.std.proofs.Common.{◌≡◌, inl, inr, ℕ, zero, suc, ◌+◌, ◌<◌, ◌≤◌, List, [], ◌∷◌, ◌++◌, length, Bool, true, false, ◌||◌, refl, sym, ◌∙◌, ap, subst, arith, ◌==◌}
+use Rattle.vol_owners.proofs.Words.{above, and_parts, both_ways, cases_eq, eq-eqb, false_from_ne_true, has_number, here, in_map, later, list_any-append, map, ne_eqb, numbers_rise, one_of, or_cases, range_with_len}
 use Rattle.vol_owners.proofs.Sums.{count_in, run-suc, run_same, run_zeros, sum_both, sum_each, sum_run}
 
 -- ---- which lists are such
@@ -8,10 +8,6 @@ use Rattle.vol_owners.proofs.Sums.{count_in, run-suc, run_same, run_zeros, sum_b
 abbrev pub Differ : List ℕ → Type 0
 Differ [] = Unit {0}
 Differ (n ∷ ns) = (has_number n ns ≡ false) × Differ ns
-
-pub differ_from : (ns : List ℕ) → numbers_differ ns ≡ true → Differ ns
-differ_from [] h = tt
-differ_from (n ∷ ns) h = let two = and_parts (not (has_number n ns)) (numbers_differ ns) h in (not-true (has_number n ns) two.0, differ_from ns two.1)
 
 pub rising_differ : (ns : List ℕ) → numbers_rise ns ≡ true → Differ ns
 rising_differ [] up = tt

@@ -1,6 +1,6 @@
 -- What a change misses stays: the blocks of an object, and its draft.
-use Rattle.std.proofs.Common.{◌≡◌, ◌⊎◌, inl, inr, ℕ, List, [], ◌∷◌, length, Bool, true, false, Option, Some, refl, sym, ◌∙◌, ap, subst}
-use Rattle.vol_owners.proofs.Words.{Accounts, BlockState, ChangesOnly, Frames, Free, Graph, HasDraft, HasDrafts, HasItsBlocks, Image, IsBlockOf, IsOpenTo, IsRootBlock, IsTaken, MapEntry, Misses, Object, Opened, Puid, SameAt, StandsIn, Tree, both_ways, content_of, entry_in, fun_ext, is_committed, is_had, is_leaving, is_meant, is_meant_for, is_owned_by, object_at, object_taken, part_of, same_blocks, same_shadows, same_sight, same_tree, sight, stands_for, taken_apart, tree_in, tree_placed}
+use Rattle.std.proofs.Common.{◌≡◌, ◌⊎◌, inl, inr, ℕ, List, length, Bool, true, false, Option, Some, None, refl, sym, ◌∙◌, ap, subst}
+use Rattle.vol_owners.proofs.Words.{Accounts, BlockState, ChangesOnly, Drafts, Frames, Free, Graph, HasDraft, HasDraftIf, HasItsBlocks, Image, IsBlockOf, IsOpenTo, IsRootBlock, IsTaken, MapEntry, Misses, Object, Opened, Puid, SameAt, StandsIn, Tree, both_ways, content_of, entry_in, fun_ext, is_committed, is_had, is_leaving, is_meant, is_meant_for, is_owned_by, object_at, object_taken, part_of, same_blocks, same_shadows, same_sight, same_tree, sight, stands_for, taken_apart, tree_in, tree_placed}
 use Rattle.vol_owners.proofs.Entries.{free_unowned, had_or_meant, stands_meant, taken_of}
 
 -- an entry that is open to what misses an owner is no block of the owner
@@ -8,7 +8,7 @@ pub open_unowned : (T : Option MapEntry → Bool) (test : BlockState → Bool) �
 open_unowned T test real r entry misses (inl free) = free_unowned test real r entry free
 open_unowned T test real r entry misses (inr two) = misses entry two.1
 
-module _ (T : Option MapEntry → Bool) (a b : Image) (g : Graph) (ds : List Opened) (had : Accounts a g ds) (changes : ChangesOnly T a b) where
+module _ (T : Option MapEntry → Bool) (a b : Image) (g : Graph) (ds : Drafts) (had : Accounts a g ds) (changes : ChangesOnly T a b) where
   -- an entry that is not open stays
   pub entry_kept : (n : ℕ) → (IsOpenTo T (entry_in a n) → ⊥) → entry_in b n ≡ entry_in a n
   entry_kept n shut = elim (changes.entries n) [ inl same ↦ same | inr both ↦ absurd (shut both.0) ]
@@ -79,10 +79,9 @@ module _ (T : Option MapEntry → Bool) (a b : Image) (g : Graph) (ds : List Ope
           stands n (inl is) = inl is
           stands n (inr s) = inr (record { path = s.path; held = s.held; there = ap (λ (t : Tree). t.below s.path) tree ∙ s.there; is = s.is })
 
-      pub drafts_kept : (xs : List Opened) → HasDrafts a x xs → HasDrafts b x xs
-      drafts_kept [] none = λ n. same_uses is_meant refl x.block meant n ∙ none n
-      drafts_kept (d ∷ []) draft = draft_kept d draft
-      drafts_kept (d ∷ e ∷ more) draft = absurd draft
+      pub draft_kept_if : (d : Option Opened) → HasDraftIf a x d → HasDraftIf b x d
+      draft_kept_if None none = λ n. same_uses is_meant refl x.block meant n ∙ none n
+      draft_kept_if (Some d) draft = draft_kept d draft
 
   -- a change is within the frame of every graph whose objects' blocks it misses
   pub frames_others : (h : Graph) → ((x : Puid) (o : Object) → object_at h x ≡ Some o → (object_at g x ≡ Some o) × Misses is_had T x.block) → Frames a h b

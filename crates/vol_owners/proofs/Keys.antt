@@ -1,6 +1,7 @@
 -- The objects of a graph, each found by its identifier: their root blocks differ, and what is summed over them.
-use Rattle.std.proofs.Common.{◌≡◌, ◌≢◌, inl, inr, ℕ, ◌+◌, List, [], ◌∷◌, length, Bool, true, false, cond, ◌&&◌, ◌||◌, Some, refl, sym, ◌∙◌, ap, subst, arith, ◌==◌}
-use Rattle.vol_owners.proofs.Words.{BlockState, Equal, Graph, Greater, Holds, Image, Less, Object, Opened, Ordering, Puid, and_parts, drafts_of, entry_in, eq-eqb, eqb-true, false_from_ne_true, found, has_block, ids_of, is_among, is_eq, is_lt, is_placed, is_there, is_there-ids, keys_of, list_all, list_any, object_at, one_of, or_cases, or_left, or_parts, or_right, owner_of, puid_cmp, range_with_len, rises, same_block, same_puid, same_puid_is, same_puid_itself, sum_by, sum_by-cons, there_from}
+use Rattle.std.proofs.Common.{◌≡◌, ◌≢◌, inl, inr, ℕ, ◌+◌, List, [], ◌∷◌, ◌++◌, length, length-append, Bool, true, false, cond, ◌&&◌, ◌||◌, Option, Some, None, refl, sym, ◌∙◌, ap, subst, arith, ◌==◌}
+use Rattle.vol_owners.proofs.Words.{BlockState, Drafts, Equal, Graph, Greater, Holds, Image, IsMadeBy, Less, Object, Ordering, Puid, and_parts, both_ways, created_if, entry_in, eq-eqb, eqb-true, false_from_ne_true, found, has_block, has_number, here, ids_of, is_among, is_eq, is_lt, is_placed, is_there-ids, keys_of, list_all, list_any, object_at, object_at-with_object, one_of, option_to_list, or_cases, or_left, or_right, owner_of, puid_cmp, range_with_len, rises, same_Some, same_block, same_puid, same_puid_is, same_puid_itself, sum_by, sum_by-cons, there_from, with_object}
+use Rattle.vol_owners.proofs.Differ.{Differ, append_differ, has-append}
 use Rattle.vol_owners.proofs.Sums.{count_in, run_zeros, sum_both, sum_each}
 use Rattle.vol_owners.proofs.Owned.{count_of}
 
@@ -101,6 +102,18 @@ block_there g x o at = among (ids_of g) (sym (is_there-ids g x) ∙ there_from g
       | inr rest ↦ or_right _ _ (among ids rest)
     ]
 
+-- ---- one object put
+
+pub object_at_put : (g : Graph) (id : Puid) (o : Object) → object_at (with_object g id o) id ≡ Some o
+object_at_put g id o = object_at-with_object g id o id ∙ ap (λ (t : Bool). cond t (Some o) (object_at g id)) (same_puid_itself id)
+
+-- what holds of it, and of all others as they were
+pub each_put : (g : Graph) (id : Puid) (o : Object) (P : Puid → Object → Type 0) → P id o → ((x : Puid) (p : Object) → object_at g x ≡ Some p → same_puid x id ≡ false → P x p) → (x : Puid) (p : Object) → object_at (with_object g id o) x ≡ Some p → P x p
+each_put g id o P here other x p found = elim (same_puid x id) as (λ t. same_puid x id ≡ t → cond t (Some o) (object_at g x) ≡ Some p → P x p) [
+  | true ↦ λ is h. subst (λ (q : Object). P x q) (same_Some _ _ h) (subst (λ (y : Puid). P y o) (sym (same_puid_is x id is)) here)
+  | false ↦ λ apart there. other x p there apart
+] refl (sym (object_at-with_object g id o x) ∙ found)
+
 -- ---- blocks of all objects
 
 abbrev owned_of : (ℕ → Bool) → Image → List (Puid × Object) → ℕ → Bool
@@ -139,49 +152,79 @@ pub owned_sum : (test : BlockState → Bool) (image : Image) (g : Graph) → Hol
     → count_in (λ n. is_placed test (entry_in image n) && has_block g.objects (owner_of (entry_in image n))) 0 (length image) ≡ sum_by (λ e. count_of test image e.0.block) g.objects
 owned_sum test image g holds up = owned_sum_by (λ n. is_placed test (entry_in image n)) image g holds up
 
--- ---- drafts, object by object
+-- ---- sums over identifiers
 
-module _ (f : Opened → ℕ) where
-  abbrev at_one : Puid → ℕ → Puid × Object → ℕ
-  at_one id c e = cond (same_puid id e.0) c 0
+pub sum_ids : (f : Puid → ℕ) (es : List (Puid × Object)) → sum_by f (keys_of es) ≡ sum_by (λ e. f e.0) es
+sum_ids f [] = refl
+sum_ids f (e ∷ es) = omega (arith, sum_by-cons f e.0 (keys_of es), sum_by-cons (λ (x : Puid × Object). f x.0) e es, sum_ids f es)
 
-  sum_at_none : (id : Puid) (c : ℕ) (es : List (Puid × Object)) → is_among id (keys_of es) ≡ false → sum_by (at_one id c) es ≡ 0
-  sum_at_none id c [] h = refl
-  sum_at_none id c (e ∷ es) h =
-      let two = or_parts (same_puid id e.0) (is_among id (keys_of es)) h in
-      omega (arith, sum_by-cons (at_one id c) e es, ap (λ (b : Bool). cond b c 0) two.0, sum_at_none id c es two.1)
+pub differs : (x y : Puid) → same_puid x y ≡ false → same_puid y x ≡ false
+differs x y other = false_from_ne_true _ (λ is. both_ways _ other (subst (λ (z : Puid). same_puid z y ≡ true) (same_puid_is y x is) (same_puid_itself y)))
 
-  -- what is counted at one identifier is counted once
-  sum_at_one : (id : Puid) (c : ℕ) (es : List (Puid × Object)) → rises (keys_of es) ≡ true → is_among id (keys_of es) ≡ true → sum_by (at_one id c) es ≡ c
-  sum_at_one id c [] up h = cc
-  sum_at_one id c (e ∷ es) up h =
-      let two = and_parts (below e.0 (keys_of es)) (rises (keys_of es)) up in
-      elim (same_puid id e.0) as (λ b. same_puid id e.0 ≡ b → sum_by (at_one id c) (e ∷ es) ≡ c) [
+module _ (f k : Puid → ℕ) (id : Puid) (others : (x : Puid) → same_puid x id ≡ false → f x ≡ k x) where
+  sum_above : (ids : List Puid) → below id ids ≡ true → sum_by f ids ≡ sum_by k ids
+  sum_above [] low = refl
+  sum_above (x ∷ ids) low =
+      let two = and_parts (is_lt (puid_cmp id x)) (below id ids) low in
+      omega (arith, sum_by-cons f x ids, sum_by-cons k x ids, others x (apart_above id x two.0), sum_above ids two.1)
+
+  -- two that differ at one
+  pub sum_but_one : (ids : List Puid) → rises ids ≡ true → is_among id ids ≡ true → sum_by f ids + k id ≡ sum_by k ids + f id
+  sum_but_one [] up among = cc
+  sum_but_one (x ∷ ids) up among =
+      let two = and_parts (below x ids) (rises ids) up in
+      elim (same_puid id x) as (λ b. same_puid id x ≡ b → sum_by f (x ∷ ids) + k id ≡ sum_by k (x ∷ ids) + f id) [
         | true ↦ λ is.
-            let none : is_among id (keys_of es) ≡ false = subst (λ (x : Puid). is_among x (keys_of es) ≡ false) (sym (same_puid_is id e.0 is)) (none_among e.0 (keys_of es) two.0) in
-            omega (arith, sum_by-cons (at_one id c) e es, ap (λ (b : Bool). cond b c 0) is, sum_at_none id c es none)
-        | false ↦ λ is.
-            let rest : is_among id (keys_of es) ≡ true = sym (ap (λ (b : Bool). b || is_among id (keys_of es)) is) ∙ h in
-            omega (arith, sum_by-cons (at_one id c) e es, ap (λ (b : Bool). cond b c 0) is, sum_at_one id c es two.1 rest)
+            let one = same_puid_is id x is in
+            let rest = sum_above ids (subst (λ (y : Puid). below y ids ≡ true) (sym one) two.0) in
+            omega (arith, sum_by-cons f x ids, sum_by-cons k x ids, rest, ap f one, ap k one)
+        | false ↦ λ other.
+            let rest = sum_but_one ids two.1 (sym (ap (λ (b : Bool). b || is_among id ids) other) ∙ among) in
+            omega (arith, sum_by-cons f x ids, sum_by-cons k x ids, rest, others x (differs id x other))
       ] refl
 
-  pub drafts_sum : (g : Graph) (ds : List Opened) → rises (ids_of g) ≡ true → list_all (λ d. is_there g d.id) ds ≡ true → sum_by (λ e. sum_by f (drafts_of ds e.0)) g.objects ≡ sum_by f ds
-  drafts_sum g [] up on = none g.objects
-    where
-      none : (es : List (Puid × Object)) → sum_by (λ e. 0) es ≡ 0
-      none [] = refl
-      none (e ∷ es) = omega (arith, sum_by-cons (λ (x : Puid × Object). 0) e es, none es)
-  drafts_sum g (d ∷ ds) up on =
-      let two = and_parts (is_there g d.id) (list_all (λ x. is_there g x.id) ds) on in
-      omega (
-        arith,
-        sum_each (λ (e : Puid × Object). sum_by f (drafts_of (d ∷ ds) e.0)) (λ e. at_one d.id (f d) e + sum_by f (drafts_of ds e.0)) g.objects (λ e. step (same_puid d.id e.0) (drafts_of ds e.0)),
-        sum_both (at_one d.id (f d)) (λ e. sum_by f (drafts_of ds e.0)) g.objects,
-        sum_at_one d.id (f d) g.objects up (sym (is_there-ids g d.id) ∙ two.0),
-        drafts_sum g ds up two.1,
-        sum_by-cons f d ds,
-      )
-    where
-      step : (b : Bool) (rest : List Opened) → sum_by f (cond b (d ∷ rest) rest) ≡ cond b (f d) 0 + sum_by f rest
-      step true rest = sum_by-cons f d rest
-      step false rest = omega arith
+-- ---- the roots that drafts make, object by object
+
+-- the root that there is, if there is one
+pub option_is : (c : Option ℕ) (n : ℕ) → has_number n (option_to_list c) ≡ true → c ≡ Some n
+option_is None n h = cc
+option_is (Some c) n h = elim (or_cases (c == n) false h) [ inl is ↦ ap Some (eqb-true c n is) | inr never ↦ cc ]
+
+module _ (ds : Drafts) where
+  abbrev pub roots_made : List Puid → List ℕ
+  roots_made [] = []
+  roots_made (x ∷ ids) = option_to_list (created_if (ds x)) ++ roots_made ids
+
+  option_differs : (c : Option ℕ) → Differ (option_to_list c)
+  option_differs None = tt
+  option_differs (Some c) = (refl, tt)
+
+  pub in_made : (n : ℕ) (ids : List Puid) → has_number n (roots_made ids) ≡ true → (x : Puid) × (is_among x ids ≡ true) × (created_if (ds x) ≡ Some n)
+  in_made n [] h = cc
+  in_made n (x ∷ ids) h = elim (or_cases _ _ (sym (has-append n (option_to_list (created_if (ds x))) (roots_made ids)) ∙ h)) [
+    | inl is ↦ (x, or_left _ _ (same_puid_itself x), option_is (created_if (ds x)) n is)
+    | inr rest ↦ let more = in_made n ids rest in (more.0, or_right _ _ more.1, more.2)
+  ]
+
+  pub to_made : (n : ℕ) (x : Puid) (ids : List Puid) → is_among x ids ≡ true → created_if (ds x) ≡ Some n → has_number n (roots_made ids) ≡ true
+  to_made n x [] among makes = cc
+  to_made n x (y ∷ ids) among makes =
+      has-append n (option_to_list (created_if (ds y))) (roots_made ids)
+      ∙ elim (or_cases (same_puid x y) (is_among x ids) among) [
+        | inl is ↦ or_left _ _ (subst (λ (c : Option ℕ). has_number n (option_to_list c) ≡ true) (sym makes ∙ ap (λ (z : Puid). created_if (ds z)) (same_puid_is x y is)) (here n []))
+        | inr rest ↦ or_right _ _ (to_made n x ids rest makes)
+      ]
+
+  pub made_differ : ((c : ℕ) (x y : IsMadeBy ds c) → x.id ≡ y.id) → (ids : List Puid) → rises ids ≡ true → Differ (roots_made ids)
+  made_differ once [] up = tt
+  made_differ once (x ∷ ids) up =
+      let two = and_parts (below x ids) (rises ids) up in
+      append_differ (option_to_list (created_if (ds x))) (roots_made ids) (option_differs (created_if (ds x))) (made_differ once ids two.1) (λ n is rest.
+      let more = in_made n ids rest in
+      let one : more.0 ≡ x = once n (record { id = more.0; makes = more.2 }) (record { id = x; makes = option_is (created_if (ds x)) n is }) in
+      both_ways _ (none_among x ids two.0) (subst (λ (y : Puid). is_among y ids ≡ true) one more.1))
+
+  pub made_length : (ids : List Puid) → length (roots_made ids) ≡ sum_by (λ id. length (option_to_list (created_if (ds id)))) ids
+  made_length [] = refl
+  made_length (x ∷ ids) =
+      omega (arith, length-append (option_to_list (created_if (ds x))) (roots_made ids), sum_by-cons (λ (y : Puid). length (option_to_list (created_if (ds y)))) x ids, made_length ids)

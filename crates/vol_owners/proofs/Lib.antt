@@ -4,6 +4,8 @@ pub mod Entries
 pub mod Standing
 pub mod Owned
 pub mod Keys
+pub mod Drafts
+pub mod Taken
 pub mod Rooms
 pub mod Changes
 pub mod Kept

@@ -1,6 +1,6 @@
 -- How many blocks an object and its draft have, by the entries.
 use Rattle.std.proofs.Common.{◌≡◌, ◌⊎◌, inl, inr, ℕ, suc, ◌+◌, ◌<◌, List, [], ◌∷◌, length, get_or, Bool, true, Option, Some, None, refl, sym, ◌∙◌, ap, subst, arith}
-use Rattle.vol_owners.proofs.Words.{BlockState, Graph, HasDraft, HasDrafts, HasItsBlocks, Holds, Image, IsBlockOf, IsTree, MapEntry, Object, Opened, Puid, StandsIn, Tree, below_apart, block_at, blocks_are, blocks_of, both_ways, content_of, entry_in, false_from_ne_true, first_or, has_number, here, in_cons, in_image, is_had, is_inner, is_meant, is_meant_for, is_owned_by, later, levels_of, levels_standing, no_shadows, object_at, one_of, option_to_list, place_inner, root_placed, same_Some, shadow_taken, sight, source, stands_for, sum_by, sum_by-cons, tree_in, tree_placed}
+use Rattle.vol_owners.proofs.Words.{BlockState, Graph, HasDraft, HasDraftIf, HasItsBlocks, Holds, Image, IsBlockOf, IsTree, MapEntry, Object, Opened, Puid, StandsIn, Tree, below_apart, block_at, blocks_are, blocks_of, both_ways, content_of, entry_in, false_from_ne_true, first_or, has_number, here, in_cons, in_image, is_had, is_inner, is_meant, is_meant_for, is_owned_by, later, levels_of, levels_standing, no_shadows, object_at, one_of, option_to_list, place_inner, root_placed, same_Some, shadow_taken, sight, source, stands_for, sum_by, sum_by-cons, tree_in, tree_placed}
 use Rattle.block_tree.specs.declared.root.Root as roots
 use Rattle.vol_owners.proofs.Sums.{count_in, run_zeros}
 use Rattle.vol_owners.proofs.Differ.{count_of_these}
@@ -116,7 +116,11 @@ count_meant image g holds id d has = by d.shadow refl ∙ ap (λ (k : ℕ). leng
         (λ n h. elim (has.no_other n h) [ inl there ↦ inl (same_Some _ _ (sym there ∙ is)) | inr at ↦ inr (at, h) ])
         ∙ ap (λ (o : Option ℕ). length (option_to_list o) + sum_by length (levels_standing meant tree (length (levels_of (content_of d))))) (sym is)
 
-pub count_drafts : (image : Image) (g : Graph) → Holds image g → (id : Puid) (ds : List Opened) → HasDrafts image id ds → count_of is_meant image id.block ≡ sum_by own_blocks ds
-count_drafts image g holds id [] none = run_zeros (λ n. one_of (is_meant_for image id.block n)) 0 (length image) (λ n. ap one_of (none n))
-count_drafts image g holds id (d ∷ []) has = omega (arith, count_meant image g holds id d has, sum_by-cons own_blocks d [])
-count_drafts image g holds id (d ∷ e ∷ more) has = absurd has
+-- those of the draft, if there is one
+abbrev pub own_blocks_if : Option Opened → ℕ
+own_blocks_if None = 0
+own_blocks_if (Some d) = own_blocks d
+
+pub count_drafts : (image : Image) (g : Graph) → Holds image g → (id : Puid) (d : Option Opened) → HasDraftIf image id d → count_of is_meant image id.block ≡ own_blocks_if d
+count_drafts image g holds id None none = run_zeros (λ n. one_of (is_meant_for image id.block n)) 0 (length image) (λ n. ap one_of (none n))
+count_drafts image g holds id (Some d) has = count_meant image g holds id d has

@@ -1,29 +1,41 @@
 -- What becomes of the owners whose blocks a change touches, and what it keeps of all others.
 use Rattle.std.proofs.Common.{◌≡◌, ◌≢◌, ◌⊎◌, inl, inr, ℕ, List, length, Bool, true, false, ◌&&◌, ◌==◌, Option, Some, None, refl, sym, ◌∙◌, ap, subst}
-use Rattle.vol_owners.proofs.Words.{Accounts, Allocated, BlockState, ChangesOnly, Free, Graph, HasDrafts, HasItsBlocks, Holds, Image, IntendAllocate, IntendDeallocate, IsMadeRoot, IsOpenTo, MakesOrNot, MapEntry, Misses, Object, Opened, Place, Puid, Root, and_parts, both_ways, cases_Bool, created_of, drafts_of, entry_in, false_from_ne_true, has_number, is_fixed, is_free_entry, is_had, is_leaving, is_made, is_meant, is_owned_by, is_placed, is_root, is_root_place, is_some, is_taken, is_there, list_all, numbers_differ, object_at, owner_of, root_placed}
+use Rattle.vol_owners.proofs.Words.{Accounts, Allocated, BlockState, ChangesOnly, Drafts, Free, Graph, HasDraftIf, HasItsBlocks, Holds, Image, IntendAllocate, IntendDeallocate, IsMadeBy, IsMadeRoot, IsOpenTo, MapEntry, Misses, Object, Opened, OwnsNothing, Place, Puid, Root, and_parts, both_ways, cases_Bool, entry_in, false_from_ne_true, has_number, is_fixed, is_free_entry, is_had, is_leaving, is_made, is_meant, is_owned_by, is_placed, is_root, is_root_place, is_some, is_taken, is_there, object_at, object_there, owner_of, root_placed}
 use Rattle.vol_owners.proofs.Entries as entries
 use Rattle.vol_owners.proofs.Entries.{free_unplaced, had_not_meant, made_taken, of_its_owner, owner_is, root_owner, root_real}
-use Rattle.vol_owners.proofs.Kept.{blocks_kept, drafts_kept, entry_kept}
+use Rattle.vol_owners.proofs.Kept.{blocks_kept, draft_kept_if, entry_kept}
 
 -- ---- an object as an owner
 
 -- its root stands, and no draft makes it
-pub record IsObjectOf (b : Image) (es : List Opened) (r : ℕ) : Type 0 where
+pub record IsObjectOf (b : Image) (es : Drafts) (r : ℕ) : Type 0 where
   pub root : is_root is_taken (entry_in b r) ≡ true
   pub not_made : is_made (entry_in b r) ≡ false
-  pub not_created : has_number r (created_of es) ≡ false
+  pub not_created : IsMadeBy es r → ⊥
 
-abbrev pub Becomes : Image → List Opened → ℕ → Type 0
+-- this root is made now, or nothing is left of it
+abbrev pub MakesOrNot : Image → ℕ → Drafts → Type 0
+MakesOrNot b c es = (IsMadeRoot b c × IsMadeBy es c) ⊎ (OwnsNothing b c × (IsMadeBy es c → ⊥))
+
+abbrev pub Becomes : Image → Drafts → ℕ → Type 0
 Becomes b es r = IsObjectOf b es r ⊎ MakesOrNot b r es
 
 had_not_made : (image : Image) (r : ℕ) → HasItsBlocks image r → is_made (entry_in image r) ≡ false
 had_not_made image r has = false_from_ne_true _ (λ made. both_ways _ (had_not_meant r (entry_in image r) (has.each r (inl refl))) (entries.root_placed is_meant (entry_in image r) made))
 
 -- no draft makes what is an object
-pub not_created : (a : Image) (g : Graph) (ds : List Opened) → Accounts a g ds → (id : Puid) (o : Object) → object_at g id ≡ Some o → has_number id.block (created_of ds) ≡ false
-not_created a g ds had id o at = false_from_ne_true _ (λ there. both_ways _ (had_not_made a id.block (had.objects id o at)) (had.made id.block there).entered)
+pub not_created : (a : Image) (g : Graph) (ds : Drafts) → Accounts a g ds → (id : Puid) (o : Object) → object_at g id ≡ Some o → IsMadeBy ds id.block → ⊥
+not_created a g ds had id o at made = both_ways _ (had_not_made a id.block (had.objects id o at)) (had.made id.block made).entered
 
-pub object_stands : (b : Image) (h : Graph) → Holds b h → (id : Puid) (o : Object) → object_at h id ≡ Some o → HasItsBlocks b id.block → (es : List Opened) → has_number id.block (created_of es) ≡ false → IsObjectOf b es id.block
+-- and there is no draft of what is none
+pub no_draft : (a : Image) (g : Graph) (ds : Drafts) → Accounts a g ds → (x : Puid) → ((o : Object) → object_at g x ≡ Some o → ⊥) → ds x ≡ None
+no_draft a g ds had x gone = by (ds x) refl
+  where
+    by : (d : Option Opened) → ds x ≡ d → d ≡ None
+    by None is = refl
+    by (Some d) is = let there = object_there g x (had.on_objects x d is) in absurd (gone there.0 there.1)
+
+pub object_stands : (b : Image) (h : Graph) → Holds b h → (id : Puid) (o : Object) → object_at h id ≡ Some o → HasItsBlocks b id.block → (es : Drafts) → (IsMadeBy es id.block → ⊥) → IsObjectOf b es id.block
 object_stands b h holds id o at has es none =
     let root = root_placed b (length b) id o (holds.objects id o at) in
     record {
@@ -60,14 +72,11 @@ drafts_miss test none rs x (Some e) h = false_from_ne_true _ (λ is.
 
 -- ---- the accounts of what a change leaves
 
-module _ (T : Option MapEntry → Bool) (a b : Image) (g : Graph) (ds : List Opened) (had : Accounts a g ds) (changes : ChangesOnly T a b) where
+module _ (T : Option MapEntry → Bool) (a b : Image) (g : Graph) (ds : Drafts) (had : Accounts a g ds) (changes : ChangesOnly T a b) where
   -- an object that is missed keeps its blocks and its draft
-  pub object_goes_on : (x : Puid) (o : Object) → object_at g x ≡ Some o → Misses is_had T x.block → Misses is_leaving T x.block → Misses is_meant T x.block → (xs : List Opened) → xs ≡ drafts_of ds x
-      → HasItsBlocks b x.block × HasDrafts b x xs
-  object_goes_on x o at no_had no_leaving no_meant xs same = (
-    blocks_kept T a b g ds had changes x o at no_had no_leaving,
-    drafts_kept T a b g ds had changes x o at no_had no_meant xs (subst (HasDrafts a x) (sym same) (had.drafts x o at)),
-  )
+  pub object_goes_on : (x : Puid) (o : Object) → object_at g x ≡ Some o → Misses is_had T x.block → Misses is_leaving T x.block → Misses is_meant T x.block → HasItsBlocks b x.block × HasDraftIf b x (ds x)
+  object_goes_on x o at no_had no_leaving no_meant =
+      (blocks_kept T a b g ds had changes x o at no_had no_leaving, draft_kept_if T a b g ds had changes x o at no_had no_meant (ds x) (had.drafts x o at))
 
   pub placed_on : (n : ℕ) (e : MapEntry) → entry_in b n ≡ Some e → is_fixed n ≡ false → is_taken e.state ≡ true → is_placed is_taken (Some e) ≡ true
   placed_on n e is free taken = elim (changes.entries n) [ inl same ↦ had.placed n e (sym same ∙ is) free taken | inr both ↦ opened (subst (IsOpenTo T) is both.1) ]
@@ -82,8 +91,8 @@ module _ (T : Option MapEntry → Bool) (a b : Image) (g : Graph) (ds : List Ope
       opened (inl q) = absurd (not_free e.state taken q)
       opened (inr two) = two.0
 
-  module _ (mine : ℕ → Bool) (is_mine : (entry : Option MapEntry) → T entry ≡ true → mine (owner_of entry) ≡ true) (es : List Opened)
-      (becomes : (r : ℕ) → mine r ≡ true → Becomes b es r) (others : (n : ℕ) → mine n ≡ false → has_number n (created_of es) ≡ has_number n (created_of ds)) where
+  module _ (mine : ℕ → Bool) (is_mine : (entry : Option MapEntry) → T entry ≡ true → mine (owner_of entry) ≡ true) (es : Drafts)
+      (becomes : (r : ℕ) → mine r ≡ true → Becomes b es r) (others : (n : ℕ) → mine n ≡ false → (IsMadeBy es n → IsMadeBy ds n) × (IsMadeBy ds n → IsMadeBy es n)) where
     -- what is taken and open is of these owners
     open_mine : (entry : Option MapEntry) → is_placed is_taken entry ≡ true → IsOpenTo T entry → mine (owner_of entry) ≡ true
     open_mine entry placed (inl free) = absurd (both_ways _ (free_unplaced is_taken refl entry free) placed)
@@ -110,11 +119,11 @@ module _ (T : Option MapEntry → Bool) (a b : Image) (g : Graph) (ds : List Ope
       ]
     ]
 
-    made_on : (c : ℕ) → has_number c (created_of es) ≡ true → IsMadeRoot b c
+    made_on : (c : ℕ) → IsMadeBy es c → IsMadeRoot b c
     made_on c there = elim (cases_Bool (mine c)) [
-      | inl is ↦ elim (becomes c is) [ inl object ↦ absurd (both_ways _ object.not_created there) | inr (inl made) ↦ made.0 | inr (inr none) ↦ absurd (both_ways _ none.1 there) ]
+      | inl is ↦ elim (becomes c is) [ inl object ↦ absurd (object.not_created there) | inr (inl made) ↦ made.0 | inr (inr none) ↦ absurd (none.1 there) ]
       | inr other ↦
-          let was = had.made c (sym (others c other) ∙ there) in
+          let was = had.made c ((others c other).0 there) in
           record {
             entered = ap is_made (root_kept c other (root_real is_meant refl (entry_in a c) was.entered)) ∙ was.entered;
             alone = λ n of_c. elim (changes.entries n) [
@@ -124,19 +133,19 @@ module _ (T : Option MapEntry → Bool) (a b : Image) (g : Graph) (ds : List Ope
           }
     ]
 
-    made_by_on : (n : ℕ) → is_made (entry_in b n) ≡ true → has_number n (created_of es) ≡ true
+    made_by_on : (n : ℕ) → is_made (entry_in b n) ≡ true → IsMadeBy es n
     made_by_on n made =
         let taken = made_taken b changes.own n made in
         elim (cases_Bool (mine n)) [
           | inl is ↦ elim (becomes n is) [ inl object ↦ absurd (both_ways _ object.not_made made) | inr (inl now) ↦ now.1 | inr (inr none) ↦ absurd (both_ways _ (none.0 n) taken) ]
           | inr other ↦ elim (changes.entries n) [
-            | inl same ↦ others n other ∙ had.made_by n (ap is_made (sym same) ∙ made)
+            | inl same ↦ (others n other).1 (had.made_by n (ap is_made (sym same) ∙ made))
             | inr both ↦ absurd (both_ways _ other (ap mine (owner_is is_taken n (entry_in b n) taken) ∙ open_mine (entry_in b n) (and_parts (is_placed is_taken (entry_in b n)) (n == owner_of (entry_in b n)) taken).0 both.1))
           ]
         ]
 
-    pub accounts_go_on : (h : Graph) → Holds b h → ((x : Puid) (o : Object) → object_at h x ≡ Some o → HasItsBlocks b x.block × HasDrafts b x (drafts_of es x))
-        → numbers_differ (created_of es) ≡ true → list_all (λ d. is_there h d.id) es ≡ true → Accounts b h es
+    pub accounts_go_on : (h : Graph) → Holds b h → ((x : Puid) (o : Object) → object_at h x ≡ Some o → HasItsBlocks b x.block × HasDraftIf b x (es x))
+        → ((c : ℕ) (x y : IsMadeBy es c) → x.id ≡ y.id) → ((x : Puid) (d : Opened) → es x ≡ Some d → is_there h x ≡ true) → Accounts b h es
     accounts_go_on h holds each once on = record {
       holds = holds;
       placed = placed_on;

@@ -1,11 +1,11 @@
 -- Each block has one use, and so the Free blocks are all but what is fixed and what objects, drafts and strays have.
-use Rattle.std.proofs.Common.{◌≡◌, inl, ℕ, zero, suc, ◌+◌, ◌*◌, ◌/◌, ◌<◌, ◌≤◌, List, [], ◌∷◌, length, Bool, true, false, not, ◌&&◌, ◌||◌, Option, Some, None, refl, sym, ◌∙◌, ap, subst, arith, length-append, ◌==◌}
-use Rattle.vol_owners.proofs.Words.{Accounts, Allocated, BlockState, Free, Graph, Image, IntendAllocate, IntendDeallocate, IsSome, IsSwept, MapEntry, Opened, Place, and_parts, blocks_of, blocks_taken, both_ways, created_of, draft_blocks, drafts_of, entry_in, eq-eqb, eqb-true, false_from_ne_true, free_from, graph_blocks, has_block, ids_of, in_image, is_fixed, is_free_entry, is_free_in, is_free_root, is_had, is_leaving, is_made, is_meant, is_owned_by, is_of_draft, is_of_object, is_placed, is_root, is_root_place, is_some, is_stray, is_taken, nat_tests, one_of, option_to_list, owner_of, range_with_len, rises, rooted, stray_blocks, sum_by, sum_by-cons}
+use Rattle.std.proofs.Common.{◌≡◌, inl, ℕ, zero, suc, ◌+◌, ◌*◌, ◌/◌, ◌<◌, ◌≤◌, length, Bool, true, false, not, ◌&&◌, ◌||◌, Option, Some, None, refl, sym, ◌∙◌, ap, subst, arith, ◌==◌}
+use Rattle.vol_owners.proofs.Words.{Accounts, Allocated, BlockState, Drafts, Free, Graph, Image, IntendAllocate, IntendDeallocate, IsSome, IsSwept, MapEntry, Opened, Place, Puid, and_parts, blocks_of, blocks_taken, both_ways, created_if, draft_blocks_if, entry_in, eq-eqb, eqb-true, false_from_ne_true, free_from, graph_blocks, has_block, ids_of, in_image, is_fixed, is_free_entry, is_free_in, is_free_root, is_had, is_leaving, is_made, is_meant, is_owned_by, is_of_draft, is_of_object, is_placed, is_root, is_root_place, is_some, is_stray, is_taken, is_there, is_there-ids, nat_tests, one_of, option_to_list, owner_of, range_with_len, rises, stray_blocks, sum_by}
 use Rattle.vol_owners.proofs.Sums.{count_in, run-suc, run_none, run_same, run_split, run_ones, run_zeros, sum_both, sum_each, sum_run}
-use Rattle.vol_owners.proofs.Differ.{count_of_these, differ_from}
+use Rattle.vol_owners.proofs.Differ.{count_of_these}
 use Rattle.vol_owners.proofs.Entries.{free_unplaced, had_not_meant, made_taken, of_taken, owner_is, root_owner, root_placed, the_entry}
-use Rattle.vol_owners.proofs.Owned.{count_drafts, count_had, count_of, own_blocks}
-use Rattle.vol_owners.proofs.Keys.{drafts_sum, object_of_block, owned_sum, sum_objects}
+use Rattle.vol_owners.proofs.Owned.{count_drafts, count_had, count_of, own_blocks_if}
+use Rattle.vol_owners.proofs.Keys.{in_made, made_differ, made_length, object_of_block, owned_sum, roots_made, sum_ids, sum_objects, to_made}
 
 -- ---- fixed blocks
 
@@ -42,13 +42,13 @@ pub no_strays : (image : Image) (g : Graph) → IsSwept image g → stray_blocks
 no_strays image g swept = run_zeros (λ n. one_of (is_stray g (entry_in image n))) 0 (length image) (λ n. ap one_of (swept.none n))
 
 -- no block has the number of a Free block as its owner
-pub owns_nothing : (image : Image) (g : Graph) (ds : List Opened) → Accounts image g ds → (n : ℕ) → is_free_in image n ≡ true → (m : ℕ) → is_owned_by is_taken n (entry_in image m) ≡ false
+pub owns_nothing : (image : Image) (g : Graph) (ds : Drafts) → Accounts image g ds → (n : ℕ) → is_free_in image n ≡ true → (m : ℕ) → is_owned_by is_taken n (entry_in image m) ≡ false
 owns_nothing image g ds has n free m = false_from_ne_true _ (λ of_n.
     let root = has.rooted m (and_parts _ _ of_n).0 in
     let here : is_root is_taken (entry_in image n) ≡ true = subst (λ (r : ℕ). is_root is_taken (entry_in image r) ≡ true) (sym (owner_is is_taken n (entry_in image m) of_n)) root in
     both_ways _ (free_unplaced is_taken refl (entry_in image n) free) (root_placed is_taken (entry_in image n) here))
 
-module _ (image : Image) (g : Graph) (ds : List Opened) (has : Accounts image g ds) (up : rises (ids_of g) ≡ true) where
+module _ (image : Image) (g : Graph) (ds : Drafts) (has : Accounts image g ds) (up : rises (ids_of g) ≡ true) where
   -- no object has a root that a draft makes, and of no object a block leaves
   made_unheld : (n : ℕ) → is_made (entry_in image n) ≡ true → has_block g.objects (owner_of (entry_in image n)) ≡ false
   made_unheld n made = false_from_ne_true _ (λ there.
@@ -125,38 +125,48 @@ module _ (image : Image) (g : Graph) (ds : List Opened) (has : Accounts image g 
       ∙ sum_objects g up (λ e. count_of is_had image e.0.block) (λ e. blocks_of e.1) (λ x o at. count_had image g has.holds x o at (has.objects x o at))
 
   -- how many roots drafts make
-  made_count : count (λ n. is_made (entry_in image n)) ≡ length (created_of ds)
-  made_count = count_of_these (λ n. is_made (entry_in image n)) (created_of ds) (length image) (record {
-    differ = differ_from (created_of ds) has.made_once;
-    each = λ n h. let made = (has.made n h).entered in (in_range n made, made);
-    no_other = has.made_by;
+  made_count : count (λ n. is_made (entry_in image n)) ≡ length (roots_made ds (ids_of g))
+  made_count = count_of_these (λ n. is_made (entry_in image n)) (roots_made ds (ids_of g)) (length image) (record {
+    differ = made_differ ds has.made_once (ids_of g) up;
+    each = λ n h.
+        let m = in_made ds n (ids_of g) h in
+        let made = (has.made n (record { id = m.0; makes = m.2 })).entered in
+        (in_range n made, made);
+    no_other = λ n made. let m = has.made_by n made in to_made ds n m.id (ids_of g) (sym (is_there-ids g m.id) ∙ on_one m.id (ds m.id) refl m.makes) m.makes;
   })
     where
       in_range : (n : ℕ) → is_made (entry_in image n) ≡ true → n < length image
       in_range n made = let e = the_entry is_taken n (entry_in image n) (made_taken image has.holds.own n made) in in_image image g has.holds n e.0 e.1
 
-  drafts_have : count (λ n. is_of_draft g (entry_in image n)) ≡ sum_by draft_blocks ds
+      on_one : {n : ℕ} (id : Puid) (d : Option Opened) → ds id ≡ d → created_if d ≡ Some n → is_there g id ≡ true
+      on_one id None is makes = cc
+      on_one id (Some d) is makes = has.on_objects id d is
+
+  drafts_have : count (λ n. is_of_draft g (entry_in image n)) ≡ sum_by (λ id. draft_blocks_if (ds id)) (ids_of g)
   drafts_have =
       let run = range_with_len 0 (length image) in
       let owned : ℕ → ℕ = λ n. one_of (is_placed is_meant (entry_in image n) && has_block g.objects (owner_of (entry_in image n))) in
       let made : ℕ → ℕ = λ n. one_of (is_made (entry_in image n)) in
+      let own : Puid → ℕ = λ id. own_blocks_if (ds id) in
+      let new : Puid → ℕ = λ id. length (option_to_list (created_if (ds id))) in
       let split : count (λ n. is_of_draft g (entry_in image n)) ≡ sum_by owned run + sum_by made run =
       sum_each (λ n. one_of (is_of_draft g (entry_in image n))) (λ n. owned n + made n) run (λ n. either (is_placed is_meant (entry_in image n)) (is_made (entry_in image n)) (has_block g.objects (owner_of (entry_in image n)))
       (λ is. root_placed is_meant (entry_in image n) is) (made_unheld n))
       ∙ sum_both owned made run in
-      let by_objects : sum_by owned run ≡ sum_by own_blocks ds =
+      let by_objects : sum_by owned run ≡ sum_by own (ids_of g) =
       owned_sum is_meant image g has.holds up
-      ∙ sum_objects g up (λ e. count_of is_meant image e.0.block) (λ e. sum_by own_blocks (drafts_of ds e.0)) (λ x o at. count_drafts image g has.holds x (drafts_of ds x) (has.drafts x o at))
-      ∙ drafts_sum own_blocks g ds up has.on_objects in
-      omega (arith, split, by_objects, made_count, total ds)
+      ∙ sum_objects g up (λ e. count_of is_meant image e.0.block) (λ e. own e.0) (λ x o at. count_drafts image g has.holds x (ds x) (has.drafts x o at))
+      ∙ sym (sum_ids own g.objects) in
+      let parts = sum_each (λ id. draft_blocks_if (ds id)) (λ id. own id + new id) (ids_of g) (λ id. of_one (ds id)) ∙ sum_both own new (ids_of g) in
+      omega (arith, split, by_objects, made_count, made_length ds (ids_of g), parts)
     where
       either : (p m c : Bool) → (m ≡ true → p ≡ true) → (m ≡ true → c ≡ false) → one_of (p && (m || c)) ≡ one_of (p && c) + one_of m
       either p true c placed apart = rw (placed refl, apart refl) refl
       either p false c placed apart = omega arith
 
-      total : (xs : List Opened) → sum_by draft_blocks xs ≡ sum_by own_blocks xs + length (created_of xs)
-      total [] = refl
-      total (d ∷ xs) = omega (arith, sum_by-cons draft_blocks d xs, sum_by-cons own_blocks d xs, total xs, length-append (option_to_list d.created) (created_of xs))
+      of_one : (d : Option Opened) → draft_blocks_if d ≡ own_blocks_if d + length (option_to_list (created_if d))
+      of_one None = refl
+      of_one (Some d) = refl
 
   -- all blocks but the fixed, and those of objects, drafts and strays, are Free
   pub room : free_from image 0 (length image) + blocks_taken g ds + stray_blocks image g (length image) + 1 ≡ 63 * (length image / 64)

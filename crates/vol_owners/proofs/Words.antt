@@ -28,6 +28,7 @@ pub use Rattle.std.specs.Ordering.{is_eq, is_lt}
 pub use Rattle.std.specs.Prelude.{IsSome, filter, is_some, map, option_to_list}
 pub use Rattle.std.specs.declared.cmp.Ordering.{Ordering}
 pub use Rattle.std.specs.declared.cmp.Ordering.TheVariants.{Equal, Greater, Less}
+pub use Rattle.ufs_model.proofs.WellGraphs.{still_there}
 pub use Rattle.ufs_model.specs.Graph.{Graph, has_block, ids_of, is_free_root, is_there, object_at, with_object, without}
 pub use Rattle.ufs_model.specs.Identifier.{is_among, puid_cmp, rises, same_puid}
 pub use Rattle.ufs_model.specs.Numbers.{has_number, numbers_rise}
@@ -54,7 +55,7 @@ pub use Rattle.vol_image.specs.Seen.{Held, Tree, held_at, tree_in}
 pub use Rattle.vol_image.specs.Sight.{first_or, source}
 unfoldable pub use Rattle.vol_image.specs.Sight.{sight}
 pub use Rattle.vol_image.specs.Sound.{Holds, ReadsAs, graph_blocks}
-pub use Rattle.vol_owners.specs.Account.{Accounts, HasDraft, HasDrafts, HasItsBlocks, IsMadeRoot, IsSwept, Opened, StandsIn, content_of, created_of, drafts_of, is_meant_for, levels_standing, numbers_differ, passes, standing_at}
-pub use Rattle.vol_owners.specs.Change.{ChangesOnly, IsOfThese, IsOpenTo, MakesOrNot, Misses, SameBut, SameOthers, Sweeps, of_draft, of_drafts, of_owner, of_owners}
+pub use Rattle.vol_owners.specs.Account.{Accounts, Drafts, HasDraft, HasDraftIf, HasItsBlocks, IsMadeBy, IsMadeRoot, IsSwept, Opened, StandsIn, content_of, created_if, is_meant_for, levels_standing, passes, standing_at, with_draft_if, with_opened, without_draft}
+pub use Rattle.vol_owners.specs.Change.{ChangesOnly, IsOfThese, IsOpenTo, Misses, OwnsNothing, Sweeps, of_draft, of_drafts, of_owner, of_owners}
 pub use Rattle.vol_owners.specs.Owner.{is_had, is_leaving, is_made, is_meant, is_owned_by, is_placed, is_root, is_root_place, is_stray, is_taken, owner_of, stray_blocks}
-pub use Rattle.vol_owners.specs.Room.{blocks_taken, draft_blocks, is_of_draft, is_of_object, one_of}
+pub use Rattle.vol_owners.specs.Room.{blocks_taken, draft_blocks_if, is_of_draft, is_of_object, one_of}

@@ -1,8 +1,8 @@
 -- Each block of an image has one use, and its entry says which: Free, fixed, of the tree of one object, of one draft,
 -- or of an object that is gone.
-use Rattle.std.specs.Prelude.{◌≡◌, ◌⊎◌, ℕ, zero, suc, Bool, true, false, not, ◌&&◌, List, [], ◌∷◌, ◌++◌, length}
-use Rattle.std.specs.Prelude.{take, get_or, filter, Option, Some, None, option_to_list}
-use Rattle.std.specs.List.{list_all, range_with_len}
+use Rattle.std.specs.Prelude.{◌≡◌, ◌⊎◌, ℕ, zero, suc, Bool, true, false, not, ◌&&◌, if◌then◌else◌, List, [], ◌∷◌}
+use Rattle.std.specs.Prelude.{length, take, get_or, filter, Option, Some, None}
+use Rattle.std.specs.List.{range_with_len}
 use Rattle.cfs_base.specs.Disk.{Image, block_at}
 use Rattle.cfs_base.specs.declared.identifier.Puid.{Puid}
 use Rattle.block_tree.specs.declared.root.Root as roots
@@ -63,7 +63,6 @@ levels_standing test tree (suc d) = standing_at test tree (suc d) ∷ levels_sta
 -- What the draft of an object has of its own: a shadow root, once it has one; in memory the object's root, and the root
 -- that it is to get; and the root of the object that it makes, if it makes one.
 pub record Opened : Type 0 where
-  pub id : Puid
   pub shadow : Option ℕ
   pub own : roots.Root
   pub root : roots.Root
@@ -91,28 +90,48 @@ pub record HasDraft (image : Image) (id : Puid) (d : Opened) : Type 0 where
   pub no_other : (n : ℕ) → is_meant_for image id.block n ≡ true
       → (d.shadow ≡ Some n) ⊎ StandsIn (tree_in image (content_of d)) n
 
--- the drafts of one object
-abbrev pub drafts_of : List Opened → Puid → List Opened
-drafts_of drafts id = filter (λ d. same_puid d.id id) drafts
+-- it is this one; or there is none, and nothing is meant for the object
+abbrev pub HasDraftIf : Image → Puid → Option Opened → Type 0
+HasDraftIf image id None = (n : ℕ) → is_meant_for image id.block n ≡ false
+HasDraftIf image id (Some d) = HasDraft image id d
 
--- there is one, or none and nothing is meant for the object
-abbrev pub HasDrafts : Image → Puid → List Opened → Type 0
-HasDrafts image id [] = (n : ℕ) → is_meant_for image id.block n ≡ false
-HasDrafts image id (d ∷ []) = HasDraft image id d
-HasDrafts image id (d ∷ e ∷ more) = ⊥
+-- ---- all drafts
+
+-- of each object the draft that it has, if it has one
+abbrev pub Drafts : Type 0
+Drafts = Puid → Option Opened
+
+abbrev pub no_drafts : Drafts
+no_drafts id = None
+
+-- the object has this draft, or none, and all others have theirs
+abbrev pub with_draft_if : Puid → Option Opened → Drafts → Drafts
+with_draft_if id d ds = λ x. if same_puid x id then d else ds x
+
+abbrev pub with_opened : Puid → Opened → Drafts → Drafts
+with_opened id d ds = with_draft_if id (Some d) ds
+
+abbrev pub without_draft : Puid → Drafts → Drafts
+without_draft id ds = with_draft_if id None ds
 
 -- ---- objects that drafts make
 
--- the roots of these
-abbrev pub created_of : List Opened → List ℕ
-created_of [] = []
-created_of (d ∷ ds) = option_to_list d.created ++ created_of ds
+-- the root of the object that a draft makes, if there is one and it makes one
+abbrev pub created_if : Option Opened → Option ℕ
+created_if None = None
+created_if (Some d) = d.created
+
+-- the draft of this object makes one with this root
+pub record IsMadeBy (ds : Drafts) (c : ℕ) : Type 0 where
+  pub id : Puid
+  pub makes : created_if (ds id) ≡ Some c
 
 -- the root is entered, and is all that has this owner so far
 pub record IsMadeRoot (image : Image) (c : ℕ) : Type 0 where
   pub entered : is_made (entry_in image c) ≡ true
   pub alone : (n : ℕ) → is_owned_by is_taken c (entry_in image n) ≡ true → n ≡ c
 
+-- no number of a list stands in it twice
 abbrev pub numbers_differ : List ℕ → Bool
 numbers_differ [] = true
 numbers_differ (n ∷ ns) = not (has_number n ns) && numbers_differ ns
@@ -123,7 +142,7 @@ numbers_differ (n ∷ ns) = not (has_number n ns) && numbers_differ ns
 abbrev pub HasRoot : Image → ℕ → Type 0
 HasRoot image r = is_root is_taken (entry_in image r) ≡ true
 
-pub record Accounts (image : Image) (g : Graph) (ds : List Opened) : Type 0 where
+pub record Accounts (image : Image) (g : Graph) (ds : Drafts) : Type 0 where
   pub holds : Holds image g
   -- what isn't fixed is Free or has a place in some object
   pub placed : (n : ℕ) (e : MapEntry) → entry_in image n ≡ Some e → is_fixed n ≡ false → is_taken e.state ≡ true
@@ -131,12 +150,12 @@ pub record Accounts (image : Image) (g : Graph) (ds : List Opened) : Type 0 wher
   -- while a block is left of an object its root is: roots are swept last, so no new object finds blocks of an old one
   pub rooted : (n : ℕ) → is_placed is_taken (entry_in image n) ≡ true → HasRoot image (owner_of (entry_in image n))
   pub objects : (id : Puid) (o : Object) → object_at g id ≡ Some o → HasItsBlocks image id.block
-  pub drafts : (id : Puid) (o : Object) → object_at g id ≡ Some o → HasDrafts image id (drafts_of ds id)
-  pub on_objects : list_all (λ d. is_there g d.id) ds ≡ true
+  pub drafts : (id : Puid) (o : Object) → object_at g id ≡ Some o → HasDraftIf image id (ds id)
+  pub on_objects : (id : Puid) (d : Opened) → ds id ≡ Some d → is_there g id ≡ true
   -- the roots that are made are those that the drafts make, each one
-  pub made : (c : ℕ) → has_number c (created_of ds) ≡ true → IsMadeRoot image c
-  pub made_by : (n : ℕ) → is_made (entry_in image n) ≡ true → has_number n (created_of ds) ≡ true
-  pub made_once : numbers_differ (created_of ds) ≡ true
+  pub made : (c : ℕ) → IsMadeBy ds c → IsMadeRoot image c
+  pub made_by : (n : ℕ) → is_made (entry_in image n) ≡ true → IsMadeBy ds n
+  pub made_once : (c : ℕ) (x y : IsMadeBy ds c) → x.id ≡ y.id
 
 -- no block is one of an object that is gone
 pub record IsSwept (image : Image) (g : Graph) : Type 0 where

@@ -1,16 +1,14 @@
 -- Changes that touch only Free blocks, and blocks whose entries pass a test.
-use Rattle.std.specs.Prelude.{◌≡◌, ◌⊎◌, ℕ, Bool, true, false, ◌&&◌, ◌==◌, List, [], ◌∷◌, length, Option}
+use Rattle.std.specs.Prelude.{◌≡◌, ◌⊎◌, ℕ, Bool, true, false, ◌&&◌, List, [], ◌∷◌, length, Option}
 use Rattle.cfs_base.specs.Disk.{Image, block_at}
-use Rattle.cfs_base.specs.declared.identifier.Puid.{Puid}
 use Rattle.cyl_map.specs.declared.state.BlockState.{BlockState}
 use Rattle.cyl_map.specs.declared.entry.MapEntry.{MapEntry}
 use Rattle.cyl_map.specs.Volume.{entry_in, is_free_entry, is_free_in, AreMaps}
 use Rattle.ufs_model.specs.Graph.{Graph, has_block}
-use Rattle.ufs_model.specs.Identifier.{same_puid}
 use Rattle.ufs_model.specs.Numbers.{has_number}
 use Rattle.vol_image.specs.Part.{RootsOwnThemselves, is_fixed}
 use Rattle.vol_owners.specs.Owner.{is_meant, is_taken, is_placed, owner_of, is_owned_by, is_made, is_stray}
-use Rattle.vol_owners.specs.Account.{HasRoot, IsMadeRoot, Opened, created_of, drafts_of, numbers_differ}
+use Rattle.vol_owners.specs.Account.{HasRoot}
 
 -- the entry is Free, or that of a block of somebody's that passes the test
 abbrev pub IsOpenTo : (Option MapEntry → Bool) → Option MapEntry → Type 0
@@ -52,26 +50,9 @@ pub record IsOfThese (T : Option MapEntry → Bool) (g h : Graph) : Type 0 where
       → has_block h.objects (owner_of entry) ≡ true
   pub more : (r : ℕ) → has_block g.objects r ≡ true → has_block h.objects r ≡ true
 
--- ---- what becomes of the drafts
-
--- those of all other objects are the same
-abbrev pub SameOthers : Puid → List Opened → List Opened → Type 0
-SameOthers id ds es = (x : Puid) → same_puid x id ≡ false → drafts_of es x ≡ drafts_of ds x
-
 -- nothing has this owner
 abbrev pub OwnsNothing : Image → ℕ → Type 0
 OwnsNothing image c = (n : ℕ) → is_owned_by is_taken c (entry_in image n) ≡ false
-
--- of the roots that drafts make all but this one are the same
-pub record SameBut (c : ℕ) (ds es : List Opened) : Type 0 where
-  pub others : (n : ℕ) → (n == c) ≡ false → has_number n (created_of es) ≡ has_number n (created_of ds)
-  pub once : numbers_differ (created_of es) ≡ true
-
--- this one is made now, or nothing is left of it
-abbrev pub MakesOrNot : Image → ℕ → List Opened → Type 0
-MakesOrNot b c es =
-    (IsMadeRoot b c × (has_number c (created_of es) ≡ true))
-    ⊎ (OwnsNothing b c × (has_number c (created_of es) ≡ false))
 
 -- ---- a sweep
 

@@ -1,20 +1,24 @@
 -- How many blocks are left.
-use Rattle.std.specs.Prelude.{ℕ, ◌+◌, Bool, ◌&&◌, ◌||◌, if◌then◌else◌, List, length, Option, option_to_list}
+use Rattle.std.specs.Prelude.{ℕ, ◌+◌, Bool, ◌&&◌, ◌||◌, if◌then◌else◌, length, Option, Some, None, option_to_list}
 use Rattle.std.specs.List.{sum_by}
 use Rattle.cyl_map.specs.declared.entry.MapEntry.{MapEntry}
-use Rattle.ufs_model.specs.Graph.{Graph, has_block}
+use Rattle.ufs_model.specs.Graph.{Graph, has_block, ids_of}
 use Rattle.vol_image.specs.Sound.{graph_blocks}
 use Rattle.vol_owners.specs.Owner.{is_had, is_meant, is_placed, owner_of, is_made}
-use Rattle.vol_owners.specs.Account.{Opened}
+use Rattle.vol_owners.specs.Account.{Drafts, Opened}
 
 -- the blocks of a draft: its shadow root if it has one, what is fresh by the model, and the root of the object that it
 -- makes
 abbrev pub draft_blocks : Opened → ℕ
 draft_blocks d = length (option_to_list d.shadow) + sum_by length d.draft.fresh + length (option_to_list d.created)
 
--- what the objects of a graph and these drafts take
-abbrev pub blocks_taken : Graph → List Opened → ℕ
-blocks_taken g drafts = graph_blocks g + sum_by draft_blocks drafts
+abbrev pub draft_blocks_if : Option Opened → ℕ
+draft_blocks_if None = 0
+draft_blocks_if (Some d) = draft_blocks d
+
+-- what the objects of a graph and their drafts take
+abbrev pub blocks_taken : Graph → Drafts → ℕ
+blocks_taken g ds = graph_blocks g + sum_by (λ id. draft_blocks_if (ds id)) (ids_of g)
 
 -- ---- two of the five uses of a block: that of an object's tree, and a draft's own
 

@@ -14,31 +14,26 @@ pub abort-requires : goal.abort-requires
 abort-requires g c = record { on_disk = (ready_for _ c.args.draft c.requires.ready).on_disk; size = c.requires.size }
 
 pub returns-then-not-commit : goal.returns-then-not-commit
-returns-then-not-commit g c = subst (λ b. EndsDraft g.D.Disk b c.args.draft c.args.disk.now c.abort.new.disk c.args.space.now c.abort.new.space c.abort.result) (sym c.if-not-commit.true) (record {
-  ends = λ graph ds id o d store at opened. record {
-    done = c.abort.ensures.done graph ds id o d store at opened;
-    leaves = c.abort.ensures.leaves graph ds id o d store at opened;
-    sound = c.abort.ensures.sound graph ds id o d store at opened;
-  };
-  tried = c.abort.ensures.tried;
-  refused = c.abort.ensures.refused;
-  cylinders = c.abort.ensures.cylinders;
-  left = all_ok c.abort.result (c.abort.ensures.left ∙ c.requires.left);
-  calls = fewer_calls g.D.Disk 31205 15483 31207 15485 c.args.disk.now c.abort.new.disk (omega arith) (omega arith) c.abort.ensures.calls;
-})
+returns-then-not-commit g c =
+    let call = c.abort.ensures.call in
+    subst (λ b. EndsDraft g.D.Disk b c.args.draft c.args.disk.now c.abort.new.disk c.args.space.now c.abort.new.space c.abort.result) (sym c.if-not-commit.true) (record {
+      ends = c.abort.ensures.aborts;
+      tried = call.tried;
+      refused = call.refused;
+      cylinders = call.cylinders;
+      left = all_ok c.abort.result (call.left ∙ c.requires.left);
+      calls = fewer_calls g.D.Disk 31205 15483 31207 15485 c.args.disk.now c.abort.new.disk (omega arith) (omega arith) call.calls;
+    })
 
 pub returns : goal.returns
 returns g c =
     let ready = ready_for _ c.args.draft c.requires.ready in
+    let call = c.commit.ensures.call in
     subst (λ b. EndsDraft g.D.Disk b c.args.draft c.args.disk.now c.commit.new.disk c.args.space.now c.commit.new.space c.commit.result) (sym c.if-not-commit.false) (record {
-      ends = λ graph ds id o d store at opened. record {
-        done = c.commit.ensures.done graph ds id o d None store at opened ready.bare;
-        leaves = c.commit.ensures.leaves graph ds id o d None store at opened ready.bare;
-        sound = c.commit.ensures.sound graph ds id o d None store at opened ready.bare;
-      };
-      tried = c.commit.ensures.tried (λ none. never_none c.args.draft.shadow ready.shadow.0 none ready.shadow.1);
-      refused = c.commit.ensures.refused;
-      cylinders = c.commit.ensures.cylinders;
-      left = c.commit.ensures.left;
-      calls = c.commit.ensures.calls;
+      ends = λ v. c.commit.ensures.commits v None ready.bare;
+      tried = call.tried (λ none. never_none c.args.draft.shadow ready.shadow.0 none ready.shadow.1);
+      refused = call.ends.refused;
+      cylinders = call.ends.cylinders;
+      left = call.ends.left;
+      calls = call.ends.calls;
     })

@@ -14,7 +14,7 @@ pub returns-in-Ok-read-clause-exact : goal.returns-in-Ok-read-clause-exact
 returns-in-Ok-read-clause-exact g c = λ f knows.
     let on = knows_on g.D.Disk 1 c.args.disk.now c.root_in.new.disk c.args.file.0 (objects.File f) c.root_in.ensures.calm.reads knows in
     let is : is_range (length f.bytes) c.args.offset c.args.count ≡ true = ap (λ (n : ℕ). is_range n c.args.offset c.args.count) (sym (c.in-Ok.ensures.exact f knows)) ∙ sym c.is_range.ensures ∙ c.if-not-is_range.false in
-    ap replies.Content (c.in-Ok-read.ensures.read on.graph on.drafts on.space on.id f on.seen (rooted g.D.Disk c.root_in.ensures.calm.reads (objects.File f) knows c.in-Ok.ensures.rooted) (range_parts (length f.bytes) c.args.offset c.args.count is).2)
+    ap replies.Content ((c.in-Ok-read.ensures.read on.view f on.is (rooted g.D.Disk c.root_in.ensures.calm.reads (objects.File f) knows c.in-Ok.ensures.rooted)).bytes (range_parts (length f.bytes) c.args.offset c.args.count is).2)
     ∙ rw is refl
 
 pub returns-in-Err-read-clause-calm : goal.returns-in-Err-read-clause-calm
@@ -23,6 +23,6 @@ returns-in-Err-read-clause-calm g c =
     c.root_in.ensures.calm.reads c.read.ensures.reads (omega arith)
     (λ f knows.
     let on = knows_on g.D.Disk 1 c.args.disk.now c.root_in.new.disk c.args.file.0 (objects.File f) c.root_in.ensures.calm.reads knows in
-    c.in-Err-read.ensures.sound on.graph on.drafts on.space on.id f on.seen (rooted g.D.Disk c.root_in.ensures.calm.reads (objects.File f) knows c.in-Ok.ensures.rooted))
+    (c.in-Err-read.ensures.read on.view f on.is (rooted g.D.Disk c.root_in.ensures.calm.reads (objects.File f) knows c.in-Ok.ensures.rooted)).sound)
     c.in-Err-read.ensures.untried (root_top c.args.file.0 c.in-Ok.root) refl
     (λ size far tells. far_block size c.args.file.0 (g.D.Disk.content c.args.disk.now) c.in-Ok.root (c.in-Ok.ensures.rooted tells) far) c.in-Err-read.ensures.refused

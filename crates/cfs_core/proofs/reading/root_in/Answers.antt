@@ -1,17 +1,13 @@
-use Rattle.std.proofs.Common.{Err, subst, sym}
 use Rattle.ufs_model.specs.declared.object.Object.TheVariants as objects
-use Rattle.cfs_core.specs.Looks.{IsCalm}
 use Rattle.cfs_core.proofs.Calm.{calm_trouble, told_never}
 use Rattle.cfs_core.proofs.reading.root_in.Goals as goal
 
 pub returns-in-Ok-clause-exact : goal.returns-in-Ok-clause-exact
-returns-in-Ok-clause-exact g c = λ f knows. c.in-Ok.ensures.size knows.graph knows.drafts knows.space knows.id f knows.seen
+returns-in-Ok-clause-exact g c = λ f knows. (c.in-Ok.ensures.size knows.view f knows.is).size_is
 
 pub returns-in-Err-clause-calm : goal.returns-in-Err-clause-calm
-returns-in-Err-clause-calm g c = subst (λ e. IsCalm g.D.Disk objects.File 1 c.args.file.0 c.args.disk.now c.read_root.new.disk (Err e)) (sym c.from.ensures)
-    (calm_trouble g.D.Disk objects.File 1 c.args.file.0 c.args.disk.now c.read_root.new.disk c.in-Err.trouble c.read_root.ensures.reads
-    (λ f knows. c.in-Err.ensures.sound knows.graph knows.drafts knows.space knows.id f knows.seen)
-    c.in-Err.ensures.untried c.in-Err.ensures.refused)
+returns-in-Err-clause-calm g c = calm_trouble g.D.Disk objects.File 1 c.args.file.0 c.args.disk.now c.read_root.new.disk c.in-Err.trouble c.from.result c.from.ensures c.read_root.ensures.reads
+    (λ f knows. (c.in-Err.ensures.size knows.view f knows.is).sound) c.in-Err.ensures.untried c.in-Err.ensures.refused
 
 pub returns-in-Err-clause-never : goal.returns-in-Err-clause-never
 returns-in-Err-clause-never g c = told_never c.in-Err.trouble c.from.result c.from.ensures

@@ -1,55 +1,42 @@
 use Rattle.std.proofs.Common.{◌≡◌, ◌≢◌, ℕ, ◌+◌, ◌*◌, ◌<◌, false, length, refl, sym, ◌∙◌, ap, subst, arith}
-use Rattle.special_files.proofs.Words.{All, AreOnDisk, AreTaken, Image, IsDraftTrouble, Trouble, all_ok, is_damage, makes_then, opened_as, reads_make, still_tells, tells_on, then, tried_then, roots_top, FarShadow, FarMade, FarRoots, parts_top, number_if}
+use Rattle.special_files.proofs.Words.{All, AreOnDisk, AreTaken, FarMade, FarRoots, FarShadow, Image, IsDraftTrouble, Trouble, all_ok, draft_top, is_damage, makes_then, number_if, opened_as, parts_top, reads_make, roots_top, still_tells, tells_on, then, tried_then}
 use Rattle.cfs_base.specs.declared.refusal.Trouble.TheVariants as troubles
-use Rattle.special_files.proofs.Begun.{store_reads}
-use Rattle.special_files.proofs.CommitAbort.{abort_since, abort_stops, store_still}
+use Rattle.special_files.proofs.abort.CommitAbort.{abort_since, abort_stops, still_view}
+use Rattle.special_files.proofs.commit.CommitCalls.{aborts_stopped, far_trouble}
 use Rattle.special_files.proofs.CommitDone.{makes_more}
-use Rattle.special_files.proofs.CommitDraft.{after_damage, below_all, far_apart, far_trouble, finish_apart, finish_tried, known_apart, nothing_made, shadow_below, tried_apart}
-use Rattle.special_files.proofs.CommitStore.{made_below}
-use Rattle.special_files.proofs.Endings.{trouble_after_tried}
-use Rattle.special_files.proofs.View.{view}
+use Rattle.special_files.proofs.CommitDraft.{after_damage, below_all, far_apart, finish_apart, finish_tried, known_apart, shadow_below, tried_apart}
+use Rattle.special_files.proofs.commit.CommitStore.{made_below}
+use Rattle.special_files.proofs.Endings.{makes_none, trouble_after_tried}
+use Rattle.special_files.proofs.View.{view_reads}
 use Rattle.special_files.proofs.abort.abort_parts.Goals as goal
 use Rattle.special_files.proofs.Refusals.{trouble_as}
 
+-- ---- a part that leads past the disk
+
 pub returns-in-Err : goal.returns-in-Err
-returns-in-Err g c = record {
-  ends = λ was v parts.
-      let far = c.in-Err.ensures.far.0 in
-      let below = shadow_below g.D.Disk v.graph v.ds v.id v.object c.args.disk.now c.args.space.now was v.draft far.n v.store v.at v.opened (parts.shadow_is ∙ far.is) in
-      let size = g.met.D.Disk.sized c.args.disk.now v.store.carries.tells.honest in
-      absurd (omega (arith, below, size, far.far));
-  refused = far_trouble g.D.Disk (parts_top c.args.at.0 (number_if c.args.shadow) c.args.own.now c.args.root.now (number_if c.args.created)) c.args.disk.now c.args.space.now c.in-Err.trouble (FarShadow c.in-Err.ensures.far.0) c.in-Err.ensures.far.1;
-  tried = far_apart c.args.at.0 c.in-Err.trouble c.in-Err.ensures.far.1;
-  made = tt;
-  cylinders = refl;
-  left = refl;
-  calls = nothing_made g.D.Disk c.args.disk.now 31205 15483;
-}
+returns-in-Err g c =
+    let far = c.in-Err.ensures.far in
+    record {
+      ends = λ was v parts. absurd (omega (arith, shadow_below v far.0.n (parts.shadow_is ∙ far.0.is), g.met.D.Disk.sized c.args.disk.now v.store.carries.tells.honest, far.0.far));
+      call = λ was parts. aborts_stopped parts (far_trouble g.D.Disk _ c.args.disk.now c.args.space.now c.in-Err.trouble (FarShadow far.0) far.1) (far_apart c.args.at.0 c.in-Err.trouble far.1) (makes_none g.D.Disk c.args.disk.now 31205 15483);
+    }
 
 pub returns-in-Err-part_on_disk : goal.returns-in-Err-part_on_disk
-returns-in-Err-part_on_disk g c = record {
-  ends = λ was v parts.
-      let far = c.in-Err-part_on_disk.ensures.far.0 in
-      let below = made_below g.D.Disk v.graph v.ds v.id v.object c.args.disk.now c.args.space.now was v.draft far.n v.store v.opened (parts.created_is ∙ far.is) in
-      let size = g.met.D.Disk.sized c.args.disk.now v.store.carries.tells.honest in
-      absurd (omega (arith, below, size, far.far));
-  refused = far_trouble g.D.Disk (parts_top c.args.at.0 (number_if c.args.shadow) c.args.own.now c.args.root.now (number_if c.args.created)) c.args.disk.now c.args.space.now c.in-Err-part_on_disk.trouble (FarMade c.in-Err-part_on_disk.ensures.far.0) c.in-Err-part_on_disk.ensures.far.1;
-  tried = far_apart c.args.at.0 c.in-Err-part_on_disk.trouble c.in-Err-part_on_disk.ensures.far.1;
-  made = tt;
-  cylinders = refl;
-  left = refl;
-  calls = nothing_made g.D.Disk c.args.disk.now 31205 15483;
-}
+returns-in-Err-part_on_disk g c =
+    let far = c.in-Err-part_on_disk.ensures.far in
+    record {
+      ends = λ was v parts. absurd (omega (arith, made_below v far.0.n (parts.created_is ∙ far.0.is), g.met.D.Disk.sized c.args.disk.now v.store.carries.tells.honest, far.0.far));
+      call = λ was parts. aborts_stopped parts (far_trouble g.D.Disk _ c.args.disk.now c.args.space.now c.in-Err-part_on_disk.trouble (FarMade far.0) far.1) (far_apart c.args.at.0 c.in-Err-part_on_disk.trouble far.1) (makes_none g.D.Disk c.args.disk.now 31205 15483);
+    }
+
+-- ---- a call of the disk fails
 
 pub returns-in-Err-barrier : goal.returns-in-Err-barrier
 returns-in-Err-barrier g c = record {
-  ends = λ was v parts. abort_stops g.D.Disk v.graph v.ds v.id was.created c.args.disk.now c.barrier.new.disk c.args.space.now c.in-Err-barrier.trouble c.barrier.ensures.images (ap is_damage c.in-Err-barrier.ensures.refused);
-  refused = subst (IsDraftTrouble g.D.Disk (parts_top c.args.at.0 (number_if c.args.shadow) c.args.own.now c.args.root.now (number_if c.args.created)) c.args.disk.now c.barrier.new.disk c.args.space.now) (sym c.in-Err-barrier.ensures.refused) c.in-Err-barrier.ensures.stopped;
-  tried = known_apart c.in-Err-barrier.trouble c.in-Err-barrier.ensures.refused;
-  made = tt;
-  cylinders = refl;
-  left = refl;
-  calls = makes_more g.D.Disk c.args.disk.now c.barrier.new.disk 1 1 31205 15483 (omega arith) (omega arith) c.barrier.ensures.calls;
+  ends = λ was v parts. abort_stops c.barrier.ensures.images (ap is_damage c.in-Err-barrier.ensures.refused);
+  call = λ was parts. aborts_stopped parts
+      (subst (IsDraftTrouble g.D.Disk (parts_top c.args.at.0 (number_if c.args.shadow) c.args.own.now c.args.root.now (number_if c.args.created)) c.args.disk.now c.barrier.new.disk c.args.space.now) (sym c.in-Err-barrier.ensures.refused) c.in-Err-barrier.ensures.stopped)
+      (known_apart c.in-Err-barrier.trouble c.in-Err-barrier.ensures.refused) (makes_more g.D.Disk c.args.disk.now c.barrier.new.disk 1 1 31205 15483 (omega arith) (omega arith) c.barrier.ensures.calls);
 }
 
 pub changed-requires : goal.changed-requires
@@ -59,17 +46,15 @@ pub returns-in-Err-changed : goal.returns-in-Err-changed
 returns-in-Err-changed g c =
     let reads = c.changed.ensures.reads in
     record {
-      ends = λ was v parts. abort_stops g.D.Disk v.graph v.ds v.id was.created c.args.disk.now c.changed.new.disk c.args.space.now _
+      ends = λ was v parts. abort_stops
           (then g.D.Disk c.args.disk.now c.barrier.new.disk c.changed.new.disk (λ k. ⊥) (λ k. ⊥) c.barrier.ensures.images reads.images (λ k no. no))
-          (subst (λ (t : Trouble). is_damage t ≡ false) (sym c.after_try.ensures) (after_damage c.in-Err-changed.trouble (c.in-Err-changed.ensures.sound c.args.space.now was (view (store_still g.D.Disk v.graph v.ds c.args.disk.now c.barrier.new.disk c.args.space.now v.store c.barrier.ensures.content c.barrier.ensures.told c.barrier.ensures.images c.barrier.ensures.calls.same) v.at v.opened) parts.own_is parts.root_is)));
-      refused = subst (λ (t : Trouble). IsDraftTrouble g.D.Disk (parts_top c.args.at.0 (number_if c.args.shadow) c.args.own.now c.args.root.now (number_if c.args.created)) c.args.disk.now c.changed.new.disk c.args.space.now t) (sym c.after_try.ensures)
+          (subst (λ (t : Trouble). is_damage t ≡ false) (sym c.after_try.ensures) (after_damage c.in-Err-changed.trouble (c.in-Err-changed.ensures.sound c.args.space.now was (still_view v c.barrier.ensures.content c.barrier.ensures.told c.barrier.ensures.images c.barrier.ensures.calls.same) parts.own_is parts.root_is)));
+      call = λ was parts. aborts_stopped parts
+          (subst (IsDraftTrouble g.D.Disk (parts_top c.args.at.0 (number_if c.args.shadow) c.args.own.now c.args.root.now (number_if c.args.created)) c.args.disk.now c.changed.new.disk c.args.space.now) (sym c.after_try.ensures)
           (trouble_after_tried g.D.Disk (parts_top c.args.at.0 (number_if c.args.shadow) c.args.own.now c.args.root.now (number_if c.args.created)) 0 c.args.disk.now c.barrier.new.disk c.changed.new.disk c.args.space.now 1 1 c.barrier.ensures.calls c.barrier.ensures.made c.barrier.ensures.told c.in-Err-changed.trouble
-          (trouble_as g.D.Disk (roots_top c.args.at.0 c.args.own.now c.args.root.now) (parts_top c.args.at.0 (number_if c.args.shadow) c.args.own.now c.args.root.now (number_if c.args.created)) refl c.barrier.new.disk c.changed.new.disk c.args.space.now FarRoots c.in-Err-changed.trouble (c.in-Err-changed.ensures.refused c.args.space.now)));
-      tried = subst (λ (t : Trouble). t ≢ troubles.Disk false) (sym c.after_try.ensures) (tried_apart c.in-Err-changed.trouble);
-      made = tt;
-      cylinders = refl;
-      left = refl;
-      calls = makes_then g.D.Disk c.args.disk.now c.barrier.new.disk c.changed.new.disk 1 240 31205 1 0 15483 c.barrier.ensures.calls (reads_make g.D.Disk c.barrier.new.disk c.changed.new.disk 240 reads) (omega arith) (omega arith);
+          (trouble_as g.D.Disk (roots_top c.args.at.0 c.args.own.now c.args.root.now) (parts_top c.args.at.0 (number_if c.args.shadow) c.args.own.now c.args.root.now (number_if c.args.created)) refl c.barrier.new.disk c.changed.new.disk c.args.space.now FarRoots c.in-Err-changed.trouble (c.in-Err-changed.ensures.refused c.args.space.now))))
+          (subst (λ (t : Trouble). t ≢ troubles.Disk false) (sym c.after_try.ensures) (tried_apart c.in-Err-changed.trouble))
+          (makes_then g.D.Disk c.args.disk.now c.barrier.new.disk c.changed.new.disk 1 240 31205 1 0 15483 c.barrier.ensures.calls (reads_make g.D.Disk c.barrier.new.disk c.changed.new.disk 240 reads) (omega arith) (omega arith));
     }
 
 pub give_up-requires : goal.give_up-requires
@@ -92,16 +77,18 @@ returns g c =
     let all_tried = tried_then g.D.Disk c.args.disk.now c.changed.new.disk c.give_up.new.disk (2 * nt + (2 + 2)) (nt + (1 + 1)) tried c.give_up.ensures.calls in
     record {
       ends = λ was v parts.
-          let still = store_still g.D.Disk v.graph v.ds c.args.disk.now c.barrier.new.disk c.args.space.now v.store c.barrier.ensures.content c.barrier.ensures.told c.barrier.ensures.images c.barrier.ensures.calls.same in
-          let lists = (c.in-Ok-changed.ensures.changed c.args.space.now was (view still v.at v.opened) parts.own_is parts.root_is).takes in
-          abort_since g.D.Disk v.graph v.ds v.id was.created c.args.disk.now c.changed.new.disk c.give_up.new.disk c.give_up.new.space (reads.content ∙ c.barrier.ensures.content)
-          (then g.D.Disk c.args.disk.now c.barrier.new.disk c.changed.new.disk (λ k. ⊥) (λ k. ⊥) c.barrier.ensures.images reads.images (λ k no. no)) c.give_up.result
-          (c.give_up.ensures.ends was (view (store_reads g.D.Disk v.graph v.ds c.barrier.new.disk c.changed.new.disk c.args.space.now 240 still reads) v.at v.opened) parts.shadow_is parts.created_is
-          (subst (λ (i : Image). AreTaken i v.id (opened_as v.id was v.draft) c.as_slice.result.now) (sym reads.content) (subst (AreTaken (g.D.Disk.content c.barrier.new.disk) v.id (opened_as v.id was v.draft)) (sym c.as_slice.ensures) lists)));
-      refused = finish_tried g.D.Disk (parts_top c.args.at.0 (number_if c.args.shadow) c.args.own.now c.args.root.now (number_if c.args.created)) c.args.disk.now c.changed.new.disk c.give_up.new.disk c.give_up.new.space 241 1 (2 * nt + (2 + 2)) (nt + (1 + 1)) first (λ tells. tells_on g.D.Disk c.barrier.new.disk c.changed.new.disk c.give_up.new.disk 240 reads (still_tells g.D.Disk tells c.barrier.ensures.told c.barrier.ensures.calls.same)) c.give_up.ensures.calls all_tried c.give_up.result (c.give_up.ensures.fails c.args.at.0);
-      tried = finish_apart g.D.Disk c.args.at.0 c.changed.new.disk c.give_up.new.disk c.give_up.new.space c.give_up.result (c.give_up.ensures.fails c.args.at.0);
-      made = all_ok c.give_up.result all_tried;
-      cylinders = c.give_up.ensures.cylinders;
-      left = c.give_up.ensures.left;
-      calls = makes_then g.D.Disk c.args.disk.now c.changed.new.disk c.give_up.new.disk 241 (2 * nt + (2 + 2)) 31205 1 (nt + (1 + 1)) 15483 first c.give_up.ensures.calls (omega (arith, room.0, ap (length {A = ℕ}) c.as_slice.ensures)) (omega (arith, room.0, ap (length {A = ℕ}) c.as_slice.ensures));
+          let still = still_view v c.barrier.ensures.content c.barrier.ensures.told c.barrier.ensures.images c.barrier.ensures.calls.same in
+          let lists = (c.in-Ok-changed.ensures.changed c.args.space.now was still parts.own_is parts.root_is).takes in
+          abort_since (reads.content ∙ c.barrier.ensures.content) (then g.D.Disk c.args.disk.now c.barrier.new.disk c.changed.new.disk (λ k. ⊥) (λ k. ⊥) c.barrier.ensures.images reads.images (λ k no. no))
+          (c.give_up.ensures.ends was (view_reads still reads) parts.shadow_is parts.created_is
+          (subst (λ (i : Image). AreTaken i v.id (opened_as was v.draft) c.as_slice.result.now) (sym reads.content) (subst (AreTaken (g.D.Disk.content c.barrier.new.disk) v.id (opened_as was v.draft)) (sym c.as_slice.ensures) lists)));
+      call = λ was parts. record {
+        refused = finish_tried g.D.Disk (draft_top was) c.args.disk.now c.changed.new.disk c.give_up.new.disk c.give_up.new.space 241 1 (2 * nt + (2 + 2)) (nt + (1 + 1)) first
+            (λ tells. tells_on g.D.Disk c.barrier.new.disk c.changed.new.disk c.give_up.new.disk 240 reads (still_tells g.D.Disk tells c.barrier.ensures.told c.barrier.ensures.calls.same)) c.give_up.ensures.calls all_tried c.give_up.result (c.give_up.ensures.fails was.at);
+        tried = finish_apart g.D.Disk c.args.at.0 c.changed.new.disk c.give_up.new.disk c.give_up.new.space c.give_up.result (c.give_up.ensures.fails c.args.at.0);
+        made = all_ok c.give_up.result all_tried;
+        cylinders = c.give_up.ensures.cylinders;
+        left = c.give_up.ensures.left;
+        calls = makes_then g.D.Disk c.args.disk.now c.changed.new.disk c.give_up.new.disk 241 (2 * nt + (2 + 2)) 31205 1 (nt + (1 + 1)) 15483 first c.give_up.ensures.calls (omega (arith, room.0, ap (length {A = ℕ}) c.as_slice.ensures)) (omega (arith, room.0, ap (length {A = ℕ}) c.as_slice.ensures));
+      };
     }

@@ -1,6 +1,6 @@
 use Rattle.std.proofs.Common.{◌+◌, ◌*◌, ◌++◌, length, arith}
 use Rattle.special_files.proofs.Words.{Undo, flips, number_if, option_to_list, undoing}
-use Rattle.special_files.proofs.CommitRuns.{flips_passed, flips_stop, flips_then}
+use Rattle.special_files.proofs.commit.CommitRuns.{flips_passed, flips_stop, flips_then}
 use Rattle.special_files.proofs.abort.undo_all.Goals as goal
 
 pub flip_made-requires-clause-on_disk : goal.flip_made-requires-clause-on_disk

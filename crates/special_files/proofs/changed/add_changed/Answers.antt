@@ -1,5 +1,5 @@
 use Rattle.std.proofs.Common.{sym}
-use Rattle.special_files.proofs.ChangedRun.{alike_told}
+use Rattle.special_files.proofs.changed.ChangedRun.{alike_told}
 use Rattle.special_files.proofs.changed.add_changed.Goals as goal
 
 pub returns-then-own-new-clause-taken : goal.returns-then-own-new-clause-taken

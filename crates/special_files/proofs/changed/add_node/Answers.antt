@@ -1,7 +1,7 @@
 use Rattle.std.proofs.Common.{List, ℕ, ◌++◌, sym, ◌∙◌, ap}
 use Rattle.special_files.proofs.Words.{pointer_table}
-use Rattle.special_files.proofs.ChangedRun.{leaf_more, leaf_room}
-use Rattle.special_files.proofs.Unlike.{first_unlike}
+use Rattle.special_files.proofs.changed.ChangedRun.{leaf_more, leaf_room}
+use Rattle.special_files.proofs.changed.Unlike.{first_unlike}
 use Rattle.special_files.proofs.changed.add_node.Goals as goal
 
 pub loop-leaf-init : goal.loop-leaf-init

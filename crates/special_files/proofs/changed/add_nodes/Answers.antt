@@ -1,7 +1,7 @@
 use Rattle.std.proofs.Common.{ℕ, ◌∙◌, ap, subst, arith, inl, inr}
 use Rattle.special_files.proofs.Words.{Image, leaves_at, tells_on, nodes_top}
 use Rattle.special_files.specs.Changed.{Adds}
-use Rattle.special_files.proofs.ChangedRun.{node_adds, node_told}
+use Rattle.special_files.proofs.changed.ChangedRun.{node_adds, node_told}
 use Rattle.special_files.proofs.Refusals.{node_trouble, trouble_after_reads}
 use Rattle.special_files.proofs.changed.add_nodes.Goals as goal
 

@@ -1,7 +1,7 @@
 use Rattle.std.proofs.Common.{◌≡◌, ◌*◌, ◌∙◌, sym, subst, arith, rules, inl, inr, refl}
 use Rattle.special_files.proofs.Words.{Image, IsNear, pointer_to_node, roots_top, nodes_top}
 use Rattle.block_tree.specs.declared.root.Root as roots
-use Rattle.special_files.proofs.ChangedRun.{ListedTo, both_near, listed_all, listed_none, listed_then, still_tells}
+use Rattle.special_files.proofs.changed.ChangedRun.{ListedTo, both_near, listed_all, listed_none, listed_then, still_tells}
 use Rattle.special_files.proofs.Refusals.{trouble_after_reads, trouble_as}
 use Rattle.special_files.proofs.changed.changed.Goals as goal
 

@@ -1,4 +1,4 @@
-use Rattle.special_files.proofs.ChangedRun.{ListedTo}
+use Rattle.special_files.proofs.changed.ChangedRun.{ListedTo}
 use Rattle.special_files.proofs.changed.changed.Given as goal
 
 abbrev pub invariant-loop-number : goal.invariant-loop-number

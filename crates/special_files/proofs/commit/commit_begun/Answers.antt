@@ -1,26 +1,18 @@
-use Rattle.std.proofs.Common.{Some, ◌≡◌, ◌≢◌, ℕ, ◌+◌, ◌*◌, ◌<◌, false, length, None, refl, sym, ◌∙◌, ap, subst, arith}
-use Rattle.special_files.proofs.Words.{All, AreOnDisk, Holds, Image, IsChanged, IsReady, IsDraftTrouble, Tells, Trouble, block_at, is_damage, makes_then, number_if, opened_as, reads_make, root_spelling, still_tells, tells_on, then, tree_in, tried_then, roots_top}
+use Rattle.std.proofs.Common.{◌≡◌, ◌≢◌, ℕ, ◌+◌, ◌*◌, ◌<◌, false, length, refl, sym, ◌∙◌, ap, subst, arith}
+use Rattle.special_files.proofs.Words.{All, AreOnDisk, Holds, IsChanged, IsDraftTrouble, Tells, Trouble, all_ok, is_damage, makes_then, opened_as, reads_make, root_spelling, roots_top, still_tells, tells_on, then, tried_then}
 use Rattle.cfs_base.specs.declared.refusal.Trouble.TheVariants as troubles
-use Rattle.special_files.proofs.Amid.{amid_reads}
-use Rattle.special_files.proofs.CommitDraft.{after_damage, amid1, below_all, finish_apart, finish_tried, ready1, root1, shadow_leaves, store1, tree1, tried_apart}
-use Rattle.special_files.proofs.CommitStore.{commit_ends, commit_stops}
+use Rattle.special_files.proofs.CommitDraft.{after_damage, below_all, finish_apart, finish_tried, shadow_leaves, shadow_reads, shadow_stands, shadow_view, tried_apart}
+use Rattle.special_files.proofs.commit.CommitCalls.{commits_stopped}
+use Rattle.special_files.proofs.commit.CommitStore.{commit_ends, commit_stops}
 use Rattle.special_files.proofs.CommitDone.{makes_more}
 use Rattle.special_files.proofs.Endings.{trouble_after_tried}
-use Rattle.special_files.proofs.View.{view}
 use Rattle.special_files.proofs.commit.commit_begun.Goals as goal
 
 pub returns-in-Err : goal.returns-in-Err
 returns-in-Err g c = record {
-  commits = λ was v made parts makes. commit_stops g.D.Disk v.graph v.ds v.id v.draft.object made c.args.disk.now c.write_own.new.disk c.args.space.now _
-      (shadow_leaves g.D.Disk v.graph v.ds v.id v.object c.args.disk.now c.write_own.new.disk c.write_own.new.disk c.args.space.now was v.draft c.args.shadow.0 c.encode-content.result v.store v.at v.opened parts.shadow_is c.write_own.ensures.images) refl;
-  refused = c.in-Err.ensures.stopped;
-  made = c.write_own.ensures.tried;
+  commits = λ was v made parts makes. commit_stops (shadow_leaves v parts.shadow_is c.write_own.ensures.images) refl;
+  ends = commits_stopped c.in-Err.ensures.stopped (makes_more g.D.Disk c.args.disk.now c.write_own.new.disk 1 1 31205 15484 (omega arith) (omega arith) c.write_own.ensures.calls);
   untried = λ same. cc;
-  settled = λ tells. tt;
-  cylinders = refl;
-  left = tt;
-  kept = λ is. refl;
-  calls = makes_more g.D.Disk c.args.disk.now c.write_own.new.disk 1 1 31205 15484 (omega arith) (omega arith) c.write_own.ensures.calls;
 }
 
 pub changed-requires : goal.changed-requires
@@ -31,18 +23,14 @@ returns-in-Err-changed g c =
     let told = c.in-Ok.ensures.told in
     let reads = c.changed.ensures.reads in
     record {
-      commits = λ was v made parts makes. commit_stops g.D.Disk v.graph v.ds v.id v.draft.object made c.args.disk.now c.changed.new.disk c.args.space.now _
-          (then g.D.Disk c.args.disk.now c.write_own.new.disk c.changed.new.disk (λ k. Holds k v.graph) (λ k. ⊥) (shadow_leaves g.D.Disk v.graph v.ds v.id v.object c.args.disk.now c.write_own.new.disk c.changed.new.disk c.args.space.now was v.draft c.args.shadow.0 c.encode-content.result v.store v.at v.opened parts.shadow_is c.write_own.ensures.images) reads.images (λ k no. absurd no))
-          (subst (λ (t : Trouble). is_damage t ≡ false) (sym c.after_try.ensures) (after_damage c.in-Err-changed.trouble (c.in-Err-changed.ensures.sound c.args.space.now was (view (store1 g.D.Disk v.graph v.ds v.id v.object c.args.disk.now c.write_own.new.disk c.changed.new.disk c.args.space.now was v.draft c.args.shadow.0 c.encode-content.result v.store v.at v.opened parts.shadow_is c.write_own.ensures.images c.in-Ok.ensures.written told c.write_own.ensures.calls.same) v.at v.opened) parts.own_is parts.root_is)));
-      refused = subst (λ (t : Trouble). IsDraftTrouble g.D.Disk (roots_top c.args.at.0 c.args.own.now c.args.root.now) c.args.disk.now c.changed.new.disk c.args.space.now t) (sym c.after_try.ensures)
-          (trouble_after_tried g.D.Disk (roots_top c.args.at.0 c.args.own.now c.args.root.now) 0 c.args.disk.now c.write_own.new.disk c.changed.new.disk c.args.space.now 1 1 c.write_own.ensures.calls c.write_own.ensures.tried told c.in-Err-changed.trouble (c.in-Err-changed.ensures.refused c.args.space.now));
-      made = tried_then g.D.Disk c.args.disk.now c.write_own.new.disk c.changed.new.disk 240 0 c.write_own.ensures.tried (reads_make g.D.Disk c.write_own.new.disk c.changed.new.disk 240 reads);
+      commits = λ was v made parts makes. commit_stops
+          (then g.D.Disk c.args.disk.now c.write_own.new.disk c.changed.new.disk (λ k. Holds k v.graph) (λ k. ⊥) (shadow_leaves v parts.shadow_is c.write_own.ensures.images) reads.images (λ k no. absurd no))
+          (subst (λ (t : Trouble). is_damage t ≡ false) (sym c.after_try.ensures) (after_damage c.in-Err-changed.trouble (c.in-Err-changed.ensures.sound c.args.space.now was (shadow_view v parts.shadow_is c.in-Ok.ensures) parts.own_is parts.root_is)));
+      ends = commits_stopped
+          (subst (IsDraftTrouble g.D.Disk (roots_top c.args.at.0 c.args.own.now c.args.root.now) c.args.disk.now c.changed.new.disk c.args.space.now) (sym c.after_try.ensures)
+          (trouble_after_tried g.D.Disk (roots_top c.args.at.0 c.args.own.now c.args.root.now) 0 c.args.disk.now c.write_own.new.disk c.changed.new.disk c.args.space.now 1 1 c.write_own.ensures.calls c.write_own.ensures.tried told c.in-Err-changed.trouble (c.in-Err-changed.ensures.refused c.args.space.now)))
+          (makes_then g.D.Disk c.args.disk.now c.write_own.new.disk c.changed.new.disk 1 240 31205 1 0 15484 c.write_own.ensures.calls (reads_make g.D.Disk c.write_own.new.disk c.changed.new.disk 240 reads) (omega arith) (omega arith));
       untried = subst (λ (t : Trouble). t ≢ troubles.Disk false) (sym c.after_try.ensures) (tried_apart c.in-Err-changed.trouble);
-      settled = λ tells. tt;
-      cylinders = refl;
-      left = tt;
-      kept = λ is. refl;
-      calls = makes_then g.D.Disk c.args.disk.now c.write_own.new.disk c.changed.new.disk 1 240 31205 1 0 15484 c.write_own.ensures.calls (reads_make g.D.Disk c.write_own.new.disk c.changed.new.disk 240 reads) (omega arith) (omega arith);
     }
 
 pub finish-requires : goal.finish-requires
@@ -71,23 +59,17 @@ returns g c =
     let tried = tried_then g.D.Disk c.args.disk.now c.write_own.new.disk c.finish.new.disk 31205 15484 c.write_own.ensures.tried (makes_then g.D.Disk c.write_own.new.disk c.changed.new.disk c.finish.new.disk 240 (2 * length c.as_slice.result.now + 4) 31205 0 (length c.as_slice.result.now + 3) 15484 (reads_make g.D.Disk c.write_own.new.disk c.changed.new.disk 240 reads) c.finish.ensures.calls (omega (arith, room.0, room.1, ap (length {A = ℕ}) c.as_slice.ensures)) (omega (arith, room.0, room.1, ap (length {A = ℕ}) c.as_slice.ensures))) in
     record {
       commits = λ was v made parts makes.
-          let amid = amid1 g.D.Disk v.graph v.ds v.id v.object c.args.disk.now c.write_own.new.disk c.changed.new.disk c.args.space.now was v.draft c.args.shadow.0 c.encode-content.result v.store v.at v.opened parts.shadow_is c.write_own.ensures.images c.in-Ok.ensures.written told c.write_own.ensures.calls.same in
-          let lists = c.in-Ok-changed.ensures.changed c.args.space.now was (view (store1 g.D.Disk v.graph v.ds v.id v.object c.args.disk.now c.write_own.new.disk c.changed.new.disk c.args.space.now was v.draft c.args.shadow.0 c.encode-content.result v.store v.at v.opened parts.shadow_is c.write_own.ensures.images c.in-Ok.ensures.written told c.write_own.ensures.calls.same) v.at v.opened) parts.own_is parts.root_is in
-          let ready = ready1 g.D.Disk v.graph v.ds v.id v.object c.args.disk.now c.write_own.new.disk c.changed.new.disk c.args.space.now was v.draft c.args.shadow.0 c.encode-content.result v.store v.at v.opened parts.shadow_is c.write_own.ensures.images c.in-Ok.ensures.written told c.write_own.ensures.calls.same c.changed.new.taken c.as_slice.result.now (c.encode-content.ensures.spelled ∙ ap root_spelling (sym parts.root_is))
-          (subst (IsChanged (g.D.Disk.content c.write_own.new.disk) v.id (opened_as v.id was v.draft) c.changed.new.taken) (sym c.as_slice.ensures) lists) in
-          commit_ends g.D.Disk v.graph v.ds v.id v.object v.draft.object (opened_as v.id was v.draft) (number_if c.args.created) c.args.disk.now c.changed.new.disk c.args.space.now c.args.space.now c.args.shadow.0 c.changed.new.taken c.as_slice.result.now v.store v.at v.opened.alone parts.created_is
-          (amid_reads g.D.Disk v.graph v.ds v.id v.object c.args.disk.now c.args.space.now v.store v.at c.write_own.new.disk c.changed.new.disk c.args.space.now 240 amid reads)
-          (subst (λ (i : Image). IsReady i v.graph v.id v.object v.draft.object c.args.shadow.0 c.changed.new.taken c.as_slice.result.now None) (sym reads.content) ready)
-          (ap (λ (i : Image). tree_in i (block_at i c.args.shadow.0)) reads.content ∙ tree1 g.D.Disk v.graph v.ds v.id v.object c.args.disk.now c.write_own.new.disk c.changed.new.disk c.args.space.now was v.draft c.args.shadow.0 c.encode-content.result v.store v.at v.opened parts.shadow_is c.write_own.ensures.images c.in-Ok.ensures.written told c.write_own.ensures.calls.same (c.encode-content.ensures.spelled ∙ ap root_spelling (sym parts.root_is)))
-          (ap (λ (i : Image). block_at i c.args.shadow.0) reads.content ∙ root1 g.D.Disk v.graph v.ds v.id v.object c.args.disk.now c.write_own.new.disk c.changed.new.disk c.args.space.now was v.draft c.args.shadow.0 c.encode-content.result v.store v.at v.opened parts.shadow_is c.write_own.ensures.images c.in-Ok.ensures.written told c.write_own.ensures.calls.same (c.encode-content.ensures.spelled ∙ ap root_spelling (sym parts.root_is)))
-          (λ none. let no : Some c.args.shadow.0 ≡ None = sym parts.shadow_is ∙ none in cc)
-          made makes c.args.at.0 (v.opened.at ∙ parts.at_is) c.finish.new.disk c.finish.new.space c.finish.result c.finish.ensures.finishes;
-      refused = finish_tried g.D.Disk (roots_top c.args.at.0 c.args.own.now c.args.root.now) c.args.disk.now c.changed.new.disk c.finish.new.disk c.finish.new.space 241 1 _ _ first tells_amid c.finish.ensures.calls tried c.finish.result c.finish.ensures.fails;
-      made = tried;
+          let lists = c.in-Ok-changed.ensures.changed c.args.space.now was (shadow_view v parts.shadow_is c.in-Ok.ensures) parts.own_is parts.root_is in
+          let stands = shadow_stands v parts.shadow_is c.in-Ok.ensures c.changed.new.taken c.as_slice.result.now (c.encode-content.ensures.spelled ∙ ap root_spelling (sym parts.root_is))
+          (subst (IsChanged (g.D.Disk.content c.write_own.new.disk) v.id (opened_as was v.draft) c.changed.new.taken) (sym c.as_slice.ensures) lists) in
+          commit_ends (shadow_reads stands reads) parts.created_is made makes (v.opened.at ∙ parts.at_is) c.finish.ensures.finishes;
+      ends = record {
+        refused = finish_tried g.D.Disk (roots_top c.args.at.0 c.args.own.now c.args.root.now) c.args.disk.now c.changed.new.disk c.finish.new.disk c.finish.new.space 241 1 _ _ first tells_amid c.finish.ensures.calls tried c.finish.result c.finish.ensures.fails;
+        made = all_ok c.finish.result tried;
+        settled = λ tells. c.finish.ensures.settled (tells_amid tells);
+        cylinders = c.finish.ensures.cylinders;
+        left = c.finish.ensures.left;
+        calls = calls;
+      };
       untried = finish_apart g.D.Disk c.args.at.0 c.changed.new.disk c.finish.new.disk c.finish.new.space c.finish.result c.finish.ensures.fails;
-      settled = λ tells. c.finish.ensures.settled (tells_amid tells);
-      cylinders = c.finish.ensures.cylinders;
-      left = c.finish.ensures.left;
-      kept = c.finish.ensures.kept;
-      calls = calls;
     }

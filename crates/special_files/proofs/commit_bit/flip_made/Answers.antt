@@ -1,6 +1,6 @@
 use Rattle.std.proofs.Common.{Ok, Option, ap, subst, sym}
 use Rattle.special_files.proofs.Words.{BlockNo, Flips, flips, number_if, option_to_list}
-use Rattle.special_files.proofs.CommitRuns.{no_flips}
+use Rattle.special_files.proofs.commit.CommitRuns.{no_flips}
 use Rattle.special_files.proofs.commit_bit.flip_made.Goals as goal
 
 pub flip-requires-clause-on_disk : goal.flip-requires-clause-on_disk

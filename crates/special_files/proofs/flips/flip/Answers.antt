@@ -1,6 +1,6 @@
 use Rattle.std.proofs.Common.{Err, sym, subst}
 use Rattle.special_files.proofs.Words.{Flips, MapEntry, Trouble}
-use Rattle.special_files.proofs.CommitRuns.{one, one_done, one_failed}
+use Rattle.special_files.proofs.commit.CommitRuns.{one, one_done, one_failed}
 use Rattle.special_files.proofs.flips.flip.Goals as goal
 
 pub returns-in-Ok : goal.returns-in-Ok

@@ -1,7 +1,7 @@
 use Rattle.std.proofs.Common.{◌≡◌, ℕ, ◌*◌, List, length, Ok, subst, ap, arith, length-drop}
 use Rattle.std.proofs.lemmas.List.{drop_all, take_all, take_rest}
 use Rattle.intentions.specs.Runs.{runs}
-use Rattle.special_files.proofs.CommitRuns.{by_length, no_flips, run_fail, run_on}
+use Rattle.special_files.proofs.commit.CommitRuns.{by_length, no_flips, run_fail, run_on}
 use Rattle.special_files.proofs.Words.{Flips, flips}
 use Rattle.special_files.proofs.flips.flip_all.Goals as goal
 

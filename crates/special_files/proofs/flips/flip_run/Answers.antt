@@ -1,6 +1,6 @@
 use Rattle.std.proofs.Common.{◌<◌, Err, get_or, sym, subst}
 use Rattle.intentions.proofs.Runs.{first_is}
-use Rattle.special_files.proofs.CommitRuns.{run_failed, run_unread, run_written}
+use Rattle.special_files.proofs.commit.CommitRuns.{run_failed, run_unread, run_written}
 use Rattle.special_files.proofs.Words.{All-get_or, FlipsRun, Trouble}
 use Rattle.special_files.proofs.flips.flip_run.Goals as goal
 

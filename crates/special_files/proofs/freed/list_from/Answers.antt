@@ -1,7 +1,7 @@
 use Rattle.std.proofs.Common.{◌≡◌, ℕ, false, List, [], ◌++◌, ◌+◌, ◌/◌, ◌-◌, sym, ◌∙◌, ap, subst, arith, get_or}
 use Rattle.special_files.proofs.Words.{both_ways, fresh_in, list_if, slice_index, tells_on, ◌==◌, root_top}
 use Rattle.special_files.proofs.Refusals.{trouble_after_reads}
-use Rattle.special_files.proofs.ShedListing.{ListRun, near_now, run_all, run_lists, run_skips}
+use Rattle.special_files.proofs.shrink.ShedListing.{ListRun, near_now, run_all, run_lists, run_skips}
 use Rattle.special_files.proofs.freed.list_from.Goals as goal
 use Rattle.special_files.proofs.freed.list_from.Goals.{then-has+in-Ok, else-has}
 

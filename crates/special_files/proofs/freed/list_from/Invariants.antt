@@ -1,5 +1,5 @@
 use Rattle.std.proofs.Common.{◌≡◌, ℕ, false, [], get_or}
-use Rattle.special_files.proofs.ShedListing.{ListRun}
+use Rattle.special_files.proofs.shrink.ShedListing.{ListRun}
 use Rattle.special_files.proofs.freed.list_from.Given as goal
 
 abbrev pub invariant-loop-number : goal.invariant-loop-number

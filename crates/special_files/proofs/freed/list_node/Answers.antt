@@ -1,6 +1,6 @@
 use Rattle.std.proofs.Common.{◌+◌, ◌-◌, ◌++◌, ◌∙◌, ap, arith}
 use Rattle.special_files.proofs.Words.{list_if, slice_index, ◌==◌}
-use Rattle.special_files.proofs.ShedLists.{list_more, list_room, list_starts}
+use Rattle.special_files.proofs.shrink.ShedLists.{list_more, list_room, list_starts}
 use Rattle.special_files.proofs.freed.list_node.Goals as goal
 
 pub loop-place-init : goal.loop-place-init

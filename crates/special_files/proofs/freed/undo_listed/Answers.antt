@@ -1,7 +1,7 @@
 use Rattle.std.proofs.Common.{◌≡◌, ◌*◌, ◌<◌, if◌then◌else◌, Bool, true, false, length, get_or, Err, refl, sym, ◌∙◌, ap, subst, arith}
 use Rattle.special_files.proofs.Words.{All-get_or, Flips, MapEntry, Trouble, Undo, flips, then_tried, trouble_after_try}
 use Rattle.cfs_base.specs.declared.refusal.Trouble.TheVariants as trouble
-use Rattle.special_files.proofs.CommitRuns.{flips_fail, flips_on, one_done, one_failed}
+use Rattle.special_files.proofs.commit.CommitRuns.{flips_fail, flips_on, one_done, one_failed}
 use Rattle.special_files.proofs.freed.undo_listed.Goals as goal
 
 tried_once : (t : Trouble) → trouble_after_try (trouble_after_try t) ≡ trouble_after_try t

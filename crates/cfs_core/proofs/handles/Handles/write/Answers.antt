@@ -1,26 +1,17 @@
-use Rattle.std.proofs.Common.{◌+◌, ◌<◌, ◌≤◌, length, Some, refl, sym, ◌∙◌, ap, subst, IsSome}
-use Rattle.cfs_core.specs.Handles.{drafting_at, with_drafting}
-use Rattle.cfs_core.proofs.Handled.{held_at, if_some, handled_put, some_if}
+use Rattle.std.proofs.Common.{nat_eq, refl, sym, ◌∙◌, ap, subst, IsSome}
+use Rattle.cfs_core.proofs.Words.{get}
+use Rattle.cfs_core.proofs.Handled.{changes_held, held_here, it_holds, never_absent}
 use Rattle.cfs_core.proofs.handles.Handles.write.Goals as goal
 
 pub overwrite-requires-clause-on_disk : goal.overwrite-requires-clause-on_disk
-overwrite-requires-clause-on_disk g c =
-    (some_if (λ d. (d.at < g.D.Disk.blocks c.args.disk.now) × (c.args.offset + length c.args.bytes.now ≤ d.root.size)) _ c.in-Some.draft.now
-    (sym (ap (λ t. drafting_at t.handles c.args.draw) c.self.view_is) ∙ sym (held_at _ c.self.inside.grants.grants c.args.draw (c.self.invariant c.args.draw)) ∙ sym c.in-Some.ensures.value) c.requires.within).0
+overwrite-requires-clause-on_disk g c = c.requires.on_disk c.in-Some.draft.now (sym (held_here (get nat_eq c.self.inside.drafts) c.self.inside.grants.grants _ (ap (λ t. t.handles) c.self.view_is) c.self.invariant c.args.draw) ∙ sym c.in-Some.ensures.value)
 
 pub overwrite-requires-clause-within : goal.overwrite-requires-clause-within
-overwrite-requires-clause-within g c =
-    (some_if (λ d. (d.at < g.D.Disk.blocks c.args.disk.now) × (c.args.offset + length c.args.bytes.now ≤ d.root.size)) _ c.in-Some.draft.now
-    (sym (ap (λ t. drafting_at t.handles c.args.draw) c.self.view_is) ∙ sym (held_at _ c.self.inside.grants.grants c.args.draw (c.self.invariant c.args.draw)) ∙ sym c.in-Some.ensures.value) c.requires.within).1
+overwrite-requires-clause-within g c = it_holds (get nat_eq c.self.inside.drafts) c.self.inside.grants.grants _ (ap (λ t. t.handles) c.self.view_is) c.self.invariant c.args.draw c.requires.has c.in-Some.draft.now (sym c.in-Some.ensures.value)
 
 pub unreachable-requires : goal.unreachable-requires
-unreachable-requires g c =
-    let none = sym (ap (λ t. drafting_at t.handles c.args.draw) c.self.view_is) ∙ sym (held_at _ c.self.inside.grants.grants c.args.draw (c.self.invariant c.args.draw)) ∙ sym c.in-None.ensures.value in
-    let no = subst (λ o. IsSome o) none c.requires.has in cc
+unreachable-requires g c = never_absent (get nat_eq c.self.inside.drafts) c.self.inside.grants.grants _ (ap (λ t. t.handles) c.self.view_is) c.self.invariant c.args.draw c.requires.has (sym c.in-None.ensures.value)
 
 pub returns : goal.returns
-returns g c =
-    let there = sym (ap (λ t. drafting_at t.handles c.args.draw) c.self.view_is) ∙ sym (held_at _ c.self.inside.grants.grants c.args.draw (c.self.invariant c.args.draw)) ∙ sym c.in-Some.ensures.value in
-    let written = ((c.get_mut.follows.holds c.overwrite.new.draft).3 (subst (λ o. IsSome o) c.in-Some.ensures.value refl)).0 in
-    if_some _ _ c.in-Some.draft.now there
-    (c.overwrite.new.draft, handled_put c.args.draw (Some c.overwrite.new.draft) _ _ written c.self.inside.grants.grants ∙ ap (λ t. with_drafting c.args.draw (Some c.overwrite.new.draft) t.handles) c.self.view_is, c.overwrite.ensures)
+returns g c = changes_held (get nat_eq c.self.inside.drafts) c.self.inside.grants.grants _ (ap (λ t. t.handles) c.self.view_is) c.self.invariant c.args.draw _ c.in-Some.draft.now _ (sym c.in-Some.ensures.value)
+    ((c.get_mut.follows.holds c.overwrite.new.draft).3 (subst (λ o. IsSome o) c.in-Some.ensures.value refl)).0 c.overwrite.ensures

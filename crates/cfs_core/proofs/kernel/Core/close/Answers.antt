@@ -10,7 +10,7 @@ use Rattle.cfs_core.specs.Kernel.{Kernel, grants_in, is_ready_for}
 use Rattle.cfs_core.specs.Handles.{have_draft, is_at}
 use Rattle.cfs_core.proofs.Answering.{tries_refusal}
 use Rattle.cfs_core.specs.StandsFor.{ServesIs}
-use Rattle.cfs_core.proofs.Ending.{none_there, the_grant}
+use Rattle.cfs_core.proofs.Views.{none_there, the_grant}
 use Rattle.cfs_core.proofs.Joined.{tries_since, tries_unfinished}
 use Rattle.cfs_core.proofs.Granted.{close_goes, close_none}
 use Rattle.cfs_core.proofs.Readied.{ready_at, sized_taken, sized_with}

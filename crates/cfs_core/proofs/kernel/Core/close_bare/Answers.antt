@@ -6,7 +6,7 @@ use Rattle.cfs_core.specs.Calls.{Tries}
 use Rattle.cfs_core.specs.Kernel.{Kernel}
 use Rattle.cfs_core.specs.Handles.{have_draft, is_at}
 use Rattle.cfs_core.proofs.Answering.{tries_refusal}
-use Rattle.cfs_core.proofs.Ending.{none_there, shown_by}
+use Rattle.cfs_core.proofs.Views.{none_there, shown_by}
 use Rattle.cfs_core.proofs.Granted.{close_none, tries_closed}
 use Rattle.cfs_core.proofs.Readied.{sized_but}
 use Rattle.cfs_core.proofs.kernel.Core.close_bare.Goals as goal

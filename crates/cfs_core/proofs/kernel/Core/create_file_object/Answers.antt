@@ -1,19 +1,17 @@
-use Rattle.std.proofs.Common.{◌≡◌, ◌<◌, ℕ, length, true, Ok, Err, refl, sym, ◌∙◌, subst, arith, nat_lt}
+use Rattle.std.proofs.Common.{length, Ok, Err, refl, sym, ◌∙◌, subst}
 use Rattle.ufs_model.specs.declared.asked.Reply.TheVariants as replies
 use Rattle.ufs_model.specs.declared.asked.Request.TheVariants as asks
 use Rattle.ufs_model.specs.declared.object.Object.TheVariants as objects
 use Rattle.cfs_core.specs.Calls.{Tries}
 use Rattle.cfs_core.specs.Kernel.{Kernel}
 use Rattle.cfs_core.specs.Looks.{ReachesAll}
-use Rattle.cfs_core.proofs.Words.{nat_tests}
+use Rattle.cfs_core.proofs.Words.{ltb-true}
 use Rattle.cfs_core.proofs.After.{tries_then}
-use Rattle.cfs_core.proofs.Answering.{known, tries_failed, tries_refused}
+use Rattle.cfs_core.proofs.Answering.{tries_failed, tries_refused}
+use Rattle.cfs_core.proofs.Views.{knows_that}
 use Rattle.cfs_core.proofs.Makings.{file_goes, file_makes}
 use Rattle.cfs_core.proofs.Refusing.{beyond}
 use Rattle.cfs_core.proofs.kernel.Core.create_file_object.Goals as goal
-
-inside_of : (slot count : ℕ) → nat_lt slot count ≡ true → slot < count
-inside_of slot count is = grind (arith, nat_tests)
 
 pub returns-in-Err : goal.returns-in-Err
 returns-in-Err g c = c.in-Err.ensures.refused (asks.CreateFile c.args.kind c.args.fill c.args.to c.args.slot) (record { to = refl; each = λ s who. refl })
@@ -27,7 +25,7 @@ returns-in-Ok-true g c =
     (tries_then g.D.Disk 1 k c.has_slot.new.disk c.make.new.self c.has_slot.ensures.calm.reads request c.in-Ok.index c.args.slot c.args.who c.make.result reach
     (c.make.ensures request (file_makes c.args.kind c.kind_of.result c.args.fill c.args.to c.args.slot c.kind_of.ensures c.ranges.fill.fits))
     (λ s i serves r shut.
-    let inside = inside_of c.args.slot (length i.slots) (sym (c.in-Ok-true.ensures.exact i (known g.D.Disk k s serves c.in-Ok.index i c.shown-at.result.0 c.shown-at.ensures.shown r.there shut)) ∙ c.in-Ok-true.field-0-test) in
+    let inside = ltb-true c.args.slot (length i.slots) (sym (c.in-Ok-true.ensures.exact i (knows_that g.D.Disk k s serves c.in-Ok.index (objects.Index i) c.shown-at.result.0 c.shown-at.ensures.shown r.there)) ∙ c.in-Ok-true.field-0-test) in
     (inside, file_goes s c.args.who c.args.to c.in-Ok.index i c.args.slot c.args.kind c.args.fill r inside)))
 
 pub returns-in-Ok-false : goal.returns-in-Ok-false

@@ -1,31 +1,17 @@
-use Rattle.std.proofs.Common.{◌⊎◌, inl, inr, ◌≡◌, ◌<◌, ◌≤◌, ◌||◌, ℕ, false, length, true, Ok, Err, refl, sym, ◌∙◌, subst, arith, ◌==◌, nat_lt}
+use Rattle.std.proofs.Common.{length, Ok, Err, refl, sym, ◌∙◌, subst}
 use Rattle.ufs_model.specs.declared.asked.Reply.TheVariants as replies
 use Rattle.ufs_model.specs.declared.asked.Request.TheVariants as asks
 use Rattle.ufs_model.specs.declared.object.Object.TheVariants as objects
 use Rattle.cfs_core.specs.Calls.{Tries}
 use Rattle.cfs_core.specs.Kernel.{Kernel}
 use Rattle.cfs_core.specs.Looks.{ReachesAll}
-use Rattle.cfs_core.proofs.Words.{nat_tests}
+use Rattle.cfs_core.proofs.Words.{ltb-true}
 use Rattle.cfs_core.proofs.After.{tries_then}
-use Rattle.cfs_core.proofs.Answering.{known, tries_failed, tries_refused}
-use Rattle.cfs_core.proofs.Makings.{index_goes, index_makes, index_range}
+use Rattle.cfs_core.proofs.Answering.{tries_failed, tries_refused}
+use Rattle.cfs_core.proofs.Views.{knows_that}
+use Rattle.cfs_core.proofs.Makings.{few_slots, index_goes, index_makes, index_range, out_of_slots, some_slots}
 use Rattle.cfs_core.proofs.Refusing.{beyond}
 use Rattle.cfs_core.proofs.kernel.Core.create_index_object.Goals as goal
-
-inside_of : (slot count : ℕ) → nat_lt slot count ≡ true → slot < count
-inside_of slot count is = grind (arith, nat_tests)
-
-some_of : (slots : ℕ) → (slots ≡ 0 → ⊥) → (slots == 0) ≡ false
-some_of slots some = grind (arith, nat_tests)
-
-few_of : (slots : ℕ) → slots ≤ 983040 → nat_lt 983040 slots ≡ false
-few_of slots few = grind (arith, nat_tests)
-
-out_of : (slots : ℕ) → (slots ≡ 0) ⊎ ((slots ≡ 0 → ⊥) × 983040 < slots) → ((slots == 0) || nat_lt 983040 slots) ≡ true
-out_of slots (inl none) = let no : (slots == 0) ≡ true = grind (arith, nat_tests) in rw no refl
-out_of slots (inr (some, many)) =
-    let no : (slots == 0) ≡ false = grind (arith, nat_tests) in
-    let above : nat_lt 983040 slots ≡ true = grind (arith, nat_tests) in rw (no, above) refl
 
 pub returns-in-Err : goal.returns-in-Err
 returns-in-Err g c = c.in-Err.ensures.refused (asks.CreateIndex c.args.slots c.args.to c.args.slot) (record { to = refl; each = λ s who. refl })
@@ -39,8 +25,8 @@ returns-else-slots-gt-MOST_SLOTS g c =
     (tries_then g.D.Disk 1 k c.has_slot.new.disk c.make.new.self c.has_slot.ensures.calm.reads request c.in-Ok.index c.args.slot c.args.who c.make.result reach
     (c.make.ensures request (index_makes c.args.slots c.args.to c.args.slot))
     (λ s i serves r shut.
-    let inside = inside_of c.args.slot (length i.slots) (sym (c.in-Ok-true.ensures.exact i (known g.D.Disk k s serves c.in-Ok.index i c.shown-at.result.0 c.shown-at.ensures.shown r.there shut)) ∙ c.in-Ok-true.field-0-test) in
-    (inside, index_goes s c.args.who c.args.to c.in-Ok.index i c.args.slot c.args.slots r inside (some_of c.args.slots c.if-slots-eq0.false) (few_of c.args.slots c.if-slots-gt-MOST_SLOTS.false))))
+    let inside = ltb-true c.args.slot (length i.slots) (sym (c.in-Ok-true.ensures.exact i (knows_that g.D.Disk k s serves c.in-Ok.index (objects.Index i) c.shown-at.result.0 c.shown-at.ensures.shown r.there)) ∙ c.in-Ok-true.field-0-test) in
+    (inside, index_goes s c.args.who c.args.to c.in-Ok.index i c.args.slot c.args.slots r inside (some_slots c.args.slots c.if-slots-eq0.false) (few_slots c.args.slots c.if-slots-gt-MOST_SLOTS.false))))
 
 pub returns-then-slots-eq0 : goal.returns-then-slots-eq0
 returns-then-slots-eq0 g c =
@@ -50,8 +36,8 @@ returns-then-slots-eq0 g c =
     subst (λ x. Tries g.D.Disk x (record k { disk = c.has_slot.new.disk }) c.args.who request (Ok replies.Range)) c.self.view_is
     (tries_refused g.D.Disk g.met.D.Disk.left_sized g.met.D.Disk.sized objects.Index k c.in-Ok.index c.shown-at.result.0 c.shown-at.ensures.shown c.args.who request reach 1 c.has_slot.new.disk replies.Range tt c.has_slot.ensures.calm.reads
     (λ s i serves r knows.
-    let inside = inside_of c.args.slot (length i.slots) (sym (c.in-Ok-true.ensures.exact i knows) ∙ c.in-Ok-true.field-0-test) in
-    index_range s c.args.who c.args.to c.in-Ok.index i c.args.slot c.args.slots r inside (out_of c.args.slots c.then-slots-eq0.either)))
+    let inside = ltb-true c.args.slot (length i.slots) (sym (c.in-Ok-true.ensures.exact i knows) ∙ c.in-Ok-true.field-0-test) in
+    index_range s c.args.who c.args.to c.in-Ok.index i c.args.slot c.args.slots r inside (out_of_slots c.args.slots c.then-slots-eq0.either)))
 
 pub returns-in-Ok-false : goal.returns-in-Ok-false
 returns-in-Ok-false g c =

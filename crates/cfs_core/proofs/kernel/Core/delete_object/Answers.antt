@@ -6,7 +6,8 @@ use Rattle.cfs_core.specs.Kernel.{Kernel}
 use Rattle.cfs_core.specs.Looks.{ReachesAll}
 use Rattle.cfs_core.proofs.Words.{is_id}
 use Rattle.cfs_core.proofs.After.{tries_then}
-use Rattle.cfs_core.proofs.Answering.{known, tries_failed, tries_refused}
+use Rattle.cfs_core.proofs.Answering.{tries_failed, tries_refused}
+use Rattle.cfs_core.proofs.Views.{knows_that}
 use Rattle.cfs_core.proofs.Refusing.{delete_goes, delete_refused}
 use Rattle.cfs_core.proofs.kernel.Core.delete_object.Goals as goal
 
@@ -21,7 +22,7 @@ returns-then-holds_something g c =
     subst (λ x. Tries g.D.Disk x c.empty.new.self c.args.who request c.empty.result) c.self.view_is
     (tries_then g.D.Disk 4 k c.look.new.disk c.empty.new.self c.look.ensures.calm.reads request c.in-Ok.index c.args.slot c.args.who c.empty.result reach (c.empty.ensures c.args.to c.floor_for.ensures)
     (λ s i serves r shut.
-    let exact = c.in-Ok-look.ensures.exact i (known g.D.Disk k s serves c.in-Ok.index i c.shown-at.result.0 c.shown-at.ensures.shown r.there shut) in
+    let exact = c.in-Ok-look.ensures.exact i (knows_that g.D.Disk k s serves c.in-Ok.index (objects.Index i) c.shown-at.result.0 c.shown-at.ensures.shown r.there) in
     let two = delete_goes k.words.seed s c.args.who c.args.to c.in-Ok.index i c.args.slot r (ap is_id (sym exact) ∙ sym c.holds_something.ensures ∙ c.if-holds_something.true) in
     (two.1, two.0)))
 

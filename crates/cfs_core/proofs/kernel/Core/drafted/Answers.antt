@@ -5,7 +5,7 @@ use Rattle.cfs_core.specs.Drafts.{HasNoneOf}
 use Rattle.cfs_core.specs.Kernel.{grants_in}
 use Rattle.cfs_core.specs.Handles.{drafting_at}
 use Rattle.cfs_core.proofs.Reached.{undrafted}
-use Rattle.cfs_core.proofs.Ending.{held_in, none_there}
+use Rattle.cfs_core.proofs.Views.{held_in, none_there}
 use Rattle.cfs_core.proofs.Fitting.{unfitted}
 use Rattle.cfs_core.proofs.kernel.Core.drafted.Goals.{else-is_some-via-then-is_some+else-is_fit, else-is_some-via-else-is_some}
 use Rattle.cfs_core.proofs.kernel.Core.drafted.Goals as goal
@@ -48,9 +48,9 @@ returns-else-is_some-clause-bare g c = λ s serves. subst (λ r. HasNoneOf c.arg
       let found = ap (λ k. session_grant (grants_in k.handles) c.args.who c.in-Through.grant) (sym c.self.view_is) ∙ sym c.find.ensures ∙ c.in-Some.is in
       let has = ap (λ k. drafting_at k.handles c.in-Through.grant.draw) (sym c.self.view_is) ∙ sym c.draft.ensures ∙ ap option_copied draft.1 in
       let law = λ (s : State). c.table_follows_the_model.ensures.found s c.args.who c.in-Through.grant in
-      unfitted g.D.Disk c.args.self.now c.args.who c.in-Through.grant draft.0.now law s serves
+      unfitted g.D.Disk c.args.who c.in-Through.grant law c.args.self.now draft.0.now s serves
       (held_in g.D.Disk c.args.self.now c.args.who c.in-Through.grant draft.0.now has (subst (λ o. IsSome o) (sym found) refl) law s serves)
-      c.args.wants c.in-Some.found found (λ none. let no : true ≡ false = sym (ap is_none (ap (unfit_of c.args.wants) w.kind.ensures.kind ∙ none)) ∙ sym w.is_fit.ensures ∙ w.if-is_fit.false in cc)
+      c.in-Some.found found c.args.wants (λ none. let no : true ≡ false = sym (ap is_none (ap (unfit_of c.args.wants) w.kind.ensures.kind ∙ none)) ∙ sym w.is_fit.ensures ∙ w.if-is_fit.false in cc)
       )
   | else-is_some-via-else-is_some w ↦ subst (HasNoneOf c.args.wants) (sym (undrafted g.D.Disk c.args.self.now s serves c.args.who c.in-Through.grant
       (ap (λ k. drafting_at k.handles c.in-Through.grant.draw) (sym c.self.view_is) ∙ sym c.draft.ensures ∙ ap option_copied (none_is c.draft.result (sym c.is_some.ensures ∙ w.if-is_some.false))))) tt

@@ -5,7 +5,8 @@ use Rattle.cfs_core.specs.Kernel.{Kernel, grants_in, is_ready_for}
 use Rattle.cfs_core.specs.Leaving.{GivesUp, Sheds}
 use Rattle.cfs_core.specs.Handles.{have_draft, is_at, handles_but, with_drafting}
 use Rattle.cfs_core.proofs.Dropping.{grants_but, shed_bare, shed_drafted}
-use Rattle.cfs_core.proofs.Ending.{closed_handles, the_same}
+use Rattle.cfs_core.proofs.Ending.{closed_handles}
+use Rattle.cfs_core.proofs.Views.{the_same}
 use Rattle.cfs_core.proofs.Lefts.{kept_told}
 use Rattle.cfs_core.proofs.Readied.{ready_at, ready_for, sized_but, sized_taken}
 use Rattle.cfs_core.proofs.Handled.{grants_with, none_taken}

@@ -8,7 +8,8 @@ use Rattle.ufs_model.specs.declared.asked.Request.TheVariants as asks
 use Rattle.cfs_core.specs.Calls.{TriesWith}
 use Rattle.cfs_core.specs.Kernel.{Kernel, grants_in, is_ready_for}
 use Rattle.cfs_core.specs.Handles.{have_draft, is_at, handles_but}
-use Rattle.cfs_core.proofs.Ending.{closed_handles, held_in, tries_ended, tries_unended}
+use Rattle.cfs_core.proofs.Ending.{closed_handles, tries_ended, tries_unended}
+use Rattle.cfs_core.proofs.Views.{held_in}
 use Rattle.cfs_core.proofs.Readied.{ready_for, sized_but, sized_with}
 use Rattle.cfs_core.proofs.Handled.{grants_with}
 use Rattle.cfs_core.proofs.kernel.Core.end.Goals as goal

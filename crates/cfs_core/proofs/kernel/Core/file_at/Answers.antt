@@ -5,6 +5,7 @@ use Rattle.ufs_model.specs.declared.object.Object.TheVariants as objects
 use Rattle.cfs_core.specs.Ways.{Arrives, unfit_of}
 use Rattle.cfs_core.proofs.Refusing.{file_kind_is, file_there}
 use Rattle.cfs_core.proofs.Serving.{kind_is, named_root}
+use Rattle.cfs_core.proofs.Views.{shut_by}
 use Rattle.cfs_core.proofs.Ways.{bare_of, reaches}
 use Rattle.cfs_core.proofs.kernel.Core.file_at.Goals as goal
 
@@ -15,7 +16,7 @@ returns-in-Ok-default-Normal-clause-reached g c = λ request by. (
       let f = file_there came.0 (ap (λ x. unfit_of AFile (Some x)) (kind_is g.D.Disk c.args.self.now s serves c.in-Ok-default-Normal.id came.0 c.in-Ok-default-Normal.field-0-1 c.in-Ok-default-Normal.ensures.kind came.1.there) ∙ c.in-Ok-default-Normal.ensures.wanted) in
       let name = sym (ap (named s c.args.who) by.to) ∙ came.1.name in
       let bare = bare_of s c.args.who AFile c.args.way.to c.in-Ok-default-Normal.id came.0 serves.state name came.1.there (ap (λ x. unfit_of AFile (Some x)) (kind_is g.D.Disk c.args.self.now s serves c.in-Ok-default-Normal.id came.0 c.in-Ok-default-Normal.field-0-1 c.in-Ok-default-Normal.ensures.kind came.1.there) ∙ c.in-Ok-default-Normal.ensures.wanted) (c.requires.bare s serves) in
-      (f.0, reaches s c.args.who request c.in-Ok-default-Normal.id _ (subst (Arrives s c.args.who request c.in-Ok-default-Normal.id) f.1 came.1) (ap (draft_of s c.args.who) by.to ∙ bare), c.shuts.ensures s c.in-Ok-default-Normal.id serves name bare (c.in-Ok-default-Normal.ensures.free s serves))),
+      (f.0, reaches s c.args.who request c.in-Ok-default-Normal.id _ (subst (Arrives s c.args.who request c.in-Ok-default-Normal.id) f.1 came.1) (ap (draft_of s c.args.who) by.to ∙ bare), shut_by g.D.Disk c.args.self.now s serves c.args.who c.args.way.changes c.args.way.to c.in-Ok-default-Normal.id name bare (c.in-Ok-default-Normal.ensures.free s serves))),
   named_root c.args.self.now.directory.named c.in-Ok-default-Normal.id c.in-Ok-default-Normal.field-0-1 c.in-Ok-default-Normal.ensures.kind,
 )
 
@@ -30,7 +31,7 @@ returns-in-Ok-default-Special-clause-reached g c = λ request by. (
       let f = file_there came.0 (ap (λ x. unfit_of AFile (Some x)) (kind_is g.D.Disk c.args.self.now s serves c.in-Ok-default-Special.id came.0 c.in-Ok-default-Special.field-0-1 c.in-Ok-default-Special.ensures.kind came.1.there) ∙ c.in-Ok-default-Special.ensures.wanted) in
       let name = sym (ap (named s c.args.who) by.to) ∙ came.1.name in
       let bare = bare_of s c.args.who AFile c.args.way.to c.in-Ok-default-Special.id came.0 serves.state name came.1.there (ap (λ x. unfit_of AFile (Some x)) (kind_is g.D.Disk c.args.self.now s serves c.in-Ok-default-Special.id came.0 c.in-Ok-default-Special.field-0-1 c.in-Ok-default-Special.ensures.kind came.1.there) ∙ c.in-Ok-default-Special.ensures.wanted) (c.requires.bare s serves) in
-      (f.0, reaches s c.args.who request c.in-Ok-default-Special.id _ (subst (Arrives s c.args.who request c.in-Ok-default-Special.id) f.1 came.1) (ap (draft_of s c.args.who) by.to ∙ bare), c.shuts.ensures s c.in-Ok-default-Special.id serves name bare (c.in-Ok-default-Special.ensures.free s serves))),
+      (f.0, reaches s c.args.who request c.in-Ok-default-Special.id _ (subst (Arrives s c.args.who request c.in-Ok-default-Special.id) f.1 came.1) (ap (draft_of s c.args.who) by.to ∙ bare), shut_by g.D.Disk c.args.self.now s serves c.args.who c.args.way.changes c.args.way.to c.in-Ok-default-Special.id name bare (c.in-Ok-default-Special.ensures.free s serves))),
   named_root c.args.self.now.directory.named c.in-Ok-default-Special.id c.in-Ok-default-Special.field-0-1 c.in-Ok-default-Special.ensures.kind,
 )
 

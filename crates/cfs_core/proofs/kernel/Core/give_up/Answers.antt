@@ -32,11 +32,11 @@ returns-in-Err-abort g c =
     let after : Kernel _ = record k { disk = c.abort.new.disk; space = c.abort.new.space } in
     subst (λ x. GivesUp g.D.Disk c.args.draft x c.refuse-in-Err-abort.new.self) c.self.view_is
     (subst (λ x. GivesUp g.D.Disk c.args.draft k x) (sym (c.refuse-in-Err-abort.ensures.stop ∙ ap (λ e. record after { stop = stopped_by (reply_to e (g.D.Disk.moment c.abort.new.disk)) k.stop }) c.from-in-Err-abort.ensures))
-    (not_given_up g.D.Disk c.args.draft k c.finish.new.disk c.finish.new.space c.in-Ok.tried c.in-Ok.ensures c.abort.new.disk c.abort.new.space _ _ c.abort.ensures.calls runs c.abort.ensures.left c.abort.ensures.leaves c.in-Err-abort.trouble c.in-Err-abort.ensures.tried c.in-Err-abort.ensures.refused c.in-Err-abort.ensures.sound))
+    (not_given_up g.D.Disk c.args.draft k c.finish.new.disk c.finish.new.space c.in-Ok.tried c.in-Ok.ensures c.abort.new.disk c.abort.new.space runs c.abort.result c.abort.ensures.aborts c.abort.ensures.call c.in-Err-abort.trouble c.in-Err-abort.is))
 
 pub returns-in_default : goal.returns-in_default
 returns-in_default g c =
     let k : Kernel _ = record { disk = c.self.inside.disk; root = c.self.inside.root; directory = c.self.inside.directory; space = c.self.inside.space; words = c.self.inside.words; handles = c.self.inside.handles.handles; collections = c.self.inside.collections; stop = c.self.inside.stop } in
     let runs = none_of c.self.inside.stop (sym c.is_some.ensures ∙ c.if-is_some.false) in
     subst (λ x. GivesUp g.D.Disk c.args.draft x (record k { disk = c.abort.new.disk; space = c.abort.new.space })) c.self.view_is
-    (given_up g.D.Disk c.args.draft k c.finish.new.disk c.finish.new.space c.in-Ok.tried c.in-Ok.ensures c.abort.new.disk c.abort.new.space _ _ c.abort.ensures.calls runs c.abort.ensures.left c.abort.ensures.leaves c.in_default.ensures.done)
+    (given_up g.D.Disk c.args.draft k c.finish.new.disk c.finish.new.space c.in-Ok.tried c.in-Ok.ensures c.abort.new.disk c.abort.new.space runs c.abort.result c.abort.ensures.aborts c.abort.ensures.call c.in_default.is)

@@ -1,15 +1,13 @@
-use Rattle.std.proofs.Common.{◌≡◌, ◌<◌, sym, ◌∙◌, ap, subst, option_copied}
+use Rattle.std.proofs.Common.{◌≡◌, refl, sym, ◌∙◌, ap, subst, option_copied}
 use Rattle.cfs_core.proofs.Words.{Drafting}
 use Rattle.cfs_core.specs.Drafts.{LooksInDraft}
 use Rattle.cfs_core.specs.Handles.{drafting_at}
-use Rattle.cfs_core.proofs.Readied.{ready_at, ready_for}
+use Rattle.cfs_core.proofs.Readied.{all_on_disk}
 use Rattle.cfs_core.proofs.Rewritten.{same_draft}
 use Rattle.cfs_core.proofs.kernel.Core.look_drafted.Goals as goal
 
 pub look_in-requires : goal.look_in-requires
-look_in-requires g c =
-    subst (λ n. c.in-Some.draft.now.at < n) c.self.invariant.room
-    (ready_for c.self.inside.directory.room c.in-Some.draft.now (ready_at c.self.inside.directory.room c.args.grant.draw c.self.inside.handles.handles c.self.invariant.ready c.in-Some.draft.now (sym c.draft.ensures ∙ ap option_copied c.in-Some.is))).on_disk
+look_in-requires g c = all_on_disk c.self.invariant c.args.grant.draw _ refl c.in-Some.draft.now (sym c.draft.ensures ∙ ap option_copied c.in-Some.is)
 
 pub returns-clause-looks : goal.returns-clause-looks
 returns-clause-looks g c = λ was has.

@@ -1,5 +1,5 @@
-use Rattle.std.proofs.Common.{◌≡◌, ◌≢◌, inl, inr, Bool, true, Option, Result, ◌+◌, ◌++◌, [], ◌∷◌, length, is_some, false, None, Some, Ok, Err, refl, sym, ◌∙◌, ap, subst, ◌<◌, ◌*◌, IsSome, nat_le}
-use Rattle.cfs_core.proofs.Words.{Drafting, Draws, fault_of, grants_of, is_locked, directory_kind, list_all, mode_against, MOST_GRANTS, refusal_of, Refused, Reply, State, Trouble, Tuid, word}
+use Rattle.std.proofs.Common.{◌≡◌, ◌≢◌, inl, inr, Bool, true, Option, Result, ◌+◌, ◌++◌, [], ◌∷◌, is_some, false, None, Some, Ok, Err, refl, sym, ◌∙◌, ap, subst, ◌<◌, ◌*◌, IsSome}
+use Rattle.cfs_core.proofs.Words.{Drafting, Draws, fault_of, is_locked, directory_kind, list_all, refusal_of, Refused, Reply, State, Trouble, Tuid, word}
 use Rattle.cfs_base.specs.declared.refusal.Refused.TheVariants as refusals
 use Rattle.open_table.specs.declared.grant.Grant.{Grant}
 use Rattle.ufs_model.specs.declared.asked.Reply.TheVariants as replies
@@ -12,7 +12,7 @@ use Rattle.std.proofs.lemmas.Bool.{cases_Bool}
 use Rattle.cfs_core.specs.Opening.{Begins, reply_to_fault}
 use Rattle.cfs_core.proofs.Answering.{memory, reads_none, tries_refusal, tries_so}
 use Rattle.cfs_core.proofs.Granted.{drawn_push, not_drawn}
-use Rattle.cfs_core.proofs.Openings.{begun_ready, fault_told, none_locked, none_told, open_gone, there_now, told_plain, tries_bare, tries_not, tries_open}
+use Rattle.cfs_core.proofs.Openings.{begun_ready, fault_told, none_told, open_gone, told_plain, tries_bare, tries_not, tries_open}
 use Rattle.cfs_core.proofs.Joined.{ok_is, tries_since, tries_unfinished}
 use Rattle.cfs_core.proofs.Readied.{all_push}
 use Rattle.cfs_core.proofs.Serving.{there_is}
@@ -51,17 +51,13 @@ returns-in-Some-fault g c =
     let request = asks.OpenFor c.args.id c.args.mode in
     let listed = ap (λ x. directory_kind x.directory.named c.args.id) c.self.view_is ∙ sym c.kind.ensures.kind ∙ c.in-Some.is in
     let gs = grants_in c.reserve.new.self.handles in
-    let grant : Grant = (record { tuid = record { draw = c.drawn.result + 1; word = c.ahead.result }; session = c.args.who; id = c.args.id; mode = c.args.mode }) in
+    let tuid : Tuid = record { draw = c.drawn.result + 1; word = c.ahead.result } in
+    let grant : Grant = (record { tuid = tuid; session = c.args.who; id = c.args.id; mode = c.args.mode }) in
     subst (λ r. Tries g.D.Disk c.args.self.now (record k { handles = c.reserve.new.self.handles }) c.args.who request (Ok r)) (sym c.reply_to_fault.ensures)
     (subst (λ x. Tries g.D.Disk x (record k { handles = c.reserve.new.self.handles }) c.args.who request (Ok (reply_to_fault c.in-Some-fault.fault))) c.self.view_is
     (subst (λ ss. Tries g.D.Disk k (record k { handles = ss }) c.args.who request (Ok (reply_to_fault c.in-Some-fault.fault))) (sym c.reserve.ensures.handles)
     (tries_refusal g.D.Disk g.met.D.Disk.left_sized g.met.D.Disk.sized k c.args.who request (reply_to_fault c.in-Some-fault.fault) (told_plain c.in-Some-fault.fault)
-    (λ s serves.
-    let table = ap grants_in c.reserve.ensures.handles ∙ serves.front.grants in
-    fault_told s c.args.who c.args.id c.args.mode (there_now g.D.Disk k s serves c.args.id c.in-Some.kind listed)
-    (mode_against gs grant) (length (grants_of gs c.args.who))
-    (ap (λ xs. is_some (mode_against xs grant)) table ∙ c.table_follows_the_model.ensures.locked s c.args.who grant)
-    (ap (λ xs. nat_le MOST_GRANTS (length (grants_of xs c.args.who))) table ∙ c.table_follows_the_model.ensures.full s c.args.who c.args.id c.args.mode)
+    (λ s serves. fault_told g.D.Disk k s serves c.args.who c.args.id c.args.mode c.in-Some.kind listed tuid gs (ap grants_in c.reserve.ensures.handles) (c.table_follows_the_model.ensures.locked s c.args.who grant) (c.table_follows_the_model.ensures.full s c.args.who c.args.id c.args.mode)
     c.in-Some-fault.fault (sym c.fault.ensures ∙ c.in-Some-fault.is)))))
 
 pub open-requires-clause-new : goal.open-requires-clause-new
@@ -93,12 +89,7 @@ returns-in-Err-finish_if g c =
     ap (λ n. record { draw = n + 1; word = c.ahead.result }) c.drawn.ensures ∙ ap (λ w. record { draw = c.self.inside.words.drawn + 1; word = w }) c.ahead.ensures in
     let none : fault_of gs grant ≡ None = sym c.fault.ensures ∙ c.in_default-fault.is in
     let goes : (s : State) → ServesIs g.D.Disk k s → (refusal_of s c.args.who request ≡ None) × (is_locked s c.args.who request ≡ false) =
-    λ s serves.
-    let table = ap grants_in c.reserve.ensures.handles ∙ serves.front.grants in
-    let there = there_now g.D.Disk k s serves c.args.id c.in-Some.kind listed in
-    let lock = ap (λ xs. is_some (mode_against xs grant)) table ∙ c.table_follows_the_model.ensures.locked s c.args.who grant in
-    let many = ap (λ xs. nat_le MOST_GRANTS (length (grants_of xs c.args.who))) table ∙ c.table_follows_the_model.ensures.full s c.args.who c.args.id c.args.mode in
-    (none_told s c.args.who c.args.id c.args.mode there (mode_against gs grant) (length (grants_of gs c.args.who)) lock many none, none_locked s c.args.who c.args.id c.args.mode there (mode_against gs grant) (length (grants_of gs c.args.who)) lock many none) in
+    λ s serves. none_told g.D.Disk k s serves c.args.who c.args.id c.args.mode c.in-Some.kind listed tuid gs (ap grants_in c.reserve.ensures.handles) (c.table_follows_the_model.ensures.locked s c.args.who grant) (c.table_follows_the_model.ensures.full s c.args.who c.args.id c.args.mode) none in
     let wants : c.gets_draft-wanted.result ≡ true = wanted_by c.gets_draft-wanted.result c.finish_if.result c.in-Err-finish_if.trouble c.in-Err-finish_if.is (λ no. (c.finish_if.ensures.idle no).0) in
     let new : Kernel _ = record k { disk = c.finish_if.new.disk; space = c.finish_if.new.space } in
     subst (λ x. Tries G x (record new { handles = c.reserve.new.self.handles }) c.args.who request (Err c.from-in-Err-finish_if.result)) c.self.view_is
@@ -122,19 +113,9 @@ returns-in-Err-first_draft g c =
     let mid : Kernel _ = record k { disk = c.finish_if.new.disk; space = c.finish_if.new.space } in
     let new : Kernel _ = record k { disk = c.first_draft.new.disk; space = c.first_draft.new.space } in
     let goes_on : (s : State) → ServesIs g.D.Disk k s → (refusal_of s c.args.who request ≡ None) × (is_locked s c.args.who request ≡ false) =
-    λ s serves.
-    let table = ap grants_in c.reserve.ensures.handles ∙ serves.front.grants in
-    let there = there_now g.D.Disk k s serves c.args.id c.in-Some.kind listed in
-    let lock = ap (λ xs. is_some (mode_against xs grant)) table ∙ c.table_follows_the_model.ensures.locked s c.args.who grant in
-    let many = ap (λ xs. nat_le MOST_GRANTS (length (grants_of xs c.args.who))) table ∙ c.table_follows_the_model.ensures.full s c.args.who c.args.id c.args.mode in
-    (none_told s c.args.who c.args.id c.args.mode there (mode_against gs grant) (length (grants_of gs c.args.who)) lock many none, none_locked s c.args.who c.args.id c.args.mode there (mode_against gs grant) (length (grants_of gs c.args.who)) lock many none) in
+    λ s serves. none_told g.D.Disk k s serves c.args.who c.args.id c.args.mode c.in-Some.kind listed tuid gs (ap grants_in c.reserve.ensures.handles) (c.table_follows_the_model.ensures.locked s c.args.who grant) (c.table_follows_the_model.ensures.full s c.args.who c.args.id c.args.mode) none in
     let goes : (s : State) → CoreServes g.D.Disk mid s → (refusal_of s c.args.who request ≡ None) × (is_locked s c.args.who request ≡ false) =
-    λ s serves.
-    let table = ap grants_in c.reserve.ensures.handles ∙ serves.front.grants in
-    let there = there_now g.D.Disk mid s serves c.args.id c.in-Some.kind listed in
-    let lock = ap (λ xs. is_some (mode_against xs grant)) table ∙ c.table_follows_the_model.ensures.locked s c.args.who grant in
-    let many = ap (λ xs. nat_le MOST_GRANTS (length (grants_of xs c.args.who))) table ∙ c.table_follows_the_model.ensures.full s c.args.who c.args.id c.args.mode in
-    (none_told s c.args.who c.args.id c.args.mode there (mode_against gs grant) (length (grants_of gs c.args.who)) lock many none, none_locked s c.args.who c.args.id c.args.mode there (mode_against gs grant) (length (grants_of gs c.args.who)) lock many none) in
+    λ s serves. none_told g.D.Disk mid s serves c.args.who c.args.id c.args.mode c.in-Some.kind listed tuid gs (ap grants_in c.reserve.ensures.handles) (c.table_follows_the_model.ensures.locked s c.args.who grant) (c.table_follows_the_model.ensures.full s c.args.who c.args.id c.args.mode) none in
     let begins = subst (λ w. Begins G c.args.id.block w c.finish_if.new.disk c.first_draft.new.disk c.finish_if.new.space c.first_draft.new.space (Err c.in-Err-first_draft.refused)) (c.in-Ok.ensures.room ∙ c.gets_draft-wanted.ensures) (subst (λ r. Begins G c.args.id.block (is_some c.in-Ok.room) c.finish_if.new.disk c.first_draft.new.disk c.finish_if.new.space c.first_draft.new.space r) c.in-Err-first_draft.is c.first_draft.ensures.begins) in
     let wants : c.gets_draft-wanted.result ≡ true = drafted_by c.gets_draft-wanted.result c.first_draft.result c.in-Err-first_draft.refused c.in-Err-first_draft.is (λ no. (c.first_draft.ensures.bare (c.in-Ok.ensures.room ∙ no)).0) in
     let fin = subst (λ r. FinishesLeft G k.disk c.finish_if.new.disk k.space c.finish_if.new.space r) c.in-Ok-finish_if.is (c.finish_if.ensures.finished wants) in
@@ -178,19 +159,9 @@ returns g c =
     let none : fault_of gs grant ≡ None = sym c.fault.ensures ∙ c.in_default-fault.is in
     let mid : Kernel _ = record k { disk = c.finish_if.new.disk; space = c.finish_if.new.space } in
     let goes_on : (s : State) → ServesIs g.D.Disk k s → (refusal_of s c.args.who request ≡ None) × (is_locked s c.args.who request ≡ false) =
-    λ s serves.
-    let table = ap grants_in c.reserve.ensures.handles ∙ serves.front.grants in
-    let there = there_now g.D.Disk k s serves c.args.id c.in-Some.kind listed in
-    let lock = ap (λ xs. is_some (mode_against xs grant)) table ∙ c.table_follows_the_model.ensures.locked s c.args.who grant in
-    let many = ap (λ xs. nat_le MOST_GRANTS (length (grants_of xs c.args.who))) table ∙ c.table_follows_the_model.ensures.full s c.args.who c.args.id c.args.mode in
-    (none_told s c.args.who c.args.id c.args.mode there (mode_against gs grant) (length (grants_of gs c.args.who)) lock many none, none_locked s c.args.who c.args.id c.args.mode there (mode_against gs grant) (length (grants_of gs c.args.who)) lock many none) in
+    λ s serves. none_told g.D.Disk k s serves c.args.who c.args.id c.args.mode c.in-Some.kind listed tuid gs (ap grants_in c.reserve.ensures.handles) (c.table_follows_the_model.ensures.locked s c.args.who grant) (c.table_follows_the_model.ensures.full s c.args.who c.args.id c.args.mode) none in
     let goes : (s : State) → CoreServes g.D.Disk mid s → (refusal_of s c.args.who request ≡ None) × (is_locked s c.args.who request ≡ false) =
-    λ s serves.
-    let table = ap grants_in c.reserve.ensures.handles ∙ serves.front.grants in
-    let there = there_now g.D.Disk mid s serves c.args.id c.in-Some.kind listed in
-    let lock = ap (λ xs. is_some (mode_against xs grant)) table ∙ c.table_follows_the_model.ensures.locked s c.args.who grant in
-    let many = ap (λ xs. nat_le MOST_GRANTS (length (grants_of xs c.args.who))) table ∙ c.table_follows_the_model.ensures.full s c.args.who c.args.id c.args.mode in
-    (none_told s c.args.who c.args.id c.args.mode there (mode_against gs grant) (length (grants_of gs c.args.who)) lock many none, none_locked s c.args.who c.args.id c.args.mode there (mode_against gs grant) (length (grants_of gs c.args.who)) lock many none) in
+    λ s serves. none_told g.D.Disk mid s serves c.args.who c.args.id c.args.mode c.in-Some.kind listed tuid gs (ap grants_in c.reserve.ensures.handles) (c.table_follows_the_model.ensures.locked s c.args.who grant) (c.table_follows_the_model.ensures.full s c.args.who c.args.id c.args.mode) none in
     let begins = subst (λ w. Begins G c.args.id.block w c.finish_if.new.disk c.first_draft.new.disk c.finish_if.new.space c.first_draft.new.space (Ok c.in-Ok-first_draft.draft)) (c.in-Ok.ensures.room ∙ c.gets_draft-wanted.ensures) (subst (λ r. Begins G c.args.id.block (is_some c.in-Ok.room) c.finish_if.new.disk c.first_draft.new.disk c.finish_if.new.space c.first_draft.new.space r) c.in-Ok-first_draft.is c.first_draft.ensures.begins) in
     let pushed = c.open.ensures ∙ ap (λ ss. ss ++ record { grant = grant; drafting = c.in-Ok-first_draft.draft } ∷ []) c.reserve.ensures.handles in
     let new : Kernel _ = record k { disk = c.first_draft.new.disk; space = c.first_draft.new.space; words = c.next.new.self; handles = k.handles ++ record { grant = grant; drafting = c.in-Ok-first_draft.draft } ∷ [] } in

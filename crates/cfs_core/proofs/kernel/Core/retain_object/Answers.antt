@@ -1,18 +1,16 @@
-use Rattle.std.proofs.Common.{◌≡◌, ◌<◌, ℕ, length, true, Ok, Err, refl, sym, ◌∙◌, subst, arith, nat_lt}
+use Rattle.std.proofs.Common.{length, Ok, Err, refl, sym, ◌∙◌, subst}
 use Rattle.ufs_model.specs.declared.asked.Reply.TheVariants as replies
 use Rattle.ufs_model.specs.declared.asked.Request.TheVariants as asks
 use Rattle.ufs_model.specs.declared.object.Object.TheVariants as objects
 use Rattle.cfs_core.specs.Calls.{Tries}
 use Rattle.cfs_core.specs.Kernel.{Kernel}
 use Rattle.cfs_core.specs.Looks.{ReachesAll}
-use Rattle.cfs_core.proofs.Words.{nat_tests}
+use Rattle.cfs_core.proofs.Words.{ltb-true}
 use Rattle.cfs_core.proofs.After.{tries_then}
-use Rattle.cfs_core.proofs.Answering.{known, tries_failed, tries_refused}
+use Rattle.cfs_core.proofs.Answering.{tries_failed, tries_refused}
+use Rattle.cfs_core.proofs.Views.{knows_that}
 use Rattle.cfs_core.proofs.Refusing.{beyond, retain_goes}
 use Rattle.cfs_core.proofs.kernel.Core.retain_object.Goals as goal
-
-inside_of : (slot count : ℕ) → nat_lt slot count ≡ true → slot < count
-inside_of slot count is = grind (arith, nat_tests)
 
 pub returns-in-Err : goal.returns-in-Err
 returns-in-Err g c = c.in-Err.ensures.refused (asks.Retain c.args.to c.args.slot c.args.id) (record { to = refl; each = λ s who. refl })
@@ -28,7 +26,7 @@ returns-in-Ok-true g c =
     subst (λ x. Tries g.D.Disk x c.put.new.self c.args.who request c.put.result) c.self.view_is
     (tries_then g.D.Disk 1 k c.has_slot.new.disk c.put.new.self c.has_slot.ensures.calm.reads request c.in-Ok.index c.args.slot c.args.who c.put.result reach (c.put.ensures c.args.to)
     (λ s i serves r shut.
-    let inside = inside_of c.args.slot (length i.slots) (sym (c.in-Ok-true.ensures.exact i (known g.D.Disk k s serves c.in-Ok.index i c.shown-at.result.0 c.shown-at.ensures.shown r.there shut)) ∙ c.in-Ok-true.field-0-test) in
+    let inside = ltb-true c.args.slot (length i.slots) (sym (c.in-Ok-true.ensures.exact i (knows_that g.D.Disk k s serves c.in-Ok.index (objects.Index i) c.shown-at.result.0 c.shown-at.ensures.shown r.there)) ∙ c.in-Ok-true.field-0-test) in
     (inside, retain_goes 0 s c.args.who c.args.to c.in-Ok.index i c.args.slot c.args.id r inside)))
 
 pub returns-in-Ok-false : goal.returns-in-Ok-false

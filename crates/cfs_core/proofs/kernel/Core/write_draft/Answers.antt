@@ -1,87 +1,70 @@
-use Rattle.std.proofs.Common.{◌≡◌, Some, Err, refl, sym, ◌∙◌, ap, subst, ◌+◌, ◌<◌, ◌≤◌, ℕ, length, arith, IsSome, option_copied}
-use Rattle.cfs_core.proofs.Words.{AFile, Drafting, session_grant, is_range, list_all, Overwrite, State, Through}
+use Rattle.std.proofs.Common.{Ok, Err, refl, sym, ◌∙◌, ap, subst, ℕ, length, option_copied}
+use Rattle.cfs_core.proofs.Words.{AFile, is_range, Overwrite, Through}
 use Rattle.ufs_model.specs.declared.asked.Reply.TheVariants as replies
 use Rattle.ufs_model.specs.declared.asked.Request.TheVariants as asks
-use Rattle.cfs_core.specs.Calls.{Tries, done_or}
+use Rattle.cfs_core.specs.Calls.{Tries}
+use Rattle.cfs_core.specs.Drafts.{IsDrafted}
 use Rattle.cfs_core.specs.Finished.{since}
-use Rattle.cfs_core.specs.StandsFor.{CoreServes, ServesIs}
-use Rattle.cfs_core.specs.Kernel.{Kernel, grants_in, is_drawn_by, is_ready}
-use Rattle.cfs_core.specs.Handles.{drafting_at, with_drafting}
-use Rattle.cfs_core.specs.Drafts.{ChangesDraft, IsDrafted}
-use Rattle.cfs_core.proofs.Altered.{file_alters, tries_altered}
-use Rattle.cfs_core.proofs.Ended.{IsHeld}
-use Rattle.cfs_core.proofs.Joined.{done_decides, done_never, tries_since, tries_unfinished}
-use Rattle.cfs_core.proofs.Reached.{files, size_is, write_goes, write_range}
+use Rattle.cfs_core.specs.Kernel.{Kernel}
+use Rattle.cfs_core.proofs.After.{tries_where}
+use Rattle.cfs_core.proofs.Altered.{file_alters}
 use Rattle.cfs_core.proofs.Answering.{tries_refusal}
 use Rattle.cfs_core.proofs.Calm.{range_parts}
-use Rattle.cfs_core.proofs.Rewritten.{same_draft}
-use Rattle.cfs_core.proofs.Ending.{held_in}
 use Rattle.cfs_core.proofs.Filed.{write_changes}
-use Rattle.cfs_core.proofs.Readied.{drawn_put, for_ready, ready_at, ready_for, ready_put, sized_with}
-use Rattle.cfs_core.proofs.Handled.{if_some, some_if}
-use Rattle.cfs_core.proofs.Fitting.{filed}
+use Rattle.cfs_core.proofs.Fitting.{drafted_as, has_grant}
+use Rattle.cfs_core.proofs.Joined.{tries_unfinished}
+use Rattle.cfs_core.proofs.Reached.{of_file, write_goes, write_range}
+use Rattle.cfs_core.proofs.Readied.{all_on_disk, sized_put}
+use Rattle.cfs_core.proofs.Refilled.{tries_redrafted}
+use Rattle.cfs_core.proofs.Views.{FindsGrant}
 use Rattle.cfs_core.proofs.kernel.Core.write_draft.Goals as goal
 
 pub returns-then-not-is_range : goal.returns-then-not-is_range
 returns-then-not-is_range g c =
-    let k = c.args.self.now in
-    let same : c.in-Some.draft.now ≡ c.requires.drafting = same_draft _ _ (sym (ap option_copied c.in-Some.is) ∙ c.draft.ensures ∙ ap (λ x. drafting_at x.handles c.args.grant.draw) c.self.view_is ∙ c.requires.has) in
-    tries_refusal g.D.Disk g.met.D.Disk.left_sized g.met.D.Disk.sized k c.args.who (asks.Write (Through c.args.grant) c.args.offset c.args.bytes.now) replies.Range tt
-    (λ s serves.
-    let held = held_in g.D.Disk k c.args.who c.args.grant c.requires.drafting c.requires.has (subst (λ o. IsSome o) (sym c.requires.found) refl) (λ s. c.table_follows_the_model.ensures.found s c.args.who c.args.grant) s serves in
-    write_range g.D.Disk k s serves c.args.who c.args.grant c.requires.drafting held (filed g.D.Disk k c.args.who c.args.grant c.requires.drafting (λ s. c.table_follows_the_model.ensures.found s c.args.who c.args.grant) s serves held c.requires) c.args.offset c.args.bytes.now
-    (ap (λ (n : ℕ). is_range n c.args.offset (length c.args.bytes.now)) (sym (size_is g.D.Disk k s serves c.args.who c.args.grant c.requires.drafting held (filed g.D.Disk k c.args.who c.args.grant c.requires.drafting (λ s. c.table_follows_the_model.ensures.found s c.args.who c.args.grant) s serves held c.requires)) ∙ ap (λ (d : Drafting). d.root.size) (sym same) ∙ sym c.size-held.ensures) ∙ sym c.is_range.ensures ∙ c.if-not-is_range.true))
+    let k : Kernel _ = record { disk = c.self.inside.disk; root = c.self.inside.root; directory = c.self.inside.directory; space = c.self.inside.space; words = c.self.inside.words; handles = c.self.inside.handles.handles; collections = c.self.inside.collections; stop = c.self.inside.stop } in
+    let drafted : IsDrafted k AFile c.args.who c.args.grant = drafted_as (subst (λ x. IsDrafted x AFile c.args.who c.args.grant) (sym c.self.view_is) c.requires) c.in-Some.draft.now (sym c.draft.ensures ∙ ap option_copied c.in-Some.is) in
+    let request = asks.Write (Through c.args.grant) c.args.offset c.args.bytes.now in
+    subst (λ x. Tries g.D.Disk x x c.args.who request (Ok replies.Range)) c.self.view_is
+    (tries_refusal g.D.Disk g.met.D.Disk.left_sized g.met.D.Disk.sized k c.args.who request replies.Range tt
+    (λ s serves. write_range g.D.Disk c.args.who c.args.grant (λ s. c.table_follows_the_model.ensures.found s c.args.who c.args.grant) k drafted s serves c.args.offset c.args.bytes.now (ap (λ (n : ℕ). is_range n c.args.offset (length c.args.bytes.now)) (sym c.size-held.ensures) ∙ sym c.is_range.ensures ∙ c.if-not-is_range.true)))
 
-pub write-ended-requires-clause-within : goal.write-ended-requires-clause-within
-write-ended-requires-clause-within g c =
-    let same : c.in-Some.draft.now ≡ c.requires.drafting = same_draft _ _ (sym (ap option_copied c.in-Some.is) ∙ c.draft.ensures ∙ ap (λ x. drafting_at x.handles c.args.grant.draw) c.self.view_is ∙ c.requires.has) in
-    if_some (λ d. (d.at < g.D.Disk.blocks c.finish.new.disk) × (c.args.offset + length c.args.bytes.now ≤ d.root.size)) _ c.requires.drafting (ap (λ x. drafting_at x.handles c.args.grant.draw) c.self.view_is ∙ c.requires.has) (
-      subst (λ n. c.requires.drafting.at < n) (c.self.invariant.room ∙ sym c.finish.ensures.calls.same.size) (ready_for c.self.inside.directory.room c.requires.drafting (ready_at c.self.inside.directory.room c.args.grant.draw c.self.inside.handles.handles c.self.invariant.ready c.requires.drafting (ap (λ x. drafting_at x.handles c.args.grant.draw) c.self.view_is ∙ c.requires.has))).on_disk,
-      (range_parts c.requires.drafting.root.size c.args.offset (length c.args.bytes.now) (ap (λ (n : ℕ). is_range n c.args.offset (length c.args.bytes.now)) (ap (λ (d : Drafting). d.root.size) (sym same) ∙ sym c.size-held.ensures) ∙ sym c.is_range.ensures ∙ c.if-not-is_range.false)).2,
-    )
+pub write-ended-requires-clause-has : goal.write-ended-requires-clause-has
+write-ended-requires-clause-has g c = record {
+  drafting = c.in-Some.draft.now;
+  has = sym c.draft.ensures ∙ ap option_copied c.in-Some.is;
+  within = (range_parts c.in-Some.draft.now.root.size c.args.offset (length c.args.bytes.now) (ap (λ (n : ℕ). is_range n c.args.offset (length c.args.bytes.now)) (sym c.size-held.ensures) ∙ sym c.is_range.ensures ∙ c.if-not-is_range.false)).2;
+}
+
+pub write-ended-requires-clause-on_disk : goal.write-ended-requires-clause-on_disk
+write-ended-requires-clause-on_disk g c = all_on_disk c.self.invariant c.args.grant.draw _ c.finish.ensures.calls.same.size
 
 pub returns-in-Err : goal.returns-in-Err
 returns-in-Err g c =
-    let G = g.D.Disk in
     let k : Kernel _ = record { disk = c.self.inside.disk; root = c.self.inside.root; directory = c.self.inside.directory; space = c.self.inside.space; words = c.self.inside.words; handles = c.self.inside.handles.handles; collections = c.self.inside.collections; stop = c.self.inside.stop } in
+    let drafted : IsDrafted k AFile c.args.who c.args.grant = drafted_as (subst (λ x. IsDrafted x AFile c.args.who c.args.grant) (sym c.self.view_is) c.requires) c.in-Some.draft.now (sym c.draft.ensures ∙ ap option_copied c.in-Some.is) in
     let request = asks.Write (Through c.args.grant) c.args.offset c.args.bytes.now in
-    let same : c.in-Some.draft.now ≡ c.requires.drafting = same_draft _ _ (sym (ap option_copied c.in-Some.is) ∙ c.draft.ensures ∙ (ap (λ x. drafting_at x.handles c.args.grant.draw) c.self.view_is ∙ c.requires.has)) in
-    let drafted : IsDrafted k AFile c.args.who c.args.grant = subst (λ x. IsDrafted x AFile c.args.who c.args.grant) (sym c.self.view_is) c.requires in
-    let held : (s : State) → ServesIs G k s → IsHeld G k s c.args.who c.args.grant c.requires.drafting = held_in G k c.args.who c.args.grant c.requires.drafting (ap (λ x. drafting_at x.handles c.args.grant.draw) c.self.view_is ∙ c.requires.has) (subst (λ o. IsSome o) (sym (ap (λ x. session_grant (grants_in x.handles) c.args.who c.args.grant) c.self.view_is ∙ c.requires.found)) refl) (λ s. c.table_follows_the_model.ensures.found s c.args.who c.args.grant) in
-    subst (λ x. Tries G x (record k { disk = c.finish.new.disk; space = c.finish.new.space }) c.args.who request (Err c.from.result)) c.self.view_is
-    (tries_unfinished G g.met.D.Disk.left_sized g.met.D.Disk.sized k c.finish.new.disk c.finish.new.space c.in-Err.trouble c.in-Err.ensures request c.args.who c.from.result c.from.ensures
-    (λ s serves. write_goes G k s serves c.args.who c.args.grant c.requires.drafting (held s serves) (filed G k c.args.who c.args.grant c.requires.drafting (λ s. c.table_follows_the_model.ensures.found s c.args.who c.args.grant) s serves (held s serves) drafted) c.args.offset c.args.bytes.now (ap (λ (n : ℕ). is_range n c.args.offset (length c.args.bytes.now)) (sym (size_is G k s serves c.args.who c.args.grant c.requires.drafting (held s serves) (filed G k c.args.who c.args.grant c.requires.drafting (λ s. c.table_follows_the_model.ensures.found s c.args.who c.args.grant) s serves (held s serves) drafted)) ∙ ap (λ (d : Drafting). d.root.size) (sym same) ∙ sym c.size-held.ensures) ∙ sym c.is_range.ensures ∙ c.if-not-is_range.false)))
+    subst (λ x. Tries g.D.Disk x (record k { disk = c.finish.new.disk; space = c.finish.new.space }) c.args.who request (Err c.from.result)) c.self.view_is
+    (tries_unfinished g.D.Disk g.met.D.Disk.left_sized g.met.D.Disk.sized k c.finish.new.disk c.finish.new.space c.in-Err.trouble c.in-Err.ensures request c.args.who c.from.result c.from.ensures
+    (λ s serves. write_goes g.D.Disk c.args.who c.args.grant (λ s. c.table_follows_the_model.ensures.found s c.args.who c.args.grant) k drafted s serves c.args.offset c.args.bytes.now (ap (λ (n : ℕ). is_range n c.args.offset (length c.args.bytes.now)) (sym c.size-held.ensures) ∙ sym c.is_range.ensures ∙ c.if-not-is_range.false)))
 
 pub invariant_of-self-2 : goal.invariant_of-self-2
 invariant_of-self-2 g c =
-    let done = some_if (λ was. (now : Drafting) × (c.write-ended.new.self.handles ≡ with_drafting c.args.grant.draw (Some now) c.self.inside.handles.handles) × ChangesDraft g.D.Disk (Overwrite c.args.offset c.args.bytes.now) c.finish.new.disk c.write-ended.new.disk c.finish.new.space c.write-ended.new.space was now c.write-ended.result) _ c.requires.drafting (ap (λ x. drafting_at x.handles c.args.grant.draw) c.self.view_is ∙ c.requires.has) c.write-ended.ensures in
-    let ready = ready_for c.self.inside.directory.room c.requires.drafting (ready_at c.self.inside.directory.room c.args.grant.draw c.self.inside.handles.handles c.self.invariant.ready c.requires.drafting (ap (λ x. drafting_at x.handles c.args.grant.draw) c.self.view_is ∙ c.requires.has)) in
-    let still = for_ready c.self.inside.directory.room done.0 (record { on_disk = omega (arith, ready.on_disk, done.2.at); shadow = (ready.shadow.0, done.2.shadow ∙ ready.shadow.1); bare = done.2.created ∙ ready.bare }) in
-    sized_with c.self.invariant c.write-ended.new.disk c.write-ended.new.space c.write-ended.new.self.handles _ (done.2.calls.same.size ∙ c.finish.ensures.calls.same.size) (done.2.cylinders ∙ c.finish.ensures.cylinders)
-    (ap (list_all (is_drawn_by c.self.inside.words.drawn)) done.1 ∙ drawn_put c.self.inside.words.drawn c.args.grant.draw (Some done.0) c.self.inside.handles.handles c.self.invariant.drawn_all)
-    (ap (list_all (is_ready c.self.inside.directory.room)) done.1 ∙ ready_put c.self.inside.directory.room c.args.grant.draw done.0 still c.self.inside.handles.handles c.self.invariant.ready)
+    let done = c.write-ended.ensures in
+    sized_put c.self.invariant c.args.grant.draw c.write-ended.new.self.handles done done.so.stays c.write-ended.new.disk c.write-ended.new.space (done.so.calls.same.size ∙ c.finish.ensures.calls.same.size) (done.so.cylinders ∙ c.finish.ensures.cylinders)
 
 pub returns : goal.returns
 returns g c =
-    let G = g.D.Disk in
     let k : Kernel _ = record { disk = c.self.inside.disk; root = c.self.inside.root; directory = c.self.inside.directory; space = c.self.inside.space; words = c.self.inside.words; handles = c.self.inside.handles.handles; collections = c.self.inside.collections; stop = c.self.inside.stop } in
-    let mid : Kernel _ = record k { disk = c.finish.new.disk; space = c.finish.new.space } in
+    let drafted : IsDrafted k AFile c.args.who c.args.grant = drafted_as (subst (λ x. IsDrafted x AFile c.args.who c.args.grant) (sym c.self.view_is) c.requires) c.in-Some.draft.now (sym c.draft.ensures ∙ ap option_copied c.in-Some.is) in
     let request = asks.Write (Through c.args.grant) c.args.offset c.args.bytes.now in
-    let done = some_if (λ was. (now : Drafting) × (c.write-ended.new.self.handles ≡ with_drafting c.args.grant.draw (Some now) c.self.inside.handles.handles) × ChangesDraft g.D.Disk (Overwrite c.args.offset c.args.bytes.now) c.finish.new.disk c.write-ended.new.disk c.finish.new.space c.write-ended.new.space was now c.write-ended.result) _ c.requires.drafting (ap (λ x. drafting_at x.handles c.args.grant.draw) c.self.view_is ∙ c.requires.has) c.write-ended.ensures in
-    let new : Kernel _ = record k { disk = c.write-ended.new.disk; space = c.write-ended.new.space; handles = with_drafting c.args.grant.draw (Some done.0) k.handles } in
-    let ended = c.write-ended.result in
-    let same : c.in-Some.draft.now ≡ c.requires.drafting = same_draft _ _ (sym (ap option_copied c.in-Some.is) ∙ c.draft.ensures ∙ (ap (λ x. drafting_at x.handles c.args.grant.draw) c.self.view_is ∙ c.requires.has)) in
-    let drafted : IsDrafted k AFile c.args.who c.args.grant = subst (λ x. IsDrafted x AFile c.args.who c.args.grant) (sym c.self.view_is) c.requires in
-    let held : (s : State) → ServesIs G k s → IsHeld G k s c.args.who c.args.grant c.requires.drafting = held_in G k c.args.who c.args.grant c.requires.drafting (ap (λ x. drafting_at x.handles c.args.grant.draw) c.self.view_is ∙ c.requires.has) (subst (λ o. IsSome o) (sym (ap (λ x. session_grant (grants_in x.handles) c.args.who c.args.grant) c.self.view_is ∙ c.requires.found)) refl) (λ s. c.table_follows_the_model.ensures.found s c.args.who c.args.grant) in
-    let drafted_mid : IsDrafted mid AFile c.args.who c.args.grant = record { grant = drafted.grant; found = drafted.found; drafting = drafted.drafting; has = drafted.has; fit = drafted.fit } in
-    let there : (s : State) → CoreServes G mid s → IsHeld G mid s c.args.who c.args.grant c.requires.drafting = held_in G mid c.args.who c.args.grant c.requires.drafting (ap (λ x. drafting_at x.handles c.args.grant.draw) c.self.view_is ∙ c.requires.has) (subst (λ o. IsSome o) (sym (ap (λ x. session_grant (grants_in x.handles) c.args.who c.args.grant) c.self.view_is ∙ c.requires.found)) refl) (λ s. c.table_follows_the_model.ensures.found s c.args.who c.args.grant) in
-    let now = tries_altered G g.met.D.Disk.left_sized g.met.D.Disk.sized mid c.self.invariant.ready c.args.who c.args.grant c.requires.drafting (ap (λ x. drafting_at x.handles c.args.grant.draw) c.self.view_is ∙ c.requires.has) there
-    (Overwrite c.args.offset c.args.bytes.now) request refl done.0 c.write-ended.new.disk c.write-ended.new.space ended done.2
-    (λ s serves. file_alters s c.args.who c.args.grant request (Overwrite c.args.offset c.args.bytes.now) (write_changes (Through c.args.grant) c.args.offset c.args.bytes.now c.are_bytes.ensures) refl)
-    (λ s serves. (files G mid s serves c.args.who c.args.grant c.requires.drafting (there s serves) (filed G mid c.args.who c.args.grant c.requires.drafting (λ s. c.table_follows_the_model.ensures.found s c.args.who c.args.grant) s serves (there s serves) drafted_mid)).1)
-    (λ s serves. write_goes G mid s serves c.args.who c.args.grant c.requires.drafting (there s serves) (filed G mid c.args.who c.args.grant c.requires.drafting (λ s. c.table_follows_the_model.ensures.found s c.args.who c.args.grant) s serves (there s serves) drafted_mid) c.args.offset c.args.bytes.now (ap (λ (n : ℕ). is_range n c.args.offset (length c.args.bytes.now)) (sym (size_is G mid s serves c.args.who c.args.grant c.requires.drafting (there s serves) (filed G mid c.args.who c.args.grant c.requires.drafting (λ s. c.table_follows_the_model.ensures.found s c.args.who c.args.grant) s serves (there s serves) drafted_mid)) ∙ ap (λ (d : Drafting). d.root.size) (sym same) ∙ sym c.size-held.ensures) ∙ sym c.is_range.ensures ∙ c.if-not-is_range.false)) in
-    let joined = tries_since G k c.finish.new.disk c.finish.new.space c.in-Ok.tried c.in-Ok.ensures g.met.D.Disk.left_sized g.met.D.Disk.sized new done.2.calls.same.size request (done_or ended) (done_decides ended) (done_never ended (λ is. rw is at done.2.refused)) c.args.who
-    (λ s serves. write_goes G k s serves c.args.who c.args.grant c.requires.drafting (held s serves) (filed G k c.args.who c.args.grant c.requires.drafting (λ s. c.table_follows_the_model.ensures.found s c.args.who c.args.grant) s serves (held s serves) drafted) c.args.offset c.args.bytes.now (ap (λ (n : ℕ). is_range n c.args.offset (length c.args.bytes.now)) (sym (size_is G k s serves c.args.who c.args.grant c.requires.drafting (held s serves) (filed G k c.args.who c.args.grant c.requires.drafting (λ s. c.table_follows_the_model.ensures.found s c.args.who c.args.grant) s serves (held s serves) drafted)) ∙ ap (λ (d : Drafting). d.root.size) (sym same) ∙ sym c.size-held.ensures) ∙ sym c.is_range.ensures ∙ c.if-not-is_range.false)) now in
-    subst (λ x. Tries G x (record k { disk = c.write-ended.new.disk; space = c.write-ended.new.space; handles = c.write-ended.new.self.handles }) c.args.who request c.since.result) c.self.view_is
-    (subst (λ ss. Tries G k (record k { disk = c.write-ended.new.disk; space = c.write-ended.new.space; handles = ss }) c.args.who request c.since.result) (sym done.1)
-    (subst (λ r. Tries G k new c.args.who request r) (sym (c.since.ensures ∙ ap (since c.in-Ok.tried) c.done.ensures)) joined))
+    let change = Overwrite c.args.offset c.args.bytes.now in
+    let new : Kernel _ = record k { disk = c.write-ended.new.disk; space = c.write-ended.new.space; handles = c.write-ended.new.self.handles } in
+    let law : FindsGrant c.args.who c.args.grant = λ s. c.table_follows_the_model.ensures.found s c.args.who c.args.grant in
+    subst (λ x. Tries g.D.Disk x new c.args.who request c.since.result) c.self.view_is (subst (λ r. Tries g.D.Disk k new c.args.who request r) (sym (c.since.ensures ∙ ap (since c.in-Ok.tried) c.done.ensures))
+    (tries_where (tries_redrafted g.D.Disk g.met.D.Disk.left_sized g.met.D.Disk.sized k c.finish.new.disk c.finish.new.space c.in-Ok.tried c.in-Ok.ensures c.self.invariant.ready c.args.who c.args.grant change request (has_grant drafted law) refl c.write-ended.new.disk c.write-ended.new.space c.write-ended.result
+    c.write-ended.new.self.handles c.write-ended.ensures)
+    (λ s serves. record {
+      alters = file_alters s c.args.who c.args.grant request change (write_changes (Through c.args.grant) c.args.offset c.args.bytes.now c.are_bytes.ensures) refl;
+      of_it = of_file g.D.Disk c.args.who c.args.grant law k drafted s serves;
+      goes = write_goes g.D.Disk c.args.who c.args.grant law k drafted s serves c.args.offset c.args.bytes.now (ap (λ (n : ℕ). is_range n c.args.offset (length c.args.bytes.now)) (sym c.size-held.ensures) ∙ sym c.is_range.ensures ∙ c.if-not-is_range.false);
+    })))

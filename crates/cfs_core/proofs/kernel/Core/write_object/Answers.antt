@@ -12,7 +12,8 @@ use Rattle.cfs_base.specs.Run.{Tells}
 use Rattle.cyl_alloc.specs.Left.{LeftCommit, block_shown}
 use Rattle.cfs_core.specs.Finished.{since}
 use Rattle.cfs_core.specs.StandsFor.{ServesIs}
-use Rattle.cfs_core.proofs.Answering.{knows_that, tries_failed, tries_refused, tries_want}
+use Rattle.cfs_core.proofs.Answering.{tries_failed, tries_refused, tries_want}
+use Rattle.cfs_core.proofs.Views.{knows_that}
 use Rattle.cfs_core.proofs.Calm.{range_parts}
 use Rattle.cfs_core.proofs.Filed.{root_there, tries_filed, tries_unread, write_changes}
 use Rattle.cfs_core.proofs.Joined.{left_none, ok_is, tries_cut}
@@ -67,7 +68,7 @@ returns-in-Err-finish g c =
     (tries_cut g.D.Disk g.met.D.Disk.left_sized g.met.D.Disk.sized k 1 c.root_in.new.disk c.root_in.ensures.calm.reads c.finish.new.disk c.finish.new.space c.in-Err-finish.trouble c.in-Err-finish.ensures request c.args.who c.from.result c.from.ensures
     (λ s serves.
     let r = reach.0 s serves in
-    let knows = knows_that g.D.Disk k s serves c.in-Ok.there.0 (objects.File r.0) c.shown-seen.result.0 c.shown-seen.ensures.shown r.1.there r.2 in
+    let knows = knows_that g.D.Disk k s serves c.in-Ok.there.0 (objects.File r.0) c.shown-seen.result.0 c.shown-seen.ensures.shown r.1.there in
     write_goes k.words.seed s c.args.who c.args.to c.in-Ok.there.0 r.0 c.args.offset c.args.bytes.now r.1 (ap (λ (n : ℕ). is_range n c.args.offset (length c.args.bytes.now)) (sym (c.in-Ok-root_in.ensures.exact r.0 knows)) ∙ sym c.is_range.ensures ∙ c.if-not-is_range.false)))
 
 -- nothing is left, so the file is shown at its root
@@ -83,7 +84,7 @@ returns-in-Err-root_since g c =
     c.in-Ok.there.0 request c.args.who reach c.in-Err-root_since.refused calm.sound calm.cause c.in-Err-root_since.ensures.never
     (λ s serves.
     let r = reach.0 s serves in
-    let knows = knows_that g.D.Disk k s serves c.in-Ok.there.0 (objects.File r.0) c.shown-seen.result.0 c.shown-seen.ensures.shown r.1.there r.2 in
+    let knows = knows_that g.D.Disk k s serves c.in-Ok.there.0 (objects.File r.0) c.shown-seen.result.0 c.shown-seen.ensures.shown r.1.there in
     write_goes k.words.seed s c.args.who c.args.to c.in-Ok.there.0 r.0 c.args.offset c.args.bytes.now r.1 (ap (λ (n : ℕ). is_range n c.args.offset (length c.args.bytes.now)) (sym (c.in-Ok-root_in.ensures.exact r.0 knows)) ∙ sym c.is_range.ensures ∙ c.if-not-is_range.false))))
 
 pub returns : goal.returns
@@ -120,7 +121,7 @@ returns g c =
     (root_top at root) refl c.write-ended.ensures.ends (λ told tells. c.write-ended.ensures.changes (there told tells))
     (λ none size far told. far_block size at (G.content k.disk) root (same_root none told) far) (λ some size far tells. far_block size at (G.content d1) root (c.in-Ok-root_since.ensures.anew some tells) far) (λ special wanted. (rw wanted at (c.write-ended.ensures.memory (c.in-Ok-room_for.ensures.room special))) refl)
     (λ s f serves r shut.
-    let knows = knows_that G k s serves c.in-Ok.there.0 (objects.File f) seen c.shown-seen.ensures.shown r.there shut in
+    let knows = knows_that G k s serves c.in-Ok.there.0 (objects.File f) seen c.shown-seen.ensures.shown r.there in
     let range = ap (λ (n : ℕ). is_range n c.args.offset (length c.args.bytes.now)) (sym (c.in-Ok-root_in.ensures.exact f knows)) ∙ sym c.is_range.ensures ∙ c.if-not-is_range.false in
     (c.in-Ok.ensures.kind s f (subst (λ x. ServesIs G x s) c.self.view_is serves) r.there, within (length f.bytes) c.args.offset (length c.args.bytes.now) range, write_goes k.words.seed s c.args.who c.args.to c.in-Ok.there.0 f c.args.offset c.args.bytes.now r range)) in
     subst (λ x. Tries G x new c.args.who request c.since.result) c.self.view_is (subst (λ r. Tries G k new c.args.who request r) (sym (c.since.ensures ∙ ap (since tried) c.done.ensures)) done)

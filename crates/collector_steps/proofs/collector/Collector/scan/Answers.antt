@@ -1,6 +1,6 @@
 use Rattle.std.proofs.Common.{◌≡◌, ◌∙◌, ℕ, List, length, sym, ap, subst, arith, Option, Some}
 use Rattle.std.specs.Option.{option_copied}
-use Rattle.collector_steps.proofs.Words.{Collecting, Colours, Grey, Index, IsScanTrouble, Opened, Puid, Serves, State}
+use Rattle.collector_steps.proofs.Words.{Collecting, Colours, Grey, Index, IsScanTrouble, Drafts, Puid, Serves, State}
 use Rattle.collector_steps.proofs.Words.{colours_in, colours_of, count_after, err_from_is_err_and, first_grey}
 use Rattle.collector_steps.proofs.Words.{object_at, read, reads_left, same_Some, scanned, the_view, volume_of}
 use Rattle.collector_steps.proofs.Words.{waiting_in}
@@ -28,7 +28,7 @@ first_here g c =
     ap (λ (k : Collecting). first_grey (colours_in k)) (sym c.self.view_is) ∙ sym c.next_grey.ensures.first
     ∙ c.in-Some.is
 
-step_is : (g : Over) (c : goal.After-read_on g) (s : State) (ds : List Opened) (i : Index) (d : Option Index)
+step_is : (g : Over) (c : goal.After-read_on g) (s : State) (ds : Drafts) (i : Index) (d : Option Index)
     → Serves g.D.Disk c.args.disk.now c.args.directory.now.named s ds
     → object_at s.graph c.in-Some.grey.id ≡ Some (objects.Index i)
     → IsDraftRoot (g.D.Disk.content c.args.disk.now) s c.in-Some.grey.id (option_copied c.args.draft) d

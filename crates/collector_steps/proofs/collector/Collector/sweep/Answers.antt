@@ -1,5 +1,5 @@
 use Rattle.std.proofs.Common.{◌≡◌, ◌∙◌, ◌*◌, ◌/◌, ◌<◌, ℕ, List, ap, arith, length, refl, subst, sym, vec_capacity, Ok}
-use Rattle.collector_steps.proofs.Words.{Collecting, Collects, Ghosts, Graph, HasSwept, IsCollecting, IsPhaseOf, IsSweep, Kept, Kind, Opened, Pass, Phase, Puid, Serves, State, Tells, blocks_marked, count_after, cylinder_of, has_block, has_root_in, kinds_of, next_phase, the_view, volume_of}
+use Rattle.collector_steps.proofs.Words.{Collecting, Collects, Ghosts, Graph, HasSwept, IsCollecting, IsPhaseOf, IsSweep, Kept, Kind, Drafts, Pass, Phase, Puid, Serves, State, Tells, blocks_marked, count_after, cylinder_of, has_block, has_root_in, kinds_of, next_phase, the_view, volume_of}
 use Rattle.collector_steps.proofs.Cylinders.{roots}
 use Rattle.collector_steps.proofs.Lefts.{sweeps_less}
 use Rattle.collector_steps.proofs.Phases.{goes_on, may_begin, ready_below}
@@ -11,7 +11,7 @@ module _ {D : Type 0} (g : Ghosts D) (directory : List (Puid × Kind)) (pass : P
     (of : IsPhaseOf pass k.phase) (sized : Tells g old → length (g.content old) ≡ volume_of k) (below : 64 * cylinder_of k.phase < volume_of k)
     (sweep : IsSweep g directory pass (cylinder_of k.phase) old new before after (Ok tt))
     (phase : l.phase ≡ next_phase (volume_of k / 64) k.phase) (steps : l.steps ≡ count_after k.steps) (added : l.added ≡ k.added) (marks : l.marks ≡ k.marks) (rescues : l.rescues ≡ k.rescues) where
-  served : (s : State) (ds : List Opened) → Serves g old directory s ds → Collects (g.content old) s k → Serves g new directory s ds
+  served : (s : State) (ds : Drafts) → Serves g old directory s ds → Collects (g.content old) s k → Serves g new directory s ds
   served s ds serves collects = sweep.serves s ds serves (may_begin pass k.phase (g.content old) s k of (sized serves.carries.tells) collects)
 
   done : HasSwept g directory pass old new before after k l (Ok tt)

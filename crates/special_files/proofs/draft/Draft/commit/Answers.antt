@@ -1,14 +1,11 @@
 use Rattle.std.proofs.Common.{sym, subst}
-use Rattle.special_files.proofs.Words.{Drafting, Makes}
-use Rattle.special_files.proofs.CommitStore.{parts_of}
-use Rattle.special_files.proofs.View.{view}
+use Rattle.special_files.proofs.Words.{CommitCall, Drafting, Makes}
+use Rattle.special_files.proofs.commit.CommitStore.{parts_of}
 use Rattle.special_files.proofs.draft.Draft.commit.Goals as goal
 
-pub returns-clause-done : goal.returns-clause-done
-returns-clause-done g c = λ graph ds id o d made store at opened makes. (c.commit_parts.ensures.commits c.args.self (view store at opened) made (parts_of c.args.self _ c.self.view_is) (subst (λ (w : Drafting). Makes (g.D.Disk.content c.args.disk.now) w.created made) (sym c.self.view_is) makes)).done
-
-pub returns-clause-leaves : goal.returns-clause-leaves
-returns-clause-leaves g c = λ graph ds id o d made store at opened makes. (c.commit_parts.ensures.commits c.args.self (view store at opened) made (parts_of c.args.self _ c.self.view_is) (subst (λ (w : Drafting). Makes (g.D.Disk.content c.args.disk.now) w.created made) (sym c.self.view_is) makes)).leaves
-
-pub returns-clause-sound : goal.returns-clause-sound
-returns-clause-sound g c = λ graph ds id o d made store at opened makes. (c.commit_parts.ensures.commits c.args.self (view store at opened) made (parts_of c.args.self _ c.self.view_is) (subst (λ (w : Drafting). Makes (g.D.Disk.content c.args.disk.now) w.created made) (sym c.self.view_is) makes)).sound
+pub returns : goal.returns
+returns g c = record {
+  commits = λ v made makes. c.commit_parts.ensures.commits c.args.self v made (parts_of c.args.self _ c.self.view_is) (subst (λ (w : Drafting). Makes (g.D.Disk.content c.args.disk.now) w.created made) (sym c.self.view_is) makes);
+  call = subst (λ (w : Drafting). CommitCall g.D.Disk w c.args.disk.now c.commit_parts.new.disk c.args.space.now c.commit_parts.new.space c.commit_parts.result) c.self.view_is
+      (record { ends = c.commit_parts.ensures.ends; tried = c.commit_parts.ensures.tried; untried = c.commit_parts.ensures.untried });
+}

@@ -1,35 +1,31 @@
-use Rattle.std.proofs.Common.{refl, sym, ◌∙◌, subst, arith, ap, ℕ}
-use Rattle.special_files.proofs.Words.{Drafting, Makes, still_top, made_top, IsDraftTrouble, far_root}
-use Rattle.special_files.proofs.CommitStore.{made_below, parts_of}
-use Rattle.special_files.proofs.View.{view}
+use Rattle.std.proofs.Common.{ℕ, ◌≤◌, length, length-append, refl, sym, ◌∙◌, ap, subst, arith}
+use Rattle.special_files.proofs.Words.{Drafting, Makes, far_root}
+use Rattle.special_files.proofs.commit.CommitCalls.{commits_far, commits_on}
+use Rattle.special_files.proofs.commit.CommitStore.{made_below, parts_of}
+use Rattle.special_files.proofs.Endings.{no_reads}
+use Rattle.special_files.proofs.changed.Unlike.{one_at_most}
 use Rattle.special_files.proofs.draft.Draft.commit_swap.Goals as goal
-use Rattle.special_files.proofs.Refusals.{still_as, if_err}
-use Rattle.special_files.proofs.CommitDraft.{far_trouble}
 
-pub returns-in-Err-clause-commits : goal.returns-in-Err-clause-commits
-returns-in-Err-clause-commits g c = λ graph ds id o d made store at opened makes swapped.
+-- ---- the root that is made with it leads past the disk
+
+pub returns-in-Err : goal.returns-in-Err
+returns-in-Err g c =
+    let parts = parts_of c.args.self _ c.self.view_is in
     let far = c.in-Err.ensures.far.0 in
-    let below = made_below g.D.Disk graph ds id o c.args.disk.now c.args.space.now c.args.self d far.n store opened ((parts_of c.args.self _ c.self.view_is).created_is ∙ far.is) in
-    let size = g.met.D.Disk.sized c.args.disk.now store.carries.tells.honest in
-    absurd (omega (arith, below, size, far.far))
+    record {
+      commits = λ v made makes swapped. absurd (omega (arith, made_below v far.n (parts.created_is ∙ far.is), g.met.D.Disk.sized c.args.disk.now v.store.carries.tells.honest, far.far));
+      call = commits_far 11 7 (record { n = far.n; is = parts.created_is ∙ far.is; far = far.far }) (c.in-Err.ensures.far.1 ∙ ap far_root (sym parts.at_is));
+    }
 
 pub returns-clause-commits : goal.returns-clause-commits
-returns-clause-commits g c = λ graph ds id o d made store at opened makes swapped.
+returns-clause-commits g c = λ v made makes swapped.
     let parts = parts_of c.args.self _ c.self.view_is in
-    c.commit_listed.ensures.commits c.args.self (view store at opened) made
-    (record { at_is = parts.at_is; shadow_is = c.requires.direct; own_is = refl; root_is = parts.root_is; created_is = parts.created_is })
+    c.commit_listed.ensures.commits c.args.self v made (record { at_is = parts.at_is; shadow_is = c.requires.direct; own_is = refl; root_is = parts.root_is; created_is = parts.created_is })
     (subst (λ (w : Drafting). Makes (g.D.Disk.content c.args.disk.now) w.created made) (sym c.self.view_is) makes)
     (rw (c.list_two.ensures, c.as_slice.ensures, c.list_two-2.ensures, sym parts.own_is, sym parts.root_is) swapped)
 
-pub returns-in-Err-clause-refused : goal.returns-in-Err-clause-refused
-returns-in-Err-clause-refused g c =
-    let parts = parts_of c.args.self _ c.self.view_is in
-    let far = c.in-Err.ensures.far.0 in
-    far_trouble g.D.Disk (made_top c.args.self.at c.args.self.created) c.args.disk.now c.args.space.now c.in-Err.trouble (record { n = far.n; is = parts.created_is ∙ far.is; far = far.far })
-    (c.in-Err.ensures.far.1 ∙ ap far_root (sym parts.at_is))
-
-pub returns-clause-refused : goal.returns-clause-refused
-returns-clause-refused g c =
-    let parts = parts_of c.args.self _ c.self.view_is in
-    if_err c.commit_listed.result (λ t is. still_as g.D.Disk (made_top c.args.self.at c.args.self.created) c.args.disk.now c.commit_listed.new.disk c.commit_listed.new.space t
-    (subst (λ (n : ℕ). IsDraftTrouble g.D.Disk (still_top n) c.args.disk.now c.commit_listed.new.disk c.commit_listed.new.space t) (sym parts.at_is) is)) c.commit_listed.ensures.refused
+pub returns-clause-call : goal.returns-clause-call
+returns-clause-call g c =
+    let long = ap (length {A = ℕ}) (c.as_slice.ensures ∙ c.list_two-2.ensures) in
+    let few : length c.as_slice.result.now ≤ 2 = omega (arith, long, length-append {A = ℕ}, one_at_most) in
+    commits_on (no_reads g.D.Disk c.args.disk.now 0) (sym (parts_of c.args.self _ c.self.view_is).at_is) (λ far. absurd far) c.commit_listed.ensures.ends 11 7 (omega (arith, few)) (omega (arith, few))

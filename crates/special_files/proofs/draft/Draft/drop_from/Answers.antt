@@ -1,6 +1,6 @@
 use Rattle.std.proofs.Common.{ℕ, ◌/◌, ◌<◌, Ok, Err, length, sym, ◌∙◌, ap, subst, arith, ◌≡◌, false}
 use Rattle.special_files.proofs.Words.{All, AreShed, Drafting, DropCall, Forgets, HasParts, IsRead, IsSafe, IsDraftTrouble, PutsWithin, given_all, is_fresh_node, pointer_to_node, opened_as, refusal_after, top_of}
-use Rattle.special_files.proofs.ShedDrop.{drop_done, drop_ok_call, drop_put_err, drop_undo_err, list_err_call, put_ends, put_err_call, undo_err_call}
+use Rattle.special_files.proofs.shrink.ShedDrop.{drop_done, drop_ok_call, drop_put_err, drop_undo_err, list_err_call, put_ends, put_err_call, undo_err_call}
 use Rattle.special_files.proofs.WriteLeaf.{goes_stopped}
 use Rattle.special_files.proofs.draft.Draft.drop_from.Goals as goal
 
@@ -53,7 +53,7 @@ returns-in-Err-undo_listed-clause-goes g c = λ v is keeps.
     let puts = subst (λ (w : Drafting). PutsWithin g.D.Disk c.args.from c.args.read.now.node.leaves w c.list_from.new.disk c.put_within.new.disk c.args.space.now c.put_within.new.space (Ok c.in-Ok-put_within.block)) c.self.view_is c.in-Ok-put_within.ensures in
     let listed = c.in-Ok.ensures.listed c.args.space.now c.args.self.now v (parts c.args.self.now _ c.self.view_is) (subst (λ (w : Drafting). IsRead (g.D.Disk.content c.args.disk.now) w c.args.read.now) (sym c.self.view_is) is) in
     drop_undo_err v c.args.from c.args.read.now c.in-Ok.ensures.reads c.requires.limit is c.requires.here keeps c.put_within.new.disk c.put_within.new.space c.in-Ok-put_within.block puts c.as_slice.result.now
-    (subst (AreShed (g.D.Disk.content c.args.disk.now) v.id (opened_as v.id c.args.self.now v.draft) c.args.from) (sym c.as_slice.ensures) listed) c.undo_listed.new.disk _ _ c.in-Err-undo_listed.trouble c.in-Err-undo_listed.ensures.flips
+    (subst (AreShed (g.D.Disk.content c.args.disk.now) v.id (opened_as c.args.self.now v.draft) c.args.from) (sym c.as_slice.ensures) listed) c.undo_listed.new.disk _ _ c.in-Err-undo_listed.trouble c.in-Err-undo_listed.ensures.flips
     _ _ (c.after.ensures ∙ ap (refusal_after _) c.from-in-Err-undo_listed.ensures)
 
 pub returns-in-Err-undo_listed-clause-calls : goal.returns-in-Err-undo_listed-clause-calls
@@ -76,7 +76,7 @@ returns-clause-goes g c = λ v is keeps.
     let puts = subst (λ (w : Drafting). PutsWithin g.D.Disk c.args.from c.args.read.now.node.leaves w c.list_from.new.disk c.put_within.new.disk c.args.space.now c.put_within.new.space (Ok c.in-Ok-put_within.block)) c.self.view_is c.in-Ok-put_within.ensures in
     let listed = c.in-Ok.ensures.listed c.args.space.now c.args.self.now v (parts c.args.self.now _ c.self.view_is) (subst (λ (w : Drafting). IsRead (g.D.Disk.content c.args.disk.now) w c.args.read.now) (sym c.self.view_is) is) in
     drop_done v c.args.from c.args.read.now c.in-Ok.ensures.reads c.requires.limit is c.requires.here keeps c.put_within.new.disk c.put_within.new.space c.in-Ok-put_within.block puts c.as_slice.result.now
-    (subst (AreShed (g.D.Disk.content c.args.disk.now) v.id (opened_as v.id c.args.self.now v.draft) c.args.from) (sym c.as_slice.ensures) listed) c.undo_listed.new.disk _ _ c.in-Ok-undo_listed.ensures.flips
+    (subst (AreShed (g.D.Disk.content c.args.disk.now) v.id (opened_as c.args.self.now v.draft) c.args.from) (sym c.as_slice.ensures) listed) c.undo_listed.new.disk _ _ c.in-Ok-undo_listed.ensures.flips
     c.give_all.new.space (c.give_all.ensures.given ∙ ap (given_all c.put_within.new.space) (c.as_slice-2.ensures ∙ sym c.as_slice.ensures)) c.forget.new.self
     (subst (λ (w : Drafting). Forgets c.args.from c.in-Ok-put_within.block.0 w c.forget.new.self) c.self.view_is c.forget.ensures)
 

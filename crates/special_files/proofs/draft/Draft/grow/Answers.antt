@@ -1,6 +1,6 @@
 use Rattle.std.proofs.Common.{sym, ap, subst}
 use Rattle.special_files.proofs.Words.{Drafting, Resized, sized}
-use Rattle.special_files.proofs.Sized.{grown_full, grown_resized}
+use Rattle.special_files.proofs.shrink.Sized.{grown_full, grown_resized}
 use Rattle.special_files.proofs.draft.Draft.grow.Goals as goal
 
 pub returns-in-Ok-clause-resized : goal.returns-in-Ok-clause-resized

@@ -1,6 +1,6 @@
 use Rattle.std.proofs.Common.{◌≡◌, ◌%◌, ◌∙◌, ap, subst, arith}
 use Rattle.special_files.proofs.Words.{Drafting, IfOk, Image, bytes_in, slice_index, tells_on}
-use Rattle.special_files.proofs.ReadLeaves.{if_ok_is, leaf_below, leaf_read_is}
+use Rattle.special_files.proofs.read.ReadLeaves.{if_ok_is, leaf_below, leaf_read_is}
 use Rattle.special_files.proofs.draft.Draft.leaf_bytes.Goals as goal
 
 pub returns-clause-bytes : goal.returns-clause-bytes

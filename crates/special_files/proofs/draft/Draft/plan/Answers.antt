@@ -1,6 +1,6 @@
 use Rattle.std.proofs.Common.{◌-◌, ◌∙◌, ap, ℕ, ◌/◌, ◌+◌, length, sym, subst, arith}
 use Rattle.special_files.proofs.Words.{Drafting, IsBorder, IsPlan, both_ways, is_full_refusal, last_draft_node, shadow_need, shrink_takes}
-use Rattle.special_files.proofs.ShrinkCall.{resize_stopped, call_full}
+use Rattle.special_files.proofs.shrink.ShrinkCall.{resize_stopped, call_full}
 use Rattle.special_files.proofs.View.{view_tree}
 use Rattle.special_files.proofs.WriteLeaf.{goes_stopped, not_full}
 use Rattle.special_files.proofs.draft.Draft.plan.Goals as goal

@@ -1,4 +1,4 @@
-use Rattle.special_files.proofs.ReadLeaves.{ReadTo}
+use Rattle.special_files.proofs.read.ReadLeaves.{ReadTo}
 use Rattle.special_files.proofs.draft.Draft.read.Given as goal
 
 abbrev pub invariant-loop-leaf : goal.invariant-loop-leaf

@@ -1,6 +1,6 @@
 use Rattle.std.proofs.Common.{◌≡◌, Ok, sym, subst}
 use Rattle.special_files.proofs.Words.{Drafting, File, GoesHolding, ResizeCall, Resized, sized}
-use Rattle.special_files.proofs.ShrinkCall.{cut_err_call, cut_err_full, cut_err_goes, drop_err_call, drop_err_full, drop_err_goes, drop_ok_call, drop_ok_goes}
+use Rattle.special_files.proofs.shrink.ShrinkCall.{cut_err_call, cut_err_full, cut_err_goes, drop_err_call, drop_err_full, drop_err_goes, drop_ok_call, drop_ok_goes}
 use Rattle.ufs_model.specs.declared.object.Object.TheVariants as objects
 use Rattle.special_files.proofs.draft.Draft.shrink.Goals as goal
 

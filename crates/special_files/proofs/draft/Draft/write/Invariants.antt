@@ -1,4 +1,4 @@
-use Rattle.special_files.proofs.WriteRuns.{WriteRun}
+use Rattle.special_files.proofs.write.WriteRuns.{WriteRun}
 use Rattle.special_files.proofs.draft.Draft.write.Given as goal
 
 abbrev pub invariant-loop-leaf : goal.invariant-loop-leaf

@@ -1,0 +1,3 @@
+pub mod ChangedRun
+pub mod ChangedTrees
+pub mod Unlike

@@ -1,0 +1,3 @@
+pub mod PutLeaf
+pub mod PutRun
+pub mod Puts

@@ -1,0 +1,11 @@
+pub mod Recut
+pub mod Shed
+pub mod ShedDrop
+pub mod ShedListing
+pub mod ShedLists
+pub mod ShedRun
+pub mod ShedStore
+pub mod ShrinkCall
+pub mod ShrinkRun
+pub mod Shrunk
+pub mod Sized
