@@ -6,10 +6,11 @@ use Rattle.block_tree.proofs.Nodes.{leaves_there, pointed}
 use Rattle.block_tree.proofs.Trees.{end_is, node_is}
 use Rattle.block_tree.proofs.Spellings.{leaves_of, nodes_of}
 use Rattle.std.proofs.Math.Path.{fun_ext}
-use Rattle.block_tree.specs.Along.{ArePut, FarBelow, FarTop, IsTo, IsWay, IsWayTrouble, IsWayWithin, holder_on, pointer_on, pointers_at}
+use Rattle.std.proofs.Math.ListN.{length-set}
+use Rattle.block_tree.specs.Along.{ArePut, CutsAlong, CutsRootPast, FarBelow, FarTop, IsTo, IsWay, IsWayTrouble, IsWayWithin, holder_on, pointer_on, pointers_at}
 use Rattle.block_tree.specs.Path.{IsGoodWay, IsPath, SamePlaces, no_node, path_of}
 use Rattle.block_tree.specs.Reads.{Far, FarLeaf, IsNodeTrouble, IsPast}
-use Rattle.block_tree.specs.Way.{LeadsTo, SetsOne, pointers_in}
+use Rattle.block_tree.specs.Way.{CutsAt, CutsPast, CutsTo, LeadsTo, SetsOne, pointers_in}
 use Rattle.block_tree.specs.declared.along.Way.{Way}
 use Rattle.cfs_base.specs.Codes.{past_disk}
 use Rattle.cfs_base.specs.declared.refusal.Damage.{Damage}
@@ -303,3 +304,78 @@ module _ (a b : Image) (root next : Root) (old new : Way) (blocks : List ℕ) wh
         let inside : d < node_levels = omega (arith, less, same, whole) in
         let node = get_or new.nodes d no_node in
         leaves_of node (news d inside) ∙ ap (pointers_of leaf_pointers) (sym (put.spelled d inside)) ∙ sym (leaves_there b (get_or blocks d 0) (put.some d inside)) ∙ ap (leaves_at b) (sym (put_on top path d (omega (arith, inside))))
+
+-- ---- a path cut
+
+-- what is so of each node up to one is so with that one
+pub each_more : (P : ℕ → Node → Type 0) (nows : List Node) (k : ℕ) (node : Node) → k < length nows → P k node → ((i : ℕ) → i < k → P i (get_or nows i no_node)) → (i : ℕ) → i < k + 1 → P i (get_or (set nows k node) i no_node)
+each_more P nows k node inside here before i less = elim (cases_eq i k) [
+  | inl is ↦ subst (P i) (sym (ap (λ (j : ℕ). get_or (set nows k node) j no_node) is ∙ get_or-set_same nows k node no_node inside)) (subst (λ (j : ℕ). P j node) (sym is) here)
+  | inr other ↦ subst (P i) (sym (get_or-set_other nows k i node no_node other)) (before i (omega (arith, less, other)))
+]
+
+module _ (a b : Image) (root next : Root) (old new : Way) (place : ℕ) (blocks : List ℕ) where
+  -- the path with this place as its last
+  abbrev cut_path : List ℕ
+  cut_path = set old.path node_levels place
+
+  -- what becomes of pointers that are so many levels above the leaves
+  abbrev Cuts : (h d : ℕ) → (ℕ → ℕ) → (ℕ → ℕ) → Type 0
+  Cuts zero d p q = CutsAt p place q
+  Cuts (suc h) d p q = CutsPast p (get_or old.path d 0) (get_or blocks d 0) q
+
+  cuts_from : (h d : ℕ) (p q : ℕ → ℕ) → d + h ≡ node_levels → length old.path ≡ node_levels + 1 → length blocks ≡ node_levels → Cuts h d p q → (0 < h → p (get_or old.path d 0) ≡ pointer_on root old d)
+      → ((g i : ℕ) → i + 1 + g ≡ node_levels → Cuts g (suc i) (pointers_in a leaf_pointers (pointer_on root old i)) (pointers_in b leaf_pointers (get_or blocks i 0)))
+      → ((i : ℕ) → i < node_levels → pointers_in a leaf_pointers (pointer_on root old i) (get_or old.path (suc i) 0) ≡ pointer_on root old (suc i)) → CutsTo a b (levels_below h) p q (drop d cut_path) (drop d blocks)
+  cuts_from zero d p q at long wide cuts is each down =
+      let last : d ≡ node_levels = omega (arith, at) in
+      let whole : length cut_path ≡ node_levels + 1 = length-set old.path node_levels place ∙ long in
+      let here : get_or cut_path d 0 ≡ place = ap (λ (i : ℕ). get_or cut_path i 0) last ∙ get_or-set_same old.path node_levels place 0 (omega (arith, long)) in
+      let path = drop_more cut_path d 0 (omega (arith, whole, last)) ∙ ap (λ (r : List ℕ). get_or cut_path d 0 ∷ r) (drop_all (d + 1) cut_path (omega (arith, whole, last))) ∙ ap (λ (k : ℕ). k ∷ []) here in
+      subst (λ (r : List ℕ). CutsTo a b [] p q r (drop d blocks)) (sym path) (subst (λ (r : List ℕ). CutsTo a b [] p q (place ∷ []) r) (sym (drop_all d blocks (omega (arith, wide, last)))) cuts)
+  cuts_from (suc h) d p q at long wide cuts is each down =
+      let k = get_or old.path d 0 in
+      let x = get_or blocks d 0 in
+      let whole : length cut_path ≡ node_levels + 1 = length-set old.path node_levels place ∙ long in
+      let here : get_or cut_path d 0 ≡ k = get_or-set_other old.path node_levels d place 0 (λ same. omega (arith, same, at)) in
+      let top : p k ≡ pointer_on root old d = is (omega arith) in
+      let rest = cuts_from h (d + 1) (pointers_in a leaf_pointers (pointer_on root old d)) (pointers_in b leaf_pointers x) (omega (arith, at)) long wide
+      (subst (λ (i : ℕ). Cuts h i (pointers_in a leaf_pointers (pointer_on root old d)) (pointers_in b leaf_pointers x)) (let e : suc d ≡ d + 1 = omega arith in e) (each h d (omega (arith, at))))
+      (λ some. subst (λ (i : ℕ). pointers_in a leaf_pointers (pointer_on root old d) (get_or old.path i 0) ≡ pointer_on root old i) (let e : suc d ≡ d + 1 = omega arith in e) (down d (omega (arith, at)))) each down in
+      let path = drop_more cut_path d 0 (omega (arith, whole, at)) ∙ ap (λ (i : ℕ). i ∷ drop (d + 1) cut_path) here in
+      let more = drop_more cut_path (d + 1) 0 (omega (arith, whole, at)) in
+      let put = drop_more blocks d 0 (omega (arith, wide, at)) in
+      subst (λ (r : List ℕ). CutsTo a b (leaf_pointers ∷ levels_below h) p q r (drop d blocks)) (sym (path ∙ ap (λ (r : List ℕ). k ∷ r) more))
+      (subst (λ (r : List ℕ). CutsTo a b (leaf_pointers ∷ levels_below h) p q (k ∷ get_or cut_path (d + 1) 0 ∷ drop (d + 1 + 1) cut_path) r) (sym put) (
+        cuts,
+        subst (λ (n : ℕ). CutsTo a b (levels_below h) (pointers_in a leaf_pointers n) (pointers_in b leaf_pointers x) (get_or cut_path (d + 1) 0 ∷ drop (d + 1 + 1) cut_path) (drop (d + 1) blocks)) (sym top)
+            (subst (λ (r : List ℕ). CutsTo a b (levels_below h) (pointers_in a leaf_pointers (pointer_on root old d)) (pointers_in b leaf_pointers x) r (drop (d + 1) blocks)) more rest),
+      ))
+
+  module _ (olds : (d : ℕ) → d < node_levels → IsNode (get_or old.nodes d no_node)) (news : (d : ℕ) → d < node_levels → IsNode (get_or new.nodes d no_node))
+      (ones : (d : ℕ) → d < node_levels → CutsAlong old.path blocks place d (get_or old.nodes d no_node) (get_or new.nodes d no_node)) (put : ArePut b new.nodes blocks) (whole : old.read ≡ node_levels) where
+    cuts_at : IsWay a root old → (g i : ℕ) → i + 1 + g ≡ node_levels → Cuts g (suc i) (pointers_in a leaf_pointers (pointer_on root old i)) (pointers_in b leaf_pointers (get_or blocks i 0))
+    cuts_at is g i at = subst (λ (p : ℕ → ℕ). Cuts g (suc i) p (pointers_in b leaf_pointers (get_or blocks i 0))) (sym was) (subst (Cuts g (suc i) (λ j. get_or (get_or old.nodes i no_node).leaves j 0)) (sym now) (by g at))
+      where
+        less : i < node_levels
+        less = omega (arith, at)
+
+        was : pointers_in a leaf_pointers (pointer_on root old i) ≡ (λ j. get_or (get_or old.nodes i no_node).leaves j 0)
+        was = fun_ext (λ j. pointed a (pointer_on root old i) j ∙ ap (λ (ns : List ℕ). get_or ns j 0) (sym (is i (omega (arith, less, whole)))))
+
+        now : pointers_in b leaf_pointers (get_or blocks i 0) ≡ (λ j. get_or (get_or new.nodes i no_node).leaves j 0)
+        now = fun_ext (λ j. end_is b leaf_pointers (get_or blocks i 0) j (put.some i less) ∙ ap (λ (c : List ℕ). pointer leaf_pointers c j) (put.spelled i less) ∙ ap (λ (ns : List ℕ). get_or ns j 0) (sym (leaves_of (get_or new.nodes i no_node) (news i less))))
+
+        by : (g : ℕ) → i + 1 + g ≡ node_levels → Cuts g (suc i) (λ j. get_or (get_or old.nodes i no_node).leaves j 0) (λ j. get_or (get_or new.nodes i no_node).leaves j 0)
+        by zero last = (ones i less).last (omega (arith, last))
+        by (suc g) inner = (ones i less).inner (omega (arith, inner))
+
+    pub cut_leads : Fits root → Fits next → IsWay a root old → CutsRootPast root (get_or old.path 0 0) (get_or blocks 0 0) next → length old.path ≡ node_levels + 1 → length blocks ≡ node_levels
+        → CutsTo a b (levels_below node_levels) (pointer node_pointers (root_spelling root)) (pointer node_pointers (root_spelling next)) cut_path blocks
+    cut_leads fits fits_next is past long wide =
+        let was : pointer node_pointers (root_spelling root) ≡ (λ n. get_or root.nodes n 0) = fun_ext (λ n. ap (λ (ns : List ℕ). get_or ns n 0) (sym (nodes_of root fits))) in
+        let now : pointer node_pointers (root_spelling next) ≡ (λ n. get_or next.nodes n 0) = fun_ext (λ n. ap (λ (ns : List ℕ). get_or ns n 0) (sym (nodes_of next fits_next))) in
+        cuts_from node_levels 0 (pointer node_pointers (root_spelling root)) (pointer node_pointers (root_spelling next)) (omega arith) long wide
+        (subst (λ (p : ℕ → ℕ). CutsPast p (get_or old.path 0 0) (get_or blocks 0 0) (pointer node_pointers (root_spelling next))) (sym was) (subst (CutsPast (λ n. get_or root.nodes n 0) (get_or old.path 0 0) (get_or blocks 0 0)) (sym now) past.nodes))
+        (λ some. ap (λ (ns : List ℕ). get_or ns (get_or old.path 0 0) 0) (sym (nodes_of root fits))) (cuts_at is)
+        (λ i less. pointed a (pointer_on root old i) (get_or old.path (suc i) 0) ∙ ap (λ (ns : List ℕ). get_or ns (get_or old.path (suc i) 0) 0) (sym (is i (omega (arith, less, whole)))))

@@ -4,7 +4,7 @@ use Rattle.std.proofs.Math.ListN.{length-set}
 use Rattle.std.proofs.lemmas.List.Elements.{All-set}
 use Rattle.block_tree.proofs.Words.{Fits, Image, IsNode, Level, Node, Root, block_at, end_of, levels_below, levels_of, node_levels, leaf_pointers, node_pointers, node_spelling, pointer, root_spelling, tree_of}
 use Rattle.block_tree.proofs.Spellings.{leaves_of, nodes_of}
-use Rattle.block_tree.specs.Way.{IsLast, IsPut, LeadsTo, Part, SetsOne, pointers_in, with_leaf, with_node}
+use Rattle.block_tree.specs.Way.{CutsTo, IsBefore, IsCut, IsFrom, IsLast, IsPut, LeadsTo, Part, SetsOne, pointers_in, with_leaf, with_node}
 
 -- ---- one block
 
@@ -116,3 +116,58 @@ put_beside a b old new path blocks put q part =
 pub put_here : (a b : Image) (old new path blocks : List ℕ) (last : ℕ) → IsPut a b old new path blocks → IsLast blocks last → tree_of b new path ≡ last
 put_here a b old new path blocks last put is =
     sym (walk_is b new path) ∙ ended a b (levels_below node_levels) (pointer node_pointers old) (pointer node_pointers new) path blocks last put.leads is
+
+-- ---- a path cut
+
+-- pointer 0 leads nowhere
+nowhere : (image : Image) (levels : List Level) (r : List ℕ) → end_of image levels 0 r ≡ 0
+nowhere image levels [] = refl
+nowhere image levels (k ∷ r) = refl
+
+-- each block before the end of this path has its content
+abbrev StaysBefore : (a b : Image) → List Level → (old : ℕ → ℕ) → (path : List ℕ) → Type 0
+StaysBefore a b levels old path = (q : List ℕ) → IsBefore path q → walk a levels old q ≢ 0 → block_at b (walk a levels old q) ≡ block_at a (walk a levels old q)
+
+cut_before : (a b : Image) (levels : List Level) (old new : ℕ → ℕ) (path blocks : List ℕ) → CutsTo a b levels old new path blocks → StaysBefore a b levels old path → (q : List ℕ) → IsBefore path q → walk b levels new q ≡ walk a levels old q
+cut_before a b levels old new [] blocks cuts stays q before = absurd cuts
+cut_before a b levels old new (k ∷ path) blocks cuts stays [] before = refl
+cut_before a b levels old new (k ∷ []) (x ∷ blocks) cuts stays (j ∷ q) before = absurd cuts
+cut_before a b levels old new (k ∷ []) [] cuts stays (j ∷ q) before = ap (λ (n : ℕ). end_of b levels n q) (cuts.0 j before) ∙ same_end a b levels (old j) (λ s. stays (j ∷ s) before) q
+cut_before a b levels old new (k ∷ i ∷ path) [] cuts stays (j ∷ q) before = absurd cuts
+cut_before a b [] old new (k ∷ i ∷ path) (x ∷ blocks) cuts stays (j ∷ q) before = absurd cuts
+cut_before a b (level ∷ levels) old new (k ∷ i ∷ path) (x ∷ blocks) cuts stays (j ∷ q) (inl less) =
+    ap (λ (n : ℕ). end_of b (level ∷ levels) n q) (cuts.0.1 j less) ∙ same_end a b (level ∷ levels) (old j) (λ s. stays (j ∷ s) (inl less)) q
+cut_before a b (level ∷ levels) old new (k ∷ i ∷ path) (x ∷ blocks) cuts stays (j ∷ []) (inr on) = absurd on.1
+cut_before a b (level ∷ levels) old new (k ∷ i ∷ path) (x ∷ blocks) cuts stays (j ∷ m ∷ r) (inr on) =
+    ap (λ (n : ℕ). end_of b (level ∷ levels) (new n) (m ∷ r)) on.0 ∙ ap (λ (n : ℕ). end_of b (level ∷ levels) n (m ∷ r)) cuts.0.0
+    ∙ step_end b level levels x m r ∙ cut_before a b levels (pointers_in a level (old k)) (pointers_in b level x) (i ∷ path) blocks cuts.1 below (m ∷ r) on.1
+    ∙ sym (step_end a level levels (old k) m r) ∙ ap (λ (n : ℕ). end_of a (level ∷ levels) (old n) (m ∷ r)) (sym on.0)
+  where
+    below : StaysBefore a b levels (pointers_in a level (old k)) (i ∷ path)
+    below [] apart some = absurd (some refl)
+    below (h ∷ s) apart some =
+        let same = step_end a level levels (old k) h s in
+        subst (λ (n : ℕ). block_at b n ≡ block_at a n) same (stays (k ∷ h ∷ s) (inr (refl, apart)) (λ none. some (sym same ∙ none)))
+
+cut_from : (a b : Image) (levels : List Level) (old new : ℕ → ℕ) (path blocks : List ℕ) → CutsTo a b levels old new path blocks → (q : List ℕ) → IsFrom path q → walk b levels new q ≡ 0
+cut_from a b levels old new [] blocks cuts q from = absurd cuts
+cut_from a b levels old new (k ∷ path) blocks cuts [] from = refl
+cut_from a b levels old new (k ∷ []) (x ∷ blocks) cuts (j ∷ q) from = absurd cuts
+cut_from a b levels old new (k ∷ []) [] cuts (j ∷ q) from = ap (λ (n : ℕ). end_of b levels n q) (cuts.1 j from) ∙ nowhere b levels q
+cut_from a b levels old new (k ∷ i ∷ path) [] cuts (j ∷ q) from = absurd cuts
+cut_from a b [] old new (k ∷ i ∷ path) (x ∷ blocks) cuts (j ∷ q) from = absurd cuts
+cut_from a b (level ∷ levels) old new (k ∷ i ∷ path) (x ∷ blocks) cuts (j ∷ q) (inl more) = ap (λ (n : ℕ). end_of b (level ∷ levels) n q) (cuts.0.2 j more) ∙ nowhere b (level ∷ levels) q
+cut_from a b (level ∷ levels) old new (k ∷ i ∷ path) (x ∷ blocks) cuts (j ∷ []) (inr on) = absurd on.1
+cut_from a b (level ∷ levels) old new (k ∷ i ∷ path) (x ∷ blocks) cuts (j ∷ m ∷ r) (inr on) =
+    ap (λ (n : ℕ). end_of b (level ∷ levels) (new n) (m ∷ r)) on.0 ∙ ap (λ (n : ℕ). end_of b (level ∷ levels) n (m ∷ r)) cuts.0.0
+    ∙ step_end b level levels x m r ∙ cut_from a b levels (pointers_in a level (old k)) (pointers_in b level x) (i ∷ path) blocks cuts.1 (m ∷ r) on.1
+
+pub path_cut_before : (a b : Image) (old new path blocks : List ℕ) → IsCut a b old new path blocks → (q : List ℕ) → IsBefore path q → tree_of b new q ≡ tree_of a old q
+path_cut_before a b old new path blocks cut q before =
+    sym (walk_is b new q) ∙ cut_before a b (levels_below node_levels) (pointer node_pointers old) (pointer node_pointers new) path blocks cut.cuts stays q before ∙ walk_is a old q
+  where
+    stays : StaysBefore a b (levels_below node_levels) (pointer node_pointers old) path
+    stays p apart = subst (λ (n : ℕ). n ≢ 0 → block_at b n ≡ block_at a n) (sym (walk_is a old p)) (cut.stays p apart)
+
+pub path_cut_from : (a b : Image) (old new path blocks : List ℕ) → IsCut a b old new path blocks → (q : List ℕ) → IsFrom path q → tree_of b new q ≡ 0
+path_cut_from a b old new path blocks cut q from = sym (walk_is b new q) ∙ cut_from a b (levels_below node_levels) (pointer node_pointers old) (pointer node_pointers new) path blocks cut.cuts q from

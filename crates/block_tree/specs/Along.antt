@@ -1,5 +1,5 @@
 -- The nodes along a path, as they were read, and as other blocks are put along it.
-use Rattle.std.specs.Prelude.{◌≡◌, ◌≢◌, ℕ, zero, suc, ◌<◌, ◌≤◌, false, List, length, get_or}
+use Rattle.std.specs.Prelude.{◌≡◌, ◌≢◌, ℕ, zero, suc, ◌-◌, ◌<◌, ◌≤◌, false, List, length, get_or}
 use Rattle.std.specs.List.{All}
 use Rattle.cfs_base.specs.Calls.{HasStopped}
 use Rattle.cfs_base.specs.Codes.{past_disk}
@@ -14,6 +14,7 @@ use Rattle.block_tree.specs.Path.{no_node, path_of}
 use Rattle.block_tree.specs.Pointers.{leaf_pointers, node_levels, pointers_of}
 use Rattle.block_tree.specs.Reads.{IsNear, IsPast, leaves_at}
 use Rattle.block_tree.specs.Tree.{tree_of}
+use Rattle.block_tree.specs.Way.{CutsAt, CutsPast}
 use Rattle.block_tree.specs.declared.along.Way.{Way}
 use Rattle.block_tree.specs.declared.node.Node.{Node}
 use Rattle.block_tree.specs.declared.root.Root.{Root}
@@ -34,6 +35,13 @@ abbrev pub holder_on : ℕ → Root → Way → ℕ → ℕ
 holder_on at root way zero = at
 holder_on at root way (suc d) = pointer_on root way d
 
+-- the lowest node along a way, and its pointers, which lead to leaves
+abbrev pub way_node : Way → Node
+way_node way = get_or way.nodes (node_levels - 1) no_node
+
+abbrev pub way_leaves : Way → List ℕ
+way_leaves way = (way_node way).leaves
+
 -- each node that was read is the one to which the pointer above it leads
 abbrev pub IsWay : Image → Root → Way → Type 0
 IsWay image root way = (d : ℕ) → d < way.read → pointers_at root way (suc d) ≡ leaves_at image (pointer_on root way d)
@@ -41,6 +49,10 @@ IsWay image root way = (d : ℕ) → d < way.read → pointers_at root way (suc 
 -- on any disk its pointers lead to blocks of a disk of this size
 abbrev pub IsWayWithin : ℕ → Way → Type 0
 IsWayWithin size way = (d : ℕ) → d < way.read → All (λ n. n < size) (get_or way.nodes d no_node).leaves
+
+-- and so does the root's pointer on the path, where its node was read
+abbrev pub IsTopWithin : ℕ → Root → Way → Type 0
+IsTopWithin size root way = 0 < way.read → pointer_on root way 0 < size
 
 -- each node of the tree is on a disk of this size, and so is each leaf to which it leads
 abbrev pub IsNearTree : ℕ → Image → List ℕ → Type 0
@@ -72,3 +84,20 @@ IsWayTrouble g at root old new (trouble.Damaged damage) = IsWayDamage g at root 
 pub record ArePut (image : Image) (nodes : List Node) (blocks : List ℕ) : Type 0 where
   pub some : (d : ℕ) → d < node_levels → get_or blocks d 0 ≢ 0
   pub spelled : (d : ℕ) → d < node_levels → block_at image (get_or blocks d 0) ≡ node_spelling (get_or nodes d no_node)
+
+-- ---- a path cut
+
+-- of a node along the path: in the last there is no pointer from this place on; each before it has the next of the
+-- blocks at its place, and none past it
+pub record CutsAlong (path blocks : List ℕ) (place d : ℕ) (old new : Node) : Type 0 where
+  pub last : suc d ≡ node_levels → CutsAt (λ j. get_or old.leaves j 0) place (λ j. get_or new.leaves j 0)
+  pub inner : suc d < node_levels → CutsPast (λ j. get_or old.leaves j 0) (get_or path (suc d) 0)
+      (get_or blocks (suc d) 0) (λ j. get_or new.leaves j 0)
+
+-- the root has another block at a place, and leads nowhere past it
+pub record CutsRootPast (old : Root) (place block : ℕ) (new : Root) : Type 0 where
+  pub kind : new.kind ≡ old.kind
+  pub fill : new.fill ≡ old.fill
+  pub word : new.word ≡ old.word
+  pub size : new.size ≡ old.size
+  pub nodes : CutsPast (λ n. get_or old.nodes n 0) place block (λ n. get_or new.nodes n 0)

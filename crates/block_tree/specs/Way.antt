@@ -75,3 +75,44 @@ pub record IsPut (a b : Image) (old new : List ℕ) (path blocks : List ℕ) : T
   pub leads : LeadsTo a b (levels_below node_levels) (pointer node_pointers old) (pointer node_pointers new) path blocks
   pub stays : (q : List ℕ) → Part path q → tree_of a old q ≢ 0
       → block_at b (tree_of a old q) ≡ block_at a (tree_of a old q)
+
+-- ---- cut
+
+-- no pointer from a place on, and else the same
+abbrev pub CutsAt : (old : ℕ → ℕ) → (place : ℕ) → (new : ℕ → ℕ) → Type 0
+CutsAt old k new = ((j : ℕ) → j < k → new j ≡ old j) × ((j : ℕ) → k ≤ j → new j ≡ 0)
+
+-- the pointer at a place is another, there is none past it, and else the same
+abbrev pub CutsPast : (old : ℕ → ℕ) → (place block : ℕ) → (new : ℕ → ℕ) → Type 0
+CutsPast old k x new = (new k ≡ x) × ((j : ℕ) → j < k → new j ≡ old j) × ((j : ℕ) → k < j → new j ≡ 0)
+
+-- From pointers in image a to pointers in image b the path is cut at its end: it leads through these blocks, one at
+-- each of its places but the last. Each of them, and what has the first pointer, has the next at its place and no
+-- pointer past it; the last has none from the path's last place on.
+abbrev pub CutsTo : (a b : Image) → List Level → (old new : ℕ → ℕ) → (path blocks : List ℕ) → Type 0
+CutsTo a b levels old new [] blocks = ⊥
+CutsTo a b levels old new (k ∷ []) [] = CutsAt old k new
+CutsTo a b levels old new (k ∷ []) (x ∷ blocks) = ⊥
+CutsTo a b levels old new (k ∷ i ∷ path) [] = ⊥
+CutsTo a b [] old new (k ∷ i ∷ path) (x ∷ blocks) = ⊥
+CutsTo a b (level ∷ levels) old new (k ∷ i ∷ path) (x ∷ blocks) =
+    CutsPast old k x new × CutsTo a b levels (pointers_in a level (old k)) (pointers_in b level x) (i ∷ path) blocks
+
+-- what stands before the end of a path, and what stands there or past it
+abbrev pub IsBefore : List ℕ → List ℕ → Type 0
+IsBefore [] q = ⊥
+IsBefore (k ∷ p) [] = ⊥
+IsBefore (k ∷ []) (j ∷ q) = j < k
+IsBefore (k ∷ i ∷ p) (j ∷ q) = (j < k) ⊎ ((j ≡ k) × IsBefore (i ∷ p) q)
+
+abbrev pub IsFrom : List ℕ → List ℕ → Type 0
+IsFrom [] q = ⊥
+IsFrom (k ∷ p) [] = ⊥
+IsFrom (k ∷ []) (j ∷ q) = k ≤ j
+IsFrom (k ∷ i ∷ p) (j ∷ q) = (k < j) ⊎ ((j ≡ k) × IsFrom (i ∷ p) q)
+
+-- In image b there is a root in which the old one's path is cut; what stands in image a before its end has its content.
+pub record IsCut (a b : Image) (old new : List ℕ) (path blocks : List ℕ) : Type 0 where
+  pub cuts : CutsTo a b (levels_below node_levels) (pointer node_pointers old) (pointer node_pointers new) path blocks
+  pub stays : (q : List ℕ) → IsBefore path q → tree_of a old q ≢ 0
+      → block_at b (tree_of a old q) ≡ block_at a (tree_of a old q)

@@ -59,14 +59,15 @@ pub struct Way {
 }
 
 impl Way {
-    ghost use Rattle.std.specs.Prelude.{◌+◌, ◌-◌, ◌^◌, false, get_or, IfErr, IfOk, OnOk};
+    ghost use Rattle.std.specs.Prelude.{◌+◌, ◌-◌, ◌^◌, false, get_or, set, suc, IfErr, IfOk, OnOk};
     ghost use Rattle.block_tree.specs.Along as spec;
     ghost use Rattle.block_tree.specs.declared.root.Root as roots;
     ghost use Rattle.block_tree.specs.Pointers.{levels_below, node_pointers};
     ghost use Rattle.block_tree.specs.Reads.{IsNear, is_damage};
     ghost use Rattle.block_tree.specs.Root.{Fits, root_spelling};
     ghost use Rattle.block_tree.specs.Tree.{leaf_block, pointer};
-    ghost use Rattle.block_tree.specs.Way.{LeadsTo, with_node};
+    ghost use Rattle.block_tree.specs.Path.{no_node};
+    ghost use Rattle.block_tree.specs.Way.{CutsTo, LeadsTo, with_leaf, with_node};
     ghost use Rattle.cfs_base.specs.Calls.{OnlyReads};
     ghost use Rattle.cfs_base.specs.Disk.{Image};
     ghost use Rattle.cfs_base.specs.Refusals.{trouble_had_tried};
@@ -92,12 +93,30 @@ impl Way {
         ensures most { (n : ℕ) → n ≤ self.old.read → paths.SamePlaces n self.old.path path → n ≤ self.new.read }
         ensures way { (image : Image) (root : roots.Root) → spec.IsWay image root self.old
             → spec.IsWay image root self.new }
+        ensures top { (size : ℕ) (root : roots.Root) → spec.IsTopWithin size root self.old
+            → spec.IsTopWithin size root self.new }
     {
         *self = Way {
             path,
             nodes: self.nodes,
             read: shared(&self.path, &path, self.read),
         };
+    }
+
+    /// Turns to the path of a leaf. The nodes that it shares stay read.
+    pub fn turn_to(&mut self, leaf: u32)
+        requires { leaf < leaf_limit }
+        ensures path { self.new.path ≡ paths.path_of leaf }
+        ensures nodes { self.new.nodes ≡ self.old.nodes }
+        ensures less { self.new.read ≤ self.old.read }
+        ensures most { (n : ℕ) → n ≤ self.old.read → paths.SamePlaces n self.old.path (paths.path_of leaf)
+            → n ≤ self.new.read }
+        ensures way { (image : Image) (root : roots.Root) → spec.IsWay image root self.old
+            → spec.IsWay image root self.new }
+        ensures top { (size : ℕ) (root : roots.Root) → spec.IsTopWithin size root self.old
+            → spec.IsTopWithin size root self.new }
+    {
+        self.turn(path_of(leaf));
     }
 
     /// The pointer on the path at a depth below the root, above which the nodes were read.
@@ -135,6 +154,8 @@ impl Way {
         ensures top { get_or root.now.nodes (get_or self.old.path 0 0) 0 < 2 ^ 32 }
         ensures read { OnOk result (self.new.read ≡ self.old.read + 1) }
         ensures within { spec.IsWayWithin (D.blocks disk.old) self.new }
+        ensures top_within { spec.IsTopWithin (D.blocks disk.old) root.now self.old
+            → spec.IsTopWithin (D.blocks disk.old) root.now self.new }
         ensures refused { IfErr result (spec.IsWayTrouble D.Disk at.0 root.now disk.old disk.new) }
         ensures untried { IfErr result (λ trouble. trouble_had_tried trouble ≡ false) }
         ensures sound { Tells D.Disk disk.old
@@ -159,6 +180,21 @@ impl Way {
         Ok(())
     }
 
+    /// The block at the end of the path, all of whose nodes were read.
+    pub fn end(&self, root: &Root) -> u32
+        ensures { result ≡ spec.pointer_on root.now self.now node_levels }
+    {
+        self.pointer(root, INNER)
+    }
+
+    /// The node at a depth below the root, if it was read.
+    pub fn node(&self, depth: usize) -> &Node
+        requires { depth < node_levels }
+        ensures { result.now ≡ get_or self.now.nodes depth no_node }
+    {
+        &self.nodes[depth]
+    }
+
     /// The block of a leaf below the root in this block, 0 where the leaf is absent. Reads the nodes on its path, but
     /// those that the way has. `Damaged` names the root block, with code 4, where a pointer to a node lies past the
     /// disk, and a node where one of its own does.
@@ -174,11 +210,14 @@ impl Way {
         requires within { spec.IsWayWithin (D.blocks disk.old) self.old }
         ensures block { Tells D.Disk disk.old → spec.IsWay (D.content disk.old) root.now self.old
             → IfOk result (λ n. n ≡ leaf_block (D.content disk.old) (root_spelling root.now) leaf) }
+        ensures end { IfOk result (λ n. n ≡ spec.pointer_on root.now self.new node_levels) }
         ensures way { Tells D.Disk disk.old → spec.IsWay (D.content disk.old) root.now self.old
             → spec.IsWay (D.content disk.old) root.now self.new }
         ensures to { OnOk result (spec.IsTo leaf self.new) }
         ensures there { IfOk result (λ n. n < D.blocks disk.old) }
         ensures within { spec.IsWayWithin (D.blocks disk.old) self.new }
+        ensures top { spec.IsTopWithin (D.blocks disk.old) root.now self.old
+            → spec.IsTopWithin (D.blocks disk.old) root.now self.new }
         ensures refused { IfErr result (spec.IsWayTrouble D.Disk at.0 root.now disk.old disk.new) }
         ensures untried { IfErr result (λ trouble. trouble_had_tried trouble ≡ false) }
         ensures sound { Tells D.Disk disk.old → spec.IsWay (D.content disk.old) root.now self.old
@@ -205,9 +244,12 @@ impl Way {
         ensures root { root.new ≡ with_node root.old (get_or self.old.path 0 0) (get_or blocks 0 0) }
         ensures path { self.new.path ≡ self.old.path }
         ensures read { self.new.read ≡ self.old.read }
-        ensures leads { (a b : Image) → Fits root.old → spec.IsWay a root.old self.old → spec.ArePut b self.new.nodes blocks
-            → LeadsTo a b (levels_below node_levels) (pointer node_pointers (root_spelling root.old))
-            (pointer node_pointers (root_spelling root.new)) self.old.path blocks }
+        ensures nodes { (d : ℕ) → d < node_levels → get_or self.new.nodes d no_node ≡ with_leaf
+            (get_or self.old.nodes d no_node) (get_or self.old.path (suc d) 0) (get_or blocks (suc d) 0) }
+        ensures leads { (a b : Image) → Fits root.old → spec.IsWay a root.old self.old
+            → spec.ArePut b self.new.nodes blocks → LeadsTo a b (levels_below node_levels)
+            (pointer node_pointers (root_spelling root.old)) (pointer node_pointers (root_spelling root.new))
+            self.old.path blocks }
         ensures way { (b : Image) → spec.ArePut b self.new.nodes blocks → spec.IsWay b root.new self.new }
     {
         let mut nodes = self.nodes;
@@ -215,6 +257,34 @@ impl Way {
             nodes[depth] = nodes[depth].with_leaf(self.path[depth + 1], blocks[depth + 1]);
         }
         *root = root.with_node(self.path[0], blocks[0]);
+        *self = Way {
+            path: self.path,
+            nodes,
+            read: self.read,
+        };
+    }
+
+    /// Drops what the path leads to from a place of its last node on, and what follows the path. Each node along it is
+    /// a copy of the old one without the pointers that follow, and but for the last with the next of the blocks at its
+    /// place. They are to be written: nothing is.
+    pub fn cut(&mut self, root: &mut Root, place: u32, blocks: [u32; INNER])
+        requires { self.old.read ≡ node_levels }
+        ensures root { spec.CutsRootPast root.old (get_or self.old.path 0 0) (get_or blocks 0 0) root.new }
+        ensures path { self.new.path ≡ self.old.path }
+        ensures read { self.new.read ≡ self.old.read }
+        ensures nodes { (d : ℕ) → d < node_levels → spec.CutsAlong self.old.path blocks place d
+            (get_or self.old.nodes d no_node) (get_or self.new.nodes d no_node) }
+        ensures cuts { (a b : Image) → Fits root.old → spec.IsWay a root.old self.old
+            → spec.ArePut b self.new.nodes blocks → CutsTo a b (levels_below node_levels)
+            (pointer node_pointers (root_spelling root.old)) (pointer node_pointers (root_spelling root.new))
+            (set self.old.path node_levels place) blocks }
+    {
+        let mut nodes = self.nodes;
+        for depth in 0..INNER - 1 {
+            nodes[depth] = nodes[depth].cut_past(self.path[depth + 1], blocks[depth + 1]);
+        }
+        nodes[INNER - 1] = nodes[INNER - 1].cut(place);
+        *root = root.cut_past(self.path[0], blocks[0]);
         *self = Way {
             path: self.path,
             nodes,

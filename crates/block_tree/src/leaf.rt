@@ -74,8 +74,9 @@ fn pointer_in<D: Disk>(disk: &mut D, block: u32, place: u32) -> Result<u32, Tree
     if block == 0 {
         return Ok(0);
     }
-    let node = node_at(disk, block)?;
-    Ok(node.leaves[place as usize])
+    let mut content = Block::zero();
+    follow(disk, block, &mut content)?;
+    Ok(content.u32_at(4 * place as usize))
 }
 
 /// The block of a leaf, 0 where the leaf is absent. Makes at most 1 device call.

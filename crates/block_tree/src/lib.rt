@@ -23,4 +23,4 @@ pub use reads::{read_block, read_node, read_root};
 pub use root::{BadRoot, NODE_LEVELS, NODES, Root, SIZE_LIMIT};
 pub use step::{HeldStep, holds_any, step_held};
 pub use walk::{HeldLeaf, walk_held};
-pub use way::one_path_changes;
+pub use way::{one_path_changes, one_path_cut};

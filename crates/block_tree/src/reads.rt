@@ -1,5 +1,6 @@
 //! The root, the nodes and the leaves of an object, read for calls that tell which block is damaged.
-ghost use Rattle.std.specs.Prelude.{◌≡◌, ◌<◌, ◌≤◌, ℕ, false, length, replicate, IfErr, IfOk, OnOk};
+ghost use Rattle.std.specs.Prelude.{◌≡◌, ◌<◌, ◌≤◌, ℕ, false, get_or, length, replicate, IfErr, IfOk, IsFalse};
+ghost use Rattle.std.specs.Prelude.{IsTrue, OnOk};
 ghost use Rattle.std.specs.List.{All};
 ghost use Rattle.block_tree.specs.Node.{IsNode};
 ghost use Rattle.block_tree.specs.Pointers.{leaf_pointers, node_pointers, pointers_of, size_limit};
@@ -42,6 +43,18 @@ pub fn read_root<D: Disk>(disk: &mut D, at: BlockNo) -> Result<Root, Trouble>
     }
 }
 
+/// Whether a pointer of a node leads past a disk of so many blocks, told without a branch on them.
+fn leads_past(node: &Node, blocks: u32) -> bool
+    ensures past { IsTrue result → (k : ℕ) × (blocks ≤ get_or node.now.leaves k 0) }
+    ensures near { IsFalse result → All (λ leaf. leaf < blocks) node.now.leaves }
+{
+    let mut past = false;
+    for leaf in &node.leaves {
+        past = past | (*leaf >= blocks);
+    }
+    past
+}
+
 /// Reads the node at a block to which this holder points. Where it is 0 the node is absent, and has no leaf. `Damaged`
 /// names the holder, with code 4, where the node lies past the disk, and the node where one of its leaves does.
 pub fn read_node<D: Disk>(disk: &mut D, block: u32, holder: BlockNo) -> Result<Node, Trouble>
@@ -72,13 +85,11 @@ pub fn read_node<D: Disk>(disk: &mut D, block: u32, holder: BlockNo) -> Result<N
         return Err(Trouble::Disk { tried: false });
     };
     let node = Node::decode(&content);
-    for leaf in &node.leaves {
-        if *leaf >= blocks {
-            return Err(Trouble::Damaged(Damage {
-                block,
-                code: code::PAST_DISK,
-            }));
-        }
+    if leads_past(&node, blocks) {
+        return Err(Trouble::Damaged(Damage {
+            block,
+            code: code::PAST_DISK,
+        }));
     }
     Ok(node)
 }

@@ -1,6 +1,7 @@
 //! The blocks of one path of a tree, changed from its leaf up: each block is a copy with its child's number in it.
-ghost use Rattle.std.specs.Prelude.{◌≡◌, ◌<◌, ℕ, IsFalse, IsTrue, List};
+ghost use Rattle.std.specs.Prelude.{◌≡◌, ◌<◌, ℕ, get_or, IsFalse, IsTrue, List};
 ghost use Rattle.cfs_base.specs.Disk.{Image};
+ghost use Rattle.block_tree.specs.Along.{CutsRootPast};
 ghost use Rattle.block_tree.specs.Node.{IsNode, node_spelling};
 ghost use Rattle.block_tree.specs.Pointers.{leaf_pointers, node_pointers};
 ghost use Rattle.block_tree.specs.Root.{Fits, root_spelling};
@@ -23,9 +24,19 @@ impl Root {
         root
     }
 
+    /// The same with another block as one of its nodes, and without its nodes past it.
+    pub fn cut_past(&self, number: u32, block: u32) -> Root
+        requires { number < node_pointers.count }
+        ensures past { CutsRootPast self.now number block result }
+        ensures fits { Fits self.now → Fits result }
+    {
+        self.cut(number + 1).with_node(number, block)
+    }
+
     /// The same without its nodes from one on.
     pub fn cut(&self, from: u32) -> Root
-        ensures { spec.CutsRoot self.now from result }
+        ensures cut { spec.CutsRoot self.now from result }
+        ensures fits { Fits self.now → Fits result }
     {
         let mut kept = *self;
         for number in from..NODES as u32 {
@@ -51,13 +62,24 @@ impl Node {
 
     /// The same without its leaves from a place on.
     pub fn cut(&self, from: u32) -> Node
-        ensures { spec.CutsNode self.now from result }
+        ensures cut { spec.CutsNode self.now from result }
+        ensures good { IsNode self.now → IsNode result }
     {
         let mut kept = *self;
         for place in from..LEAVES as u32 {
             kept.leaves[place as usize] = 0;
         }
         kept
+    }
+
+    /// The same with another block at a place, and without its leaves past it.
+    pub fn cut_past(&self, place: u32, block: u32) -> Node
+        requires { place < leaf_pointers.count }
+        ensures past { IsNode self.now → spec.CutsPast (λ j. get_or self.now.leaves j 0) place block
+            (λ j. get_or result.leaves j 0) }
+        ensures good { IsNode self.now → IsNode result }
+    {
+        self.cut(place + 1).with_leaf(place, block)
     }
 
     /// Whether it has a leaf.
@@ -82,4 +104,14 @@ pub fn one_path_changes()
     // The path itself leads to the last of the blocks.
     ensures here { (a b : Image) (old new path blocks : List ℕ) (last : ℕ) → spec.IsPut a b old new path blocks
         → spec.IsLast blocks last → tree_of b new path ≡ last }
+{}
+
+/// What is proved of a tree in which a path is cut, as a contract. This call does nothing.
+pub fn one_path_cut()
+    // What stands before the path's end is led to as it was.
+    ensures before { (a b : Image) (old new path blocks : List ℕ) → spec.IsCut a b old new path blocks
+        → (q : List ℕ) → spec.IsBefore path q → tree_of b new q ≡ tree_of a old q }
+    // What stands at its end or past it is gone.
+    ensures from { (a b : Image) (old new path blocks : List ℕ) → spec.IsCut a b old new path blocks
+        → (q : List ℕ) → spec.IsFrom path q → tree_of b new q ≡ 0 }
 {}

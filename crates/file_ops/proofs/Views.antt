@@ -1,5 +1,6 @@
 -- A file as the calls below are handed it.
 use Rattle.file_ops.proofs.Words.{◌≡◌, ℕ, Drafting, File, FileKind, Ghosts, Kept, None, Ok, Some, Change, ap, begun_fresh, length-none, object_at, subst, sym, ◌∙◌, IsOpen, DraftBecomes, changed_draft, AreClaimed, need_beside, sum, ◌+◌, ◌≤◌, opened_as, with_here, with_opened}
+use Rattle.block_tree.specs.Pointers.{leaf_limit, node_pointers}
 use Rattle.file_ops.specs.Changes.{MayChangeFile, claims_beside}
 use Rattle.intentions.proofs.Shown.{shown_tree}
 use Rattle.normal_files.specs.Calls.{Handed}
@@ -47,7 +48,7 @@ module _ {D : Type 0} {g : Ghosts D} {at : ℕ} {kind : FileKind} {change : Chan
     store = b.begins standing m.shut;
     at = file_stands;
     opened = subst (λ (w : Drafting). IsOpen (drafts_begun standing w) m.view.id w (equal_to (objects.File m.file))) (sym b.call.begun)
-        (record { at = m.view.root; alone = with_here m.view.id _ m.view.ds; leaf_flags = length-none 15360; node_flags = length-none 120; fresh = begun_fresh at None was.own });
+        (record { at = m.view.root; alone = with_here m.view.id _ m.view.ds; leaf_flags = length-none leaf_limit; node_flags = length-none node_pointers.count; fresh = begun_fresh at None was.own });
   }
 
 -- done, the draft is the model's; a block is left for its shadow root

@@ -12,6 +12,7 @@ use Rattle.cfs_base.specs.declared.kind.FileKind.TheVariants as kinds
 use Rattle.cfs_base.specs.declared.refusal.Damage.{Damage}
 use Rattle.cfs_base.specs.declared.refusal.Refused.{Refused}
 use Rattle.cfs_base.specs.declared.refusal.Refused.TheVariants as refusals
+use Rattle.block_tree.specs.Pointers.{leaf_limit, node_pointers}
 use Rattle.block_tree.specs.Root.{IsRootBlock}
 use Rattle.block_tree.specs.declared.root.Root.{Root}
 use Rattle.claims.specs.Claims.{AreClaimed}
@@ -91,7 +92,8 @@ MayLeaveFile kinds.Special change graph id f c = IsOldOrNew graph graph id (chan
 -- what is written anew of the special file with this root block
 abbrev pub claims_beside : ℕ → Change → File → List MapEntry
 claims_beside at (Overwrite offset bytes) f =
-    claims_by_leaf at (none_of 15360) (none_of 120) (offset / 512) (leaves_in (offset + length bytes) - offset / 512)
+    claims_by_leaf at (none_of leaf_limit) (none_of node_pointers.count) (offset / 512)
+    (leaves_in (offset + length bytes) - offset / 512)
 claims_beside at (SetSize size) f = claims_anew at (written_anew (SetSize size) (objects.File f) []) []
 claims_beside at (Fill slot what) f = []
 

@@ -1,5 +1,6 @@
 //! A file changed, in place or beside itself.
 ghost use Rattle.std.specs.Prelude.{◌≡◌, ◌≢◌, ◌+◌, ◌*◌, ◌<◌, ◌≤◌, true, is_some, length, IfErr, None};
+ghost use Rattle.block_tree.specs.Pointers.{size_limit};
 ghost use Rattle.cfs_base.specs.declared.refusal.Refused.TheVariants as refusals;
 ghost use Rattle.file_ops.specs.Changes as spec;
 ghost use Rattle.leaf_changes.specs.Tops.{root_top};
@@ -38,7 +39,7 @@ pub fn write<D: Disk>(
     requires left { space.old.left ≡ None }
     requires least { 1 ≤ length bytes.now }
     requires most { length bytes.now ≤ 4096 }
-    requires inside { offset + length bytes.now ≤ 7864320 }
+    requires inside { offset + length bytes.now ≤ size_limit }
     ensures changes { IsRootAt (D.content disk.old) at.0 root.now → spec.ChangesFile D.Disk at.0 kind floor
         (Overwrite offset bytes.now) disk.old disk.new space.old space.new result }
     // Memory is wanted only where no room was handed in.
@@ -73,7 +74,7 @@ pub fn resize<D: Disk>(
     requires size { D.blocks disk.old ≡ 64 * length space.old.free }
     // No commit is unfinished.
     requires left { space.old.left ≡ None }
-    requires limit { size ≤ 7864320 }
+    requires limit { size ≤ size_limit }
     ensures changes { spec.ChangesFile D.Disk at.0 kind floor (SetSize size) disk.old disk.new space.old space.new
         result }
     ensures memory { is_some room ≡ true → IfErr result (λ e. e ≢ refusals.Memory) }

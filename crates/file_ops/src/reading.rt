@@ -1,5 +1,6 @@
 //! A file, read.
 ghost use Rattle.std.specs.Prelude.{◌≡◌, ◌+◌, ◌<◌, ◌≤◌, false, length, IfErr, IfOk};
+ghost use Rattle.block_tree.specs.Pointers.{size_limit};
 ghost use Rattle.block_tree.specs.declared.root.Root as roots;
 ghost use Rattle.cfs_base.specs.Calls.{OnlyReads};
 ghost use Rattle.cfs_base.specs.Refusals.{had_tried, trouble_had_tried};
@@ -36,7 +37,7 @@ pub fn read<D: Disk>(
     count: usize,
 ) -> Result<Bytes, Refused>
     requires on_disk { at.0 < D.blocks disk.old }
-    requires inside { offset + count ≤ 7864320 }
+    requires inside { offset + count ≤ size_limit }
     ensures read { (v : ShownView D.Disk disk.old at.0) (f : File) → v.object ≡ objects.File f
         → IsRootAt (D.content disk.old) at.0 root.now → spec.ReadsFile f offset count result }
     ensures long { IfOk result (λ bytes. length bytes ≡ count) }
@@ -62,7 +63,7 @@ pub fn read_root<D: Disk>(disk: &mut D, at: BlockNo) -> Result<Root, Trouble>
     ensures root { Tells D.Disk disk.old → IfOk result (IsRootAt (D.content disk.old) at.0) }
     ensures size { (v : ShownView D.Disk disk.old at.0) (f : File) → v.object ≡ objects.File f
         → spec.MeasuresFile (λ (root : roots.Root). root.size) f result }
-    ensures limit { IfOk result (λ root. root.size ≤ 7864320) }
+    ensures limit { IfOk result (λ root. root.size ≤ size_limit) }
     ensures refused { IfErr result (IsTrouble D.Disk (still_top at.0) disk.old disk.new) }
     ensures untried { IfErr result (λ trouble. trouble_had_tried trouble ≡ false) }
     ensures reads { OnlyReads D.Disk 1 disk.old disk.new }
@@ -78,7 +79,7 @@ pub fn size<D: Disk>(disk: &mut D, at: BlockNo) -> Result<u64, Trouble>
     requires { at.0 < D.blocks disk.old }
     ensures size { (v : ShownView D.Disk disk.old at.0) (f : File) → v.object ≡ objects.File f
         → spec.MeasuresFile (λ size. size) f result }
-    ensures limit { IfOk result (λ size. size ≤ 7864320) }
+    ensures limit { IfOk result (λ size. size ≤ size_limit) }
     ensures refused { IfErr result (IsTrouble D.Disk (still_top at.0) disk.old disk.new) }
     ensures untried { IfErr result (λ trouble. trouble_had_tried trouble ≡ false) }
     ensures reads { OnlyReads D.Disk 1 disk.old disk.new }

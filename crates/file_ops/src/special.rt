@@ -1,5 +1,6 @@
 //! A special file, changed beside itself as one commit.
 ghost use Rattle.std.specs.Prelude.{◌≡◌, ◌≢◌, ◌+◌, ◌*◌, ◌<◌, ◌≤◌, if◌then◌else◌, length, None, IfErr};
+ghost use Rattle.block_tree.specs.Pointers.{size_limit};
 ghost use Rattle.cfs_base.specs.Refusals.{refused_by, trouble_after_try};
 ghost use Rattle.cfs_base.specs.declared.kind.FileKind.TheVariants as kinds;
 ghost use Rattle.cfs_base.specs.declared.refusal.Refused.TheVariants as refused;
@@ -63,7 +64,7 @@ pub(crate) fn write_beside<D: Disk>(
     requires left { space.old.left ≡ None }
     requires least { 1 ≤ length bytes.now }
     requires most { length bytes.now ≤ 4096 }
-    requires inside { offset + length bytes.now ≤ 7864320 }
+    requires inside { offset + length bytes.now ≤ size_limit }
     ensures changes { spec.ChangesFile D.Disk at.0 kinds.Special floor (Overwrite offset bytes.now) disk.old disk.new
         space.old space.new result }
     ensures memory { IfErr result (λ e. e ≢ refused.Memory) }
@@ -97,7 +98,7 @@ pub(crate) fn resize_beside<D: Disk>(
     requires on_disk { at.0 < D.blocks disk.old }
     requires size { D.blocks disk.old ≡ 64 * length space.old.free }
     requires left { space.old.left ≡ None }
-    requires limit { size ≤ 7864320 }
+    requires limit { size ≤ size_limit }
     ensures changes { spec.ChangesFile D.Disk at.0 kinds.Special floor (SetSize size) disk.old disk.new space.old
         space.new result }
     ensures memory { IfErr result (λ e. e ≢ refused.Memory) }

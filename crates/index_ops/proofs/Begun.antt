@@ -1,5 +1,6 @@
 -- A draft of an index that was just begun: as calls are handed it, what changed once it is committed, and why it isn't.
 use Rattle.index_ops.proofs.Words.{[], ◌≡◌, ℕ, ◌*◌, ◌+◌, ◌/◌, ◌≤◌, false, cond, List, ◌∷◌, length, get_or, Option, None, Ok, Err, refl, sym, ◌∙◌, ap, subst, arith, inl, Result, option_to_list, and_from, and_parts, HasTried, OnlyReads, Image, block_at, refused_by, trouble_after_try, Ghosts, Refused, Trouble, IsRootBlock, root_spelling, MapEntry, AreClaimed, Leaf, Node, Kept, intended, StoreHas, Committed, Making, Drafting, IsOpen, begun_at, fresh_of, opened_as, EndsCall, SameBeside, leaf_claims, IsDraftRefusal, IsDraftTrouble, is_damage, has_met_damage, is_full_refusal, without_draft, begun_fresh, length-none, none_is, refusal_after_reads, refusal_of, trouble_after_tried, Draft, Object, Tree, tree_in, ChangesOnly, of_drafts, of_owners, is_meant, is_placed, is_taken, changes_then, changes_wider, placed_taken, without_with, with_opened, with_here}
+use Rattle.block_tree.specs.Pointers.{leaf_limit, leaf_pointers, node_pointers}
 use Rattle.block_tree.specs.declared.root.Root.{Root}
 use Rattle.index_ops.specs.Changes.{HasSlot, IsIndexRefusal, IsOneLeaf, TakesEntries, leaf_and_node}
 use Rattle.index_ops.proofs.Indices.{slots_are}
@@ -24,8 +25,8 @@ module _ {D : Type 0} {g : Ghosts D} {d0 : D} {k0 : Kept} {at : ℕ} {was : Draf
   begun_open = record {
     at = v.root ∙ sym (ap (λ (x : Drafting). x.at) begun);
     alone = with_here v.id _ v.ds;
-    leaf_flags = ap (λ (x : Drafting). length x.leaves) begun ∙ length-none 15360;
-    node_flags = ap (λ (x : Drafting). length x.nodes) begun ∙ length-none 120;
+    leaf_flags = ap (λ (x : Drafting). length x.leaves) begun ∙ length-none leaf_limit;
+    node_flags = ap (λ (x : Drafting). length x.nodes) begun ∙ length-none node_pointers.count;
     fresh = λ k. begun_fresh at None was.own k ∙ ap (λ (x : Drafting). get_or (fresh_of x) k []) (sym begun);
   }
 
@@ -53,7 +54,7 @@ module _ {D : Type 0} {g : Ghosts D} {d0 : D} {k0 : Kept} {at : ℕ} {was : Draf
   pub begun_claims : leaf_claims was.at was.leaves was.nodes leaf ≡ leaf_and_node leaf v.id.block
   begun_claims =
       ap (λ (x : Drafting). leaf_claims x.at x.leaves x.nodes leaf) begun
-      ∙ (λ j. cond (none_is 15360 leaf j) [] (intended (Leaf leaf) at ∷ cond (none_is 120 (leaf / 128) j) [] (intended (Node (leaf / 128)) at ∷ [])))
+      ∙ (λ j. cond (none_is leaf_limit leaf j) [] (intended (Leaf leaf) at ∷ cond (none_is node_pointers.count (leaf / leaf_pointers.count) j) [] (intended (Node (leaf / leaf_pointers.count)) at ∷ [])))
       ∙ ap (leaf_and_node leaf) (sym (v.opened.at ∙ ap (λ (x : Drafting). x.at) begun))
 
   pub one_leaf : {d1 d2 : D} {k2 : Kept} {now : Drafting} {d : Draft} {o : Object} (claims : List MapEntry) (made : Option Making) → IsOpen (with_opened v.id (opened_as now d) v.ds) v.id now d → now.shadow ≡ None → AreClaimed claims (g.content d0) (g.content d1)

@@ -11,6 +11,7 @@ use Rattle.cfs_base.specs.declared.kind.Place.TheVariants.{Leaf, Node}
 use Rattle.cfs_base.specs.declared.refusal.Damage.{Damage}
 use Rattle.cfs_base.specs.declared.refusal.Refused.{Refused}
 use Rattle.cfs_base.specs.declared.refusal.Refused.TheVariants as refusals
+use Rattle.block_tree.specs.Pointers.{leaf_pointers}
 use Rattle.block_tree.specs.Root.{IsRootBlock}
 use Rattle.block_tree.specs.declared.root.Root.{Root}
 use Rattle.claims.specs.Claims.{AreClaimed}
@@ -67,7 +68,7 @@ pub record TakesEntries (claims : List MapEntry) (at : ℕ) (made : List ℕ) (a
 
 -- a leaf of the object with this root block, and after it its node
 abbrev pub leaf_and_node : (leaf at : ℕ) → List MapEntry
-leaf_and_node leaf at = intended (Leaf leaf) at ∷ intended (Node (leaf / 128)) at ∷ []
+leaf_and_node leaf at = intended (Leaf leaf) at ∷ intended (Node (leaf / leaf_pointers.count)) at ∷ []
 
 -- Of an index one leaf alone changed, and the node above it: both take blocks, and the commit a shadow root. Or a slot
 -- that is empty was to be, and nothing did.

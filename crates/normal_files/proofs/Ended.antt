@@ -10,6 +10,7 @@ use Rattle.normal_files.proofs.Trimmed.{IsEitherWay, IsTrimmed, either_begin, ei
 use Rattle.normal_files.proofs.Places.{leaf_no_node, leaf_no_root, node_no_root, one_leaf, one_node}
 use Rattle.normal_files.proofs.LeafReads.{block_read}
 use Rattle.normal_files.specs.View.{FileView, id_at}
+use Rattle.block_tree.specs.Along.{way_leaves}
 use Rattle.block_tree.specs.declared.root.Root as roots
 
 -- ---- a block that may be none
@@ -84,13 +85,13 @@ module _ {D : Type 0} {g : Ghosts D} {r : ℕ} {root : roots.Root} {start : D} {
   cut_when : size % 512 ≢ 0 → x ≡ leaf_of a root last j
   cut_when within = z.read.cut ∙ when ∙ ap (λ (ls : List ℕ). get_or ls j 0) z.ended.own
     where
-      when : cut_block size end.own.leaves ≡ get_or end.own.leaves j 0
+      when : cut_block size (way_leaves end.way) ≡ get_or (way_leaves end.way) j 0
       when = rw (ne_eqb (size % 512) 0 within) refl
 
   cut_none : size % 512 ≡ 0 → x ≡ 0
   cut_none whole = z.read.cut ∙ when
     where
-      when : cut_block size end.own.leaves ≡ 0
+      when : cut_block size (way_leaves end.way) ≡ 0
       when = rw whole refl
 
   x_within : x ≢ 0 → size % 512 ≢ 0
@@ -149,7 +150,7 @@ module _ {D : Type 0} {g : Ghosts D} {r : ℕ} {root : roots.Root} {start : D} {
   last_leaves : y ≢ 0 → leaves_at e (node_of root last) ≡ end.node.leaves
   last_leaves some = ap (leaves_at e) (sym (y_is some)) ∙ leaves_there e y some ∙ ap (λ (c : List ℕ). pointers_of leaf_pointers c) (e_y some) ∙ sym (node_leaves end.node z.spelled)
 
-  own_at : (k : ℕ) → get_or end.own.leaves k 0 ≡ leaf_of a root last k
+  own_at : (k : ℕ) → get_or (way_leaves end.way) k 0 ≡ leaf_of a root last k
   own_at k = ap (λ (ls : List ℕ). get_or ls k 0) z.ended.own
 
   pointer : (n k : ℕ) → (leaf_of e root n k ≡ leaf_of a root n k) ⊎ ((n ≡ last) × (y ≢ 0) × (leaf_of e root n k ≡ get_or end.node.leaves k 0))
@@ -176,7 +177,7 @@ module _ {D : Type 0} {g : Ghosts D} {r : ℕ} {root : roots.Root} {start : D} {
     | inr all ↦ all.1 k small
     | inl node ↦
         let zero_node : node_of root last ≡ 0 = sym node.0 ∙ none in
-        let nothing : (i : ℕ) → get_or end.own.leaves i 0 ≡ 0 = λ i. own_at i ∙ ap (λ (m : ℕ). get_or (leaves_at a m) i 0) zero_node ∙ zeros leaf_pointers.count i in
+        let nothing : (i : ℕ) → get_or (way_leaves end.way) i 0 ≡ 0 = λ i. own_at i ∙ ap (λ (m : ℕ). get_or (leaves_at a m) i 0) zero_node ∙ zeros leaf_pointers.count i in
         absurd (node.1.2 (elim (cases_lt (leaf_pointers.count * last + node.1.0) keep) [ inl before ↦ z.read.before node.1.0 before ∙ nothing node.1.0 | inr past ↦ z.read.past node.1.0 node.1.1 past ]))
   ]
 

@@ -1,16 +1,17 @@
 -- A file written, or set to a size, from what the store has of it.
-use Rattle.normal_files.proofs.Words.{◌≡◌, inl, inr, ℕ, ◌+◌, ◌<◌, ◌≤◌, true, false, List, length, None, Some, refl, sym, ◌∙◌, ap, subst, arith, Ok, Err, set, sum, IfErr, OnOk, Result, OnlyReads, then, wider, AreBlocks, Image, block_at, Leaves, IsSettled, left_now, refused_by, Ghosts, Puid, Refused, Trouble, stopped_after_reads, IsRootBlock, IsGoodRoot, IsRoot, root_spelling, one_root, AreCounts, Kept, file_to_leaves, File, Graph, object_at, with_object, tree_in, IsTree, carries_on, Accounts, Drafts, ChangesOnly, of_owner, IsNode, leaves_in, resized, AreClaimed, node_pointers, leaf_limit, size_limit, IsNear, is_damage, HasStoppedBy}
+use Rattle.normal_files.proofs.Words.{◌≡◌, inl, inr, ℕ, ◌+◌, ◌<◌, ◌≤◌, true, false, List, length, None, Some, refl, sym, ◌∙◌, ap, subst, arith, Ok, Err, set, sum, IfErr, OnOk, Result, OnlyReads, then, wider, AreBlocks, Image, block_at, Leaves, IsSettled, left_now, refused_by, Ghosts, Puid, Refused, Trouble, stopped_after_reads, IsRootBlock, IsGoodRoot, IsRoot, root_spelling, one_root, AreCounts, Kept, file_to_leaves, File, Graph, object_at, with_object, tree_in, IsTree, carries_on, Accounts, Drafts, ChangesOnly, of_owner, IsNode, leaves_in, resized, AreClaimed, node_pointers, leaf_limit, size_limit, is_damage, HasStoppedBy}
 use Rattle.normal_files.specs.Calls.{Handed}
 use Rattle.normal_files.specs.Ends.{is_damaged, IsStop}
 use Rattle.normal_files.specs.Cuts.{IsCutRoot, IsEnd, IsReadEnd, MayTrim, first_gone, last_node, trimmed}
-use Rattle.normal_files.specs.Laid.{IsRooted, leaves_of, node_of, object_laid}
+use Rattle.normal_files.specs.Laid.{IsRooted, leaves_of, object_laid}
 use Rattle.normal_files.specs.Parts.{IsPart}
 use Rattle.normal_files.specs.Refusal.{IsTrouble}
 use Rattle.normal_files.specs.Standing.{BecomesFile, IsFileAt, IsPartly, Becomes}
 use Rattle.normal_files.specs.WriteRefusal.{IsWriteRefusal, TellsNeed, is_untried}
 use Rattle.normal_files.specs.declared.part.Part.{Part}
 use Rattle.normal_files.proofs.Laid.{rooted_is, tree_of_laid}
-use Rattle.normal_files.proofs.Trees.{near}
+use Rattle.normal_files.proofs.Trees.{near_tree}
+use Rattle.block_tree.specs.Along.{IsNearTree}
 use Rattle.normal_files.specs.Frees.{FreesTo, GivesEnd, IsDropTrouble, IsFreeing, IsResizeRefusal, IsShrinkTrouble, TakesNone, NoMap, OfFile}
 use Rattle.normal_files.specs.declared.cut.End.{End}
 use Rattle.normal_files.proofs.Partly.{no_index}
@@ -29,14 +30,14 @@ use Rattle.leaf_changes.specs.Tops.{disk_top, Top, IsFarRoot, root_top}
 use Rattle.leaf_changes.proofs.Tops.{far_block}
 use Rattle.cfs_base.specs.Run.{Tells}
 
--- a node of a file, after calls that only read
+-- all of a file, after calls that only read
 pub near_after : {D : Type 0} {n : ℕ} (g : Ghosts D) (old mid : D) (at : ℕ) (root : roots.Root) (f : File) → length (g.content old) ≡ g.blocks old → at < g.blocks old → OnlyReads g n old mid → IsRootBlock (block_at (g.content old) at) root → IsFileAt (g.content old) at f
-    → (m : ℕ) → IsNear (g.blocks mid) (g.content mid) (node_of root m)
-near_after g old mid at root f size below reads is file m =
+    → IsNearTree (g.blocks mid) (g.content mid) (root_spelling root)
+near_after g old mid at root f size below reads is file =
     let image = g.content old in
-    subst (λ (s : ℕ). IsNear s (g.content mid) (node_of root m)) (size ∙ sym reads.same.size)
-    (subst (λ (i : Image). IsNear (length image) i (node_of root m)) (sym reads.content)
-    (near image (block_at image at) root is (length image) file.owner file.root (objects.File f) file.tree (omega (arith, below, size)) m))
+    subst (λ (s : ℕ). IsNearTree s (g.content mid) (root_spelling root)) (size ∙ sym reads.same.size)
+    (subst (λ (i : Image). IsNearTree (length image) i (root_spelling root)) (sym reads.content)
+    (near_tree image (block_at image at) root is (length image) file.owner file.root (objects.File f) file.tree (omega (arith, below, size))))
 
 pub images_read : {D : Type 0} {n : ℕ} {g : Ghosts D} {old mid : D} → OnlyReads g n old mid → (P : Image → Type 0) → Leaves g old mid P
 images_read {g = g} {old = old} {mid = mid} reads P = wider g old mid _ P reads.images (λ c none. absurd none)
@@ -176,12 +177,12 @@ parts_tell g n mid new kept refusals.Memory is = tt
 
 -- ---- a file set to less
 
--- the nodes of a file are on the disk
-pub near_of : {a : Image} {graph : Graph} {id : Puid} {f : File} {root : roots.Root} → HasFile a graph id f root → (blocks : ℕ) → length a ≡ blocks → (n : ℕ) → IsNear blocks a (node_of root n)
-near_of {a} {graph} {id} {f} {root} s blocks sized n =
+-- all of a file is on the disk
+pub near_of : {a : Image} {graph : Graph} {id : Puid} {f : File} {root : roots.Root} → HasFile a graph id f root → (blocks : ℕ) → length a ≡ blocks → IsNearTree blocks a (root_spelling root)
+near_of {a} {graph} {id} {f} {root} s blocks sized =
     let is_root : IsRootBlock (root_spelling root) root = record { good = s.rooted.laid.good; spelled = refl } in
-    subst (λ (m : ℕ). IsNear m a (node_of root n)) sized (near a (root_spelling root) root is_root (length a) id.block root (object_laid a root) (tree_of_laid a (root_spelling root) root is_root id.block refl s.rooted.laid)
-    (omega (arith, s.holds.label.size_is, s.holds.label.is_label.some)) n)
+    subst (λ (m : ℕ). IsNearTree m a (root_spelling root)) sized (near_tree a (root_spelling root) root is_root (length a) id.block root (object_laid a root) (tree_of_laid a (root_spelling root) root is_root id.block refl s.rooted.laid)
+    (omega (arith, s.holds.label.size_is, s.holds.label.is_label.some)))
 
 -- the next root is one
 pub next_root : {a : Image} {graph : Graph} {id : Puid} {f : File} {root : roots.Root} → HasFile a graph id f root → {size from : ℕ} {next : roots.Root} → size ≤ size_limit → IsCutRoot root size from next → IsRoot next

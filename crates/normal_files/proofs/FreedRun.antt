@@ -4,6 +4,7 @@ use Rattle.normal_files.specs.Frees.{Drops, FollowsStart, FreesBlock, FreesTo, G
 use Rattle.normal_files.specs.Cuts.{first_gone, last_node}
 use Rattle.normal_files.specs.Laid.{leaf_of, node_of}
 use Rattle.normal_files.specs.Refusal.{IsTrouble}
+use Rattle.block_tree.specs.Along.{way_leaves}
 use Rattle.normal_files.specs.declared.cut.End.{End}
 use Rattle.normal_files.proofs.Come.{makes_within}
 use Rattle.normal_files.proofs.Trees.{same_leaves}
@@ -192,17 +193,18 @@ module _ {D : Type 0} (g : Ghosts D) (root : roots.Root) (size : ℕ) (end : End
   starts_at = omega arith
 
   -- the leaves of the last node
-  pub end_leaves : (to_leaf to_node : ℕ) (result : Result (Unit {0}) Trouble) → FreesTo g root (GivesLeaves root end.own.leaves last place) (leaf_pointers.count * last + place) last to_leaf to_node old mid k0 k1 result → FreesTo g root Given (leaves_in size) last to_leaf to_node old mid k0 k1 result
+  pub end_leaves : (to_leaf to_node : ℕ) (result : Result (Unit {0}) Trouble) → FreesTo g root (GivesLeaves root (way_leaves end.way) last place) (leaf_pointers.count * last + place) last to_leaf to_node old mid k0 k1 result → FreesTo g root Given (leaves_in size) last to_leaf to_node old mid k0 k1 result
   end_leaves to_leaf to_node result frees =
       subst (λ (l : ℕ). FreesTo g root Given l last to_leaf to_node old mid k0 k1 result) starts_at
-      (frees_given g root Given (GivesLeaves root end.own.leaves last place) (leaf_pointers.count * last + place) last to_leaf to_node old mid k0 k1 result (λ a next keep given. (given.1, omega (arith, given.0, starts_at))) frees)
+      (frees_given g root Given (GivesLeaves root (way_leaves end.way) last place) (leaf_pointers.count * last + place) last to_leaf to_node old mid k0 k1 result (λ a next keep given. (given.1, omega (arith, given.0, starts_at))) frees)
 
   -- told by how many leaves are kept, and the number of the last node
-  pub end_first : (k n : ℕ) → k ≡ leaves_in size → n ≡ last → (result : Result (Unit {0}) Trouble) → FreesTo g root (GivesLeaves root end.own.leaves n (k - leaf_pointers.count * n)) (leaf_pointers.count * n + (k - leaf_pointers.count * n)) n (leaf_pointers.count * n + leaf_pointers.count) n old mid k0 k1 result
+  pub end_first : (k n : ℕ) → k ≡ leaves_in size → n ≡ last → {leaves : List ℕ} → leaves ≡ way_leaves end.way → (result : Result (Unit {0}) Trouble) → FreesTo g root (GivesLeaves root leaves n (k - leaf_pointers.count * n)) (leaf_pointers.count * n + (k - leaf_pointers.count * n)) n (leaf_pointers.count * n + leaf_pointers.count) n old mid k0 k1 result
       → FreesTo g root Given (leaves_in size) last (leaf_pointers.count * last + leaf_pointers.count) last old mid k0 k1 result
-  end_first k n same number result frees = end_leaves (leaf_pointers.count * last + leaf_pointers.count) last result
-      (subst (λ (m : ℕ). FreesTo g root (GivesLeaves root end.own.leaves m (leaves_in size - leaf_pointers.count * m)) (leaf_pointers.count * m + (leaves_in size - leaf_pointers.count * m)) m (leaf_pointers.count * m + leaf_pointers.count) m old mid k0 k1 result) number
-      (subst (λ (q : ℕ). FreesTo g root (GivesLeaves root end.own.leaves n (q - leaf_pointers.count * n)) (leaf_pointers.count * n + (q - leaf_pointers.count * n)) n (leaf_pointers.count * n + leaf_pointers.count) n old mid k0 k1 result) same frees))
+  end_first k n same number {leaves} is result frees = end_leaves (leaf_pointers.count * last + leaf_pointers.count) last result
+      (subst (λ (m : ℕ). FreesTo g root (GivesLeaves root (way_leaves end.way) m (leaves_in size - leaf_pointers.count * m)) (leaf_pointers.count * m + (leaves_in size - leaf_pointers.count * m)) m (leaf_pointers.count * m + leaf_pointers.count) m old mid k0 k1 result) number
+      (subst (λ (q : ℕ). FreesTo g root (GivesLeaves root (way_leaves end.way) n (q - leaf_pointers.count * n)) (leaf_pointers.count * n + (q - leaf_pointers.count * n)) n (leaf_pointers.count * n + leaf_pointers.count) n old mid k0 k1 result) same
+      (subst (λ (ls : List ℕ). FreesTo g root (GivesLeaves root ls n (k - leaf_pointers.count * n)) (leaf_pointers.count * n + (k - leaf_pointers.count * n)) n (leaf_pointers.count * n + leaf_pointers.count) n old mid k0 k1 result) is frees)))
 
   pub end_err : (l n : ℕ) (e : Trouble) → FreesTo g root Given (leaves_in size) last l n old mid k0 k1 (Err e) → FreesTo g root Given (leaves_in size) last leaf_limit node_pointers.count old mid k0 k1 (Err e)
   end_err l n e frees = frees_err g root Given (leaves_in size) last l n leaf_limit node_pointers.count old mid k0 k1 e frees

@@ -1,6 +1,7 @@
 pub mod Words
 pub mod Trees
 pub mod LeafReads
+pub mod Ways
 pub mod Refusals
 pub mod Laid
 pub mod Among
@@ -14,6 +15,7 @@ pub mod Owned
 pub mod NeedOf
 pub mod Orders
 pub mod LackingTo
+pub mod Led
 pub mod Taking
 pub mod TakeLeaf
 pub mod Ending

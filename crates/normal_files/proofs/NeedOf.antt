@@ -6,6 +6,7 @@ use Rattle.normal_files.specs.declared.part.Part.{Part}
 use Rattle.normal_files.proofs.Trees.{leaf_stands}
 use Rattle.normal_files.proofs.LackingTo.{filter_more}
 use Rattle.normal_files.specs.View.{HasFile}
+use Rattle.block_tree.specs.Along.{way_leaves}
 use Rattle.block_tree.specs.declared.root.Root as roots
 use Rattle.ufs_model.specs.declared.object.Object.TheVariants as objects
 
@@ -68,7 +69,7 @@ module _ {a : Image} {graph : Graph} {id : Puid} {f : File} {root : roots.Root} 
   no_block (suc z) = ne_eqb (suc z) 0 (λ none. cc) ∙ sym (ap (λ o. not (is_some o)) (held_there a (suc z) (λ none. cc)))
 
   -- an absent leaf is one to which the node doesn't lead
-  pub told_leaf : (size : ℕ) (part : Part) → IsReadPart size part → IsPart a root part → part.leaves.from < part.leaves.to → (l : ℕ) → l / leaf_pointers.count ≡ part.number → absent_in part.own.leaves l ≡ absent_leaf l
+  pub told_leaf : (size : ℕ) (part : Part) → IsReadPart size part → IsPart a root part → part.leaves.from < part.leaves.to → (l : ℕ) → l / leaf_pointers.count ≡ part.number → absent_in (way_leaves part.way) l ≡ absent_leaf l
   told_leaf size part read is some l number =
       let at : leaf_pointers.count * part.number + l % leaf_pointers.count ≡ l = omega (arith, number) in
       ap (λ (ls : List ℕ). get_or ls (l % leaf_pointers.count) 0 == 0) (is.own some) ∙ no_block (leaf_of a root part.number (l % leaf_pointers.count))
@@ -165,11 +166,11 @@ module _ {a : Image} {graph : Graph} {id : Puid} {f : File} {root : roots.Root} 
   abbrev Node : ℕ → Bool
   Node = absent_node s
 
-  lacking_is : (part : Part) → IsReadPart size part → IsPart a root part → lacking_to part.own.leaves part.leaves.from part.leaves.to ≡ count_of Leaf part.leaves.from (part.leaves.to - part.leaves.from)
+  lacking_is : (part : Part) → IsReadPart size part → IsPart a root part → lacking_to (way_leaves part.way) part.leaves.from part.leaves.to ≡ count_of Leaf part.leaves.from (part.leaves.to - part.leaves.from)
   unfolding count_of
-  lacking_is part read is = many_same (absent_in part.own.leaves) Leaf part.leaves.from (part.leaves.to - part.leaves.from) (λ l from to. told_leaf s size part read is (omega (arith, to, read.some, from)) l (omega (arith, to, read.some, from, read.from, read.to)))
+  lacking_is part read is = many_same (absent_in (way_leaves part.way)) Leaf part.leaves.from (part.leaves.to - part.leaves.from) (λ l from to. told_leaf s size part read is (omega (arith, to, read.some, from)) l (omega (arith, to, read.some, from, read.from, read.to)))
 
-  leaves_is : count_of Leaf (offset / 512) ((offset + count - 1) / 512 + 1 - offset / 512) ≡ lacking_to low.own.leaves low.leaves.from low.leaves.to + lacking_to high.own.leaves high.leaves.from high.leaves.to
+  leaves_is : count_of Leaf (offset / 512) ((offset + count - 1) / 512 + 1 - offset / 512) ≡ lacking_to (way_leaves low.way) low.leaves.from low.leaves.to + lacking_to (way_leaves high.way) high.leaves.from high.leaves.to
   leaves_is =
       let l = lacking_is low parts.low_read low_is in
       let h = lacking_is high parts.high_read high_is in

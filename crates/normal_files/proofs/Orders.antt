@@ -2,6 +2,7 @@
 use Rattle.normal_files.proofs.Words.{◌≡◌, ◌≢◌, inl, inr, ℕ, suc, ◌+◌, ◌*◌, ◌/◌, ◌%◌, ◌<◌, Bool, true, false, List, ◌∷◌, get_or, refl, sym, ◌∙◌, ap, subst, eq-eqb, arith, ◌||◌, ◌==◌, if◌then◌else◌, not, cases_eq, ne_eqb, Image, Leaf, allocated, entry_in, with_entry, entry_in-with_entry_other, entry_in-with_entry_same, entry_in_table, AreClaimed, has_number, here, leaf_pointers}
 use Rattle.normal_files.specs.Order.{TellsHeld, claims_from, nodes_now}
 use Rattle.normal_files.specs.Takes.{TakesLeaf}
+use Rattle.block_tree.specs.Along.{way_leaves}
 use Rattle.normal_files.specs.declared.part.Part.{Part}
 use Rattle.normal_files.proofs.Taking.{free_is}
 
@@ -15,14 +16,14 @@ module _ (part : Part) (had : ℕ) (leaves nodes : List ℕ) (tells : TellsHeld 
   place : leaf % leaf_pointers.count ≡ l
   place = omega (arith, at, small)
 
-  told : has_number leaf leaves ≡ not (get_or part.own.leaves l 0 == 0)
-  told = tells.leaf leaf (omega (arith, at, small)) ∙ ap (λ (j : ℕ). not (get_or part.own.leaves j 0 == 0)) place
+  told : has_number leaf leaves ≡ not (get_or (way_leaves part.way) l 0 == 0)
+  told = tells.leaf leaf (omega (arith, at, small)) ∙ ap (λ (j : ℕ). not (get_or (way_leaves part.way) j 0 == 0)) place
 
-  pub told_held : get_or part.own.leaves l 0 ≢ 0 → has_number leaf leaves ≡ true
-  told_held held = told ∙ ap not (ne_eqb (get_or part.own.leaves l 0) 0 held)
+  pub told_held : get_or (way_leaves part.way) l 0 ≢ 0 → has_number leaf leaves ≡ true
+  told_held held = told ∙ ap not (ne_eqb (get_or (way_leaves part.way) l 0) 0 held)
 
-  pub told_absent : get_or part.own.leaves l 0 ≡ 0 → has_number leaf leaves ≡ false
-  told_absent absent = told ∙ ap not (eq-eqb (get_or part.own.leaves l 0) 0 absent)
+  pub told_absent : get_or (way_leaves part.way) l 0 ≡ 0 → has_number leaf leaves ≡ false
+  told_absent absent = told ∙ ap not (eq-eqb (get_or (way_leaves part.way) l 0) 0 absent)
 
 -- ---- the nodes that are held
 

@@ -7,8 +7,9 @@ use Rattle.normal_files.specs.declared.part.Part.{Part}
 use Rattle.normal_files.proofs.Among.{own_apart}
 use Rattle.normal_files.proofs.Amid.{amid_puts, amid_skips, long_before, put_leaves}
 use Rattle.normal_files.specs.View.{Way}
+use Rattle.block_tree.specs.Along.{way_leaves}
 
-module _ {D : Type 0} {g : Ghosts D} {r : ℕ} {w : Way g r} {offset : ℕ} {bytes : List ℕ} {size : ℕ} {part : Part} (read : IsReadPart size part) (is : IsPart (g.content w.start) w.root part) {l : ℕ} (from : part.leaves.from ≤ l) (to : l < part.leaves.to)
+module _ {D : Type 0} {g : Ghosts D} {r : ℕ} {w : Way g r} {offset : ℕ} {bytes : List ℕ} {size : ℕ} {part : Part} (read : IsReadPart size part) (is : IsPart (g.content w.start) w.root part) {l : ℕ} (from : part.leaves.from ≤ l) (to : l < part.leaves.to) {block : ℕ} (here : block ≡ slice_index (way_leaves part.way) (l % leaf_pointers.count))
     {mid : D} {kept : Kept} (amid : IsAmid w offset bytes l mid kept) where
   abbrev a : Image
   a = g.content w.start
@@ -19,9 +20,6 @@ module _ {D : Type 0} {g : Ghosts D} {r : ℕ} {w : Way g r} {offset : ℕ} {byt
   abbrev k : ℕ
   k = l % leaf_pointers.count
 
-  abbrev block : ℕ
-  block = slice_index part.own.leaves k
-
   small : k < leaf_pointers.count
   small = omega arith
 
@@ -29,7 +27,7 @@ module _ {D : Type 0} {g : Ghosts D} {r : ℕ} {w : Way g r} {offset : ℕ} {byt
   at = omega (arith, from, to, read.from, read.to)
 
   points : block ≡ leaf_of a w.root n k
-  points = ap (λ (ns : List ℕ). get_or ns k 0) (is.own (omega (arith, from, to)))
+  points = here ∙ ap (λ (ns : List ℕ). get_or ns k 0) (is.own (omega (arith, from, to)))
 
   amid_at : IsAmid w offset bytes (leaf_pointers.count * n + k) mid kept
   amid_at = subst (λ (m : ℕ). IsAmid w offset bytes m mid kept) (sym at) amid

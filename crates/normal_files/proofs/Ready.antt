@@ -3,7 +3,8 @@ use Rattle.normal_files.proofs.Words.{◌≡◌, ◌≢◌, ◌⊎◌, inl, inr,
 use Rattle.normal_files.specs.Laid.{IsAt, IsRooted, leaf_of, leaves_of, node_of}
 use Rattle.block_tree.specs.Way.{with_node}
 use Rattle.normal_files.specs.Takes.{IsTakenTo, fresh_content}
-use Rattle.normal_files.specs.declared.next.Next.{Next}
+use Rattle.block_tree.specs.Along.{way_leaves}
+use Rattle.normal_files.specs.Plans.{Plan}
 use Rattle.normal_files.specs.declared.part.Part.{Part}
 use Rattle.normal_files.proofs.Among.{places_differ}
 use Rattle.normal_files.proofs.Linked.{IsLinked, bytes_new, bytes_stay, leaf_other, leaf_there, leaves_other}
@@ -12,10 +13,10 @@ use Rattle.normal_files.proofs.Trees.{same_leaves}
 use Rattle.block_tree.specs.declared.root.Root as roots
 
 -- In image c nothing leads to the leaves of a part that were taken, and all that the root is to lead to stands.
-pub record IsReady (c : Image) (id : Puid) (r : roots.Root) (fill offset : ℕ) (bytes : List ℕ) (part : Part) (next : Next) : Type 0 where
+pub record IsReady (c : Image) (id : Puid) (r : roots.Root) (fill offset : ℕ) (bytes : List ℕ) (part : Part) (next : Plan) : Type 0 where
   pub number : part.number < node_pointers.count
-  pub own : part.own.leaves ≡ leaves_at c (node_of r part.number)
-  pub others : (k : ℕ) → (IsTakenTo part part.leaves.to k → ⊥) → get_or next.node.leaves k 0 ≡ get_or part.own.leaves k 0
+  pub own : way_leaves part.way ≡ leaves_at c (node_of r part.number)
+  pub others : (k : ℕ) → (IsTakenTo part part.leaves.to k → ⊥) → get_or next.node.leaves k 0 ≡ get_or (way_leaves part.way) k 0
   pub leaves : (k : ℕ) → IsTakenTo part part.leaves.to k → IsAt c id.block (Leaf (leaf_pointers.count * part.number + k)) (get_or next.node.leaves k 0) × (get_or next.node.leaves k 0 ≢ 0)
   pub contents : (k : ℕ) → IsTakenTo part part.leaves.to k → block_at c (get_or next.node.leaves k 0) ≡ fresh_content fill (leaf_pointers.count * part.number + k) offset bytes
   pub node_had : node_of r part.number ≢ 0 → next.block ≡ node_of r part.number
@@ -30,11 +31,11 @@ taken_or part upto k small = elim (cases_lt (leaf_pointers.count * part.number +
   | inl early ↦ inr (λ t. omega (arith, t.from, early))
   | inr from ↦ elim (cases_lt (leaf_pointers.count * part.number + k) upto) [
     | inr late ↦ inr (λ t. omega (arith, t.to, late))
-    | inl to ↦ elim (cases_eq (get_or part.own.leaves k 0) 0) [ inl absent ↦ inl (record { small = small; from = from; to = to; absent = absent }) | inr held ↦ inr (λ t. held t.absent) ]
+    | inl to ↦ elim (cases_eq (get_or (way_leaves part.way) k 0) 0) [ inl absent ↦ inl (record { small = small; from = from; to = to; absent = absent }) | inr held ↦ inr (λ t. held t.absent) ]
   ]
 ]
 
-module _ (c : Image) (id : Puid) (r : roots.Root) (fill offset : ℕ) (bytes : List ℕ) (part : Part) (next : Next) (rooted : IsRooted c id r) (no_map : (m : ℕ) (p : Place) → BelongsTo id.block p (part_at c m) → m % 64 ≢ 0)
+module _ (c : Image) (id : Puid) (r : roots.Root) (fill offset : ℕ) (bytes : List ℕ) (part : Part) (next : Plan) (rooted : IsRooted c id r) (no_map : (m : ℕ) (p : Place) → BelongsTo id.block p (part_at c m) → m % 64 ≢ 0)
     (ready : IsReady c id r fill offset bytes part next) where
   abbrev n : ℕ
   n = part.number
@@ -159,7 +160,7 @@ module _ (c : Image) (id : Puid) (r : roots.Root) (fill offset : ℕ) (bytes : L
     ]
 
     -- another part that was ready still is
-    module _ (other : Part) (more : Next) (apart : other.number ≢ n) (was : IsReady c id r fill offset bytes other more) where
+    module _ (other : Part) (more : Plan) (apart : other.number ≢ n) (was : IsReady c id r fill offset bytes other more) where
       at_on : (m : ℕ) (p : Place) → IsAt c id.block p m → IsAt d id.block p m
       at_on m p at = record { below = omega (arith, at.below, link.size); part = subst (BelongsTo id.block p) (sym (ap part_of (link.entries m))) at.part }
 

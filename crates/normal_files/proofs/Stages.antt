@@ -4,7 +4,7 @@ use Rattle.normal_files.specs.Laid.{IsAt, IsRooted, leaf_of, leaves_of, node_of}
 use Rattle.block_tree.specs.Way.{with_node}
 use Rattle.normal_files.specs.Links.{linked_image, linked_root}
 use Rattle.normal_files.specs.Takes.{IsTakenTo, fresh_content}
-use Rattle.normal_files.specs.declared.next.Next.{Next}
+use Rattle.normal_files.specs.Plans.{Plan}
 use Rattle.normal_files.specs.declared.part.Part.{Part}
 use Rattle.normal_files.proofs.Amid.{counts_content, taken_open}
 use Rattle.normal_files.proofs.Among.{own_loose}
@@ -13,6 +13,7 @@ use Rattle.normal_files.proofs.Patched.{last, mixed_fits, next_touched, touched_
 use Rattle.normal_files.proofs.Ready.{IsReady, node_links, node_stays, other_bytes, pointer_stays, ready_spells, real_stays, root_links, still_ready, taken_bytes, taken_or}
 use Rattle.normal_files.proofs.Trees.{each_leaf, leaf_stands}
 use Rattle.normal_files.specs.View.{HasFile}
+use Rattle.block_tree.specs.Along.{way_leaves}
 use Rattle.block_tree.specs.declared.root.Root as roots
 
 module _ {a : Image} {graph : Graph} {id : Puid} {f : File} {root : roots.Root} (has : HasFile a graph id f root) (offset : ℕ) (bytes : List ℕ) (inside : offset + length bytes ≤ length f.bytes) (base : Image) (kept : Kept) where
@@ -38,14 +39,14 @@ module _ {a : Image} {graph : Graph} {id : Puid} {f : File} {root : roots.Root} 
     pub no_map : (m : ℕ) (p : Place) → BelongsTo id.block p (part_at c m) → m % 64 ≢ 0
 
   -- from one stage to the next the node of a part comes to lead to its leaves, and all else stays
-  pub record Comes (c d : Image) (r s : roots.Root) (part : Part) (next : Next) : Type 0 where
+  pub record Comes (c d : Image) (r s : roots.Root) (part : Part) (next : Plan) : Type 0 where
     pub stage : IsStage d s
     pub done : (k : ℕ) → IsTakenTo part part.leaves.to k → (bytes_held (leaves_of d s (leaf_pointers.count * part.number + k)) ≡ end (leaf_pointers.count * part.number + k)) × (leaf_of d s part.number k ≡ get_or next.node.leaves k 0)
     pub block : next.grown ≡ true → node_of s part.number ≡ next.block
     pub other_bytes : (m k : ℕ) → k < leaf_pointers.count → (m ≡ part.number → IsTakenTo part part.leaves.to k → ⊥) → bytes_held (leaves_of d s (leaf_pointers.count * m + k)) ≡ bytes_held (leaves_of c r (leaf_pointers.count * m + k))
     pub other_leaves : (m k : ℕ) → k < leaf_pointers.count → (m ≡ part.number → IsTakenTo part part.leaves.to k → ⊥) → leaf_of d s m k ≡ leaf_of c r m k
     pub other_nodes : (m : ℕ) → (next.grown ≡ true → m ≢ part.number) → node_of s m ≡ node_of r m
-    pub ready : (other : Part) (more : Next) → other.number ≢ part.number → IsReady c id r root.fill offset bytes other more → IsReady d id s root.fill offset bytes other more
+    pub ready : (other : Part) (more : Plan) → other.number ≢ part.number → IsReady c id r root.fill offset bytes other more → IsReady d id s root.fill offset bytes other more
 
   is_root : IsRootBlock (root_spelling root) root
   is_root = record { good = has.rooted.laid.good; spelled = refl }
@@ -63,8 +64,8 @@ module _ {a : Image} {graph : Graph} {id : Puid} {f : File} {root : roots.Root} 
 
   -- ---- one part
 
-  module _ (c : Image) (r : roots.Root) (stage : IsStage c r) (part : Part) (next : Next) (ready : IsReady c id r root.fill offset bytes part next) (touched : (k : ℕ) → IsTakenTo part part.leaves.to k → (offset / 512 ≤ leaf_pointers.count * part.number + k) × (leaf_pointers.count * part.number + k < leaves_in (offset + length bytes)))
-      (own : part.own.leaves ≡ leaves_at a (node_of root part.number)) (grown : next.grown ≡ true) where
+  module _ (c : Image) (r : roots.Root) (stage : IsStage c r) (part : Part) (next : Plan) (ready : IsReady c id r root.fill offset bytes part next) (touched : (k : ℕ) → IsTakenTo part part.leaves.to k → (offset / 512 ≤ leaf_pointers.count * part.number + k) × (leaf_pointers.count * part.number + k < leaves_in (offset + length bytes)))
+      (own : way_leaves part.way ≡ leaves_at a (node_of root part.number)) (grown : next.grown ≡ true) where
     abbrev n : ℕ
     n = part.number
 
@@ -189,9 +190,9 @@ module _ {a : Image} {graph : Graph} {id : Puid} {f : File} {root : roots.Root} 
 
   -- ---- one part, whether a leaf of it was taken or none
 
-  pub steps : (c : Image) (r : roots.Root) (stage : IsStage c r) (part : Part) (next : Next) → (next.grown ≡ true → IsReady c id r root.fill offset bytes part next) → (next.grown ≡ false → (k : ℕ) → IsTakenTo part part.leaves.to k → ⊥)
+  pub steps : (c : Image) (r : roots.Root) (stage : IsStage c r) (part : Part) (next : Plan) → (next.grown ≡ true → IsReady c id r root.fill offset bytes part next) → (next.grown ≡ false → (k : ℕ) → IsTakenTo part part.leaves.to k → ⊥)
       → ((k : ℕ) → IsTakenTo part part.leaves.to k → (offset / 512 ≤ leaf_pointers.count * part.number + k) × (leaf_pointers.count * part.number + k < leaves_in (offset + length bytes)))
-      → (next.grown ≡ true → part.own.leaves ≡ leaves_at a (node_of root part.number)) → (next.grown ≡ true → node_of r part.number ≡ node_of root part.number)
+      → (next.grown ≡ true → way_leaves part.way ≡ leaves_at a (node_of root part.number)) → (next.grown ≡ true → node_of r part.number ≡ node_of root part.number)
       → Comes c (linked_image c id.block r part.number next) r (linked_root r part.number next) part next
   steps c r stage part next ready none touched own had = elim (cases_Bool next.grown) [
     | inl grown ↦ linked_comes c r stage part next (ready grown) touched (own grown) grown (had grown)

@@ -1,11 +1,12 @@
 -- One leaf more of a part.
-use Rattle.normal_files.proofs.Words.{◌≡◌, inl, inr, ℕ, zero, suc, ◌+◌, ◌-◌, ◌*◌, ◌%◌, ◌<◌, ◌≤◌, Bool, true, false, cond, Ok, Err, List, length, get_or, refl, sym, ap, subst, arith, ◌∙◌, ◌&&◌, ◌==◌, if◌then◌else◌, nat_lt, Result, cases_eq, lt-ltb, ne_eqb, Ghosts, Refused, AreClaimed, Kept, refused_by, trouble_after_try, Node, Trouble, leaf_pointers, pointers_of, IsLoose, Image, Leaves}
+use Rattle.normal_files.proofs.Words.{◌≡◌, ◌≢◌, inl, inr, ℕ, zero, suc, ◌+◌, ◌-◌, ◌*◌, ◌%◌, ◌<◌, ◌≤◌, Bool, true, false, cond, Ok, Err, List, get_or, refl, sym, ap, subst, arith, ◌∙◌, ◌&&◌, ◌==◌, if◌then◌else◌, nat_lt, Result, cases_eq, lt-ltb, ne_eqb, Ghosts, Refused, AreClaimed, Kept, refused_by, trouble_after_try, Node, Trouble, leaf_pointers, pointers_of, IsLoose, Image, Leaves}
 use Rattle.normal_files.specs.Ends.{HasGone, refused_after, Halts}
 use Rattle.normal_files.specs.Laid.{node_of}
 use Rattle.normal_files.specs.Order.{claims_from}
 use Rattle.normal_files.specs.Parts.{IsReadPart, absent_in, lacking_to, part_need}
 use Rattle.normal_files.specs.Steps.{WritesBlock, MayLeave}
 use Rattle.normal_files.specs.Takes.{IsTakenTo, MayTake, TakesLeaf, fresh_content, is_held, leaf_takes, node_takes, with_taken, HasTaken, IsNew, IsWhole, Passes}
+use Rattle.normal_files.specs.Plans.{Plan}
 use Rattle.normal_files.specs.declared.next.Next.{Next}
 use Rattle.normal_files.specs.declared.part.Part.{Part}
 use Rattle.normal_files.proofs.Ending.{gone_err, gone_within, same_after, gone_as, gone_come, gone_then, halts_come, halts_within, or_true}
@@ -13,6 +14,8 @@ use Rattle.normal_files.proofs.LackingTo.{filter_to}
 use Rattle.normal_files.proofs.TakeRun.{leaf_passed, node_whole, node_written}
 use Rattle.normal_files.proofs.Taking.{fresh_leaves, fresh_written, loose}
 use Rattle.normal_files.specs.View.{Way}
+use Rattle.block_tree.specs.Along.{way_leaves, way_node}
+use Rattle.normal_files.proofs.Ways.{way_count}
 use Rattle.normal_files.proofs.Come.{come_wrote, write_stopped}
 use Rattle.block_tree.specs.declared.root.Root as roots
 use Rattle.cfs_base.specs.declared.refusal.Trouble.TheVariants as trouble
@@ -22,16 +25,16 @@ use Rattle.cfs_base.specs.declared.refusal.Trouble.TheVariants as trouble
 pub at_leaf : {size : ℕ} {part : Part} → IsReadPart size part → (leaf : ℕ) → part.leaves.from ≤ leaf → leaf < part.leaves.to → leaf_pointers.count * part.number + leaf % leaf_pointers.count ≡ leaf
 at_leaf read leaf from to = omega (arith, from, to, read.from, read.to)
 
-pub one_taken : {a c d : Image} {owner fill offset : ℕ} {bytes : List ℕ} {part : Part} {had leaf size : ℕ} {next : Next} → HasTaken a c owner fill offset bytes part had leaf next → IsReadPart size part → part.leaves.from ≤ leaf → leaf < part.leaves.to → get_or part.own.leaves (leaf % leaf_pointers.count) 0 ≡ 0
-    → {held : Bool} {x y : ℕ} {content : List ℕ} → TakesLeaf c d owner leaf held next.block x y content → held ≡ is_held had next → content ≡ fresh_content fill leaf offset bytes → {more : Next} → more ≡ with_taken next (leaf % leaf_pointers.count) x y → HasTaken a d owner fill offset bytes part had (leaf + 1) more
-one_taken {a} {c} {d} {owner} {fill} {offset} {bytes} {part} {had} {leaf} {size} {next} has read from to absent {held} {x} {y} {content} takes held_is is more_is =
+pub one_taken : {a c d : Image} {owner fill offset : ℕ} {bytes : List ℕ} {part : Part} {had leaf size : ℕ} {next : Plan} → HasTaken a c owner fill offset bytes part had leaf next → IsReadPart size part → part.leaves.from ≤ leaf → leaf < part.leaves.to → get_or (way_leaves part.way) (leaf % leaf_pointers.count) 0 ≡ 0
+    → {held : Bool} {block x y : ℕ} {content : List ℕ} → TakesLeaf c d owner leaf held block x y content → block ≡ next.block → held ≡ is_held had next.grown → content ≡ fresh_content fill leaf offset bytes → {more : Plan} → more ≡ with_taken next (leaf % leaf_pointers.count) x y → HasTaken a d owner fill offset bytes part had (leaf + 1) more
+one_taken {a} {c} {d} {owner} {fill} {offset} {bytes} {part} {had} {leaf} {size} {next} has read from to absent {held} {block} {x} {y} {content} takes block_is held_is is more_is =
     subst (HasTaken a d owner fill offset bytes part had (leaf + 1)) (sym more_is) (leaf_passed has (leaf % leaf_pointers.count) (at_leaf read leaf from to) (omega arith) from absent
-    (subst (TakesLeaf c d owner leaf (is_held had next) next.block x y) is (subst (λ (h : Bool). TakesLeaf c d owner leaf h next.block x y content) held_is takes)))
+    (subst (TakesLeaf c d owner leaf (is_held had next.grown) next.block x y) is (subst (λ (h : Bool). TakesLeaf c d owner leaf h next.block x y content) held_is (subst (λ (b : ℕ). TakesLeaf c d owner leaf held b x y content) block_is takes))))
 
 -- ---- how many blocks
 
 -- what a leaf takes, with its node, that isn't held
-pub takes_sum : (had : ℕ) (next : Next) → node_takes had next.grown + leaf_takes (is_held had next) ≡ 1 + node_takes had true
+pub takes_sum : (had : ℕ) (next : Next) → node_takes had next.grown + leaf_takes (is_held had next.grown) ≡ 1 + node_takes had true
 takes_sum had next = by had next.grown
   where
     by : (h : ℕ) (grown : Bool) → node_takes h grown + leaf_takes (if h == 0 then grown else true) ≡ 1 + node_takes h true
@@ -42,13 +45,13 @@ takes_sum had next = by had next.grown
 
 -- ---- before the first leaf
 
-pub taken_begins : (a : Image) (owner fill offset : ℕ) (bytes : List ℕ) (part : Part) (had : ℕ) → length part.own.leaves ≡ leaf_pointers.count → HasTaken a a owner fill offset bytes part had part.leaves.from (record { block = had; node = part.own; grown = false })
-taken_begins a owner fill offset bytes part had count = record {
-  count = count;
+pub taken_begins : (a : Image) (owner fill offset : ℕ) (bytes : List ℕ) (part : Part) (had block : ℕ) → (had ≢ 0 → block ≡ had) → HasTaken a a owner fill offset bytes part had part.leaves.from (record { block = block; node = way_node part.way; grown = false })
+taken_begins a owner fill offset bytes part had block same = record {
+  count = way_count part.way;
   others = λ k not. refl;
   leaves = λ k t. absurd (none k t);
   contents = λ k t. absurd (none k t);
-  node_had = λ some. refl;
+  node_had = same;
   node_new = λ no yes. cc;
   none = λ no k t. none k t;
   some = λ yes. cc;
@@ -90,7 +93,7 @@ takes_none had = by (had == 0)
     by false = refl
 
 -- the node counts once
-node_part : (root : roots.Root) (part : Part) (grown : Bool) → (grown ≡ true → part.leaves.from < part.leaves.to) → lacking_to part.own.leaves part.leaves.from part.leaves.to + node_takes (node_of root part.number) grown ≤ part_need root part
+node_part : (root : roots.Root) (part : Part) (grown : Bool) → (grown ≡ true → part.leaves.from < part.leaves.to) → lacking_to (way_leaves part.way) part.leaves.from part.leaves.to + node_takes (node_of root part.number) grown ≤ part_need root part
 node_part root part false some = let none = takes_none (node_of root part.number) in omega (arith, none)
 node_part root part true some = elim (cases_eq (node_of root part.number) 0) [
   | inl none ↦
@@ -103,11 +106,11 @@ node_part root part true some = elim (cases_eq (node_of root part.number) 0) [
 -- the leaves before one are passed
 abbrev pub Passed : {D : Type 0} → Ghosts D → roots.Root → Part → ℕ → Next → D → D → Kept → Kept → Type 0
 Passed g root part upto next old new before after =
-    HasGone g (5 * (upto - part.leaves.from)) (3 * (upto - part.leaves.from)) (lacking_to part.own.leaves part.leaves.from upto + node_takes (node_of root part.number) next.grown) next.grown old new before after
+    HasGone g (5 * (upto - part.leaves.from)) (3 * (upto - part.leaves.from)) (lacking_to (way_leaves part.way) part.leaves.from upto + node_takes (node_of root part.number) next.grown) next.grown old new before after
 
 module _ {D : Type 0} {g : Ghosts D} (root : roots.Root) (part : Part) (leaf : ℕ) (next : Next) (from : part.leaves.from ≤ leaf) {start mid : D} {before now : Kept} (gone : Passed g root part leaf next start mid before now) where
   abbrev own : List ℕ
-  own = part.own.leaves
+  own = way_leaves part.way
 
   abbrev had : ℕ
   had = node_of root part.number
@@ -146,7 +149,7 @@ module _ {D : Type 0} {g : Ghosts D} (root : roots.Root) (part : Part) (leaf : �
 -- ---- a part whose leaves were taken, with its new node written
 
 -- there is none to be written
-pub no_node : {D : Type 0} (g : Ghosts D) (d : D) (had : ℕ) (next : Next) → (had == 0 && next.grown) ≡ false → IsWhole (g.content d) had next
+pub no_node : {D : Type 0} (g : Ghosts D) (d : D) (had : ℕ) (next : Plan) → (had == 0 && next.grown) ≡ false → IsWhole (g.content d) had next
 no_node g d had next not none grown = (let yes : (had == 0 && next.grown) ≡ true = rw (none, grown) refl in let clash = sym yes ∙ not in cc)
 
 pub is_none : (had : ℕ) (grown : Bool) → (had == 0 && grown) ≡ true → (had ≡ 0) × (grown ≡ true)
@@ -154,7 +157,7 @@ is_none zero true h = (refl, refl)
 is_none zero false h = cc
 is_none (suc had) grown h = (let e : (suc had == 0) ≡ false = ne_eqb (suc had) 0 (λ z. cc) in let clash = sym (ap (λ (b : Bool). b && grown) e) ∙ h in cc)
 
-module _ {D : Type 0} {g : Ghosts D} {r fill offset : ℕ} {bytes : List ℕ} {part : Part} {had upto : ℕ} {d0 mid : D} {k0 k1 : Kept} {next : Next} {w : Way g r} (may : MayTake w offset bytes d0 k0) (now : MayTake w offset bytes mid k1)
+module _ {D : Type 0} {g : Ghosts D} {r fill offset : ℕ} {bytes : List ℕ} {part : Part} {had upto : ℕ} {d0 mid : D} {k0 k1 : Kept} {next : Plan} {w : Way g r} (may : MayTake w offset bytes d0 k0) (now : MayTake w offset bytes mid k1)
     (has : HasTaken (g.content d0) (g.content mid) r fill offset bytes part had upto next) (is_new : (had == 0 && next.grown) ≡ true) {v : List ℕ} {new : D} {result : Result (Unit {0}) Trouble} (writes : WritesBlock g 1 next.block v mid new result) where
   is : IsNew (g.content d0) (g.content mid) r (Node part.number) next.block
   is = has.node_new (is_none had next.grown is_new).0 (is_none had next.grown is_new).1

@@ -2,7 +2,8 @@
 use Rattle.normal_files.proofs.Words.{◌≡◌, ◌≢◌, ◌⊎◌, inl, inr, ℕ, zero, suc, ◌+◌, ◌*◌, ◌/◌, ◌%◌, ◌<◌, ◌≤◌, Bool, true, false, List, [], ◌∷◌, set, get_or, refl, sym, ◌∙◌, ap, subst, get_or-set_other, get_or-set_same, arith, ◌==◌, both_ways, cases_Bool, cases_eq, ne_eqb, length-set, Image, block_at, Place, Leaf, Node, leaf_pointers, pointers_of, AreClaimed, claims_then, MapEntry, entry_in, is_free_entry, is_free_in, entry_in-set, same_Some, has_number, leaves_at}
 use Rattle.normal_files.specs.Order.{TellsHeld, claims_from, nodes_now}
 use Rattle.normal_files.specs.Takes.{FreesNone, HasTaken, IsNew, IsOneOf, IsTakenTo, IsWhole, KeepsTaken, TakesLeaf, fresh_content, is_held}
-use Rattle.normal_files.specs.declared.next.Next.{Next}
+use Rattle.block_tree.specs.Along.{way_leaves}
+use Rattle.normal_files.specs.Plans.{Plan}
 use Rattle.normal_files.specs.declared.part.Part.{Part}
 use Rattle.normal_files.proofs.Orders.{leaf_claimed, now_has, now_more, now_same, told_absent, told_held}
 
@@ -37,7 +38,7 @@ keeps_then one two = record {
 pub new_apart : {a b c : Image} {r : ℕ} {p q : Place} {m n : ℕ} → IsNew a c r p m → IsNew b c r q n → m ≡ n → p ≡ q
 new_apart {c = c} one two same = same_Some _ _ (ap (λ (e : MapEntry). e.place) (same_Some _ _ (sym one.entry ∙ ap (entry_in c) same ∙ two.entry)))
 
-module _ {a c : Image} {owner fill offset : ℕ} {bytes : List ℕ} {part : Part} {had upto : ℕ} {next : Next} (has : HasTaken a c owner fill offset bytes part had upto next) where
+module _ {a c : Image} {owner fill offset : ℕ} {bytes : List ℕ} {part : Part} {had upto : ℕ} {next : Plan} (has : HasTaken a c owner fill offset bytes part had upto next) where
   -- what is one of these isn't Free
   one_taken : (m : ℕ) → IsOneOf part had upto next m → is_free_in c m ≡ false
   one_taken m (inl (k, t, is)) = ap (is_free_in c) is ∙ new_taken (has.leaves k t)
@@ -47,12 +48,12 @@ module _ {a c : Image} {owner fill offset : ℕ} {bytes : List ℕ} {part : Part
   taken_frees m free = elim (has.rest m) [ inl same ↦ sym (ap is_free_entry same) ∙ free | inr one ↦ absurd (both_ways _ (one_taken m one) free) ]
 
   -- the next leaf is held already
-  module _ (l : ℕ) (at : leaf_pointers.count * part.number + l ≡ upto) (small : l < leaf_pointers.count) (held : get_or part.own.leaves l 0 ≢ 0) where
+  module _ (l : ℕ) (at : leaf_pointers.count * part.number + l ≡ upto) (small : l < leaf_pointers.count) (held : get_or (way_leaves part.way) l 0 ≢ 0) where
     back : (k : ℕ) → IsTakenTo part (upto + 1) k → IsTakenTo part upto k
     back k t = record {
       small = t.small;
       from = t.from;
-      to = elim (cases_eq k l) [ inl same ↦ absurd (held (ap (λ (j : ℕ). get_or part.own.leaves j 0) (sym same) ∙ t.absent)) | inr apart ↦ omega (arith, t.to, at, apart) ];
+      to = elim (cases_eq k l) [ inl same ↦ absurd (held (ap (λ (j : ℕ). get_or (way_leaves part.way) j 0) (sym same) ∙ t.absent)) | inr apart ↦ omega (arith, t.to, at, apart) ];
       absent = t.absent;
     }
 
@@ -76,9 +77,9 @@ module _ {a c : Image} {owner fill offset : ℕ} {bytes : List ℕ} {part : Part
     }
 
   -- it is absent, and taken
-  module _ {d : Image} (l : ℕ) {x y : ℕ} (at : leaf_pointers.count * part.number + l ≡ upto) (small : l < leaf_pointers.count) (from : part.leaves.from ≤ upto) (absent : get_or part.own.leaves l 0 ≡ 0)
-      (takes : TakesLeaf c d owner upto (is_held had next) next.block x y (fresh_content fill upto offset bytes)) where
-    abbrev more : Next
+  module _ {d : Image} (l : ℕ) {x y : ℕ} (at : leaf_pointers.count * part.number + l ≡ upto) (small : l < leaf_pointers.count) (from : part.leaves.from ≤ upto) (absent : get_or (way_leaves part.way) l 0 ≡ 0)
+      (takes : TakesLeaf c d owner upto (is_held had next.grown) next.block x y (fresh_content fill upto offset bytes)) where
+    abbrev more : Plan
     more = record { block = y; node = record { leaves = set next.node.leaves l x }; grown = true }
 
     this : IsTakenTo part (upto + 1) l
@@ -103,11 +104,11 @@ module _ {a c : Image} {owner fill offset : ℕ} {bytes : List ℕ} {part : Part
     from_a p m is = record { free = taken_frees m is.free; no_map = is.no_map; below = is.below; entry = is.entry }
 
     -- the node's block stays once it is got
-    held_some : had ≢ 0 → is_held had next ≡ true
+    held_some : had ≢ 0 → is_held had next.grown ≡ true
     held_some some = rw (ne_eqb had 0 some) refl
 
-    held_grown : had ≡ 0 → is_held had next ≡ next.grown
-    held_grown none = ap (λ (h : ℕ). is_held h next) none
+    held_grown : had ≡ 0 → is_held had next.grown ≡ next.grown
+    held_grown none = ap (λ (h : ℕ). is_held h next.grown) none
 
     node_now : had ≡ 0 → (grown : Bool) → next.grown ≡ grown → IsNew a d owner (Node part.number) y
     node_now none true grown =
@@ -116,7 +117,7 @@ module _ {a c : Image} {owner fill offset : ℕ} {bytes : List ℕ} {part : Part
         let number : upto / leaf_pointers.count ≡ part.number = omega (arith, at, small) in
         subst (λ (n : ℕ). IsNew a d owner (Node n) y) number (from_a (Node (upto / leaf_pointers.count)) y (takes.y_new (held_grown none ∙ grown)))
 
-    had_none : is_held had next ≡ false → had ≡ 0
+    had_none : is_held had next.grown ≡ false → had ≡ 0
     had_none not = elim (cases_eq had 0) [ inl is ↦ is | inr some ↦ absurd (both_ways _ not (held_some some)) ]
 
     old_one : (m : ℕ) → IsOneOf part had upto next m → IsOneOf part had (upto + 1) more m
@@ -132,7 +133,7 @@ module _ {a c : Image} {owner fill offset : ℕ} {bytes : List ℕ} {part : Part
         let N = nodes_now (had == 0) next.grown part.number nodes in
         let number : upto / leaf_pointers.count ≡ part.number = omega (arith, at, small) in
         has.order leaves nodes tells (suc n) m e (omega (arith, eq))
-        (leaf_claimed owner leaves N (nodes_now (had == 0) true part.number nodes) upto n c d e (is_held had next) next.block x y (fresh_content fill upto offset bytes) (told_absent part had leaves nodes tells upto l at small absent)
+        (leaf_claimed owner leaves N (nodes_now (had == 0) true part.number nodes) upto n c d e (is_held had next.grown) next.block x y (fresh_content fill upto offset bytes) (told_absent part had leaves nodes tells upto l at small absent)
         (ap (λ (k : ℕ). has_number k N) number ∙ now_has (had == 0) next.grown part.number nodes tells.node) (now_same (had == 0) next.grown part.number nodes)
         (λ no. now_more (had == 0) next.grown part.number nodes no ∙ ap (λ (k : ℕ). k ∷ N) (sym number)) takes more)
 
@@ -161,7 +162,7 @@ module _ {a c : Image} {owner fill offset : ℕ} {bytes : List ℕ} {part : Part
         | inl same ↦ inr (inl (l, this, same ∙ sym here))
         | inr not_x ↦ elim (cases_eq m y) [
           | inr not_y ↦ as_before m (takes.rest m not_x (λ none. not_y))
-          | inl same ↦ elim (cases_Bool (is_held had next)) [
+          | inl same ↦ elim (cases_Bool (is_held had next.grown)) [
             | inl held ↦ as_before m (takes.rest m not_x (λ not. absurd (both_ways _ not held)))
             | inr not ↦ inr (inr (had_none not, refl, same))
           ]

@@ -6,7 +6,7 @@ use Rattle.normal_files.specs.Order.{claims_of}
 use Rattle.normal_files.specs.Standing.{IsPartly}
 use Rattle.normal_files.specs.Steps.{IsAmid, told_after, MayLeave}
 use Rattle.normal_files.specs.Takes.{MayTake, TakesBoth}
-use Rattle.normal_files.specs.declared.next.Next.{Next}
+use Rattle.normal_files.specs.Plans.{Plan}
 use Rattle.normal_files.specs.declared.part.Part.{Part}
 use Rattle.normal_files.proofs.Amid.{amid_begins}
 use Rattle.normal_files.proofs.Patched.{partly_written}
@@ -41,7 +41,7 @@ module _ {D : Type 0} {g : Ghosts D} {r : ℕ} {root : roots.Root} {start : D} {
   pub may : {mid : D} → IsAmid w offset bytes (leaves_in (offset + length bytes)) mid kept → ((m : ℕ) → entry_in (g.content mid) m ≡ entry_in (g.content start) m) → MayTake w offset bytes mid kept
   may amid entries = record { amid = amid; frees = λ m free. sym (ap is_free_entry (entries m)) ∙ free }
 
-  module _ {size : ℕ} (parts : AreParts size offset (length bytes) low high) {mid d : D} {k1 : Kept} (entries : (m : ℕ) → entry_in (g.content mid) m ≡ entry_in (g.content start) m) (now : MayTake w offset bytes d k1) {low_next high_next : Next}
+  module _ {size : ℕ} (parts : AreParts size offset (length bytes) low high) {mid d : D} {k1 : Kept} (entries : (m : ℕ) → entry_in (g.content mid) m ≡ entry_in (g.content start) m) (now : MayTake w offset bytes d k1) {low_next high_next : Plan}
       (both : TakesBoth (g.content mid) (g.content d) r root.fill offset bytes low (node_of root low.number) low_next high (node_of root high.number) high_next) where
     abbrev one : Image
     one = linked_image (g.content d) r root low.number low_next

@@ -8,7 +8,7 @@ use Rattle.normal_files.specs.Parts.{IsPart, IsReadPart, AreParts}
 use Rattle.normal_files.specs.Standing.{BecomesFile, IsPartly}
 use Rattle.normal_files.specs.Steps.{IsWrittenTo}
 use Rattle.normal_files.specs.Takes.{HasTaken, IsNew, IsOneOf, IsTakenTo, IsWhole, KeepsTaken, TakesBoth, MayTake}
-use Rattle.normal_files.specs.declared.next.Next.{Next}
+use Rattle.normal_files.specs.Plans.{Plan}
 use Rattle.normal_files.specs.declared.part.Part.{Part}
 use Rattle.normal_files.proofs.Among.{among_holds, among_rooted, leaf_either, same_leaf, same_node}
 use Rattle.normal_files.proofs.Laid.{rooted_reads}
@@ -22,6 +22,7 @@ use Rattle.normal_files.proofs.TakeRun.{content_stays, new_stays, some_block}
 use Rattle.normal_files.proofs.Trees.{leaf_stands, same_leaves}
 use Rattle.normal_files.specs.Writes.{IsWritable}
 use Rattle.normal_files.specs.View.{FileView, id_at, way_of}
+use Rattle.block_tree.specs.Along.{way_leaves}
 use Rattle.block_tree.specs.declared.root.Root as roots
 use Rattle.ufs_model.specs.declared.object.Object.TheVariants as objects
 
@@ -49,7 +50,7 @@ keeps_itself c = record { size = refl; entries = λ m taken. refl; contents = λ
 
 module _ {D : Type 0} {g : Ghosts D} {r : ℕ} {root : roots.Root} {start : D} {k0 : Kept} {v : FileView g r root start k0} {offset : ℕ} {bytes : List ℕ} {low high : Part} (can : IsWritable v offset bytes low high) {size : ℕ} (parts : AreParts size offset (length bytes) low high)
     {p d : D} {kept : Kept} (same_p : (m : ℕ) → entry_in (g.content p) m ≡ entry_in (g.content start) m) (may : MayTake (way_of v) offset bytes d kept)
-    {low_next high_next : Next} (both : TakesBoth (g.content p) (g.content d) r root.fill offset bytes low (node_of root low.number) low_next high (node_of root high.number) high_next) where
+    {low_next high_next : Plan} (both : TakesBoth (g.content p) (g.content d) r root.fill offset bytes low (node_of root low.number) low_next high (node_of root high.number) high_next) where
   abbrev a : Image
   a = g.content start
 
@@ -126,7 +127,7 @@ module _ {D : Type 0} {g : Ghosts D} {r : ℕ} {root : roots.Root} {start : D} {
   new_at : (b : Image) (q : Place) (m : ℕ) → IsNew b c r q m → IsAt c r q m
   new_at b q m is = record { below = is.below; part = allocated_at c m r q is.entry }
 
-  ready_of : (b e : Image) (part : Part) (next : Next) → IsReadPart size part → IsPart a root part → HasTaken b e r root.fill offset bytes part (node_of root part.number) part.leaves.to next → IsWhole e (node_of root part.number) next → KeepsTaken e c → next.grown ≡ true
+  ready_of : (b e : Image) (part : Part) (next : Plan) → IsReadPart size part → IsPart a root part → HasTaken b e r root.fill offset bytes part (node_of root part.number) part.leaves.to next → IsWhole e (node_of root part.number) next → KeepsTaken e c → next.grown ≡ true
       → IsReady c id root root.fill offset bytes part next
   ready_of b e part next read is has is_whole keeps grown =
       let t = has.some grown in
@@ -164,7 +165,7 @@ module _ {D : Type 0} {g : Ghosts D} {r : ℕ} {root : roots.Root} {start : D} {
   touched_high : (k : ℕ) → IsTakenTo high high.leaves.to k → (offset / 512 ≤ leaf_pointers.count * high.number + k) × (leaf_pointers.count * high.number + k < upto)
   touched_high k t = (omega (arith, t.from, parts.first, parts.next, parts.low_read.some), omega (arith, t.to, parts.last))
 
-  own_of : (part : Part) → IsPart a root part → (grown_some : (k : ℕ) × IsTakenTo part part.leaves.to k) → part.own.leaves ≡ leaves_at a (node_of root part.number)
+  own_of : (part : Part) → IsPart a root part → (grown_some : (k : ℕ) × IsTakenTo part part.leaves.to k) → way_leaves part.way ≡ leaves_at a (node_of root part.number)
   own_of part is some = is.own (omega (arith, some.1.from, some.1.to))
 
   -- ---- the low node, and then the high one

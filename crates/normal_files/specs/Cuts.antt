@@ -1,8 +1,8 @@
 -- A file set to less: the leaf in which it ends is cut, and the last node that it keeps is written without the leaves
 -- past it.
-use Rattle.std.specs.Prelude.{◌≡◌, ◌≢◌, ◌⊎◌, ℕ, ◌+◌, ◌-◌, ◌*◌, ◌/◌, ◌%◌, ◌<◌, ◌≤◌, ◌==◌, if◌then◌else◌, List, length}
+use Rattle.std.specs.Prelude.{◌≡◌, ◌≢◌, ◌⊎◌, ℕ, ◌+◌, ◌-◌, ◌*◌, ◌/◌, ◌%◌, ◌<◌, ◌≤◌, ◌==◌, if◌then◌else◌, List}
 use Rattle.std.specs.Prelude.{get_or, set}
-use Rattle.std.specs.List.{All}
+use Rattle.block_tree.specs.Along.{IsTo, IsWayWithin}
 use Rattle.block_tree.specs.Reads.{leaves_at}
 use Rattle.block_tree.specs.Pointers.{leaf_pointers, node_pointers}
 use Rattle.cfs_base.specs.Disk.{Image, Written}
@@ -13,6 +13,7 @@ use Rattle.leaf_changes.specs.Bytes.{cut}
 use Rattle.leaf_changes.specs.Changes.{SetsSize}
 use Rattle.ufs_model.specs.Object.{leaves_in}
 use Rattle.normal_files.specs.Laid.{node_of}
+use Rattle.block_tree.specs.Along.{way_leaves}
 use Rattle.normal_files.specs.declared.cut.End.{End}
 use Rattle.block_tree.specs.declared.root.Root as roots
 
@@ -26,12 +27,13 @@ cut_block size leaves = if size % 512 == 0 then 0 else get_or leaves (size / 512
 
 -- all that is known of the end on any disk
 pub record IsReadEnd (blocks : ℕ) (root : roots.Root) (size : ℕ) (end : End) : Type 0 where
-  pub own : All (λ leaf. leaf < blocks) end.own.leaves
-  pub count : length end.own.leaves ≡ leaf_pointers.count
-  pub cut : end.cut ≡ cut_block size end.own.leaves
+  pub within : IsWayWithin blocks end.way
+  -- the way leads to the last leaf that it may keep
+  pub leads : IsTo (leaves_in size - 1) end.way
+  pub cut : end.cut ≡ cut_block size (way_leaves end.way)
   pub near : end.cut < blocks
   pub before : (k : ℕ) → leaf_pointers.count * last_node size + k < leaves_in size
-      → get_or end.node.leaves k 0 ≡ get_or end.own.leaves k 0
+      → get_or end.node.leaves k 0 ≡ get_or (way_leaves end.way) k 0
   pub past : (k : ℕ) → k < leaf_pointers.count → leaves_in size ≤ leaf_pointers.count * last_node size + k
       → get_or end.node.leaves k 0 ≡ 0
   pub kept : ((end.kept ≡ node_of root (last_node size)) × SomeLeaf end.node) ⊎ ((end.kept ≡ 0) × NoLeaf end.node)
@@ -39,7 +41,7 @@ pub record IsReadEnd (blocks : ℕ) (root : roots.Root) (size : ℕ) (end : End)
 
 -- it is that of the file with this root
 pub record IsEnd (image : Image) (root : roots.Root) (size : ℕ) (end : End) : Type 0 where
-  pub own : end.own.leaves ≡ leaves_at image (node_of root (last_node size))
+  pub own : way_leaves end.way ≡ leaves_at image (node_of root (last_node size))
   pub content : end.content ≡ cut size root.fill (bytes_in image root.fill end.cut)
 
 -- ---- blocks that are written, if there are any

@@ -26,6 +26,7 @@ use Rattle.normal_files.specs.Cuts.{IsCutRoot, first_gone, last_node}
 use Rattle.normal_files.specs.Laid.{leaf_of, node_of}
 use Rattle.leaf_changes.specs.Tops.{Top}
 use Rattle.normal_files.specs.Refusal.{IsDamage, IsRefusal}
+use Rattle.block_tree.specs.Along.{way_leaves}
 use Rattle.normal_files.specs.declared.cut.End.{End}
 use Rattle.ufs_model.specs.Object.{leaves_in}
 use Rattle.cfs_base.specs.declared.refusal.Trouble.TheVariants as trouble
@@ -151,7 +152,7 @@ GivesNodes from a next keep =
 -- the last node is as it was read, and the root leads to none from one on
 abbrev pub GivesEnd : roots.Root → (size : ℕ) → End → Image → roots.Root → ℕ → Type 0
 GivesEnd root size end a next keep =
-    (keep ≡ leaves_in size) × (end.own.leaves ≡ leaves_at a (node_of root (last_node size)))
+    (keep ≡ leaves_in size) × (way_leaves end.way ≡ leaves_at a (node_of root (last_node size)))
     × IsCutRoot root size (first_gone size end.kept) next
 
 -- ---- a resize

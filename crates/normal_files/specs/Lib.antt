@@ -7,11 +7,13 @@ pub mod Laid
 pub mod Links
 pub mod Order
 pub mod Parts
+pub mod Plans
 pub mod Refusal
 pub mod Standing
 pub mod Steps
 pub mod Takes
 pub mod Touched
 pub mod View
+pub mod Ways
 pub mod WriteRefusal
 pub mod Writes

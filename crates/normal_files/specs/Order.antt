@@ -8,6 +8,7 @@ use Rattle.ufs_model.specs.Numbers.{has_number, parents}
 use Rattle.ufs_model.specs.Object.{leaves_in}
 use Rattle.ufs_model.specs.declared.object.File.{File}
 use Rattle.normal_files.specs.Parts.{absent_in}
+use Rattle.block_tree.specs.Along.{way_leaves}
 use Rattle.normal_files.specs.declared.part.Part.{Part}
 
 -- So many leaves, one after another from one on, with these leaves and nodes held: each that isn't takes a block, and
@@ -29,7 +30,8 @@ claims_of owner f offset count = claims_from owner f.held (parents f.held) (offs
 
 -- what was read tells which of them are held, and whether the node is
 pub record TellsHeld (part : Part) (had : ℕ) (leaves nodes : List ℕ) : Type 0 where
-  pub leaf : (l : ℕ) → l / leaf_pointers.count ≡ part.number → has_number l leaves ≡ not (absent_in part.own.leaves l)
+  pub leaf : (l : ℕ) → l / leaf_pointers.count ≡ part.number
+      → has_number l leaves ≡ not (absent_in (way_leaves part.way) l)
   pub node : has_number part.number nodes ≡ not (had == 0)
 
 -- the nodes that are held, once a leaf was taken below one that wasn't

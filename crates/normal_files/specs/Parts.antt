@@ -1,12 +1,14 @@
 -- The leaves that bytes touch in one node.
 use Rattle.std.specs.Prelude.{◌≡◌, ◌≢◌, ℕ, ◌/◌, ◌+◌, ◌-◌, ◌*◌, ◌%◌, ◌<◌, ◌≤◌, Bool, ◌==◌, ◌&&◌, nat_lt, if◌then◌else◌}
 use Rattle.std.specs.Prelude.{List, length, get_or, filter}
-use Rattle.std.specs.List.{All, range_with_len}
+use Rattle.std.specs.List.{range_with_len}
+use Rattle.block_tree.specs.Along.{IsTo, IsWayWithin}
 use Rattle.block_tree.specs.Reads.{leaves_at}
 use Rattle.block_tree.specs.Pointers.{leaf_pointers, node_pointers}
 use Rattle.cfs_base.specs.Disk.{Image}
 use Rattle.ufs_model.specs.Object.{leaves_in}
 use Rattle.normal_files.specs.Laid.{node_of}
+use Rattle.block_tree.specs.Along.{way_leaves}
 use Rattle.normal_files.specs.declared.part.Part.{Part}
 use Rattle.block_tree.specs.declared.root.Root as roots
 
@@ -16,12 +18,13 @@ pub record IsReadPart (size : ℕ) (part : Part) : Type 0 where
   pub from : leaf_pointers.count * part.number ≤ part.leaves.from
   pub to : part.leaves.to ≤ leaf_pointers.count * part.number + leaf_pointers.count
   pub some : part.leaves.from ≤ part.leaves.to
-  pub own : All (λ leaf. leaf < size) part.own.leaves
-  pub count : length part.own.leaves ≡ leaf_pointers.count
+  pub within : IsWayWithin size part.way
+  -- the way leads to the first of them
+  pub leads : part.leaves.from < part.leaves.to → IsTo part.leaves.from part.way
 
 -- the node that was read is the root's, where any of its leaves is touched
 pub record IsPart (image : Image) (root : roots.Root) (part : Part) : Type 0 where
-  pub own : part.leaves.from < part.leaves.to → part.own.leaves ≡ leaves_at image (node_of root part.number)
+  pub own : part.leaves.from < part.leaves.to → way_leaves part.way ≡ leaves_at image (node_of root part.number)
 
 -- the two parts that bytes touch at most, first the low one and then the high one
 pub record AreParts (size offset count : ℕ) (low high : Part) : Type 0 where
@@ -43,5 +46,5 @@ lacking_to leaves from to = length (filter (absent_in leaves) (range_with_len fr
 -- how many blocks the touched leaves of a part take, and their node
 abbrev pub part_need : roots.Root → Part → ℕ
 part_need root part =
-    lacking_to part.own.leaves part.leaves.from part.leaves.to
+    lacking_to (way_leaves part.way) part.leaves.from part.leaves.to
     + (if nat_lt part.leaves.from part.leaves.to && (node_of root part.number == 0) then 1 else 0)

@@ -22,7 +22,9 @@ use Rattle.normal_files.specs.Parts.{absent_in}
 use Rattle.normal_files.specs.Order.{TellsHeld, claims_from, nodes_now}
 use Rattle.normal_files.specs.Steps.{IsAmid, MayLeave}
 use Rattle.normal_files.specs.View.{Way}
+use Rattle.block_tree.specs.Along.{way_leaves}
 use Rattle.normal_files.specs.declared.next.Next.{Next}
+use Rattle.normal_files.specs.Plans.{Plan}
 use Rattle.normal_files.specs.declared.part.Part.{Part}
 
 -- a block that was Free in image a is an owner's in image c
@@ -75,18 +77,18 @@ pub record IsTakenTo (part : Part) (upto k : ℕ) : Type 0 where
   pub small : k < leaf_pointers.count
   pub from : part.leaves.from ≤ leaf_pointers.count * part.number + k
   pub to : leaf_pointers.count * part.number + k < upto
-  pub absent : get_or part.own.leaves k 0 ≡ 0
+  pub absent : get_or (way_leaves part.way) k 0 ≡ 0
 
 -- whether the node has a block: it had one, or one was taken
-abbrev pub is_held : (had : ℕ) → Next → Bool
-is_held had next = if had == 0 then next.grown else true
+abbrev pub is_held : (had : ℕ) → (grown : Bool) → Bool
+is_held had grown = if had == 0 then grown else true
 
 -- with one leaf more
-abbrev pub with_taken : Next → (k x y : ℕ) → Next
+abbrev pub with_taken : Plan → (k x y : ℕ) → Plan
 with_taken next k x y = record { block = y; node = with_leaf next.node k x; grown = true }
 
 -- a block is a leaf's that was taken, or the node's
-abbrev pub IsOneOf : Part → (had upto : ℕ) → Next → ℕ → Type 0
+abbrev pub IsOneOf : Part → (had upto : ℕ) → Plan → ℕ → Type 0
 IsOneOf part had upto next m =
     ((k : ℕ) × IsTakenTo part upto k × (m ≡ get_or next.node.leaves k 0))
     ⊎ ((had ≡ 0) × (next.grown ≡ true) × (m ≡ next.block))
@@ -94,9 +96,9 @@ IsOneOf part had upto next m =
 -- From image a to image c the absent leaves of a part up to one were taken, and are written; `had` is the node's old
 -- block.
 pub record HasTaken (a c : Image) (owner fill offset : ℕ) (bytes : List ℕ) (part : Part) (had upto : ℕ)
-    (next : Next) : Type 0 where
+    (next : Plan) : Type 0 where
   pub count : length next.node.leaves ≡ leaf_pointers.count
-  pub others : (k : ℕ) → (IsTakenTo part upto k → ⊥) → get_or next.node.leaves k 0 ≡ get_or part.own.leaves k 0
+  pub others : (k : ℕ) → (IsTakenTo part upto k → ⊥) → get_or next.node.leaves k 0 ≡ get_or (way_leaves part.way) k 0
   pub leaves : (k : ℕ) → IsTakenTo part upto k
       → IsNew a c owner (Leaf (leaf_pointers.count * part.number + k)) (get_or next.node.leaves k 0)
   pub contents : (k : ℕ) → IsTakenTo part upto k
@@ -115,7 +117,7 @@ pub record HasTaken (a c : Image) (owner fill offset : ℕ) (bytes : List ℕ) (
       → AreClaimed (claims_from owner leaves nodes part.leaves.from m) a e
 
 -- the new node is written too
-abbrev pub IsWhole : Image → (had : ℕ) → Next → Type 0
+abbrev pub IsWhole : Image → (had : ℕ) → Plan → Type 0
 IsWhole c had next = had ≡ 0 → next.grown ≡ true → leaves_at c next.block ≡ next.node.leaves
 
 -- how many blocks a leaf takes, with its node where that isn't held
@@ -132,9 +134,9 @@ abbrev pub Passes : {D : Type 0} → Ghosts D → (had : ℕ) → (own : List �
 Passes g had own leaf next old new before after (Ok more) =
     ((absent_in own leaf ≡ false) × (more ≡ next) × (new ≡ old) × (after ≡ before))
     ⊎ ((absent_in own leaf ≡ true) × (more.grown ≡ true)
-    × HasGone g 5 3 (leaf_takes (is_held had next)) true old new before after)
+    × HasGone g 5 3 (leaf_takes (is_held had next.grown)) true old new before after)
 Passes g had own leaf next old new before after (Err e) =
-    (absent_in own leaf ≡ true) × Halts g 5 3 (leaf_takes (is_held had next)) old new before after e
+    (absent_in own leaf ≡ true) × Halts g 5 3 (leaf_takes (is_held had next.grown)) old new before after e
 
 -- ---- runs
 
@@ -163,8 +165,8 @@ TakesBlocks g block offset bytes old new before after result P =
 -- ---- both parts
 
 -- from image a to image c the leaves of two parts were taken, first of the low one, and their new nodes are written
-pub record TakesBoth (a c : Image) (owner fill offset : ℕ) (bytes : List ℕ) (low : Part) (low_had : ℕ) (low_next : Next)
-    (high : Part) (high_had : ℕ) (high_next : Next) : Type 0 where
+pub record TakesBoth (a c : Image) (owner fill offset : ℕ) (bytes : List ℕ) (low : Part) (low_had : ℕ) (low_next : Plan)
+    (high : Part) (high_had : ℕ) (high_next : Plan) : Type 0 where
   pub mid : Image
   pub low_has : HasTaken a mid owner fill offset bytes low low_had low.leaves.to low_next
   pub low_whole : IsWhole mid low_had low_next

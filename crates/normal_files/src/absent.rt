@@ -1,13 +1,19 @@
 //! Blocks taken for leaves that are absent, and for their node.
 ghost use Rattle.std.specs.Prelude.{◌≡◌, ◌≢◌, ℕ, ◌+◌, ◌-◌, ◌*◌, ◌<◌, ◌≤◌, true, false, List, length, Ok, IfOk};
 ghost use Rattle.block_tree.specs.Pointers.{leaf_limit, node_pointers};
+ghost use Rattle.block_tree.specs.declared.root.Root as roots;
 ghost use Rattle.cyl_alloc.specs.Space.{Kept};
 ghost use Rattle.normal_files.specs.Ends.{Finishes, refused_after};
 ghost use Rattle.normal_files.specs.Laid.{node_of};
+ghost use Rattle.normal_files.specs.Links.{linked_root};
 ghost use Rattle.normal_files.specs.Parts.{IsReadPart, part_need};
+ghost use Rattle.normal_files.specs.Plans.{plan_of};
 ghost use Rattle.normal_files.specs.Takes as spec;
+ghost use Rattle.normal_files.specs.Ways.{IsToNode};
+ghost use Rattle.block_tree.specs.Along.{way_leaves};
 
 use crate::in_place::write_block;
+use crate::lowest::way_node;
 use crate::next::Next;
 use crate::part::Part;
 use block_tree::{LEAVES, Root};
@@ -66,6 +72,7 @@ fn take_leaf<D: Disk>(
         → spec.TakesBlocks D.Disk at.0 offset bytes disk.old disk.new space.old space.new
         result (λ a c taken. spec.TakesLeaf a c at.0 leaf held block taken.leaf taken.node content.now) }
     ensures near { block < D.blocks disk.old → IfOk result (λ taken. taken.node < D.blocks disk.old) }
+    ensures kept { held ≡ true → IfOk result (λ taken. taken.node ≡ block) }
     ensures ends { Finishes D.Disk 5 3 (spec.leaf_takes held) disk.old disk.new space.old space.new result (λ taken.
         true) }
 {
@@ -105,20 +112,26 @@ impl Part {
         requires read { IsReadPart (D.blocks disk.old) self.now }
         requires from { self.now.leaves.from ≤ leaf }
         requires to { leaf < self.now.leaves.to }
+        requires way { IsToNode leaf next.way }
         ensures takes { (d : D) (kept : Kept)
             → spec.TakesBlocks D.Disk at.0 offset bytes.now d disk.old kept space.old (Ok next)
-            (λ a c now. spec.HasTaken a c at.0 fill offset bytes.now self.now had leaf now)
+            (λ a c now. spec.HasTaken a c at.0 fill offset bytes.now self.now had leaf (plan_of self.now.number now))
             → spec.TakesBlocks D.Disk at.0 offset bytes.now d disk.new kept space.new result
-            (λ a c now. spec.HasTaken a c at.0 fill offset bytes.now self.now had (leaf + 1) now) }
-        ensures near { next.block < D.blocks disk.old → IfOk result (λ more. more.block < D.blocks disk.old) }
-        ensures ends { spec.Passes D.Disk had self.now.own.leaves leaf next disk.old disk.new space.old space.new
+            (λ a c now. spec.HasTaken a c at.0 fill offset bytes.now self.now had (leaf + 1)
+            (plan_of self.now.number now)) }
+        ensures near { node_of next.root self.now.number < D.blocks disk.old
+            → IfOk result (λ more. node_of more.root self.now.number < D.blocks disk.old) }
+        ensures way { IfOk result (λ more. IsToNode leaf more.way) }
+        ensures root { (lead : roots.Root) → node_of lead self.now.number ≡ had
+            → next.root ≡ linked_root lead self.now.number (plan_of self.now.number next)
+            → IfOk result (λ more. more.root ≡ linked_root lead self.now.number (plan_of self.now.number more)) }
+        ensures ends { spec.Passes D.Disk had (way_leaves self.now.way) leaf next disk.old disk.new space.old space.new
             result }
         ensures size { D.blocks disk.new ≡ D.blocks disk.old }
         ensures cylinders { length space.new.free ≡ length space.old.free }
         ensures left { space.new.left ≡ space.old.left }
     {
-        let place = leaf % LEAVES as u32;
-        let block = self.own.leaves[place as usize];
+        let block = self.block(leaf);
         if block != 0 {
             return Ok(next);
         }
@@ -130,21 +143,23 @@ impl Part {
             at,
             leaf,
             next.is_held(had),
-            next.block,
+            next.block(self.number),
             &content,
         ) {
-            Ok(taken) => Ok(next.with(place, taken)),
+            Ok(taken) => Ok(next.with(leaf, taken)),
             Err(error) => Err(error),
         }
     }
 
-    /// Takes each of the leaves that is absent, in increasing order.
+    /// Takes each of the leaves that is absent, in increasing order. The root that is to lead to them leads to the node
+    /// as the file's own does.
     fn take_leaves<D: Disk>(
         &self,
         disk: &mut D,
         space: &mut Space,
         at: BlockNo,
         root: &Root,
+        lead: Root,
         offset: u64,
         bytes: &[u8],
     ) -> Result<Next, Refused>
@@ -153,11 +168,18 @@ impl Part {
         requires read { IsReadPart (D.blocks disk.old) self.now }
         requires near { self.now.leaves.from < self.now.leaves.to
             → node_of root.now self.now.number < D.blocks disk.old }
+        requires stays { node_of root.now self.now.number ≢ 0
+            → node_of lead self.now.number ≡ node_of root.now self.now.number }
+        requires leads { self.now.leaves.from < self.now.leaves.to
+            → node_of lead self.now.number ≡ node_of root.now self.now.number }
         ensures takes { spec.TakesBlocks D.Disk at.0 offset bytes.now disk.old disk.new space.old space.new result
             (λ a c next.
             spec.HasTaken a c at.0 root.now.fill offset bytes.now self.now (node_of root.now self.now.number)
-            self.now.leaves.to next) }
-        ensures near { IfOk result (λ next. next.grown ≡ true → next.block < D.blocks disk.old) }
+            self.now.leaves.to (plan_of self.now.number next)) }
+        ensures near { IfOk result (λ next. next.grown ≡ true
+            → node_of next.root self.now.number < D.blocks disk.old) }
+        ensures root { IfOk result (λ next.
+            next.root ≡ linked_root lead self.now.number (plan_of self.now.number next)) }
         ensures ends { Finishes D.Disk (5 * (self.now.leaves.to - self.now.leaves.from))
             (3 * (self.now.leaves.to - self.now.leaves.from)) (part_need root.now self.now)
             disk.old disk.new space.old space.new result (λ next. next.grown) }
@@ -167,8 +189,8 @@ impl Part {
     {
         let had = root.nodes[self.number as usize];
         let mut next = Next {
-            block: had,
-            node: self.own,
+            way: self.way,
+            root: lead,
             grown: false,
         };
         for leaf in self.leaves.from..self.leaves.to {
@@ -187,6 +209,7 @@ impl Part {
         space: &mut Space,
         at: BlockNo,
         root: &Root,
+        lead: Root,
         offset: u64,
         bytes: &[u8],
     ) -> Result<Next, Refused>
@@ -195,11 +218,19 @@ impl Part {
         requires read { IsReadPart (D.blocks disk.old) self.now }
         requires near { self.now.leaves.from < self.now.leaves.to
             → node_of root.now self.now.number < D.blocks disk.old }
+        requires stays { node_of root.now self.now.number ≢ 0
+            → node_of lead self.now.number ≡ node_of root.now self.now.number }
+        requires leads { self.now.leaves.from < self.now.leaves.to
+            → node_of lead self.now.number ≡ node_of root.now self.now.number }
         ensures takes { spec.TakesBlocks D.Disk at.0 offset bytes.now disk.old disk.new space.old space.new result
             (λ a c next.
             spec.HasTaken a c at.0 root.now.fill offset bytes.now self.now (node_of root.now self.now.number)
-            self.now.leaves.to next × spec.IsWhole c (node_of root.now self.now.number) next) }
-        ensures near { IfOk result (λ next. next.grown ≡ true → next.block < D.blocks disk.old) }
+            self.now.leaves.to (plan_of self.now.number next)
+            × spec.IsWhole c (node_of root.now self.now.number) (plan_of self.now.number next)) }
+        ensures near { IfOk result (λ next. next.grown ≡ true
+            → node_of next.root self.now.number < D.blocks disk.old) }
+        ensures root { IfOk result (λ next.
+            next.root ≡ linked_root lead self.now.number (plan_of self.now.number next)) }
         ensures ends { Finishes D.Disk (5 * (self.now.leaves.to - self.now.leaves.from) + 1)
             (3 * (self.now.leaves.to - self.now.leaves.from) + 1) (part_need root.now self.now)
             disk.old disk.new space.old space.new result (λ next. next.grown) }
@@ -207,7 +238,7 @@ impl Part {
         ensures cylinders { length space.new.free ≡ length space.old.free }
         ensures left { space.new.left ≡ space.old.left }
     {
-        let next = match self.take_leaves(disk, space, at, root, offset, bytes) {
+        let next = match self.take_leaves(disk, space, at, root, lead, offset, bytes) {
             Ok(next) => next,
             Err(error) => return Err(error),
         };
@@ -215,7 +246,7 @@ impl Part {
         if !new {
             return Ok(next);
         }
-        match write_block(disk, next.block, &next.node.encode()) {
+        match write_block(disk, next.block(self.number), &way_node(&next.way).encode()) {
             Ok(()) => Ok(next),
             Err(trouble) => Err(Refused::from(trouble.after_try())),
         }

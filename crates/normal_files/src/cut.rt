@@ -2,6 +2,7 @@
 ghost use Rattle.std.specs.Prelude.{◌≡◌, ◌≢◌, ◌⊎◌, ◌+◌, ◌-◌, ◌*◌, ◌/◌, ◌<◌, ◌≤◌, ℕ, true, false, length, get_or};
 ghost use Rattle.std.specs.Prelude.{slice_index, IsTrue, IfErr, IfOk, OnOk};
 ghost use Rattle.std.specs.List.{All};
+ghost use Rattle.block_tree.specs.Along.{IsNearTree};
 ghost use Rattle.block_tree.specs.Pointers.{leaf_pointers, node_pointers, size_limit};
 ghost use Rattle.block_tree.specs.Node.{IsNode};
 ghost use Rattle.block_tree.specs.Tree.{bytes_in};
@@ -14,12 +15,15 @@ ghost use Rattle.leaf_changes.specs.Bytes.{cut};
 ghost use Rattle.leaf_changes.specs.Tops.{root_top};
 ghost use Rattle.normal_files.specs.Cuts as spec;
 ghost use Rattle.normal_files.specs.Laid.{node_of};
-ghost use Rattle.block_tree.specs.Reads.{IsNear, is_damage};
+ghost use Rattle.block_tree.specs.Reads.{is_damage};
+ghost use Rattle.block_tree.specs.Root.{root_spelling};
 ghost use Rattle.normal_files.specs.Refusal.{IsTrouble};
+ghost use Rattle.block_tree.specs.Along.{way_leaves};
 ghost use Rattle.block_tree.specs.Reads.{HasStoppedBy};
 ghost use Rattle.ufs_model.specs.Object.{leaves_in as leaves_of};
 
-use block_tree::{LEAVES, Node, Root, node_of, read_block, read_node};
+use crate::lowest::way_node;
+use block_tree::{LEAVES, Node, Root, Way, node_of, read_block};
 use cfs_base::{Block, BlockNo, Disk, Trouble};
 use leaf_changes::{cut_leaf, leaves_in};
 
@@ -35,8 +39,9 @@ pub(crate) fn last_node(size: u64) -> u32
 /// How a file is to end.
 #[derive(Clone, Copy)]
 pub(crate) struct End {
-    /// The last node of which it may keep a leaf, as it stands and as it is to be.
-    pub own: Node,
+    /// The way to the last leaf that it may keep, as it stands.
+    pub way: Way,
+    /// The last node of which it may keep a leaf, as it is to be.
     pub node: Node,
     /// The block of that node, and 0 where it is not kept.
     pub kept: u32,
@@ -56,14 +61,14 @@ fn kept_block(node: &Node, block: u32) -> u32
 }
 
 /// The block of the leaf within which a file of this size ends.
-fn cut_block(own: &Node, size: u64) -> u32
-    ensures block { result ≡ spec.cut_block size own.now.leaves }
-    ensures near { (blocks : ℕ) → 0 < blocks → All (λ leaf. leaf < blocks) own.now.leaves → result < blocks }
+fn cut_block(way: &Way, size: u64) -> u32
+    ensures block { result ≡ spec.cut_block size (way_leaves way.now) }
+    ensures near { (blocks : ℕ) → 0 < blocks → All (λ leaf. leaf < blocks) (way_leaves way.now) → result < blocks }
 {
     if size % 512 == 0 {
         return 0;
     }
-    own.leaves[(size / 512) as usize % LEAVES]
+    way_node(way).leaves[(size / 512) as usize % LEAVES]
 }
 
 /// What that leaf is to hold.
@@ -83,7 +88,7 @@ fn cut_content<D: Disk>(disk: &mut D, block: u32, size: u64, fill: u8) -> Result
     Ok(content)
 }
 
-/// How the file with this root is to end where it has this size. `Damaged` as in `read_node`.
+/// How the file with this root is to end where it has this size. `Damaged` as in `Way::get`.
 pub(crate) fn read_end<D: Disk>(
     disk: &mut D,
     at: BlockNo,
@@ -97,26 +102,27 @@ pub(crate) fn read_end<D: Disk>(
     ensures refused { IfErr result (IsTrouble D.Disk (root_top at.0 root.now) disk.old disk.new) }
     ensures untried { IfErr result (λ trouble. trouble_had_tried trouble ≡ false) }
     ensures sound { Tells D.Disk disk.old
-        → IsNear (D.blocks disk.old) (D.content disk.old) (node_of root.now (spec.last_node size))
+        → IsNearTree (D.blocks disk.old) (D.content disk.old) (root_spelling root.now)
         → IfErr result (λ trouble. is_damage trouble ≡ false) }
     ensures reads { OnlyReads D.Disk 2 disk.old disk.new }
 {
     let keep = leaves_in(size);
     let last = last_node(size);
     let block = root.nodes[last as usize];
-    let own = match read_node(disk, block, at) {
-        Ok(own) => own,
+    let mut way = Way::new();
+    match way.get(disk, at, root, keep.saturating_sub(1)) {
+        Ok(_) => {}
         Err(trouble) => return Err(trouble),
-    };
-    let cut = cut_block(&own, size);
+    }
+    let cut = cut_block(&way, size);
     let content = match cut_content(disk, cut, size, root.fill) {
         Ok(content) => content,
         Err(trouble) => return Err(trouble),
     };
-    let node = own.cut(keep - LEAVES as u32 * last);
+    let node = way_node(&way).cut(keep - LEAVES as u32 * last);
     let kept = kept_block(&node, block);
     Ok(End {
-        own,
+        way,
         node,
         kept,
         cut,

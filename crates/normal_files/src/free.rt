@@ -8,6 +8,7 @@ ghost use Rattle.normal_files.specs.Frees as spec;
 ghost use Rattle.ufs_model.specs.Object.{leaves_in as leaves_of};
 
 use crate::cut::{End, last_node};
+use crate::lowest::way_node;
 use block_tree::{LEAVES, NODES, Node, Root, read_node};
 use cfs_base::{BlockNo, Disk, Trouble};
 use cyl_alloc::Space;
@@ -148,7 +149,7 @@ pub(crate) fn free_past<D: Disk>(
         space,
         at,
         root,
-        &end.own,
+        way_node(&end.way),
         last,
         keep - LEAVES as u32 * last,
     ) {

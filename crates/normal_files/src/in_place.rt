@@ -16,7 +16,7 @@ ghost use Rattle.normal_files.specs.Steps.{ComesOrStops, IsAmid, Puts, WritesBlo
 ghost use Rattle.normal_files.specs.View.{Way};
 
 use crate::part::Part;
-use block_tree::{LEAVES, read_block};
+use block_tree::read_block;
 use cfs_base::{Block, BlockNo, Disk, Trouble};
 use leaf_changes::patch_leaf;
 
@@ -125,7 +125,7 @@ impl Part {
         ensures ends { ComesOrStops D.Disk 2 1 disk.old disk.new result (λ tried. tried) }
         ensures size { D.blocks disk.new ≡ D.blocks disk.old }
     {
-        let block = self.own.leaves[leaf as usize % LEAVES];
+        let block = self.block(leaf);
         if block == 0 {
             return Ok(false);
         }

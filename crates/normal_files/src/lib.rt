@@ -11,6 +11,7 @@ mod grow;
 mod in_place;
 mod laws;
 mod link;
+mod lowest;
 mod need;
 mod next;
 mod part;

@@ -2,11 +2,14 @@
 ghost use Rattle.std.specs.Prelude.{◌≡◌, ◌<◌, true, set, IfOk, OnOk};
 ghost use Rattle.block_tree.specs.Pointers.{node_pointers};
 ghost use Rattle.cfs_base.specs.Run.{IsSettled, Leaves as LeavesOf};
+ghost use Rattle.normal_files.specs.Laid.{node_of};
 ghost use Rattle.normal_files.specs.Links.{linked_image, linked_root};
+ghost use Rattle.normal_files.specs.Plans.{plan_of};
 ghost use Rattle.normal_files.specs.Steps.{ComesOrStops};
 
 use crate::flush::flush;
 use crate::in_place::{after, write_block};
+use crate::lowest::way_node;
 use crate::next::Next;
 use block_tree::Root;
 use cfs_base::{Block, BlockNo, Disk, Trouble};
@@ -46,27 +49,29 @@ pub(crate) fn link<D: Disk>(
 ) -> Result<Root, Trouble>
     requires at { at.0 < D.blocks disk.old }
     requires number { number < node_pointers.count }
-    requires near { next.now.grown ≡ true → next.now.block < D.blocks disk.old }
-    ensures root { IfOk result (λ r. r ≡ linked_root root.now number next.now) }
+    requires near { next.now.grown ≡ true → node_of next.now.root number < D.blocks disk.old }
+    requires leads { next.now.root ≡ linked_root root.now number (plan_of number next.now) }
+    ensures root { IfOk result (λ r. r ≡ next.now.root) }
     ensures done { IsSettled D.Disk disk.old
-        → OnOk result ((D.content disk.new ≡ linked_image (D.content disk.old) at.0 root.now number next.now)
+        → OnOk result ((D.content disk.new
+        ≡ linked_image (D.content disk.old) at.0 root.now number (plan_of number next.now))
         × IsSettled D.Disk disk.new) }
     ensures images { IsSettled D.Disk disk.old
-        → LeavesOf D.Disk disk.old disk.new (λ c. c ≡ linked_image (D.content disk.old) at.0 root.now number next.now) }
+        → LeavesOf D.Disk disk.old disk.new (λ c.
+        c ≡ linked_image (D.content disk.old) at.0 root.now number (plan_of number next.now)) }
     ensures ends { ComesOrStops D.Disk 2 2 disk.old disk.new result (λ led. next.now.grown) }
 {
     if !next.grown {
-        return Ok(*root);
+        return Ok(next.root);
     }
     if root.nodes[number as usize] != 0 {
-        return match write_through(disk, next.block, &next.node.encode()) {
-            Ok(()) => Ok(*root),
+        return match write_through(disk, next.block(number), &way_node(&next.way).encode()) {
+            Ok(()) => Ok(next.root),
             Err(trouble) => Err(trouble),
         };
     }
-    let led = root.with_node(number, next.block);
-    match write_through(disk, at.0, &led.encode()) {
-        Ok(()) => Ok(led),
+    match write_through(disk, at.0, &next.root.encode()) {
+        Ok(()) => Ok(next.root),
         Err(trouble) => Err(trouble),
     }
 }

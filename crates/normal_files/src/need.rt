@@ -2,20 +2,21 @@
 ghost use Rattle.std.specs.Prelude.{◌≡◌, ◌+◌, ◌<◌, ◌≤◌, ◌-◌};
 ghost use Rattle.block_tree.specs.Pointers.{leaf_limit, node_pointers};
 ghost use Rattle.normal_files.specs.Parts as spec;
+ghost use Rattle.block_tree.specs.Along.{way_leaves};
 
 use crate::part::Part;
-use block_tree::{LEAVES, Root};
+use block_tree::Root;
 
 impl Part {
     /// How many of the leaves are not held.
     pub fn lacking(&self) -> u32
         requires { self.now.leaves.from ≤ self.now.leaves.to }
-        ensures count { result ≡ spec.lacking_to self.now.own.leaves self.now.leaves.from self.now.leaves.to }
+        ensures count { result ≡ spec.lacking_to (way_leaves self.now.way) self.now.leaves.from self.now.leaves.to }
         ensures most { result ≤ self.now.leaves.to - self.now.leaves.from }
     {
         let mut count = 0;
         for leaf in self.leaves.from..self.leaves.to {
-            if self.own.leaves[leaf as usize % LEAVES] == 0 {
+            if self.block(leaf) == 0 {
                 count += 1;
             }
         }

@@ -1,25 +1,38 @@
 //! A node as it is to be.
-ghost use Rattle.std.specs.Prelude.{◌≡◌, ◌==◌, ◌<◌, ◌&&◌};
-ghost use Rattle.block_tree.specs.Pointers.{leaf_pointers};
+ghost use Rattle.std.specs.Prelude.{◌≡◌, ◌==◌, ℕ, ◌/◌, ◌%◌, ◌<◌, ◌&&◌};
+ghost use Rattle.block_tree.specs.Pointers.{leaf_limit, leaf_pointers, node_pointers};
+ghost use Rattle.block_tree.specs.Way.{with_node};
+ghost use Rattle.normal_files.specs.Laid.{node_of};
+ghost use Rattle.normal_files.specs.Plans.{plan_of};
 ghost use Rattle.normal_files.specs.Takes.{is_held, with_taken};
+ghost use Rattle.normal_files.specs.Ways.{IsToNode};
 
 use crate::absent::Taken;
-use block_tree::Node;
+use block_tree::{Root, Way};
 
 /// The node of a part with the leaves that a write takes.
 #[derive(Clone, Copy)]
 pub(crate) struct Next {
-    /// Its block, and 0 where it has none yet.
-    pub block: u32,
-    pub node: Node,
+    /// The way to it, as it is to be.
+    pub way: Way,
+    /// The root that is to lead to it.
+    pub root: Root,
     /// Whether a leaf was taken.
     pub grown: bool,
 }
 
 impl Next {
+    /// The block of the node with this number, and 0 where it has none yet.
+    pub fn block(&self, number: u32) -> u32
+        requires { number < node_pointers.count }
+        ensures { result ≡ node_of self.now.root number }
+    {
+        self.root.nodes[number as usize]
+    }
+
     /// Whether the node has a block: it had one, or one was taken.
     pub fn is_held(&self, had: u32) -> bool
-        ensures { result ≡ is_held had self.now }
+        ensures { result ≡ is_held had self.now.grown }
     {
         had != 0 || self.grown
     }
@@ -32,13 +45,21 @@ impl Next {
     }
 
     /// The same with a leaf that was taken.
-    pub fn with(self, place: u32, taken: Taken) -> Next
-        requires { place < leaf_pointers.count }
-        ensures { result ≡ with_taken self place taken.leaf taken.node }
+    pub fn with(self, leaf: u32, taken: Taken) -> Next
+        requires below { leaf < leaf_limit }
+        requires way { IsToNode leaf self.way }
+        ensures plan { (n : ℕ) → n ≡ leaf / leaf_pointers.count
+            → plan_of n result ≡ with_taken (plan_of n self) (leaf % leaf_pointers.count) taken.leaf taken.node }
+        ensures root { result.root ≡ with_node self.root (leaf / leaf_pointers.count) taken.node }
+        ensures way { IsToNode leaf result.way }
     {
+        let mut way = self.way;
+        let mut root = self.root;
+        way.turn_to(leaf);
+        way.put(&mut root, [taken.node, taken.leaf]);
         Next {
-            block: taken.node,
-            node: self.node.with_leaf(place, taken.leaf),
+            way,
+            root,
             grown: true,
         }
     }

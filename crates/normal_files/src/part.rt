@@ -1,17 +1,21 @@
 //! The leaves of one node that are to be written.
-ghost use Rattle.std.specs.Prelude.{◌≡◌, ◌⊎◌, ◌+◌, ◌*◌, ◌<◌, ◌≤◌, false, max, min, slice_index, IfErr, IfOk};
+ghost use Rattle.std.specs.Prelude.{◌≡◌, ℕ, ◌+◌, ◌*◌, ◌%◌, ◌<◌, ◌≤◌, false, max, min, slice_index, IfErr, IfOk};
+ghost use Rattle.block_tree.specs.Along.{IsNearTree};
 ghost use Rattle.block_tree.specs.Pointers.{leaf_pointers, node_pointers};
 ghost use Rattle.cfs_base.specs.Calls.{OnlyReads};
 ghost use Rattle.cfs_base.specs.Refusals.{trouble_had_tried};
 ghost use Rattle.cfs_base.specs.Run.{Tells};
 ghost use Rattle.leaf_changes.specs.Tops.{root_top};
 ghost use Rattle.normal_files.specs.Laid.{node_of};
-ghost use Rattle.block_tree.specs.Reads.{IsNear, is_damage};
+ghost use Rattle.block_tree.specs.Reads.{is_damage};
+ghost use Rattle.block_tree.specs.Root.{root_spelling};
 ghost use Rattle.normal_files.specs.Parts as spec;
 ghost use Rattle.normal_files.specs.Refusal.{IsTrouble};
+ghost use Rattle.block_tree.specs.Along.{way_leaves};
 
+use crate::lowest::way_node;
 use crate::range::Leaves;
-use block_tree::{Node, Root, read_node};
+use block_tree::{LEAVES, Root, Way};
 use cfs_base::{BlockNo, Disk, Trouble};
 
 /// The leaves that bytes touch in one node.
@@ -19,24 +23,22 @@ use cfs_base::{BlockNo, Disk, Trouble};
 pub(crate) struct Part {
     pub number: u32,
     pub leaves: Leaves,
-    /// The node as it stands.
-    pub own: Node,
-}
-
-/// The block of a node of which leaves are touched, and 0 where none is.
-fn touched_node(root: &Root, leaves: Leaves, number: u32) -> u32
-    requires { number < node_pointers.count }
-    ensures node { leaves.from < leaves.to → result ≡ node_of root.now number }
-    ensures none { (result ≡ 0) ⊎ (result ≡ node_of root.now number) }
-{
-    if leaves.from < leaves.to {
-        return root.nodes[number as usize];
-    }
-    0
+    /// The way to the first of them, if there is one, as it stands.
+    pub way: Way,
 }
 
 impl Part {
-    /// Reads the node with this number, unless no leaf of it is touched. `Damaged` as in `read_node`.
+    /// The block of one of the leaves, as it stands, and 0 where it is absent.
+    pub fn block(&self, leaf: u32) -> u32
+        ensures block { result ≡ slice_index (way_leaves self.now.way) (leaf % leaf_pointers.count) }
+        ensures near { (size : ℕ) → spec.IsReadPart size self.now → self.now.leaves.from < self.now.leaves.to
+            → result < size }
+    {
+        way_node(&self.way).leaves[leaf as usize % LEAVES]
+    }
+
+    /// Reads the way to the first touched leaf of the node with this number, unless none of them is. `Damaged` as in
+    /// `Way::get`.
     pub fn read<D: Disk>(
         disk: &mut D,
         at: BlockNo,
@@ -57,20 +59,23 @@ impl Part {
             → node_of root.now number < D.blocks disk.old) }
         ensures refused { IfErr result (IsTrouble D.Disk (root_top at.0 root.now) disk.old disk.new) }
         ensures untried { IfErr result (λ trouble. trouble_had_tried trouble ≡ false) }
-        ensures sound { Tells D.Disk disk.old → IsNear (D.blocks disk.old) (D.content disk.old)
-            (node_of root.now number)
+        ensures sound { Tells D.Disk disk.old
+            → IsNearTree (D.blocks disk.old) (D.content disk.old) (root_spelling root.now)
             → IfErr result (λ trouble. is_damage trouble ≡ false) }
         ensures reads { OnlyReads D.Disk 1 disk.old disk.new }
     {
         let leaves = touched.of_node(number);
-        let block = touched_node(root, leaves, number);
-        match read_node(disk, block, at) {
-            Ok(own) => Ok(Part {
-                number,
-                leaves,
-                own,
-            }),
-            Err(trouble) => Err(trouble),
+        let mut way = Way::new();
+        if leaves.from < leaves.to {
+            match way.get(disk, at, root, leaves.from) {
+                Ok(_) => {}
+                Err(trouble) => return Err(trouble),
+            }
         }
+        Ok(Part {
+            number,
+            leaves,
+            way,
+        })
     }
 }

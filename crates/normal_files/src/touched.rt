@@ -25,7 +25,7 @@ pub(crate) struct Touched {
 }
 
 impl Touched {
-    /// Reads them below the root of the file. `Damaged` as in `read_node`.
+    /// Reads them below the root of the file. `Damaged` as in `Way::get`.
     pub fn read<D: Disk>(
         disk: &mut D,
         at: BlockNo,

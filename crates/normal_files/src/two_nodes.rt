@@ -6,6 +6,7 @@ ghost use Rattle.normal_files.specs.Ends.{Finishes};
 ghost use Rattle.normal_files.specs.Laid.{node_of};
 ghost use Rattle.normal_files.specs.Links.{linked_image, linked_root};
 ghost use Rattle.normal_files.specs.Parts.{IsReadPart, part_need};
+ghost use Rattle.normal_files.specs.Plans.{plan_of};
 ghost use Rattle.normal_files.specs.Steps.{ComesOrStops};
 ghost use Rattle.normal_files.specs.Takes as spec;
 
@@ -43,12 +44,20 @@ pub(crate) fn take_both<D: Disk>(
     requires low_near { low.now.leaves.from < low.now.leaves.to → node_of root.now low.now.number < D.blocks disk.old }
     requires high_near { high.now.leaves.from < high.now.leaves.to
         → node_of root.now high.now.number < D.blocks disk.old }
+    requires apart { high.now.leaves.from < high.now.leaves.to → low.now.number ≢ high.now.number }
     ensures takes { spec.TakesBlocks D.Disk at.0 offset bytes.now disk.old disk.new space.old space.new result
         (λ a c both.
-        spec.TakesBoth a c at.0 root.now.fill offset bytes.now low.now (node_of root.now low.now.number) both.low
-        high.now (node_of root.now high.now.number) both.high) }
-    ensures low_near { IfOk result (λ both. both.low.grown ≡ true → both.low.block < D.blocks disk.old) }
-    ensures high_near { IfOk result (λ both. both.high.grown ≡ true → both.high.block < D.blocks disk.old) }
+        spec.TakesBoth a c at.0 root.now.fill offset bytes.now low.now (node_of root.now low.now.number)
+        (plan_of low.now.number both.low)
+        high.now (node_of root.now high.now.number) (plan_of high.now.number both.high)) }
+    ensures low_near { IfOk result (λ both. both.low.grown ≡ true
+        → node_of both.low.root low.now.number < D.blocks disk.old) }
+    ensures high_near { IfOk result (λ both. both.high.grown ≡ true
+        → node_of both.high.root high.now.number < D.blocks disk.old) }
+    ensures low_leads { IfOk result (λ both.
+        both.low.root ≡ linked_root root.now low.now.number (plan_of low.now.number both.low)) }
+    ensures high_leads { IfOk result (λ both.
+        both.high.root ≡ linked_root both.low.root high.now.number (plan_of high.now.number both.high)) }
     ensures ends { Finishes D.Disk
         (5 * (low.now.leaves.to - low.now.leaves.from) + 1 + (5 * (high.now.leaves.to - high.now.leaves.from) + 1))
         (3 * (low.now.leaves.to - low.now.leaves.from) + 1 + (3 * (high.now.leaves.to - high.now.leaves.from) + 1))
@@ -58,11 +67,11 @@ pub(crate) fn take_both<D: Disk>(
     ensures cylinders { length space.new.free ≡ length space.old.free }
     ensures left { space.new.left ≡ space.old.left }
 {
-    let first = match low.take(disk, space, at, root, offset, bytes) {
+    let first = match low.take(disk, space, at, root, *root, offset, bytes) {
         Ok(next) => next,
         Err(error) => return Err(error),
     };
-    match high.take(disk, space, at, root, offset, bytes) {
+    match high.take(disk, space, at, root, first.root, offset, bytes) {
         Ok(second) => Ok(Both {
             low: first,
             high: second,
@@ -83,16 +92,18 @@ pub(crate) fn link_both<D: Disk>(
     requires at { at.0 < D.blocks disk.old }
     requires low { low < node_pointers.count }
     requires high { high < node_pointers.count }
-    requires low_near { both.now.low.grown ≡ true → both.now.low.block < D.blocks disk.old }
-    requires high_near { both.now.high.grown ≡ true → both.now.high.block < D.blocks disk.old }
+    requires low_near { both.now.low.grown ≡ true → node_of both.now.low.root low < D.blocks disk.old }
+    requires high_near { both.now.high.grown ≡ true → node_of both.now.high.root high < D.blocks disk.old }
+    requires low_leads { both.now.low.root ≡ linked_root root.now low (plan_of low both.now.low) }
+    requires high_leads { both.now.high.root ≡ linked_root both.now.low.root high (plan_of high both.now.high) }
     ensures done { IsSettled D.Disk disk.old → OnOk result ((D.content disk.new ≡ linked_image
-        (linked_image (D.content disk.old) at.0 root.now low both.now.low) at.0 (linked_root root.now low both.now.low)
-        high both.now.high)
+        (linked_image (D.content disk.old) at.0 root.now low (plan_of low both.now.low)) at.0
+        (linked_root root.now low (plan_of low both.now.low)) high (plan_of high both.now.high))
         × IsSettled D.Disk disk.new) }
     ensures images { IsSettled D.Disk disk.old → LeavesOf D.Disk disk.old disk.new (λ c.
-        (c ≡ linked_image (D.content disk.old) at.0 root.now low both.now.low)
-        ⊎ (c ≡ linked_image (linked_image (D.content disk.old) at.0 root.now low both.now.low) at.0
-        (linked_root root.now low both.now.low) high both.now.high)) }
+        (c ≡ linked_image (D.content disk.old) at.0 root.now low (plan_of low both.now.low))
+        ⊎ (c ≡ linked_image (linked_image (D.content disk.old) at.0 root.now low (plan_of low both.now.low)) at.0
+        (linked_root root.now low (plan_of low both.now.low)) high (plan_of high both.now.high))) }
     ensures ends { ComesOrStops D.Disk 4 4 disk.old disk.new result
         (λ done. both.now.low.grown || both.now.high.grown) }
 {

@@ -12,6 +12,7 @@ ghost use Rattle.normal_files.specs.Ends.{Finishes};
 ghost use Rattle.normal_files.specs.Laid.{node_of};
 ghost use Rattle.normal_files.specs.Links.{linked_image, linked_root};
 ghost use Rattle.normal_files.specs.Parts.{AreParts, IsPart, part_need};
+ghost use Rattle.normal_files.specs.Plans.{plan_of};
 ghost use Rattle.normal_files.specs.Standing.{IsRootAt};
 ghost use Rattle.normal_files.specs.Steps.{ComesOrStops, IsAmid, Puts};
 ghost use Rattle.normal_files.specs.WriteRefusal.{IsWriteRefusal, is_untried};
@@ -69,16 +70,18 @@ fn end_write<D: Disk>(
     requires at { at.0 < D.blocks disk.old }
     requires low { low < node_pointers.count }
     requires high { high < node_pointers.count }
-    requires low_near { both.now.low.grown ≡ true → both.now.low.block < D.blocks disk.old }
-    requires high_near { both.now.high.grown ≡ true → both.now.high.block < D.blocks disk.old }
+    requires low_near { both.now.low.grown ≡ true → node_of both.now.low.root low < D.blocks disk.old }
+    requires high_near { both.now.high.grown ≡ true → node_of both.now.high.root high < D.blocks disk.old }
+    requires low_leads { both.now.low.root ≡ linked_root root.now low (plan_of low both.now.low) }
+    requires high_leads { both.now.high.root ≡ linked_root both.now.low.root high (plan_of high both.now.high) }
     ensures done { Tells D.Disk disk.old → OnOk result ((D.content disk.new ≡ linked_image
-        (linked_image (D.content disk.old) at.0 root.now low both.now.low) at.0 (linked_root root.now low both.now.low)
-        high both.now.high)
+        (linked_image (D.content disk.old) at.0 root.now low (plan_of low both.now.low)) at.0
+        (linked_root root.now low (plan_of low both.now.low)) high (plan_of high both.now.high))
         × IsSettled D.Disk disk.new) }
     ensures images { Tells D.Disk disk.old → LeavesOf D.Disk disk.old disk.new (λ c.
-        (c ≡ linked_image (D.content disk.old) at.0 root.now low both.now.low)
-        ⊎ (c ≡ linked_image (linked_image (D.content disk.old) at.0 root.now low both.now.low) at.0
-        (linked_root root.now low both.now.low) high both.now.high)) }
+        (c ≡ linked_image (D.content disk.old) at.0 root.now low (plan_of low both.now.low))
+        ⊎ (c ≡ linked_image (linked_image (D.content disk.old) at.0 root.now low (plan_of low both.now.low)) at.0
+        (linked_root root.now low (plan_of low both.now.low)) high (plan_of high both.now.high))) }
     ensures failed { IfErr result (λ t. t ≡ troubles.Disk true) }
     ensures ends { ComesOrStops D.Disk 5 5 disk.old disk.new result (λ done. true) }
 {

@@ -1,13 +1,13 @@
 -- A draft that is begun equals its object.
 use Rattle.std.proofs.Common.{◌≡◌, inl, inr, ℕ, zero, suc, Bool, IsTrue, true, false, List, [], ◌∷◌, length, take, get_or, Option, Some, None, refl, sym, ◌∙◌, ap, subst}
-use Rattle.special_files.proofs.Words.{Accounts, AreCounts, BeginsDirect, Drafts, Ghosts, Graph, HasDraft, HasDraftIf, HasItsBlocks, Held, Holds, Image, IsBlockOf, IsRootBlock, IsSameDisk, IsTree, Kept, Leaves, Nothing, Object, ObjectView, OnlyReads, Opened, Puid, ReadsAs, StoreHas, Tree, and_parts, begun_at, block_at, both_ways, carries_on, changes_begin, created_if, draft_goes_on, entry_in, false_from_ne_true, filter, first_or, fresh_of, had_not_meant, is_meant_for, levels_of, levels_standing, no_shadows, object_at, one_root, opened_as, passes, path_to, range_with_len, root_spelling, sight, source, stands_for, tree_in, width}
+use Rattle.special_files.proofs.Words.{Accounts, AreCounts, BeginsDirect, Drafts, Ghosts, Graph, HasDraft, HasDraftIf, HasItsBlocks, Held, Holds, Image, IsBlockOf, IsRootBlock, IsSameDisk, IsTree, Kept, Leaves, Nothing, Object, ObjectView, OnlyReads, Opened, Puid, ReadsAs, StoreHas, Tree, and_parts, begun_at, block_at, both_ways, carries_on, changes_begin, created_if, draft_goes_on, entry_in, false_from_ne_true, filter, first_or, fresh_of, had_not_meant, is_meant_for, leaf_limit, levels_of, levels_standing, no_shadows, node_pointers, object_at, one_root, opened_as, passes, path_to, range_with_len, root_spelling, sight, source, stands_for, tree_in, width}
 use Rattle.block_tree.specs.declared.root.Root as roots
 use Rattle.special_files.proofs.Levels.{none_in}
 
 -- in memory nothing is fresh either
 pub begun_fresh : (at : ℕ) (shadow : Option ℕ) (own : roots.Root) (k : ℕ) → get_or [] k [] ≡ get_or (fresh_of (begun_at at shadow own)) k []
-begun_fresh at shadow own zero = sym (none_in 15360)
-begun_fresh at shadow own (suc zero) = sym (none_in 120)
+begun_fresh at shadow own zero = sym (none_in leaf_limit)
+begun_fresh at shadow own (suc zero) = sym (none_in node_pointers.count)
 begun_fresh at shadow own (suc (suc k)) = refl
 
 -- no number passes a test that none passes

@@ -1,6 +1,6 @@
 -- The fresh blocks of a draft, level by level, and the flags that tell them.
 use Rattle.std.proofs.Common.{◌≡◌, ◌≢◌, ◌⊎◌, inl, inr, ℕ, zero, suc, ◌+◌, ◌-◌, ◌/◌, ◌%◌, ◌<◌, ◌≤◌, Bool, true, false, not, cond, List, [], ◌∷◌, length, get_or, replicate, set, refl, sym, ◌∙◌, ap, subst, get_or-set_other, get_or-set_same, arith}
-use Rattle.special_files.proofs.Words.{Draft, Drafting, Drafts, IsOpen, Puid, SetsFresh, Tree, both_ways, cases_Bool, cases_lt, count_by, div-one, eqb-false, eqb-true, filter, fresh_of, fun_ext, get_or-replicate, get_or_past, has_number, in_filter, is_count_by, length-replicate, levels_of, levels_standing, none_of, one_unless, passes, path_is, path_to, range_with_len, same_sums, set_in, standing_at, sum_by, sum_by-cons, to_filter, to_numbers, unset_in, ◌==◌}
+use Rattle.special_files.proofs.Words.{Draft, Drafting, Drafts, IsOpen, Puid, SetsFresh, Tree, both_ways, cases_Bool, cases_lt, count_by, div-one, eqb-false, eqb-true, filter, fresh_of, fun_ext, get_or-replicate, get_or_past, has_number, in_filter, is_count_by, leaf_limit, leaf_pointers, length-replicate, levels_of, levels_standing, node_pointers, none_of, one_unless, passes, path_is, path_to, range_with_len, same_sums, set_in, standing_at, sum_by, sum_by-cons, to_filter, to_numbers, unset_in, ◌==◌}
 
 -- ---- numbers that pass
 
@@ -24,18 +24,18 @@ same_tests P Q w same n below = by (cases_Bool (P n)) (cases_Bool (Q n))
 -- ---- the two levels of a tree
 
 abbrev pub fresh_leaf : (ℕ → Bool) → Tree → ℕ → Bool
-fresh_leaf test tree l = passes test (tree.below (l / 128 ∷ l % 128 ∷ []))
+fresh_leaf test tree l = passes test (tree.below (l / leaf_pointers.count ∷ l % leaf_pointers.count ∷ []))
 
 abbrev pub fresh_node : (ℕ → Bool) → Tree → ℕ → Bool
 fresh_node test tree n = passes test (tree.below (n ∷ []))
 
-pub leaf_level : (test : ℕ → Bool) (tree : Tree) → standing_at test tree 2 ≡ filter (fresh_leaf test tree) (range_with_len 0 15360)
+pub leaf_level : (test : ℕ → Bool) (tree : Tree) → standing_at test tree 2 ≡ filter (fresh_leaf test tree) (range_with_len 0 leaf_limit)
 unfolding levels_of
-leaf_level test tree = ap (λ (P : ℕ → Bool). filter P (range_with_len 0 15360)) (fun_ext (λ l. ap (λ (p : List ℕ). passes test (tree.below p)) (path_is tree.root l)))
+leaf_level test tree = ap (λ (P : ℕ → Bool). filter P (range_with_len 0 leaf_limit)) (fun_ext (λ l. ap (λ (p : List ℕ). passes test (tree.below p)) (path_is tree.root l)))
 
-pub node_level : (test : ℕ → Bool) (tree : Tree) → standing_at test tree 1 ≡ filter (fresh_node test tree) (range_with_len 0 120)
+pub node_level : (test : ℕ → Bool) (tree : Tree) → standing_at test tree 1 ≡ filter (fresh_node test tree) (range_with_len 0 node_pointers.count)
 unfolding levels_of path_to
-node_level test tree = ap (λ (P : ℕ → Bool). filter P (range_with_len 0 120)) (fun_ext (λ n. ap (λ (m : ℕ). passes test (tree.below (m ∷ []))) (div-one n)))
+node_level test tree = ap (λ (P : ℕ → Bool). filter P (range_with_len 0 node_pointers.count)) (fun_ext (λ n. ap (λ (m : ℕ). passes test (tree.below (m ∷ []))) (div-one n)))
 
 -- the levels from the leaves up
 pub levels_are : (test : ℕ → Bool) (tree : Tree) → levels_standing test tree (length (levels_of tree.root)) ≡ standing_at test tree 2 ∷ standing_at test tree 1 ∷ []
@@ -68,25 +68,25 @@ none_in count = set_is (none_of count) count (length-none count) ∙ filter_same
 
 -- each flag tells whether its block is fresh
 pub record Tell (test : ℕ → Bool) (tree : Tree) (leaves nodes : List Bool) : Type 0 where
-  pub leaf : (l : ℕ) → l < 15360 → get_or leaves l false ≡ fresh_leaf test tree l
-  pub node : (n : ℕ) → n < 120 → get_or nodes n false ≡ fresh_node test tree n
+  pub leaf : (l : ℕ) → l < leaf_limit → get_or leaves l false ≡ fresh_leaf test tree l
+  pub node : (n : ℕ) → n < node_pointers.count → get_or nodes n false ≡ fresh_node test tree n
 
-pub flags_tell : (test : ℕ → Bool) (tree : Tree) (drafting : Drafting) (fresh : List (List ℕ)) → length drafting.leaves ≡ 15360 → length drafting.nodes ≡ 120
+pub flags_tell : (test : ℕ → Bool) (tree : Tree) (drafting : Drafting) (fresh : List (List ℕ)) → length drafting.leaves ≡ leaf_limit → length drafting.nodes ≡ node_pointers.count
     → ((k : ℕ) → get_or fresh k [] ≡ get_or (levels_standing test tree (length (levels_of tree.root))) k []) → ((k : ℕ) → get_or fresh k [] ≡ get_or (fresh_of drafting) k []) → Tell test tree drafting.leaves drafting.nodes
 flags_tell test tree drafting fresh leaves nodes one two =
     let both : (k : ℕ) → get_or (fresh_of drafting) k [] ≡ get_or (standing_at test tree 2 ∷ standing_at test tree 1 ∷ []) k [] = λ k. sym (two k) ∙ one k ∙ ap (λ (ns : List (List ℕ)). get_or ns k []) (levels_are test tree) in
     record {
-      leaf = same_tests (λ l. get_or drafting.leaves l false) (fresh_leaf test tree) 15360 (sym (set_is drafting.leaves 15360 leaves) ∙ both 0 ∙ leaf_level test tree);
-      node = same_tests (λ n. get_or drafting.nodes n false) (fresh_node test tree) 120 (sym (set_is drafting.nodes 120 nodes) ∙ both 1 ∙ node_level test tree);
+      leaf = same_tests (λ l. get_or drafting.leaves l false) (fresh_leaf test tree) leaf_limit (sym (set_is drafting.leaves leaf_limit leaves) ∙ both 0 ∙ leaf_level test tree);
+      node = same_tests (λ n. get_or drafting.nodes n false) (fresh_node test tree) node_pointers.count (sym (set_is drafting.nodes node_pointers.count nodes) ∙ both 1 ∙ node_level test tree);
     }
 
-pub told_levels : (test : ℕ → Bool) (tree : Tree) (drafting : Drafting) → length drafting.leaves ≡ 15360 → length drafting.nodes ≡ 120 → Tell test tree drafting.leaves drafting.nodes
+pub told_levels : (test : ℕ → Bool) (tree : Tree) (drafting : Drafting) → length drafting.leaves ≡ leaf_limit → length drafting.nodes ≡ node_pointers.count → Tell test tree drafting.leaves drafting.nodes
     → (k : ℕ) → get_or (fresh_of drafting) k [] ≡ get_or (levels_standing test tree (length (levels_of tree.root))) k []
 told_levels test tree drafting leaves nodes tell k = by k ∙ ap (λ (ns : List (List ℕ)). get_or ns k []) (sym (levels_are test tree))
   where
     by : (k : ℕ) → get_or (fresh_of drafting) k [] ≡ get_or (standing_at test tree 2 ∷ standing_at test tree 1 ∷ []) k []
-    by zero = set_is drafting.leaves 15360 leaves ∙ filter_same (fresh_leaf test tree) (λ l. get_or drafting.leaves l false) 0 15360 (λ m low high. tell.leaf m (omega (arith, high))) ∙ sym (leaf_level test tree)
-    by (suc zero) = set_is drafting.nodes 120 nodes ∙ filter_same (fresh_node test tree) (λ n. get_or drafting.nodes n false) 0 120 (λ m low high. tell.node m (omega (arith, high))) ∙ sym (node_level test tree)
+    by zero = set_is drafting.leaves leaf_limit leaves ∙ filter_same (fresh_leaf test tree) (λ l. get_or drafting.leaves l false) 0 leaf_limit (λ m low high. tell.leaf m (omega (arith, high))) ∙ sym (leaf_level test tree)
+    by (suc zero) = set_is drafting.nodes node_pointers.count nodes ∙ filter_same (fresh_node test tree) (λ n. get_or drafting.nodes n false) 0 node_pointers.count (λ m low high. tell.node m (omega (arith, high))) ∙ sym (node_level test tree)
     by (suc (suc j)) = refl
 
 -- one flag more
@@ -99,12 +99,12 @@ set_tells P Q flags w at long was here others m below = elim (cases_Bool (m == a
   | inr not ↦ let apart = eqb-false m at not in get_or-set_other flags at m true false apart ∙ was m below ∙ sym (others m apart)
 ]
 
-pub tell_more : (test new : ℕ → Bool) (old tree : Tree) (l : ℕ) (was now : Drafting) → length was.leaves ≡ 15360 → length was.nodes ≡ 120 → Tell test old was.leaves was.nodes → SetsFresh l was now
-    → fresh_leaf new tree l ≡ true → fresh_node new tree (l / 128) ≡ true → ((m : ℕ) → m ≢ l → fresh_leaf new tree m ≡ fresh_leaf test old m) → ((m : ℕ) → m ≢ l / 128 → fresh_node new tree m ≡ fresh_node test old m)
+pub tell_more : (test new : ℕ → Bool) (old tree : Tree) (l : ℕ) (was now : Drafting) → length was.leaves ≡ leaf_limit → length was.nodes ≡ node_pointers.count → Tell test old was.leaves was.nodes → SetsFresh l was now
+    → fresh_leaf new tree l ≡ true → fresh_node new tree (l / leaf_pointers.count) ≡ true → ((m : ℕ) → m ≢ l → fresh_leaf new tree m ≡ fresh_leaf test old m) → ((m : ℕ) → m ≢ l / leaf_pointers.count → fresh_node new tree m ≡ fresh_node test old m)
     → Tell new tree now.leaves now.nodes
 tell_more test new old tree l was now long_leaves long_nodes tell sets leaf node leaves nodes = record {
-  leaf = λ m below. ap (λ (bs : List Bool). get_or bs m false) sets.leaves ∙ set_tells (fresh_leaf test old) (fresh_leaf new tree) was.leaves 15360 l long_leaves tell.leaf leaf leaves m below;
-  node = λ m below. ap (λ (bs : List Bool). get_or bs m false) sets.nodes ∙ set_tells (fresh_node test old) (fresh_node new tree) was.nodes 120 (l / 128) long_nodes tell.node node nodes m below;
+  leaf = λ m below. ap (λ (bs : List Bool). get_or bs m false) sets.leaves ∙ set_tells (fresh_leaf test old) (fresh_leaf new tree) was.leaves leaf_limit l long_leaves tell.leaf leaf leaves m below;
+  node = λ m below. ap (λ (bs : List Bool). get_or bs m false) sets.nodes ∙ set_tells (fresh_node test old) (fresh_node new tree) was.nodes node_pointers.count (l / leaf_pointers.count) long_nodes tell.node node nodes m below;
 }
 
 pub none_made : (count : ℕ) → none_of count ≡ replicate count false

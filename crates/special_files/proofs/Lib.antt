@@ -15,5 +15,6 @@ pub mod Refusals
 pub mod SlotNeed
 pub mod Trees
 pub mod View
+mod Ways
 pub mod Words
 pub mod WriteLeaf

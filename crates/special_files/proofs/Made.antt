@@ -84,7 +84,7 @@ module _ (a b : Image) (id : Puid) (root : roots.Root) (bare : IsBareRoot a id r
     bare_has = record {
       no_bit = no_bit;
       each = λ n block. ⊎_elim (λ root_is. subst (λ (k : ℕ). is_owned_by is_had id.block (entry_in b k) ≡ true) (sym root_is) is.had)
-          (λ at. absurd (none-some at.held (sym (below_none b (block_at b id.block) 120 now.no_node at.path) ∙ at.there))) (block_stands b id.block no_bit n block);
+          (λ at. absurd (none-some at.held (sym (below_none b (block_at b id.block) node_pointers.count now.no_node at.path) ∙ at.there))) (block_stands b id.block no_bit n block);
       no_other = λ n had. inl (is.alone n (of_taken is_had refl id.block (entry_in b n) had));
       none_leaves = λ n. false_from_ne_true _ (λ leaves. both_ways _ (had_not_leaving id.block (entry_in b n) (of_root n (of_taken is_leaving refl id.block (entry_in b n) leaves))) leaves);
     }

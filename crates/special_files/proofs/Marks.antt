@@ -1,6 +1,6 @@
 -- Flags that are set one after another, and what they make of the model's fresh blocks.
 use Rattle.std.proofs.Common.{◌≡◌, ◌⊎◌, inl, inr, ℕ, zero, suc, ◌+◌, ◌/◌, ◌%◌, ◌<◌, ◌≤◌, Bool, true, false, List, [], ◌∷◌, length, get_or, set, Option, Some, None, refl, sym, ◌∙◌, ap, subst, get_or-set_other, get_or-set_same, arith}
-use Rattle.special_files.proofs.Words.{Draft, Drafting, Drafts, HasDraft, Held, Image, IsOpen, Object, Overwrite, Puid, Tree, all-rise, blocks_counted, both_ways, cases_Bool, cases_lt, changed_object, div-one, eqb-false, eqb-true, filter-rises, first_level, fresh_after, fresh_of, get_or_past, has_number, held_at_depth, held_leaves, held_levels, held_nodes, in_all, in_filter, in_map, in_touched, in_withs, is_meant_for, is_some, leaves_in, levels_held, levels_of, map, next_levels, numbers-rise, numbers_rise, opened_as, parents, passes, path_is, path_to, range_with_len, root_spelling, same_numbers, set_in, shared, to_all, to_filter, to_map, to_numbers, to_touched, to_withs, touched, tree_in, with_numbers, within, ◌==◌}
+use Rattle.special_files.proofs.Words.{Draft, Drafting, Drafts, HasDraft, Held, Image, IsOpen, Object, Overwrite, Puid, Tree, all-rise, blocks_counted, both_ways, cases_Bool, cases_lt, changed_object, div-one, eqb-false, eqb-true, filter-rises, first_level, fresh_after, fresh_of, get_or_past, has_number, held_at_depth, held_leaves, held_levels, held_nodes, in_all, in_filter, in_map, in_touched, in_withs, is_meant_for, is_some, leaf_limit, leaf_pointers, leaves_in, levels_held, levels_of, map, next_levels, node_pointers, numbers-rise, numbers_rise, opened_as, parents, passes, path_is, path_to, range_with_len, root_spelling, same_numbers, set_in, shared, to_all, to_filter, to_map, to_numbers, to_touched, to_withs, touched, tree_in, with_numbers, within, ◌==◌}
 use Rattle.special_files.proofs.Levels.{Tell, set_is}
 use Rattle.special_files.proofs.PutStore.{flags_of}
 
@@ -100,18 +100,18 @@ module _ (b : Image) (id : Puid) (es : Drafts) (is : Drafting) (e : Draft) (now 
   unfolding levels_of
   held_second = ap (λ (ls : List (List ℕ)). first_level (next_levels ls)) levels
 
-  pub leaf_held : (x : ℕ) → x < 15360 → get_or is.leaves x false ≡ true → has_number x (held_leaves e.object) ≡ true
+  pub leaf_held : (x : ℕ) → x < leaf_limit → get_or is.leaves x false ≡ true → has_number x (held_leaves e.object) ≡ true
   unfolding levels_of
-  leaf_held x below flag = ap (has_number x) held_first ∙ to_filter (λ n. is_some (tree.below (path_to (levels_of (root_spelling is.root)) n))) x (range_with_len 0 15360)
-      (ap (λ (p : List ℕ). is_some (tree.below p)) (path_is (root_spelling is.root) x) ∙ some_passed (is_meant_for b id.block) (tree.below (x / 128 ∷ x % 128 ∷ [])) (sym (tell.leaf x below) ∙ flag)) (to_numbers x 0 15360 (omega arith) (omega (arith, below)))
+  leaf_held x below flag = ap (has_number x) held_first ∙ to_filter (λ n. is_some (tree.below (path_to (levels_of (root_spelling is.root)) n))) x (range_with_len 0 leaf_limit)
+      (ap (λ (p : List ℕ). is_some (tree.below p)) (path_is (root_spelling is.root) x) ∙ some_passed (is_meant_for b id.block) (tree.below (x / leaf_pointers.count ∷ x % leaf_pointers.count ∷ [])) (sym (tell.leaf x below) ∙ flag)) (to_numbers x 0 leaf_limit (omega arith) (omega (arith, below)))
 
-  pub node_held : (x : ℕ) → x < 120 → get_or is.nodes x false ≡ true → has_number x (held_nodes e.object) ≡ true
+  pub node_held : (x : ℕ) → x < node_pointers.count → get_or is.nodes x false ≡ true → has_number x (held_nodes e.object) ≡ true
   unfolding levels_of path_to
-  node_held x below flag = ap (has_number x) held_second ∙ to_filter (λ n. is_some (tree.below (n / 1 ∷ []))) x (range_with_len 0 120)
-      (ap (λ (m : ℕ). is_some (tree.below (m ∷ []))) (div-one x) ∙ some_passed (is_meant_for b id.block) (tree.below (x ∷ [])) (sym (tell.node x below) ∙ flag)) (to_numbers x 0 120 (omega arith) (omega (arith, below)))
+  node_held x below flag = ap (has_number x) held_second ∙ to_filter (λ n. is_some (tree.below (n / 1 ∷ []))) x (range_with_len 0 node_pointers.count)
+      (ap (λ (m : ℕ). is_some (tree.below (m ∷ []))) (div-one x) ∙ some_passed (is_meant_for b id.block) (tree.below (x ∷ [])) (sym (tell.node x below) ∙ flag)) (to_numbers x 0 node_pointers.count (omega arith) (omega (arith, below)))
 
 module _ (b : Image) (id : Puid) (ds es : Drafts) (was is : Drafting) (d e : Draft) (opened : IsOpen ds id was d) (now : IsOpen es id is e) (draft : HasDraft b id (opened_as is e))
-    (offset : ℕ) (bytes : List ℕ) (leaves : Marks (λ l. l) (offset / 512) (leaves_in (offset + length bytes)) was.leaves is.leaves) (nodes : Marks (λ l. l / 128) (offset / 512) (leaves_in (offset + length bytes)) was.nodes is.nodes)
+    (offset : ℕ) (bytes : List ℕ) (leaves : Marks (λ l. l) (offset / 512) (leaves_in (offset + length bytes)) was.leaves is.leaves) (nodes : Marks (λ l. l / leaf_pointers.count) (offset / 512) (leaves_in (offset + length bytes)) was.nodes is.nodes)
     (object : changed_object (Overwrite offset bytes) d.object ≡ e.object) where
   abbrev T : List ℕ
   T = touched offset (length bytes)
@@ -123,19 +123,19 @@ module _ (b : Image) (id : Puid) (ds es : Drafts) (was is : Drafting) (d e : Dra
         | inr old ↦ leaves.old x (in_set was.leaves x old)
       ]))
       (λ x h. let flag = in_set is.leaves x h in
-      to_filter (λ n. has_number n (held_leaves e.object)) x (with_numbers T (set_in was.leaves)) (leaf_held b id es is e now draft x (below_flags is.leaves 15360 x now.leaf_flags flag) flag) (to_all x T (set_in was.leaves) (elim (leaves.only x flag) [
+      to_filter (λ n. has_number n (held_leaves e.object)) x (with_numbers T (set_in was.leaves)) (leaf_held b id es is e now draft x (below_flags is.leaves leaf_limit x now.leaf_flags flag) flag) (to_all x T (set_in was.leaves) (elim (leaves.only x flag) [
         | inl old ↦ inr (to_set was.leaves x old)
         | inr l ↦ inl (subst (λ (y : ℕ). has_number y T ≡ true) l.3 (to_touched offset (length bytes) l.0 l.1 l.2))
       ])))
 
   in_parents : (x : ℕ) → has_number x (parents T) ≡ true → get_or is.nodes x false ≡ true
   in_parents x h =
-      let n = in_map (λ (y : ℕ). y / 128) x T (in_withs x (map (λ (y : ℕ). y / 128) T) h) in
+      let n = in_map (λ (y : ℕ). y / leaf_pointers.count) x T (in_withs x (map (λ (y : ℕ). y / leaf_pointers.count) T) h) in
       let two = in_touched offset (length bytes) n.0 n.1 in
       subst (λ (y : ℕ). get_or is.nodes y false ≡ true) n.2 (nodes.new n.0 two.0 two.1)
 
-  to_parents : (l : ℕ) → offset / 512 ≤ l → l < leaves_in (offset + length bytes) → has_number (l / 128) (parents T) ≡ true
-  to_parents l low high = to_withs (l / 128) (map (λ (y : ℕ). y / 128) T) (to_map (λ (y : ℕ). y / 128) l T (to_touched offset (length bytes) l low high))
+  to_parents : (l : ℕ) → offset / 512 ≤ l → l < leaves_in (offset + length bytes) → has_number (l / leaf_pointers.count) (parents T) ≡ true
+  to_parents l low high = to_withs (l / leaf_pointers.count) (map (λ (y : ℕ). y / leaf_pointers.count) T) (to_map (λ (y : ℕ). y / leaf_pointers.count) l T (to_touched offset (length bytes) l low high))
 
   second : shared (with_numbers (parents T) (set_in was.nodes)) (held_nodes e.object) ≡ set_in is.nodes
   second = same_numbers _ _ (filter-rises (λ n. has_number n (held_nodes e.object)) (with_numbers (parents T) (set_in was.nodes)) (all-rise (parents T) (set_in was.nodes) (set-rises was.nodes))) (set-rises is.nodes)
@@ -144,7 +144,7 @@ module _ (b : Image) (id : Puid) (ds es : Drafts) (was is : Drafting) (d e : Dra
         | inr old ↦ nodes.old x (in_set was.nodes x old)
       ]))
       (λ x h. let flag = in_set is.nodes x h in
-      to_filter (λ n. has_number n (held_nodes e.object)) x (with_numbers (parents T) (set_in was.nodes)) (node_held b id es is e now draft x (below_flags is.nodes 120 x now.node_flags flag) flag) (to_all x (parents T) (set_in was.nodes) (elim (nodes.only x flag) [
+      to_filter (λ n. has_number n (held_nodes e.object)) x (with_numbers (parents T) (set_in was.nodes)) (node_held b id es is e now draft x (below_flags is.nodes node_pointers.count x now.node_flags flag) flag) (to_all x (parents T) (set_in was.nodes) (elim (nodes.only x flag) [
         | inl old ↦ inr (to_set was.nodes x old)
         | inr l ↦ inl (subst (λ (y : ℕ). has_number y (parents T) ≡ true) l.3 (to_parents l.0 l.1 l.2))
       ])))

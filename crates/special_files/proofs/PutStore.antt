@@ -1,6 +1,7 @@
 -- The store after a leaf was put into a draft.
 use Rattle.std.proofs.Common.{◌≡◌, ℕ, ◌/◌, ◌<◌, Bool, true, List, [], length, Some, refl, sym, ◌∙◌, ap, subst, get_or}
-use Rattle.special_files.proofs.Words.{AreClaimed, DraftBecomes, DraftView, Drafting, Drafts, FitsLeaf, Ghosts, Graph, HasDraft, HasDraftIf, Image, IsOpen, Kept, NodeRead, Object, Opened, Puid, PutsLeaf, SetsFresh, StaysBut, StoreHas, created_if, draft_goes_on, draft_in, fresh_of, is_meant_for, leaf_claims, leaves_at, object_at, opened_as, pointer_to_node, root_spelling, tree_in, with_opened}
+use Rattle.special_files.proofs.Ways.{way_is}
+use Rattle.special_files.proofs.Words.{AreClaimed, DraftBecomes, DraftView, Drafting, Drafts, FitsLeaf, Ghosts, Graph, HasDraft, HasDraftIf, Image, IsOpen, Kept, Way, Object, Opened, Puid, PutsLeaf, SetsFresh, StaysBut, StoreHas, created_if, draft_goes_on, draft_in, fresh_of, is_meant_for, leaf_claims, leaves_at, object_at, opened_as, pointer_to_node, root_spelling, tree_in, with_opened, way_leaves, node_number, leaf_limit, leaf_pointers, node_pointers}
 use Rattle.std.proofs.Math.ListN.{length-set}
 use Rattle.ufs_model.specs.declared.object.Draft as models
 use Rattle.special_files.proofs.Amid.{IsAmid}
@@ -28,7 +29,7 @@ module _ {D : Type 0} (g : Ghosts D) (graph : Graph) (ds : Drafts) (id : Puid) (
     ordered = store.ordered;
   }
 
-  pub becomes_now : HasDraft (g.content new) id now_open → now.at ≡ was.at → now.created ≡ was.created → length now.leaves ≡ 15360 → length now.nodes ≡ 120 → ((k : ℕ) → get_or next.fresh k [] ≡ get_or (fresh_of now) k []) → DraftBecomes g graph ds id next old new after now
+  pub becomes_now : HasDraft (g.content new) id now_open → now.at ≡ was.at → now.created ≡ was.created → length now.leaves ≡ leaf_limit → length now.nodes ≡ node_pointers.count → ((k : ℕ) → get_or next.fresh k [] ≡ get_or (fresh_of now) k []) → DraftBecomes g graph ds id next old new after now
   becomes_now draft same_at created leaves nodes fresh = record {
     steps = record { store = store_goes_on draft created; only = amid.only };
     is_open = record { at = opened.at ∙ sym same_at; alone = with_here id (Some now_open) ds; leaf_flags = leaves; node_flags = nodes; fresh = fresh };
@@ -40,7 +41,7 @@ module _ {D : Type 0} (g : Ghosts D) (graph : Graph) (ds : Drafts) (id : Puid) (
 pub flags_of : (image : Image) (ds : Drafts) (id : Puid) (was : Drafting) (m : models.Draft) → IsOpen ds id was m → HasDraft image id (opened_as was m) → Tell (is_meant_for image id.block) (tree_in image (root_spelling was.root)) was.leaves was.nodes
 flags_of image ds id was m opened draft = flags_tell (is_meant_for image id.block) (tree_in image (root_spelling was.root)) was m.fresh opened.leaf_flags opened.node_flags draft.fresh opened.fresh
 
-module _ {D : Type 0} {g : Ghosts D} {old new : D} {before after : Kept} {was now : Drafting} (v : DraftView g old before was) (read : NodeRead) (leaf x y : ℕ) (content : List ℕ) (fits : FitsLeaf was.root leaf content) (most : leaf < 15360)
+module _ {D : Type 0} {g : Ghosts D} {old new : D} {before after : Kept} {was now : Drafting} (v : DraftView g old before was) (way : Way) (leaf x y : ℕ) (content : List ℕ) (fits : FitsLeaf was.root leaf content) (most : leaf < leaf_limit)
     (amid : IsAmid g v.graph v.id old new after) (put : LeafPut (g.content old) (g.content new) v.id (opened_as was v.draft) now.root leaf x y content) (stays : StaysBut was now) (sets : SetsFresh leaf was now) where
   abbrev a : Image
   a = g.content old
@@ -54,11 +55,11 @@ module _ {D : Type 0} {g : Ghosts D} {old new : D} {before after : Kept} {was no
   draft : HasDraft a v.id (opened_as was v.draft)
   draft = the_draft a v.ds v.id was v.draft v.opened (v.store.account.drafts v.id v.object v.at)
 
-  long_leaves : length now.leaves ≡ 15360
+  long_leaves : length now.leaves ≡ leaf_limit
   long_leaves = ap (length {A = Bool}) sets.leaves ∙ length-set was.leaves leaf true ∙ v.opened.leaf_flags
 
-  long_nodes : length now.nodes ≡ 120
-  long_nodes = ap (length {A = Bool}) sets.nodes ∙ length-set was.nodes (leaf / 128) true ∙ v.opened.node_flags
+  long_nodes : length now.nodes ≡ node_pointers.count
+  long_nodes = ap (length {A = Bool}) sets.nodes ∙ length-set was.nodes (leaf / leaf_pointers.count) true ∙ v.opened.node_flags
 
   tell : Tell (is_meant_for b v.id.block) (tree_in b (root_spelling now.root)) now.leaves now.nodes
   tell = tell_more (is_meant_for a v.id.block) (is_meant_for b v.id.block) (tree_in a (root_spelling was.root)) (tree_in b (root_spelling now.root)) leaf was now v.opened.leaf_flags v.opened.node_flags
@@ -78,13 +79,13 @@ module _ {D : Type 0} {g : Ghosts D} {old new : D} {before after : Kept} {was no
   now_is : DraftBecomes g v.graph v.ds v.id later old new after now
   now_is = becomes_now g v.graph v.ds v.id v.object old new before after was now v.draft later v.store v.at v.opened amid stands stays.at stays.created long_leaves long_nodes (λ k. refl)
 
-  pub leaf_put : (read.number < 120 → read.node.leaves ≡ leaves_at b (pointer_to_node now.root read.number)) → AreClaimed (leaf_claims was.at was.leaves was.nodes leaf) a b → PutsLeaf g v.graph v.ds v.id leaf content old new after was now read
+  pub leaf_put : way_leaves way ≡ leaves_at b (pointer_to_node now.root (node_number way)) → AreClaimed (leaf_claims was.at was.leaves was.nodes leaf) a b → PutsLeaf g v.graph v.ds v.id leaf content old new after was now way
   leaf_put node order = record {
     steps = now_is.steps;
     is_open = now_is.is_open;
     sets = sets;
     leaves = leaf_puts a b v.graph v.store.account.holds v.id (opened_as was v.draft) now.root leaf x y content draft put most;
-    read_is = node;
+    read_is = way_is b now.root way node;
     order = order;
     beside = put_beside a b v.graph v.store.account.holds v.id (opened_as was v.draft) now.root leaf x y content draft put most;
   }

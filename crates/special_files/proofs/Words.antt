@@ -1,11 +1,13 @@
 -- What lemmas of this crate name of the crates below, and of its own definitions.
 pub use Rattle.block_tree.proofs.Spellings.{nodes_of, one_root}
 pub use Rattle.block_tree.proofs.Trees.{end_is, node_block, path_is}
-pub use Rattle.block_tree.proofs.Nodes.{leaves_there, length-leaves, nothing_below, pointed, two_levels}
-pub use Rattle.block_tree.specs.Pointers.{leaf_pointers, node_pointers, number_at, width}
+pub use Rattle.block_tree.proofs.Nodes.{leaves_there, length-leaves, nothing_below, pointed, two_levels, zeros}
+pub use Rattle.block_tree.specs.Along.{IsNearTree, IsTo, IsWay, way_leaves}
+pub use Rattle.block_tree.specs.declared.along.Way.{Way}
+pub use Rattle.block_tree.specs.Pointers.{leaf_limit, leaf_pointers, node_pointers, number_at, size_limit, width}
 unfoldable pub use Rattle.block_tree.specs.Pointers.{pointers_of}
 pub use Rattle.block_tree.specs.Root.{Fits, IsGoodRoot, IsRoot, IsRootBlock, root_spelling}
-pub use Rattle.block_tree.specs.Tree.{bytes_in, end_of, pointer, tree_of}
+pub use Rattle.block_tree.specs.Tree.{bytes_in, end_of, leaf_block, pointer, tree_of}
 unfoldable pub use Rattle.block_tree.specs.Tree.{levels_of, path_to}
 pub use Rattle.cfs_base.proofs.Calls.{makes_then, reads_make, reads_then, reads_within, stopped_after_reads, stopped_after_try, tells_on, then_tried, tried_then}
 pub use Rattle.cfs_base.proofs.Runs.{still_tells, then, wider}
@@ -78,19 +80,19 @@ unfoldable pub use Rattle.special_files.specs.Drafting.{none_of, set_in, unset_i
 pub use Rattle.special_files.specs.Ends.{EndsCall}
 pub use Rattle.special_files.specs.Fills.{FillCall, FillsDraft, FillsIfIndex, IsNearSwap, IsSwapped, dropped_by, filled_draft, is_empty_already}
 pub use Rattle.special_files.specs.Leaves.{PutsAt, SameBeside, draft_in, leaves_below, object_below}
-pub use Rattle.special_files.specs.Nodes.{IsRead, IsSafe}
+pub use Rattle.special_files.specs.Limits.{abort_calls, abort_tries, begun_calls, begun_tries, blocks_limit, changed_reads, commit_calls, commit_tries, drop_calls, drop_tries, node_blocks, resize_calls, resize_tries}
+pub use Rattle.special_files.specs.Nodes.{HasNode, IsRead, IsSafe, IsSafeIn, node_number}
 pub use Rattle.special_files.specs.Order.{ClaimsAndDrops, claims_anew, claims_by_leaf, leaf_claims, node_claims}
 pub use Rattle.special_files.specs.Puts.{FitsLeaf, LeafCall, PutsLeaf, StaysBut, drafts_with}
 pub use Rattle.block_tree.specs.Reads.{Far, FarLeaf, IsNear, IsNodeTrouble, IsRootTrouble, is_damage, leaves_at}
 pub use Rattle.special_files.specs.Refusal.{FarNode, FarRoot, IsDraftDamage, IsDraftRefusal, IsDraftTrouble, NoMap, NoRoot, OpenMap, OtherCount, has_met_damage, is_full_refusal, nodes_top, roots_top, refusal_after, top_of}
 pub use Rattle.leaf_changes.specs.Tops.{IsFarRoot, Top, root_top, still_top}
-pub use Rattle.special_files.specs.Shed.{AreShed, Cuts, CutsIf, DropCall, DropsFrom, Forgets, HasParts, IsBorder, IsCutHere, IsFullFor, IsPathPast, IsPlan, IsReadIn, IsShed, IsShortNode, IsToldByNodes, KeepsOne, NoBlock, NoWrite, Put, PutsWithin, ResizeCall, Resized, Spares, Whole, Within, border_claims, border_takes, cut_takes, is_stale_cut, last_draft_node, list_if, plan_needs, shrink_takes, sized}
+pub use Rattle.special_files.specs.Shed.{AreShed, Cuts, CutsIf, CutsRootAt, DropCall, DropsFrom, Forgets, HasParts, IsBorder, IsCutHere, IsFullFor, IsPathPast, IsPlan, IsShed, IsShortNode, IsToldByNodes, KeepsOne, NoBlock, NoWrite, Put, PutsWithin, ResizeCall, Resized, Spares, Whole, Within, border_claims, border_takes, cut_takes, is_stale_cut, last_draft_leaf, last_draft_node, list_if, plan_needs, shrink_takes, sized}
 unfoldable pub use Rattle.special_files.specs.Shed.{fresh_in}
 pub use Rattle.special_files.specs.Store.{Steps}
 pub use Rattle.special_files.specs.View.{DraftSeen, DraftView, GoesHolding, GoesTo, HasTree, ObjectView}
 pub use Rattle.special_files.specs.Writes.{WriteCall, WritesDraft, leaves_written, write_need}
 pub use Rattle.special_files.specs.declared.fill.Swap.{Swap}
-pub use Rattle.special_files.specs.declared.node.NodeRead.{NodeRead}
 pub use Rattle.special_files.specs.declared.shrink.Plan.{Plan}
 pub use Rattle.std.proofs.Math.Nat.{div-one}
 pub use Rattle.std.proofs.Math.Path.{fun_ext}

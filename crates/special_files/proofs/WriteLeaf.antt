@@ -1,9 +1,9 @@
 -- Bytes written into one leaf of a draft: what was read is laid under them, and they are put.
 use Rattle.std.proofs.Common.{◌≡◌, ℕ, ◌+◌, ◌-◌, ◌*◌, ◌/◌, ◌%◌, ◌<◌, ◌≤◌, List, ◌++◌, length, get_or, take, replicate, slice_range, Err, refl, sym, ◌∙◌, ap, subst, arith, false, Ok}
-use Rattle.special_files.proofs.Words.{AreClaimed, ChangesOnly, DraftBecomes, DraftView, Drafting, Drafts, EndsCall, FitsLeaf, Ghosts, GoesHolding, Graph, HasDraft, Image, IsDraftTrouble, IsNear, IsRead, Kept, LeafCall, Leaves, LeavesFit, NodeRead, OnlyReads, Puid, PutsAt, PutsLeaf, Refused, Result, SameBeside, Tells, Top, Trouble, cut, draft_takes, drop_all, get_or-append_right, get_or-replicate, has_met_damage, is_damage, is_full_refusal, leaf_claims, leaf_content, leaves_at, leaves_below, leaves_in, length-leaf_content, length-take, makes_then, of_draft, opened_as, over_byte, over_past, overlaid, past_size, patched, pointer_to_node, reads_make, reads_then, reads_within, refused_by, root_spelling, sum, then, then_tried, top_of, tree_in}
+use Rattle.special_files.proofs.Words.{AreClaimed, ChangesOnly, DraftBecomes, DraftView, Drafting, Drafts, EndsCall, FitsLeaf, Ghosts, GoesHolding, Graph, HasDraft, Image, IsDraftTrouble, IsNearTree, IsRead, Kept, LeafCall, Leaves, LeavesFit, Way, OnlyReads, Puid, PutsAt, PutsLeaf, Refused, Result, SameBeside, Tells, Top, Trouble, cut, draft_takes, drop_all, get_or-append_right, get_or-replicate, has_met_damage, is_damage, is_full_refusal, leaf_claims, leaf_content, leaves_below, leaves_in, length-leaf_content, length-take, makes_then, of_draft, opened_as, over_byte, over_past, overlaid, past_size, patched, reads_make, reads_then, reads_within, refused_by, root_spelling, sum, then, then_tried, top_of, tree_in}
 use Rattle.block_tree.specs.declared.root.Root as roots
 use Rattle.ufs_model.specs.declared.object.Draft as models
-use Rattle.special_files.proofs.read.ReadLeaves.{node_near}
+use Rattle.special_files.proofs.read.ReadLeaves.{tree_near}
 use Rattle.special_files.specs.View.{HasTree}
 use Rattle.special_files.proofs.View.{read_leaves, view_reads}
 use Rattle.special_files.proofs.Endings.{makes_none, stays_itself}
@@ -50,8 +50,8 @@ cut_fits root size content long less = record {
 -- ---- after reads
 
 -- what was read last, seen from the image before
-pub read_since : {D : Type 0} {g : Ghosts D} {d0 d1 : D} {n : ℕ} (reads : OnlyReads g n d0 d1) (was : Drafting) (read : NodeRead) → IsRead (g.content d0) was read → IsRead (g.content d1) was read
-read_since {g} reads was read is = λ few. is few ∙ ap (λ (i : Image). leaves_at i (pointer_to_node was.root read.number)) (sym reads.content)
+pub read_since : {D : Type 0} {g : Ghosts D} {d0 d1 : D} {n : ℕ} (reads : OnlyReads g n d0 d1) (was : Drafting) (read : Way) → IsRead (g.content d0) was read → IsRead (g.content d1) was read
+read_since {g} reads was read is = subst (λ (i : Image). IsRead i was read) (sym reads.content) is
 
 -- a refusal that was a trouble isn't Full
 pub not_full : (t : Trouble) → is_full_refusal (refused_by t) ≡ false
@@ -59,7 +59,7 @@ not_full (trouble.Disk tried) = refl
 not_full (trouble.Damaged damage) = refl
 
 module _ {D : Type 0} {g : Ghosts D} {d0 d1 : D} {n : ℕ} (reads : OnlyReads g n d0 d1) where
-  pub puts_since : {d2 : D} {graph : Graph} {ds : Drafts} {id : Puid} {leaf : ℕ} {content : List ℕ} {after : Kept} {was now : Drafting} {read : NodeRead} → PutsLeaf g graph ds id leaf content d1 d2 after was now read → PutsLeaf g graph ds id leaf content d0 d2 after was now read
+  pub puts_since : {d2 : D} {graph : Graph} {ds : Drafts} {id : Puid} {leaf : ℕ} {content : List ℕ} {after : Kept} {was now : Drafting} {read : Way} → PutsLeaf g graph ds id leaf content d1 d2 after was now read → PutsLeaf g graph ds id leaf content d0 d2 after was now read
   puts_since {d2} {id = id} {leaf = leaf} {content = content} {was = was} {now = now} puts = record {
     steps = record { store = puts.steps.store; only = subst (λ (i : Image). ChangesOnly (λ e. of_draft id.block e) i (g.content d2)) reads.content puts.steps.only };
     is_open = puts.is_open;
@@ -109,16 +109,16 @@ module _ {D : Type 0} {g : Ghosts D} {d0 d1 : D} {n : ℕ} (reads : OnlyReads g 
 
 -- ---- one leaf put
 
-pub leaf_refused : {D : Type 0} {g : Ghosts D} {n leaf : ℕ} {d0 d1 : D} {k0 k1 : Kept} {was : Drafting} (read : NodeRead) {e : Refused} → EndsCall {A = Unit {0}} g (top_of was) 0 n 4 (draft_takes was leaf) d0 d1 k0 k1 (Err e) → (draft_takes was leaf ≤ sum k0.free → is_full_refusal e ≡ false)
+pub leaf_refused : {D : Type 0} {g : Ghosts D} {n leaf : ℕ} {d0 d1 : D} {k0 k1 : Kept} {was : Drafting} (read : Way) {e : Refused} → EndsCall {A = Unit {0}} g (top_of was) 0 n 4 (draft_takes was leaf) d0 d1 k0 k1 (Err e) → (draft_takes was leaf ≤ sum k0.free → is_full_refusal e ≡ false)
     → LeafCall g n leaf d0 d1 k0 k1 was was read (Err e)
-leaf_refused {was = was} read ends room = record { stays = stays_itself was; flags = tt; number = tt; safe = tt; near = λ far. far; ends = ends; tried = tt; kept = λ same. refl; room = room }
+leaf_refused {was = was} read ends room = record { stays = stays_itself was; flags = tt; to = tt; safe = tt; near = λ far. far; ends = ends; tried = tt; kept = λ same. refl; room = room }
 
 module _ {D : Type 0} {g : Ghosts D} {d0 d1 : D} {n : ℕ} (reads : OnlyReads g n d0 d1) where
-  pub leaf_since : {m leaf : ℕ} {d2 : D} {k0 k2 : Kept} {was now : Drafting} {read : NodeRead} {r : Result (Unit {0}) Refused} (most : ℕ) → LeafCall g m leaf d1 d2 k0 k2 was now read r → n + m ≤ most → LeafCall g most leaf d0 d2 k0 k2 was now read r
+  pub leaf_since : {m leaf : ℕ} {d2 : D} {k0 k2 : Kept} {was now : Drafting} {read : Way} {r : Result (Unit {0}) Refused} (most : ℕ) → LeafCall g m leaf d1 d2 k0 k2 was now read r → n + m ≤ most → LeafCall g most leaf d0 d2 k0 k2 was now read r
   leaf_since {d2 = d2} {r = r} most is le = record {
     stays = is.stays;
     flags = is.flags;
-    number = is.number;
+    to = is.to;
     safe = is.safe;
     near = is.near;
     ends = ends_since reads most is.ends le;
@@ -127,20 +127,20 @@ module _ {D : Type 0} {g : Ghosts D} {d0 d1 : D} {n : ℕ} (reads : OnlyReads g 
     room = is.room;
   }
 
-  pub leaf_stopped : {leaf : ℕ} {kept : Kept} {was : Drafting} (read : NodeRead) (most : ℕ) (t : Trouble) (e : Refused) → e ≡ refused_by t → n ≤ most → IsDraftTrouble g (top_of was) d0 d1 kept t → LeafCall g most leaf d0 d1 kept kept was was read (Err e)
+  pub leaf_stopped : {leaf : ℕ} {kept : Kept} {was : Drafting} (read : Way) (most : ℕ) (t : Trouble) (e : Refused) → e ≡ refused_by t → n ≤ most → IsDraftTrouble g (top_of was) d0 d1 kept t → LeafCall g most leaf d0 d1 kept kept was was read (Err e)
   leaf_stopped {leaf} read most t e same le is = leaf_refused read (ends_trouble reads 4 _ most t e same le is) (λ enough. ap is_full_refusal same ∙ not_full t)
 
   -- content that was read, and then put
-  pub leaf_changed : {k0 k2 : Kept} {was now : Drafting} {d2 : D} {r : Result (Unit {0}) Refused} (v : DraftView g d0 k0 was) (read mid next : NodeRead) (leaf : ℕ) (content whole : List ℕ) → (Tells g d0 → IsRead (g.content d0) was read → IsRead (g.content d0) was mid) → IsRead (g.content d0) was read
+  pub leaf_changed : {k0 k2 : Kept} {was now : Drafting} {d2 : D} {r : Result (Unit {0}) Refused} (v : DraftView g d0 k0 was) (read mid next : Way) (leaf : ℕ) (content whole : List ℕ) → (Tells g d0 → IsRead (g.content d0) was read → IsRead (g.content d0) was mid) → IsRead (g.content d0) was read
       → content ≡ whole → FitsLeaf was.root leaf whole → ((w : DraftView g d1 k0 was) → IsRead (g.content d1) was mid → FitsLeaf was.root leaf content → GoesHolding g w.graph (PutsLeaf g w.graph w.ds w.id leaf content d1 d2 k2 was now next) d1 d2 r)
       → GoesHolding g v.graph (PutsLeaf g v.graph v.ds v.id leaf whole d0 d2 k2 was now next) d0 d2 r
   leaf_changed {k2 = k2} {was = was} {now = now} {d2 = d2} v read mid next leaf content whole node is same fits put =
       goes_since reads (λ puts. subst (λ (c : List ℕ). PutsLeaf g v.graph v.ds v.id leaf c d0 d2 k2 was now next) same (puts_since reads puts))
       (put (view_reads v reads) (read_since reads was mid (node v.store.carries.tells is)) (subst (FitsLeaf was.root leaf) (sym same) fits))
 
--- on an honest disk the node is near
-pub near_there : {D : Type 0} {g : Ghosts D} {d0 : D} {was : Drafting} (v : HasTree g d0 was) → length (g.content d0) ≡ g.blocks d0 → 0 < g.blocks d0 → (n : ℕ) → IsNear (g.blocks d0) (g.content d0) (pointer_to_node was.root n)
-near_there {g = g} {d0 = d0} {was = was} v size some n = node_near (g.content d0) (g.blocks d0) v.owner was v.object v.tree size some n
+-- on an honest disk the tree is near
+pub near_there : {D : Type 0} {g : Ghosts D} {d0 : D} {was : Drafting} (v : HasTree g d0 was) → length (g.content d0) ≡ g.blocks d0 → 0 < g.blocks d0 → IsNearTree (g.blocks d0) (g.content d0) (root_spelling was.root)
+near_there {g = g} {d0 = d0} {was = was} v size some = tree_near (g.content d0) (g.blocks d0) v.owner was v.object v.tree size some
 
 -- the same, done with another answer
 pub ends_as : {D A B : Type 0} {g : Ghosts D} {at : Top} {floor n t k : ℕ} {d0 d1 : D} {k0 k1 : Kept} {x : A} (y : B) → EndsCall g at floor n t k d0 d1 k0 k1 (Ok x) → EndsCall g at floor n t k d0 d1 k0 k1 (Ok y)

@@ -1,5 +1,7 @@
 -- What single steps of a draft do to a disk.
 use Rattle.std.specs.Prelude.{◌≡◌, ◌⊎◌, ℕ, ◌/◌, true, false, IsTrue, IfErr, OnErr, OnOk, Result, Ok, List, set}
+use Rattle.block_tree.specs.Pointers.{leaf_pointers}
+use Rattle.block_tree.specs.declared.root.Root as roots
 use Rattle.cfs_base.specs.Calls.{HasStopped, HasTried, MakesAtMost}
 use Rattle.cfs_base.specs.Disk.{Written}
 use Rattle.cfs_base.specs.Run.{Leaves, left_now}
@@ -35,15 +37,24 @@ pub data GetsDraftNode {D : Type 0} (g : Ghosts D) (n : ℕ) (old new : D) (befo
 -- a leaf and its node are fresh afterwards, and all others as they were
 pub record SetsFresh (leaf : ℕ) (was now : Drafting) : Type 0 where
   pub leaves : now.leaves ≡ set was.leaves leaf true
-  pub nodes : now.nodes ≡ set was.nodes (leaf / 128) true
+  pub nodes : now.nodes ≡ set was.nodes (leaf / leaf_pointers.count) true
 
 -- the same on any disk, where a leaf that was fresh may have stood below a node that wasn't
 pub record SetsFlags (leaf : ℕ) (was now : Drafting) : Type 0 where
   pub leaves : now.leaves ≡ set was.leaves leaf true
   pub nodes : ((is_fresh_leaf was leaf ≡ true) × (now.nodes ≡ was.nodes))
-      ⊎ (now.nodes ≡ set was.nodes (leaf / 128) true)
+      ⊎ (now.nodes ≡ set was.nodes (leaf / leaf_pointers.count) true)
+
+-- so they are, and the draft has this root
+pub record Adopts (leaf : ℕ) (next : roots.Root) (was now : Drafting) : Type 0 where
+  pub fresh : SetsFresh leaf was now
+  pub root : now.root ≡ next
+  pub at : now.at ≡ was.at
+  pub shadow : now.shadow ≡ was.shadow
+  pub own : now.own ≡ was.own
+  pub created : now.created ≡ was.created
 
 -- so they are, the node at this block
 pub record Adds (leaf block : ℕ) (was now : Drafting) : Type 0 where
   pub fresh : SetsFresh leaf was now
-  pub root : now.root ≡ record was.root { nodes = set was.root.nodes (leaf / 128) block }
+  pub root : now.root ≡ record was.root { nodes = set was.root.nodes (leaf / leaf_pointers.count) block }

@@ -54,7 +54,7 @@ unfoldable pub all_unlike : (ℕ → ℕ) → (ℕ → ℕ) → ℕ → List ℕ
 all_unlike f g zero = []
 all_unlike f g (suc k) = all_unlike f g k ++ unlike (f k) (g k)
 
--- the pointers to a node and to its leaves: one table of 129
+-- the pointers to a node and to its leaves: one table
 abbrev pub pointer_table : ℕ → List ℕ → ℕ → ℕ
 pointer_table block leaves zero = block
 pointer_table block leaves (suc k) = get_or leaves k 0

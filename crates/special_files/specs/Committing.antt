@@ -20,6 +20,7 @@ use Rattle.intentions.specs.Course.{Course, IsCourse, IsOn, Keeps}
 use Rattle.intentions.specs.Runs.{runs}
 use Rattle.intentions.specs.declared.change.Change.{Change}
 use Rattle.intentions.specs.declared.change.Change.TheVariants.{Finish, Release, SetBit, Undo}
+use Rattle.special_files.specs.Limits.{abort_calls, abort_tries, changed_reads, commit_calls, commit_tries}
 use Rattle.ufs_model.specs.declared.object.Object.{Object}
 use Rattle.ufs_model.specs.Graph.{Graph, object_at, with_object}
 use Rattle.ufs_model.specs.Numbers.{has_number}
@@ -314,11 +315,11 @@ pub record CommitsSo {D : Type 0} (g : Ghosts D) (at : Top) (n t : ℕ) (old new
 -- of a draft
 pub record CommitCall {D : Type 0} (g : Ghosts D) (was : Drafting) (old new : D) (before after : Kept)
     (result : Result (Unit {0}) Trouble) : Type 0 where
-  pub ends : CommitsSo g (draft_top was) 31207 15485 old new before after result
+  pub ends : CommitsSo g (draft_top was) commit_calls commit_tries old new before after result
   -- of one that has a shadow root, where a device call failed a write or a barrier was tried
   pub tried : was.shadow ≢ None → IfErr result (λ t. t ≢ trouble.Disk false)
   -- where one failed before the first try, only reads were made
-  pub untried : IfErr result (λ t. t ≡ trouble.Disk false → (after ≡ before) × OnlyReads g 241 old new)
+  pub untried : IfErr result (λ t. t ≡ trouble.Disk false → (after ≡ before) × OnlyReads g (1 + changed_reads) old new)
 
 -- of one that equalled its object until one slot was filled
 abbrev pub SwapCall : {D : Type 0} → Ghosts D → Drafting → D → D → Kept → Kept → Result (Unit {0}) Trouble → Type 0
@@ -333,4 +334,4 @@ pub record AbortCall {D : Type 0} (g : Ghosts D) (was : Drafting) (old new : D) 
   pub made : OnOk result (HasTried g old new)
   pub cylinders : length after.free ≡ length before.free
   pub left : after.left ≡ before.left
-  pub calls : MakesAtMost g 31205 15483 old new
+  pub calls : MakesAtMost g abort_calls abort_tries old new

@@ -1,7 +1,7 @@
 -- An object made beside a draft of an index: its root claimed and written, and its identifier put into a slot.
 use Rattle.std.specs.Prelude.{◌≡◌, ℕ, ◌+◌, ◌/◌, ◌%◌, ◌≤◌, [], ◌∷◌, false, replicate, set, Some, sum, true}
 use Rattle.std.specs.Prelude.{IfErr, IfOk, OnOk, Result}
-use Rattle.block_tree.specs.Pointers.{node_pointers, pointers_of}
+use Rattle.block_tree.specs.Pointers.{node_pointers, pointers_of, size_limit}
 use Rattle.block_tree.specs.Root.{IsRoot, IsRootBlock, root_spelling}
 use Rattle.block_tree.specs.declared.root.Root.{Root}
 use Rattle.cfs_base.specs.Calls.{HasTried, OnlyReads}
@@ -54,12 +54,12 @@ made_of kinds.Index fill size = objects.Index (new_index (size / 8))
 abbrev pub MayBeMade : Kind → (fill size : ℕ) → Type 0
 MayBeMade kinds.Normal fill size = size ≡ 0
 MayBeMade kinds.Special fill size = size ≡ 0
-MayBeMade kinds.Index fill size = (fill ≡ 0) × (8 ≤ size) × (size ≤ 7864320) × (size % 8 ≡ 0)
+MayBeMade kinds.Index fill size = (fill ≡ 0) × (8 ≤ size) × (size ≤ size_limit) × (size % 8 ≡ 0)
 
 -- such a root is written as it is, and leads to nothing
 pub record IsBare (root : Root) : Type 0 where
   pub good : IsRoot root
-  pub no_node : root.nodes ≡ replicate 120 0
+  pub no_node : root.nodes ≡ replicate node_pointers.count 0
 
 -- what its block spells
 pub record Spells (root : Root) : Type 0 where

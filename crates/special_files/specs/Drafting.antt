@@ -2,6 +2,7 @@
 use Rattle.std.specs.Prelude.{◌≡◌, ℕ, ◌+◌, ◌-◌, ◌/◌, Bool, false, not, List, [], ◌∷◌, length, get_or, filter, replicate}
 use Rattle.std.specs.Prelude.{Option, Some, None, if◌then◌else◌, is_some, slice_index}
 use Rattle.std.specs.List.{range_with_len}
+use Rattle.block_tree.specs.Pointers.{leaf_limit, leaf_pointers, node_pointers}
 use Rattle.cfs_base.specs.declared.identifier.BlockNo.{BlockNo}
 use Rattle.cfs_base.specs.declared.identifier.Puid.{Puid}
 use Rattle.block_tree.specs.declared.root.Root as roots
@@ -38,8 +39,8 @@ begun_at at shadow root =
       shadow = shadow;
       own = root;
       root = root;
-      leaves = none_of 15360;
-      nodes = none_of 120;
+      leaves = none_of leaf_limit;
+      nodes = none_of node_pointers.count;
       created = None;
     }
 
@@ -68,8 +69,8 @@ opened_as drafting d =
 pub record IsOpen (ds : Drafts) (id : Puid) (drafting : Drafting) (d : Draft) : Type 0 where
   pub at : id.block ≡ drafting.at
   pub alone : ds id ≡ Some (opened_as drafting d)
-  pub leaf_flags : length drafting.leaves ≡ 15360
-  pub node_flags : length drafting.nodes ≡ 120
+  pub leaf_flags : length drafting.leaves ≡ leaf_limit
+  pub node_flags : length drafting.nodes ≡ node_pointers.count
   pub fresh : (k : ℕ) → get_or d.fresh k [] ≡ get_or (fresh_of drafting) k []
 
 -- ---- what it takes
@@ -95,7 +96,7 @@ one_unless b = if b then 0 else 1
 -- a leaf that isn't fresh takes a block, and one for its node where that isn't fresh
 abbrev pub draft_takes : Drafting → ℕ → ℕ
 draft_takes drafting leaf =
-    if is_fresh_leaf drafting leaf then 0 else 1 + one_unless (is_fresh_node drafting (leaf / 128))
+    if is_fresh_leaf drafting leaf then 0 else 1 + one_unless (is_fresh_node drafting (leaf / leaf_pointers.count))
 
 -- those of the flags from one on and before another that aren't set
 unfoldable pub unset_in : List Bool → ℕ → ℕ → List ℕ
@@ -115,4 +116,6 @@ need_beside c d drafting = missing (written_anew c d.object d.fresh) d.fresh + s
 -- the same as the flags have it, of leaves from one on and before another that are written
 abbrev pub leaves_take : Drafting → ℕ → ℕ → ℕ
 leaves_take drafting from to =
-    length (unset_in drafting.leaves from to) + length (unset_in drafting.nodes (from / 128) ((to + 127) / 128))
+    length (unset_in drafting.leaves from to)
+    + length (unset_in drafting.nodes (from / leaf_pointers.count)
+    ((to + (leaf_pointers.count - 1)) / leaf_pointers.count))

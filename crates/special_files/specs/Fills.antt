@@ -1,6 +1,7 @@
 -- A slot of an index in a draft, filled or emptied.
 use Rattle.std.specs.Prelude.{◌≡◌, ℕ, ◌/◌, ◌<◌, ◌≤◌, ◌++◌, true, false, List, Bool, ◌&&◌, is_none, is_some, sum}
 use Rattle.std.specs.Prelude.{if◌then◌else◌, None, Option, IfErr, IfOk, IfSome, Result}
+use Rattle.block_tree.specs.Pointers.{leaf_limit, leaf_pointers}
 use Rattle.block_tree.specs.Root.{root_spelling}
 use Rattle.cfs_base.specs.Calls.{HasTried, OnlyReads}
 use Rattle.cfs_base.specs.declared.disk.Disk.{Ghosts}
@@ -44,22 +45,24 @@ filled_draft i slot what d = record {
 -- the blocks that a commit takes then: the leaf, and the node above it; and those that stood there, which it drops
 abbrev pub swap_takes : Drafting → Swap → List ℕ
 swap_takes w s =
-    unlike (pointer_to_node w.root (s.leaf / 128)) (pointer_to_node w.own (s.leaf / 128)) ++ unlike s.is s.was
+    unlike (pointer_to_node w.root (s.leaf / leaf_pointers.count))
+    (pointer_to_node w.own (s.leaf / leaf_pointers.count)) ++ unlike s.is s.was
 
 abbrev pub dropped_by : Drafting → Swap → List ℕ
 dropped_by w s =
-    unlike (pointer_to_node w.own (s.leaf / 128)) (pointer_to_node w.root (s.leaf / 128)) ++ unlike s.was s.is
+    unlike (pointer_to_node w.own (s.leaf / leaf_pointers.count))
+    (pointer_to_node w.root (s.leaf / leaf_pointers.count)) ++ unlike s.was s.is
 
 abbrev pub IsSwapped : Image → Puid → Drafting → Draft → Swap → Type 0
 IsSwapped image id w d s = IsChanged image id (opened_as w d) (swap_takes w s) (dropped_by w s)
 
 -- on any disk of this size they lie on it
 pub record IsNearSwap (size : ℕ) (w : Drafting) (s : Swap) : Type 0 where
-  pub leaf : s.leaf < 15360
+  pub leaf : s.leaf < leaf_limit
   pub was : s.was < size
   pub is : s.is < size
-  pub own : pointer_to_node w.own (s.leaf / 128) < size
-  pub node : pointer_to_node w.root (s.leaf / 128) < size
+  pub own : pointer_to_node w.own (s.leaf / leaf_pointers.count) < size
+  pub node : pointer_to_node w.root (s.leaf / leaf_pointers.count) < size
 
 -- ---- the call
 

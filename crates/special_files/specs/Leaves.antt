@@ -1,5 +1,6 @@
 -- The leaves of a draft on a disk, and one of them put.
 use Rattle.std.specs.Prelude.{◌≡◌, ◌≢◌, ℕ, ◌/◌, ◌%◌, List, [], ◌∷◌, Option, Some}
+use Rattle.block_tree.specs.Pointers.{leaf_pointers}
 use Rattle.cfs_base.specs.Disk.{Image}
 use Rattle.block_tree.specs.declared.root.Root as roots
 use Rattle.block_tree.specs.Root.{root_spelling}
@@ -24,7 +25,8 @@ pub record PutsAt (leaf : ℕ) (content : List ℕ) (old new : ℕ → Option He
 
 -- but for one leaf and its node, each node and leaf stands where it stood, in the same block, with its part and content
 abbrev pub SameBeside : ℕ → Tree → Tree → Type 0
-SameBeside leaf old new = (path : List ℕ) → path ≢ leaf / 128 ∷ [] → path ≢ leaf / 128 ∷ leaf % 128 ∷ []
+SameBeside leaf old new = (path : List ℕ) → path ≢ leaf / leaf_pointers.count ∷ []
+    → path ≢ leaf / leaf_pointers.count ∷ leaf % leaf_pointers.count ∷ []
     → new.below path ≡ old.below path
 
 -- the draft of the model that an image and a draft in memory give

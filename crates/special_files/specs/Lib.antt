@@ -8,6 +8,7 @@ pub mod Drafting
 pub mod Ends
 pub mod Fills
 pub mod Leaves
+pub mod Limits
 pub mod Looks
 pub mod Nodes
 pub mod Order

@@ -1,6 +1,7 @@
 -- Which leaves and nodes of a draft take blocks, and in what order.
 use Rattle.std.specs.Prelude.{◌≡◌, ◌⊎◌, map, ℕ, zero, suc, ◌+◌, ◌-◌, ◌/◌, Bool, true, false, List, [], ◌∷◌, ◌++◌}
 use Rattle.std.specs.Prelude.{get_or, set, if◌then◌else◌}
+use Rattle.block_tree.specs.Pointers.{leaf_pointers}
 use Rattle.cfs_base.specs.declared.kind.Place.TheVariants.{Leaf, Node}
 use Rattle.cfs_base.specs.Disk.{Image}
 use Rattle.claims.specs.Claims.{AreClaimed}
@@ -18,14 +19,14 @@ node_claims at nodes n = if get_or nodes n false then [] else intended (Node n) 
 -- with these fresh leaves and nodes: a leaf that isn't fresh takes a block, and after it its node, where that isn't
 abbrev pub leaf_claims : (at : ℕ) → (leaves nodes : List Bool) → ℕ → List MapEntry
 leaf_claims at leaves nodes leaf =
-    if get_or leaves leaf false then [] else intended (Leaf leaf) at ∷ node_claims at nodes (leaf / 128)
+    if get_or leaves leaf false then [] else intended (Leaf leaf) at ∷ node_claims at nodes (leaf / leaf_pointers.count)
 
 -- so many leaves, one after another from one on; each is fresh then, and so is its node
 abbrev pub claims_by_leaf : (at : ℕ) → (leaves nodes : List Bool) → (leaf count : ℕ) → List MapEntry
 claims_by_leaf at leaves nodes leaf zero = []
 claims_by_leaf at leaves nodes leaf (suc n) =
     leaf_claims at leaves nodes leaf
-    ++ claims_by_leaf at (set leaves leaf true) (set nodes (leaf / 128) true) (leaf + 1) n
+    ++ claims_by_leaf at (set leaves leaf true) (set nodes (leaf / leaf_pointers.count) true) (leaf + 1) n
 
 -- the leaves of a draft from one on and before another
 abbrev pub claims_between : Drafting → (from to : ℕ) → List MapEntry

@@ -6,7 +6,9 @@ use Rattle.cfs_base.specs.declared.disk.Disk.{Ghosts}
 use Rattle.cfs_base.specs.declared.identifier.Puid.{Puid}
 use Rattle.cfs_base.specs.declared.refusal.Refused.{Refused}
 use Rattle.cfs_base.specs.declared.refusal.Refused.TheVariants as refusals
+use Rattle.block_tree.specs.Along.{IsTo}
 use Rattle.block_tree.specs.Root.{root_spelling}
+use Rattle.block_tree.specs.declared.along.Way.{Way}
 use Rattle.block_tree.specs.declared.root.Root as roots
 use Rattle.claims.specs.Claims.{AreClaimed}
 use Rattle.cyl_alloc.specs.Space.{Kept}
@@ -25,7 +27,6 @@ use Rattle.special_files.specs.Order.{leaf_claims}
 use Rattle.leaf_changes.specs.Tops.{IsFarRoot}
 use Rattle.special_files.specs.Refusal.{is_full_refusal, top_of}
 use Rattle.special_files.specs.Store.{Steps}
-use Rattle.special_files.specs.declared.node.NodeRead.{NodeRead}
 use Rattle.vol_owners.specs.Account.{Drafts, with_opened}
 
 -- of a draft only its root's pointers and what is fresh may have changed
@@ -48,31 +49,31 @@ drafts_with image ds id now = with_opened id (opened_as now (draft_in image now)
 
 -- a leaf of this content was put into the draft
 pub record PutsLeaf {D : Type 0} (g : Ghosts D) (graph : Graph) (ds : Drafts) (id : Puid) (leaf : ℕ)
-    (content : List ℕ) (old new : D) (after : Kept) (was now : Drafting) (read : NodeRead) : Type 0 where
+    (content : List ℕ) (old new : D) (after : Kept) (was now : Drafting) (way : Way) : Type 0 where
   pub steps : Steps g graph id (drafts_with (g.content new) ds id now) old new after
   pub is_open : IsOpen (drafts_with (g.content new) ds id now) id now (draft_in (g.content new) now)
   pub sets : SetsFresh leaf was now
   pub leaves : PutsAt leaf content (leaves_below (g.content old) was.root) (leaves_below (g.content new) now.root)
-  pub read_is : IsRead (g.content new) now read
+  pub read_is : IsRead (g.content new) now way
   pub order : AreClaimed (leaf_claims was.at was.leaves was.nodes leaf) (g.content old) (g.content new)
   pub beside : SameBeside leaf (tree_in (g.content old) (root_spelling was.root))
       (tree_in (g.content new) (root_spelling now.root))
 
 -- the leaf within which a size ends was cut there
 abbrev pub CutsLeaf : {D : Type 0} → Ghosts D → Graph → Drafts → Puid → ℕ → D → D → Kept → Drafting → Drafting
-    → NodeRead → Type 0
-CutsLeaf g graph ds id size old new after was now read =
+    → Way → Type 0
+CutsLeaf g graph ds id size old new after was now way =
     PutsLeaf g graph ds id (size / 512)
     (cut size was.root.fill (leaf_content was.root.fill (leaves_below (g.content old) was.root (size / 512))))
-    old new after was now read
+    old new after was now way
 
 -- What a call did, on any disk, that puts a leaf into a draft: it made at most n device calls.
 pub record LeafCall {D : Type 0} (g : Ghosts D) (n leaf : ℕ) (old new : D) (before after : Kept) (was now : Drafting)
-    (read : NodeRead) (result : Result (Unit {0}) Refused) : Type 0 where
+    (way : Way) (result : Result (Unit {0}) Refused) : Type 0 where
   pub stays : StaysBut was now
   pub flags : OnOk result (SetsFlags leaf was now)
-  pub number : OnOk result (read.number ≡ leaf / 128)
-  pub safe : OnOk result (IsSafe (g.blocks new) now read)
+  pub to : OnOk result (IsTo leaf way)
+  pub safe : OnOk result (IsSafe (g.blocks new) now way)
   -- each pointer of the root that leads past the disk did before
   pub near : IsFarRoot (g.blocks new) now.root → IsFarRoot (g.blocks new) was.root
   pub ends : EndsCall g (top_of was) 0 n 4 (draft_takes was leaf) old new before after result

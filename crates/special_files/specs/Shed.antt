@@ -2,7 +2,6 @@
 use Rattle.std.specs.Prelude.{◌≡◌, ◌≢◌, ◌⊎◌, ℕ, zero, suc, Bool, not, ◌&&◌, ◌||◌, ◌++◌, get_or, ◌+◌, ◌-◌, ◌*◌, ◌/◌, ◌%◌}
 use Rattle.std.specs.Prelude.{◌<◌, ◌≤◌, true, false, if◌then◌else◌, ◌==◌, List, [], ◌∷◌, length, None, slice_index, sum}
 use Rattle.std.specs.Prelude.{IfErr, OnOk, Result, Ok, Err}
-use Rattle.std.specs.List.{All}
 use Rattle.cfs_base.specs.Calls.{HasTried, OnlyReads}
 use Rattle.cfs_base.specs.Disk.{Image}
 use Rattle.cfs_base.specs.Refusals.{trouble_after_try}
@@ -13,11 +12,14 @@ use Rattle.cfs_base.specs.declared.identifier.Puid.{Puid}
 use Rattle.cfs_base.specs.declared.refusal.Refused.{Refused}
 use Rattle.cfs_base.specs.declared.refusal.Refused.TheVariants as refusals
 use Rattle.cfs_base.specs.declared.refusal.Trouble.{Trouble}
-use Rattle.block_tree.specs.Pointers.{leaf_pointers, pointers_of}
+use Rattle.block_tree.specs.Pointers.{leaf_pointers, node_pointers, pointers_of, size_limit}
+use Rattle.block_tree.specs.Along.{IsTo, way_leaves}
 use Rattle.block_tree.specs.Tree.{tree_of}
+use Rattle.block_tree.specs.declared.along.Way.{Way}
 use Rattle.block_tree.specs.declared.root.Root as roots
 use Rattle.cyl_alloc.specs.Space.{Kept}
 use Rattle.cyl_map.specs.declared.entry.MapEntry.{MapEntry}
+use Rattle.special_files.specs.Limits.{drop_calls, drop_tries, resize_calls, resize_tries}
 use Rattle.ufs_model.specs.Graph.{Graph}
 use Rattle.ufs_model.specs.Numbers.{has_number}
 use Rattle.ufs_model.specs.Object.{leaves_in, written_anew}
@@ -33,7 +35,6 @@ use Rattle.special_files.specs.Drafting.{Drafting, HasNoneFresh, IsOpen, is_fres
 use Rattle.special_files.specs.Drafting.{need_beside, pointer_to_node, one_unless, shadow_need}
 use Rattle.special_files.specs.Ends.{EndsCall}
 use Rattle.special_files.specs.Leaves.{draft_in, leaves_below}
-use Rattle.block_tree.specs.Reads.{leaves_at}
 use Rattle.special_files.specs.Nodes.{IsRead, IsSafe}
 use Rattle.special_files.specs.Order.{ClaimsAndDrops, claims_anew, node_claims}
 use Rattle.special_files.specs.Puts.{CutsLeaf, LeafCall, StaysBut, drafts_with}
@@ -41,14 +42,14 @@ use Rattle.leaf_changes.specs.Tops.{IsFarRoot}
 use Rattle.special_files.specs.Refusal.{is_full_refusal, top_of}
 use Rattle.special_files.specs.Store.{Steps}
 use Rattle.special_files.specs.View.{GoesHolding, DraftView}
-use Rattle.special_files.specs.declared.node.NodeRead.{NodeRead}
 use Rattle.special_files.specs.declared.shrink.Plan.{Plan}
 
 -- a path to such a leaf or node
 abbrev pub IsPathPast : ℕ → List ℕ → Type 0
 IsPathPast from [] = ⊥
-IsPathPast from (m ∷ []) = from ≤ 128 * m
-IsPathPast from (m ∷ j ∷ []) = (from / 128 < m) ⊎ ((m ≡ from / 128) × (from % 128 ≤ j))
+IsPathPast from (m ∷ []) = from ≤ leaf_pointers.count * m
+IsPathPast from (m ∷ j ∷ []) = (from / leaf_pointers.count < m)
+    ⊎ ((m ≡ from / leaf_pointers.count) × (from % leaf_pointers.count ≤ j))
 IsPathPast from (m ∷ j ∷ i ∷ p) = ⊥
 
 -- a block of the draft's own at such a path
@@ -72,17 +73,31 @@ list_if b n = if b then n ∷ [] else []
 unfoldable pub fresh_in : (flags : List Bool) (leaves : List ℕ) (node from count : ℕ) → List ℕ
 fresh_in flags leaves node from zero = []
 fresh_in flags leaves node from (suc k) = fresh_in flags leaves node from k
-    ++ list_if (get_or flags (128 * node + (from + k)) false) (slice_index leaves (from + k))
+    ++ list_if (get_or flags (leaf_pointers.count * node + (from + k)) false) (slice_index leaves (from + k))
 
 -- From which leaf on a draft drops its leaves that is to keep those before `to`, where that lies in a node with these
 -- leaves, or at its end: where that is within the node, the node keeps a leaf and drops one.
 pub record IsBorder (leaves : List ℕ) (node to from : ℕ) : Type 0 where
-  pub low : 128 * node ≤ from
-  pub high : from ≤ 128 * node + 128
-  pub none : (j : ℕ) → j < 128 → ((from ≤ 128 * node + j) × (128 * node + j < to))
-      ⊎ ((to ≤ 128 * node + j) × (128 * node + j < from)) → slice_index leaves j ≡ 0
-  pub keeps : from % 128 ≢ 0 → (from ≡ to) × ((j : ℕ) × (128 * node + j < to) × (slice_index leaves j ≢ 0))
-  pub drops : from % 128 ≢ 0 → (j : ℕ) × (j < 128) × (to ≤ 128 * node + j) × (slice_index leaves j ≢ 0)
+  pub low : leaf_pointers.count * node ≤ from
+  pub high : from ≤ leaf_pointers.count * node + leaf_pointers.count
+  pub none : (j : ℕ) → j < leaf_pointers.count
+      → ((from ≤ leaf_pointers.count * node + j) × (leaf_pointers.count * node + j < to))
+      ⊎ ((to ≤ leaf_pointers.count * node + j) × (leaf_pointers.count * node + j < from)) → slice_index leaves j ≡ 0
+  pub keeps : from % leaf_pointers.count ≢ 0
+      → (from ≡ to) × ((j : ℕ) × (leaf_pointers.count * node + j < to) × (slice_index leaves j ≢ 0))
+  pub drops : from % leaf_pointers.count ≢ 0
+      → (j : ℕ) × (j < leaf_pointers.count) × (to ≤ leaf_pointers.count * node + j) × (slice_index leaves j ≢ 0)
+
+-- a root that leads to none of them; where the first lies within a node, it leads to this block at that place
+pub record CutsRootAt (from block : ℕ) (old new : roots.Root) : Type 0 where
+  pub kind : new.kind ≡ old.kind
+  pub fill : new.fill ≡ old.fill
+  pub word : new.word ≡ old.word
+  pub size : new.size ≡ old.size
+  pub before : (m : ℕ) → leaf_pointers.count * m + leaf_pointers.count ≤ from
+      → slice_index new.nodes m ≡ slice_index old.nodes m
+  pub past : (m : ℕ) → from ≤ leaf_pointers.count * m → slice_index new.nodes m ≡ 0
+  pub here : from % leaf_pointers.count ≢ 0 → slice_index new.nodes (from / leaf_pointers.count) ≡ block
 
 -- The draft has none of them. Where the first lies within a node, this node is at the block, and fresh.
 pub record Forgets (from block : ℕ) (was now : Drafting) : Type 0 where
@@ -92,14 +107,18 @@ pub record Forgets (from block : ℕ) (was now : Drafting) : Type 0 where
   pub count : length now.root.nodes ≡ length was.root.nodes
   pub leaf_before : (l : ℕ) → l < from → is_fresh_leaf now l ≡ is_fresh_leaf was l
   pub leaf_past : (l : ℕ) → from ≤ l → is_fresh_leaf now l ≡ false
-  pub before : (m : ℕ) → 128 * m + 128 ≤ from → (is_fresh_node now m ≡ is_fresh_node was m)
+  pub before : (m : ℕ) → leaf_pointers.count * m + leaf_pointers.count ≤ from
+      → (is_fresh_node now m ≡ is_fresh_node was m)
       × (pointer_to_node now.root m ≡ pointer_to_node was.root m)
-  pub past : (m : ℕ) → from ≤ 128 * m → (is_fresh_node now m ≡ false) × (pointer_to_node now.root m ≡ 0)
-  pub here : from % 128 ≢ 0 → (is_fresh_node now (from / 128) ≡ true) × (pointer_to_node now.root (from / 128) ≡ block)
+  pub past : (m : ℕ) → from ≤ leaf_pointers.count * m → (is_fresh_node now m ≡ false) × (pointer_to_node now.root m ≡ 0)
+  pub here : from % leaf_pointers.count ≢ 0
+      → (is_fresh_node now (from / leaf_pointers.count) ≡ true)
+      × (pointer_to_node now.root (from / leaf_pointers.count) ≡ block)
 
 -- what it claims: a block for the node of the first leaf dropped, where that lies within one and isn't fresh
 abbrev pub border_claims : Drafting → ℕ → List MapEntry
-border_claims was from = if from % 128 == 0 then [] else node_claims was.at was.nodes (from / 128)
+border_claims was from =
+    if from % leaf_pointers.count == 0 then [] else node_claims was.at was.nodes (from / leaf_pointers.count)
 
 -- the same of the store, and of the draft that the model has then
 pub record DropsFrom {D : Type 0} (g : Ghosts D) (graph : Graph) (ds : Drafts) (id : Puid) (from : ℕ)
@@ -114,7 +133,8 @@ pub record DropsFrom {D : Type 0} (g : Ghosts D) (graph : Graph) (ds : Drafts) (
 
 -- what it takes: a block for the node, where it isn't fresh
 abbrev pub border_takes : Drafting → ℕ → ℕ
-border_takes was from = if from % 128 == 0 then 0 else one_unless (is_fresh_node was (from / 128))
+border_takes was from =
+    if from % leaf_pointers.count == 0 then 0 else one_unless (is_fresh_node was (from / leaf_pointers.count))
 
 -- ---- what is known of a draft by its parts
 
@@ -122,14 +142,6 @@ pub record HasParts (was : Drafting) (root : roots.Root) (leaves nodes : List Bo
   pub root_is : was.root ≡ root
   pub leaves_is : was.leaves ≡ leaves
   pub nodes_is : was.nodes ≡ nodes
-
--- the node that was read last
-abbrev pub IsReadIn : Image → roots.Root → NodeRead → Type 0
-IsReadIn image root read = read.number < 120 → read.node.leaves ≡ leaves_at image (pointer_to_node root read.number)
-
-abbrev pub IsSafeIn : ℕ → roots.Root → NodeRead → Type 0
-IsSafeIn size root read = read.number < 120 → (pointer_to_node root read.number < size)
-    × All (λ leaf. leaf < size) read.node.leaves
 
 -- the result of a call before which a write was tried
 abbrev pub as_tried : Result (Unit {0}) Trouble → Result (Unit {0}) Trouble
@@ -141,32 +153,37 @@ as_tried (Err t) = Err (trouble_after_try t)
 -- a block that spells a node with these leaves before a place, and none from there on
 pub record IsShortNode (leaves : List ℕ) (place : ℕ) (block : List ℕ) : Type 0 where
   pub before : (j : ℕ) → j < place → slice_index (pointers_of leaf_pointers block) j ≡ slice_index leaves j
-  pub past : (j : ℕ) → place ≤ j → j < 128 → slice_index (pointers_of leaf_pointers block) j ≡ 0
+  pub past : (j : ℕ) → place ≤ j → j < leaf_pointers.count → slice_index (pointers_of leaf_pointers block) j ≡ 0
 
 -- it is written so, into a block of the draft's own, which is claimed where the draft has none
 pub data PutsShort {D : Type 0} (g : Ghosts D) (from : ℕ) (leaves : List ℕ) (was : Drafting) (old new : D)
     (before after : Kept) (result : Result BlockNo Refused) : Type 0 where
-  NoBlock : (e : Refused) → GetsDraftNode g (from / 128) old new before after was (Err e) → result ≡ Err e
+  NoBlock : (e : Refused) → GetsDraftNode g (from / leaf_pointers.count) old new before after was (Err e)
+      → result ≡ Err e
       → PutsShort g from leaves was old new before after result
   NoWrite : (mid : D) (y : BlockNo) (block : List ℕ) (e : Refused)
-      → GetsDraftNode g (from / 128) old mid before after was (Ok y) → IsShortNode leaves (from % 128) block
+      → GetsDraftNode g (from / leaf_pointers.count) old mid before after was (Ok y)
+      → IsShortNode leaves (from % leaf_pointers.count) block
       → WritesDraftBlock g y.0 block mid new (Err e) → result ≡ Err e
       → PutsShort g from leaves was old new before after result
-  Put : (mid : D) (y : BlockNo) (block : List ℕ) → GetsDraftNode g (from / 128) old mid before after was (Ok y)
-      → IsShortNode leaves (from % 128) block → WritesDraftBlock g y.0 block mid new (Ok tt) → result ≡ Ok y
+  Put : (mid : D) (y : BlockNo) (block : List ℕ)
+      → GetsDraftNode g (from / leaf_pointers.count) old mid before after was (Ok y)
+      → IsShortNode leaves (from % leaf_pointers.count) block → WritesDraftBlock g y.0 block mid new (Ok tt)
+      → result ≡ Ok y
       → PutsShort g from leaves was old new before after result
 
 -- It is written so where the first leaf dropped lies within it; else nothing is done.
 pub data PutsWithin {D : Type 0} (g : Ghosts D) (from : ℕ) (leaves : List ℕ) (was : Drafting) (old new : D)
     (before after : Kept) (result : Result BlockNo Refused) : Type 0 where
-  Whole : (y : BlockNo) → from % 128 ≡ 0 → new ≡ old → after ≡ before → result ≡ Ok y
+  Whole : (y : BlockNo) → from % leaf_pointers.count ≡ 0 → new ≡ old → after ≡ before → result ≡ Ok y
       → PutsWithin g from leaves was old new before after result
-  Within : from % 128 ≢ 0 → PutsShort g from leaves was old new before after result
+  Within : from % leaf_pointers.count ≢ 0 → PutsShort g from leaves was old new before after result
       → PutsWithin g from leaves was old new before after result
 
 -- the node that was read keeps a leaf, where it is to be written
-abbrev pub KeepsOne : ℕ → NodeRead → Type 0
-KeepsOne from read = from % 128 ≢ 0 → (j : ℕ) × (j < from % 128) × (slice_index read.node.leaves j ≢ 0)
+abbrev pub KeepsOne : ℕ → Way → Type 0
+KeepsOne from way = from % leaf_pointers.count ≢ 0
+    → (j : ℕ) × (j < from % leaf_pointers.count) × (slice_index (way_leaves way) j ≢ 0)
 
 -- what a call did, on any disk, that drops leaves from one on
 pub record DropCall {D : Type 0} (g : Ghosts D) (from : ℕ) (old new : D) (before after : Kept) (was now : Drafting)
@@ -174,10 +191,11 @@ pub record DropCall {D : Type 0} (g : Ghosts D) (from : ℕ) (old new : D) (befo
   pub stays : StaysBut was now
   pub forgets : OnOk result ((block : ℕ) × Forgets from block was now)
   -- something was tried where a node is written; else, where no node is fresh, nothing was done to the disk
-  pub tried : from % 128 ≢ 0 → OnOk result (HasTried g old new)
-  pub untried : from % 128 ≡ 0 → ((n : ℕ) → is_fresh_node was n ≡ false) → (new ≡ old) × (after ≡ before)
+  pub tried : from % leaf_pointers.count ≢ 0 → OnOk result (HasTried g old new)
+  pub untried : from % leaf_pointers.count ≡ 0 → ((n : ℕ) → is_fresh_node was n ≡ false)
+      → (new ≡ old) × (after ≡ before)
   pub near : IsFarRoot (g.blocks new) now.root → IsFarRoot (g.blocks new) was.root
-  pub ends : EndsCall g (top_of was) 0 31083 15482 (sum before.free) old new before after result
+  pub ends : EndsCall g (top_of was) 0 drop_calls drop_tries (sum before.free) old new before after result
   pub kept : IfErr result (λ e. now ≡ was)
   pub room : border_takes was from ≤ sum before.free → IfErr result (λ e. is_full_refusal e ≡ false)
 
@@ -185,18 +203,18 @@ pub record DropCall {D : Type 0} (g : Ghosts D) (from : ℕ) (old new : D) (befo
 
 -- whether the leaf in which a size ends is cut: the size ends within it, and it is held
 pub record IsCutHere (size : ℕ) (leaves : List ℕ) (cut : Bool) : Type 0 where
-  pub is : cut ≡ true → (size % 512 ≢ 0) × (slice_index leaves ((size / 512) % 128) ≢ 0)
-  pub none : cut ≡ false → size % 512 ≢ 0 → slice_index leaves ((size / 512) % 128) ≡ 0
+  pub is : cut ≡ true → (size % 512 ≢ 0) × (slice_index leaves ((size / 512) % leaf_pointers.count) ≢ 0)
+  pub none : cut ≡ false → size % 512 ≢ 0 → slice_index leaves ((size / 512) % leaf_pointers.count) ≡ 0
 
 -- The leaf within which the size ends is cut, where it is to be; else nothing is done.
 pub data CutsIf {D : Type 0} (g : Ghosts D) (size : ℕ) (cut : Bool) (old new : D) (before after : Kept)
-    (was now : Drafting) (read next : NodeRead) (result : Result (Unit {0}) Refused) : Type 0 where
-  Spares : cut ≡ false → result ≡ Ok tt → new ≡ old → after ≡ before → now ≡ was → next ≡ read
-      → CutsIf g size cut old new before after was now read next result
-  Cuts : cut ≡ true → ((v : DraftView g old before was) → IsRead (g.content old) was read → size < was.root.size
+    (was now : Drafting) (way next : Way) (result : Result (Unit {0}) Refused) : Type 0 where
+  Spares : cut ≡ false → result ≡ Ok tt → new ≡ old → after ≡ before → now ≡ was → next ≡ way
+      → CutsIf g size cut old new before after was now way next result
+  Cuts : cut ≡ true → ((v : DraftView g old before was) → IsRead (g.content old) was way → size < was.root.size
       → GoesHolding g v.graph (CutsLeaf g v.graph v.ds v.id size old new after was now next) old new result)
       → LeafCall g 8 (size / 512) old new before after was now next result
-      → CutsIf g size cut old new before after was now read next result
+      → CutsIf g size cut old new before after was now way next result
 
 -- the leaf within which the size ends takes its blocks where it is cut
 abbrev pub cut_takes : Drafting → Bool → ℕ → ℕ
@@ -210,7 +228,8 @@ is_stale_cut was cut leaf = cut && not (is_fresh_leaf was leaf)
 abbrev pub shrink_takes : Drafting → (cut : Bool) → (from leaf node : ℕ) → ℕ
 shrink_takes was cut from leaf node =
     (if is_stale_cut was cut leaf then 1 else 0)
-    + (if is_stale_cut was cut leaf || not (from % 128 == 0) then one_unless (is_fresh_node was node) else 0)
+    + (if is_stale_cut was cut leaf || not (from % leaf_pointers.count == 0) then one_unless (is_fresh_node was node)
+    else 0)
 
 -- a draft of another size
 abbrev pub sized : Drafting → ℕ → Drafting
@@ -229,19 +248,23 @@ pub record IsToldByNodes {D : Type 0} (g : Ghosts D) (old new : D) (before after
 
 -- the node of the last leaf of a file of this size; of an empty file the first
 abbrev pub last_draft_node : ℕ → ℕ
-last_draft_node size = (leaves_in size - 1) / 128
+last_draft_node size = (leaves_in size - 1) / leaf_pointers.count
 
--- That node was read. This tells from which leaf on a resize to less drops leaves, and whether one is cut.
+-- its last leaf, or the first leaf
+abbrev pub last_draft_leaf : ℕ → ℕ
+last_draft_leaf size = leaves_in size - 1
+
+-- The nodes above it were read. This tells from which leaf on a resize to less drops leaves, and whether one is cut.
 pub record IsPlan {D : Type 0} (g : Ghosts D) (size : ℕ) (was : Drafting) (old new : D) (plan : Plan) : Type 0 where
   pub reads : OnlyReads g 1 old new
   pub less : size < was.root.size
-  pub limit : was.root.size ≤ 7864320
-  pub nodes : length was.nodes ≡ 120
-  pub read_is : Tells g old → IsRead (g.content old) was plan.read
-  pub safe : IsSafe (g.blocks old) was plan.read
-  pub number : plan.read.number ≡ last_draft_node size
-  pub border : IsBorder plan.read.node.leaves (last_draft_node size) (leaves_in size) plan.from
-  pub cuts : IsCutHere size plan.read.node.leaves plan.cut
+  pub limit : was.root.size ≤ size_limit
+  pub nodes : length was.nodes ≡ node_pointers.count
+  pub read_is : Tells g old → IsRead (g.content old) was plan.way
+  pub safe : IsSafe (g.blocks old) was plan.way
+  pub to : IsTo (last_draft_leaf size) plan.way
+  pub border : IsBorder (way_leaves plan.way) (last_draft_node size) (leaves_in size) plan.from
+  pub cuts : IsCutHere size (way_leaves plan.way) plan.cut
 
 -- what such a resize needs, with the shadow root that a commit takes
 abbrev pub plan_needs : ℕ → Drafting → Plan → ℕ
@@ -275,5 +298,5 @@ pub record ResizeCall {D : Type 0} (g : Ghosts D) (size floor : ℕ) (old new : 
   pub spared : IfErr result (λ e. is_full_refusal e ≡ true → OnlyReads g 1 old new × (after ≡ before) × (now ≡ was))
   pub told : HasNoneFresh was → OnOk result (IsToldByNodes g old new before after now)
   pub near : IsFarRoot (g.blocks new) now.root → IsFarRoot (g.blocks new) was.root
-  pub ends : EndsCall g (top_of was) floor 31092 15486 (sum before.free) old new before after result
+  pub ends : EndsCall g (top_of was) floor resize_calls resize_tries (sum before.free) old new before after result
   pub kept : IfErr result (λ e. e ≡ refusals.Disk false → now ≡ was)

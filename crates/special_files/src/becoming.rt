@@ -1,5 +1,5 @@
 //! A draft becomes its object.
-ghost use Rattle.std.specs.Prelude.{◌≡◌, ◌≢◌, ◌<◌, ◌≤◌, ◌*◌, ◌++◌, ℕ, false, length, sum, Option, None, Some};
+ghost use Rattle.std.specs.Prelude.{◌≡◌, ◌≢◌, ◌<◌, ◌≤◌, ◌*◌, ◌++◌, ◌+◌, ℕ, false, length, sum, Option, None, Some};
 ghost use Rattle.std.specs.Prelude.{IfErr, OnOk};
 ghost use Rattle.cfs_base.specs.Calls.{OnlyReads};
 ghost use Rattle.cfs_base.specs.declared.refusal.Trouble.TheVariants as troubles;
@@ -7,6 +7,7 @@ ghost use Rattle.special_files.specs.Changed.{unlike};
 ghost use Rattle.special_files.specs.Committing as spec;
 ghost use Rattle.special_files.specs.Drafting.{Drafting, number_if};
 ghost use Rattle.special_files.specs.Fills.{IsNearSwap, IsSwapped};
+ghost use Rattle.special_files.specs.Limits.{changed_reads, commit_calls, commit_tries};
 ghost use Rattle.special_files.specs.View.{DraftView};
 
 use crate::blocks::Blocks;
@@ -15,7 +16,7 @@ use crate::commit::commit_begun;
 use crate::direct::{commit_direct, commit_listed};
 use crate::draft::Draft;
 use crate::fill::Swap;
-use block_tree::Root;
+use block_tree::{LEAVES, Root};
 use cfs_base::{BlockNo, Damage, Disk, Trouble, code};
 use cyl_alloc::Space;
 
@@ -70,10 +71,10 @@ fn commit_parts<D: Disk>(
         → spec.Makes (D.content disk.old) (number_if created) made
         → spec.CommitEnds D.Disk v.graph v.ds v.id v.draft.object made disk.old disk.new space.new result }
     ensures ends { spec.CommitsSo D.Disk (spec.parts_top at.0 (number_if shadow) own.now root.now (number_if created))
-        31207 15485 disk.old disk.new space.old space.new result }
+        commit_calls commit_tries disk.old disk.new space.old space.new result }
     ensures tried { number_if shadow ≢ None → IfErr result (λ t. t ≢ troubles.Disk false) }
     ensures untried { IfErr result (λ t. t ≡ troubles.Disk false
-        → (space.new ≡ space.old) × OnlyReads D.Disk 241 disk.old disk.new) }
+        → (space.new ≡ space.old) × OnlyReads D.Disk (1 + changed_reads) disk.old disk.new) }
 {
     match part_on_disk(disk, at, created) {
         Ok(()) => {}
@@ -154,7 +155,7 @@ impl Draft {
             Ok(()) => {}
             Err(trouble) => return Err(trouble),
         }
-        let number = (swap.leaf / 128) as usize;
+        let number = swap.leaf as usize / LEAVES;
         let own = self.own.nodes[number];
         let node = self.root.nodes[number];
         list_two(&mut taken, node, own, swap.is, swap.was);

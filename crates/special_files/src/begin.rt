@@ -1,6 +1,6 @@
 //! A draft begun.
 ghost use Rattle.std.specs.Prelude.{◌≡◌, ◌≢◌, ◌<◌, ◌≤◌, ◌*◌, length};
-ghost use Rattle.block_tree.specs.Pointers.{leaf_limit, node_pointers};
+ghost use Rattle.block_tree.specs.Pointers.{leaf_limit, node_pointers, size_limit};
 ghost use Rattle.special_files.specs.Begins.{BeginCall, BeginsDirect, BeginsDraft, DirectCall};
 ghost use Rattle.special_files.specs.Drafting.{begun_at, none_of, number_if};
 ghost use Rattle.special_files.specs.View.{GoesTo, ObjectView};
@@ -8,7 +8,7 @@ ghost use Rattle.special_files.specs.View.{GoesTo, ObjectView};
 use crate::blocks::Blocks;
 use crate::draft::Draft;
 use crate::flags::Flags;
-use block_tree::{Root, read_root};
+use block_tree::{LEAF_LIMIT, NODES, Root, read_root};
 use cfs_base::{BlockNo, Disk, NoMemory, Place, Refused};
 use cyl_alloc::Space;
 use std::alloc::Global;
@@ -38,8 +38,8 @@ impl Model for Room {
 impl Room {
     /// Takes it.
     pub fn new(alloc: Global) -> Result<Room, NoMemory> {
-        let leaves = Flags::none(alloc, 15_360)?;
-        let nodes = Flags::none(alloc, 120)?;
+        let leaves = Flags::none(alloc, LEAF_LIMIT as usize)?;
+        let nodes = Flags::none(alloc, NODES)?;
         let taken = Blocks::new(alloc)?;
         let dropped = Blocks::new(alloc)?;
         Ok(Room {
@@ -53,7 +53,7 @@ impl Room {
     /// The draft that equals the object with this root.
     fn draft(self, at: BlockNo, shadow: Option<BlockNo>, root: Root) -> Draft
         requires some { at.0 ≢ 0 }
-        requires limit { root.size ≤ 7864320 }
+        requires limit { root.size ≤ size_limit }
         ensures { result ≡ begun_at at.0 (number_if shadow) root }
     {
         Draft {

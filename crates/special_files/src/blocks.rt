@@ -1,14 +1,16 @@
 //! A list of blocks with room for all entries that a commit changes past its bit.
 ghost use Rattle.std.specs.Prelude.{◌≡◌, ◌+◌, ◌<◌, ◌≤◌, ◌∷◌, ◌++◌, [], length, IfOk};
 ghost use Rattle.std.specs.List.{All};
+ghost use Rattle.special_files.specs.Limits.{listed_limit};
 
+use block_tree::{LEAF_LIMIT, NODES};
 use cfs_base::NoMemory;
 use std::alloc::Global;
 use std::marker::Model;
 
-/// The nodes and leaves that an object may have, 120 nodes with 128 leaves each, of the object as it was and as it is
-/// to be; a root that is made; and the shadow root.
-pub const MOST: usize = 30_962;
+/// The nodes and leaves that an object may have, of the object as it was and as it is to be; a root that is made; and
+/// the shadow root.
+pub const MOST: usize = 2 * (NODES + LEAF_LIMIT as usize) + 2;
 
 /// Blocks of an object. Clauses see the list of their numbers.
 #[derive(Debug, Drop)]
@@ -19,12 +21,13 @@ pub(crate) struct Blocks {
 impl Model for Blocks {
     ghost use Rattle.std.specs.Prelude.{List, ℕ, ◌≤◌};
     ghost use Rattle.std.specs.Vec.{vec_capacity};
+    ghost use Rattle.special_files.specs.Limits.{listed_limit};
 
     ghost Value = { List ℕ };
 
     ghost view = { λ a. a.items.items };
 
-    ghost invariant = { λ a. 30962 ≤ vec_capacity a.items };
+    ghost invariant = { λ a. listed_limit ≤ vec_capacity a.items };
 }
 
 impl Blocks {
@@ -38,7 +41,7 @@ impl Blocks {
 
     /// One block more.
     pub fn add(&mut self, block: u32)
-        requires { length self.old < 30962 }
+        requires { length self.old < listed_limit }
         ensures { self.new ≡ self.old ++ block ∷ [] }
     {
         let _ = self.items.push(block);
@@ -58,7 +61,7 @@ impl Blocks {
 
     /// These blocks more.
     pub fn add_all(&mut self, blocks: &[u32])
-        requires { length self.old + length blocks.now ≤ 30962 }
+        requires { length self.old + length blocks.now ≤ listed_limit }
         ensures { self.new ≡ self.old ++ blocks.now }
     {
         for block in blocks {

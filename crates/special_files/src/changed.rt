@@ -8,16 +8,17 @@ ghost use Rattle.cyl_alloc.specs.Space.{Kept};
 ghost use Rattle.special_files.specs.Changed as spec;
 ghost use Rattle.special_files.specs.Drafting.{Drafting, opened_as};
 ghost use Rattle.block_tree.specs.Reads.{is_damage, IsNear};
+ghost use Rattle.special_files.specs.Limits.{blocks_limit, changed_reads, node_blocks};
 ghost use Rattle.special_files.specs.Refusal.{IsDraftTrouble, nodes_top, roots_top};
 ghost use Rattle.special_files.specs.View.{DraftView};
 
 use crate::blocks::Blocks;
-use block_tree::{Node, Root, read_node};
+use block_tree::{LEAVES, NODES, Node, Root, read_node};
 use cfs_base::{BlockNo, Disk, Trouble};
 
 /// Lists a block, unless it is 0 or the same as the other.
 pub(crate) fn add_unlike(list: &mut Blocks, block: u32, other: u32)
-    requires { length list.old < 15480 }
+    requires { length list.old < blocks_limit }
     ensures { list.new ≡ list.old ++ spec.unlike block other }
 {
     if block == 0 || block == other {
@@ -28,12 +29,12 @@ pub(crate) fn add_unlike(list: &mut Blocks, block: u32, other: u32)
 
 /// Lists a node and its leaves, but for those that the other node has at the same place.
 fn add_node(list: &mut Blocks, block: u32, node: &Node, other: u32, other_node: &Node)
-    requires { length list.old + 129 ≤ 15480 }
+    requires { length list.old + node_blocks ≤ blocks_limit }
     ensures { list.new ≡ list.old ++ spec.all_unlike (spec.pointer_table block node.now.leaves)
-        (spec.pointer_table other other_node.now.leaves) 129 }
+        (spec.pointer_table other other_node.now.leaves) node_blocks }
 {
     add_unlike(list, block, other);
-    for leaf in 0..128 {
+    for leaf in 0..LEAVES {
         add_unlike(list, node.leaves[leaf], other_node.leaves[leaf]);
     }
 }
@@ -48,14 +49,16 @@ fn add_nodes<D: Disk>(
     dropped: &mut Blocks,
 ) -> Result<(), Trouble>
     requires some { 0 < D.blocks disk.old }
-    requires taken { length taken.old + 129 ≤ 15480 }
-    requires dropped { length dropped.old + 129 ≤ 15480 }
+    requires taken { length taken.old + node_blocks ≤ blocks_limit }
+    requires dropped { length dropped.old + node_blocks ≤ blocks_limit }
     ensures taken { Tells D.Disk disk.old → OnOk result (taken.new ≡ taken.old
-        ++ spec.all_unlike (spec.in_node (D.content disk.old) new) (spec.in_node (D.content disk.old) own) 129) }
+        ++ spec.all_unlike (spec.in_node (D.content disk.old) new) (spec.in_node (D.content disk.old) own)
+        node_blocks) }
     ensures dropped { Tells D.Disk disk.old → OnOk result (dropped.new ≡ dropped.old
-        ++ spec.all_unlike (spec.in_node (D.content disk.old) own) (spec.in_node (D.content disk.old) new) 129) }
-    ensures takes { OnOk result (spec.Adds (D.blocks disk.old) 129 taken.old taken.new) }
-    ensures drops { OnOk result (spec.Adds (D.blocks disk.old) 129 dropped.old dropped.new) }
+        ++ spec.all_unlike (spec.in_node (D.content disk.old) own) (spec.in_node (D.content disk.old) new)
+        node_blocks) }
+    ensures takes { OnOk result (spec.Adds (D.blocks disk.old) node_blocks taken.old taken.new) }
+    ensures drops { OnOk result (spec.Adds (D.blocks disk.old) node_blocks dropped.old dropped.new) }
     ensures refused { (kept : Kept)
         → IfErr result (IsDraftTrouble D.Disk (nodes_top at.0 own new) disk.old disk.new kept) }
     ensures untried { IfErr result (λ trouble. trouble_had_tried trouble ≡ false) }
@@ -86,14 +89,16 @@ fn add_changed<D: Disk>(
     dropped: &mut Blocks,
 ) -> Result<(), Trouble>
     requires some { 0 < D.blocks disk.old }
-    requires taken { length taken.old + 129 ≤ 15480 }
-    requires dropped { length dropped.old + 129 ≤ 15480 }
+    requires taken { length taken.old + node_blocks ≤ blocks_limit }
+    requires dropped { length dropped.old + node_blocks ≤ blocks_limit }
     ensures taken { Tells D.Disk disk.old → OnOk result (taken.new ≡ taken.old
-        ++ spec.all_unlike (spec.in_node (D.content disk.old) new) (spec.in_node (D.content disk.old) own) 129) }
+        ++ spec.all_unlike (spec.in_node (D.content disk.old) new) (spec.in_node (D.content disk.old) own)
+        node_blocks) }
     ensures dropped { Tells D.Disk disk.old → OnOk result (dropped.new ≡ dropped.old
-        ++ spec.all_unlike (spec.in_node (D.content disk.old) own) (spec.in_node (D.content disk.old) new) 129) }
-    ensures takes { OnOk result (spec.Adds (D.blocks disk.old) 129 taken.old taken.new) }
-    ensures drops { OnOk result (spec.Adds (D.blocks disk.old) 129 dropped.old dropped.new) }
+        ++ spec.all_unlike (spec.in_node (D.content disk.old) own) (spec.in_node (D.content disk.old) new)
+        node_blocks) }
+    ensures takes { OnOk result (spec.Adds (D.blocks disk.old) node_blocks taken.old taken.new) }
+    ensures drops { OnOk result (spec.Adds (D.blocks disk.old) node_blocks dropped.old dropped.new) }
     ensures refused { (kept : Kept)
         → IfErr result (IsDraftTrouble D.Disk (nodes_top at.0 own new) disk.old disk.new kept) }
     ensures untried { IfErr result (λ trouble. trouble_had_tried trouble ≡ false) }
@@ -123,7 +128,7 @@ pub(crate) fn changed<D: Disk>(
         → was.own ≡ own.now → was.root ≡ root.now
         → OnOk result (spec.IsChanged (D.content disk.old) v.id (opened_as was v.draft) taken.new dropped.new) }
     // On any disk there are no more than a draft has room for, and each is a block of the disk.
-    ensures room { OnOk result ((length taken.new ≤ 15480) × (length dropped.new ≤ 15480)) }
+    ensures room { OnOk result ((length taken.new ≤ blocks_limit) × (length dropped.new ≤ blocks_limit)) }
     ensures on_disk { OnOk result (spec.AreOnDisk (D.blocks disk.old) taken.new
         × spec.AreOnDisk (D.blocks disk.old) dropped.new) }
     ensures refused { (kept : Kept) → IfErr result (IsDraftTrouble D.Disk (roots_top at.0 own.now root.now) disk.old
@@ -132,11 +137,11 @@ pub(crate) fn changed<D: Disk>(
     // No damage where the disk holds the object.
     ensures sound { (space : Kept) (was : Drafting) (v : DraftView D.Disk disk.old space was)
         → was.own ≡ own.now → was.root ≡ root.now → IfErr result (λ trouble. is_damage trouble ≡ false) }
-    ensures reads { OnlyReads D.Disk 240 disk.old disk.new }
+    ensures reads { OnlyReads D.Disk changed_reads disk.old disk.new }
 {
     taken.clear();
     dropped.clear();
-    for number in 0..120 {
+    for number in 0..NODES {
         match add_changed(
             disk,
             at,

@@ -9,6 +9,7 @@ ghost use Rattle.cfs_base.specs.declared.refusal.Trouble.TheVariants as troubles
 ghost use Rattle.special_files.specs.Committing as spec;
 ghost use Rattle.special_files.specs.Drafting.{Drafting, number_if};
 ghost use Rattle.leaf_changes.specs.Tops.{still_top};
+ghost use Rattle.special_files.specs.Limits.{begun_calls, begun_tries, blocks_limit};
 ghost use Rattle.special_files.specs.Refusal.{roots_top};
 ghost use Rattle.special_files.specs.View.{DraftView};
 
@@ -27,7 +28,7 @@ fn rest_of(
     created: Option<BlockNo>,
     shadow: BlockNo,
 ) -> cyl_alloc::Blocks
-    requires few { length taken + length dropped.now ≤ 30960 }
+    requires few { length taken + length dropped.now ≤ 2 * blocks_limit }
     ensures { result ≡ taken ++ (dropped.now ++ (option_to_list (number_if created) ++ shadow.0 ∷ [])) }
 {
     let mut rest = taken;
@@ -56,7 +57,7 @@ pub(crate) fn finish<D: Disk>(
     requires dropped_on_disk { All (λ n. n < D.blocks disk.old) dropped.now }
     requires created_on_disk { (n : ℕ) → number_if created ≡ Some n → n < D.blocks disk.old }
     requires left { space.old.left ≡ None }
-    requires few { length taken + length dropped.now ≤ 30960 }
+    requires few { length taken + length dropped.now ≤ 2 * blocks_limit }
     ensures finishes { spec.FinishesCommit D.Disk at.0 shadow.0 taken dropped.now (number_if created) disk.old disk.new
         space.old space.new result }
     ensures fails { IfErr result (spec.CommitFails D.Disk (still_top at.0) disk.old disk.new space.new) }
@@ -94,8 +95,8 @@ pub(crate) fn commit_begun<D: Disk>(
         → spec.AreDraftParts was at.0 (Some shadow.0) own.now root.now (number_if created)
         → spec.Makes (D.content disk.old) (number_if created) made
         → spec.CommitEnds D.Disk v.graph v.ds v.id v.draft.object made disk.old disk.new space.new result }
-    ensures ends { spec.CommitsSo D.Disk (roots_top at.0 own.now root.now) 31205 15484 disk.old disk.new space.old
-        space.new result }
+    ensures ends { spec.CommitsSo D.Disk (roots_top at.0 own.now root.now) begun_calls begun_tries disk.old disk.new
+        space.old space.new result }
     // No device call comes before the first try.
     ensures untried { IfErr result (λ t. t ≢ troubles.Disk false) }
 {

@@ -20,7 +20,7 @@ ghost use Rattle.vol_owners.specs.Account.{Drafts};
 
 use crate::draft::Draft;
 use crate::fill::Swap;
-use block_tree::Root;
+use block_tree::{NODES, Root};
 use cfs_base::{BlockNo, Damage, Disk, Kind, Place, Puid, Refused, code};
 use cyl_alloc::Space;
 use intentions::intend_claim;
@@ -37,7 +37,7 @@ pub fn bare_root(kind: Kind, fill: u8, size: u64, word: u32) -> Root
         fill,
         word,
         size,
-        nodes: [0; 120],
+        nodes: [0; NODES],
     }
 }
 

@@ -13,6 +13,7 @@ ghost use Rattle.special_files.specs.Changed.{IsChanged};
 ghost use Rattle.special_files.specs.Committing as spec;
 ghost use Rattle.special_files.specs.Drafting.{Drafting, number_if, opened_as};
 ghost use Rattle.leaf_changes.specs.Tops.{still_top};
+ghost use Rattle.special_files.specs.Limits.{blocks_limit, changed_reads, commit_calls, commit_tries};
 ghost use Rattle.special_files.specs.Refusal.{is_full_refusal, roots_top};
 ghost use Rattle.special_files.specs.View.{DraftView};
 
@@ -70,7 +71,7 @@ pub(crate) fn commit_listed<D: Disk>(
     requires dropped_on_disk { All (λ n. n < D.blocks disk.old) dropped.now }
     requires created_on_disk { (n : ℕ) → number_if created ≡ Some n → n < D.blocks disk.old }
     requires left { space.old.left ≡ None }
-    requires few { length taken + length dropped.now ≤ 30960 }
+    requires few { length taken + length dropped.now ≤ 2 * blocks_limit }
     ensures commits { (was : Drafting) (v : DraftView D.Disk disk.old space.old was) (made : Option spec.Making)
         → spec.AreDraftParts was at.0 None was.own root.now (number_if created)
         → spec.Makes (D.content disk.old) (number_if created) made
@@ -114,10 +115,10 @@ pub(crate) fn commit_direct<D: Disk>(
         → spec.AreDraftParts was at.0 None own.now root.now (number_if created)
         → spec.Makes (D.content disk.old) (number_if created) made
         → spec.CommitEnds D.Disk v.graph v.ds v.id v.draft.object made disk.old disk.new space.new result }
-    ensures ends { spec.CommitsSo D.Disk (roots_top at.0 own.now root.now) 31207 15485 disk.old disk.new space.old
-        space.new result }
+    ensures ends { spec.CommitsSo D.Disk (roots_top at.0 own.now root.now) commit_calls commit_tries disk.old disk.new
+        space.old space.new result }
     ensures untried { IfErr result (λ t. t ≡ troubles.Disk false
-        → (space.new ≡ space.old) × OnlyReads D.Disk 241 disk.old disk.new) }
+        → (space.new ≡ space.old) × OnlyReads D.Disk (1 + changed_reads) disk.old disk.new) }
 {
     match changed(disk, at, own, root, &mut taken, dropped) {
         Ok(()) => {}

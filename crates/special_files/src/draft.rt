@@ -1,6 +1,7 @@
 //! The draft of an object.
 ghost use Rattle.std.specs.Prelude.{◌≡◌, ◌+◌, ◌<◌, ℕ, true, false, length, is_some};
 ghost use Rattle.std.specs.List.{sum_by};
+ghost use Rattle.block_tree.specs.Pointers.{leaf_limit, node_pointers};
 ghost use Rattle.cfs_base.specs.declared.identifier.Puid.{Puid};
 ghost use Rattle.special_files.specs.Drafting.{IsOpen, shadow_count, shadow_need, is_fresh_leaf, is_fresh_node};
 ghost use Rattle.special_files.specs.Refusal.{refusal_after};
@@ -36,6 +37,7 @@ pub struct Draft {
 
 impl Model for Draft {
     ghost use Rattle.std.specs.Prelude.{◌≡◌, ◌≢◌, ◌≤◌, length};
+    ghost use Rattle.block_tree.specs.Pointers.{leaf_limit, node_pointers, size_limit};
     ghost use Rattle.special_files.specs.Drafting.{Drafting, number_if};
 
     ghost Value = { Drafting };
@@ -50,8 +52,8 @@ impl Model for Draft {
       created = number_if a.created;
     } };
 
-    ghost invariant = { λ a. (a.at.0 ≢ 0) × (length a.leaves ≡ 15360) × (length a.nodes ≡ 120)
-        × (a.root.size ≤ 7864320) };
+    ghost invariant = { λ a. (a.at.0 ≢ 0) × (length a.leaves ≡ leaf_limit) × (length a.nodes ≡ node_pointers.count)
+        × (a.root.size ≤ size_limit) };
 }
 
 impl Draft {
@@ -86,7 +88,7 @@ impl Draft {
 
     /// Whether a leaf is the draft's own.
     pub(crate) fn has_fresh_leaf(&self, leaf: u32) -> bool
-        requires { leaf < 15360 }
+        requires { leaf < leaf_limit }
         ensures { result ≡ is_fresh_leaf self.now leaf }
     {
         self.leaves.has(leaf)
@@ -94,7 +96,7 @@ impl Draft {
 
     /// Whether a node is the draft's own.
     pub(crate) fn has_fresh_node(&self, node: u32) -> bool
-        requires { node < 120 }
+        requires { node < node_pointers.count }
         ensures { result ≡ is_fresh_node self.now node }
     {
         self.nodes.has(node)

@@ -6,8 +6,7 @@ ghost use Rattle.special_files.specs.View.{DraftView, GoesTo};
 ghost use Rattle.vol_image.specs.Reading.{slot_in};
 
 use crate::draft::Draft;
-use crate::node::NodeRead;
-use block_tree::SIZE_LIMIT;
+use block_tree::{SIZE_LIMIT, Way};
 use cfs_base::{Block, Disk, Puid, Refused};
 use cyl_alloc::Space;
 use leaf_changes::{put_slot, slot_at};
@@ -50,20 +49,18 @@ impl Draft {
         prove!(self.root.size <= SIZE_LIMIT);
         let leaf = (slot / 64) as u32;
         let place = (slot % 64) as usize;
-        let mut read = NodeRead::nothing();
-        let mut content = self.leaf_bytes(disk, &mut read, leaf)?;
+        let mut way = Way::new();
+        let mut content = self.leaf_bytes(disk, &mut way, leaf)?;
         if is_empty_already(&content, place, what) {
             return Ok(None);
         }
         put_slot(&mut content, place, what);
-        let was = read.node.leaves[(leaf % 128) as usize];
-        match self.put_leaf(disk, space, &mut read, leaf, &content) {
-            Ok(()) => Ok(Some(Swap {
-                leaf,
-                was,
-                is: read.node.leaves[(leaf % 128) as usize],
-            })),
-            Err(error) => Err(error),
+        let was = way.end(&self.root);
+        match self.put_leaf(disk, space, &mut way, leaf, &content) {
+            Ok(()) => {}
+            Err(error) => return Err(error),
         }
+        let is = way.end(&self.root);
+        Ok(Some(Swap { leaf, was, is }))
     }
 }

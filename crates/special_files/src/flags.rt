@@ -2,6 +2,7 @@
 ghost use Rattle.std.specs.Prelude.{◌≡◌, ◌-◌, ◌<◌, ◌≤◌, ◌+◌, ◌++◌, ℕ, false, count_by, get_or, length, replicate, set};
 ghost use Rattle.std.specs.Prelude.{IfOk};
 ghost use Rattle.std.specs.Vec.{vec_capacity};
+ghost use Rattle.block_tree.specs.Pointers.{leaf_limit};
 ghost use Rattle.special_files.specs.Drafting as spec;
 
 use cfs_base::NoMemory;
@@ -20,13 +21,14 @@ pub(crate) struct Flags {
 impl Model for Flags {
     ghost use Rattle.std.specs.Prelude.{◌≡◌, ◌≤◌, ◌-◌, ◌++◌, Bool, List, count_by, false, length, replicate};
     ghost use Rattle.std.specs.Vec.{vec_capacity};
+    ghost use Rattle.block_tree.specs.Pointers.{leaf_limit};
 
     ghost Value = { List Bool };
 
     ghost view = { λ a. a.items.items ++ replicate (a.len - length a.items.items) false };
 
     ghost invariant = { λ a. (a.count ≡ count_by (λ b. b) a.items.items) × (length a.items.items ≤ a.len)
-        × (a.len ≤ 15360)
+        × (a.len ≤ leaf_limit)
         × (a.len ≤ vec_capacity a.items) };
 }
 
@@ -50,7 +52,7 @@ fn one_unless(flag: bool) -> u32
 impl Flags {
     /// So many flags, of which none is set.
     pub fn none(alloc: Global, count: usize) -> Result<Flags, NoMemory>
-        requires { count ≤ 15360 }
+        requires { count ≤ leaf_limit }
         ensures { IfOk result (λ flags. flags ≡ replicate count false) }
     {
         let items = Vec::with_capacity(alloc, count)?;

@@ -2,6 +2,7 @@
 ghost use Rattle.std.specs.Prelude.{◌≡◌, ◌+◌, ◌-◌, ◌*◌, ◌/◌, ◌<◌, ◌≤◌, ◌==◌, ◌++◌, if◌then◌else◌, ℕ, IsTrue, false, []};
 ghost use Rattle.std.specs.Prelude.{get_or, length, slice_index, Ok, IfErr, IfOk, OnOk};
 ghost use Rattle.std.specs.List.{All};
+ghost use Rattle.block_tree.specs.Pointers.{leaf_limit, leaf_pointers, node_pointers};
 ghost use Rattle.cfs_base.specs.Calls.{OnlyReads};
 ghost use Rattle.cfs_base.specs.Refusals.{trouble_after_try, trouble_had_tried};
 ghost use Rattle.cfs_base.specs.Run.{Tells};
@@ -11,52 +12,56 @@ ghost use Rattle.intentions.specs.declared.change.Change.TheVariants.{Undo};
 ghost use Rattle.intentions.specs.Flips.{flips};
 ghost use Rattle.special_files.specs.Committing.{Flips};
 ghost use Rattle.special_files.specs.Drafting.{Drafting, opened_as};
-ghost use Rattle.block_tree.specs.Reads.{is_damage, IsNear, leaves_at};
+ghost use Rattle.block_tree.specs.Along.{IsNearTree, IsWay};
+ghost use Rattle.block_tree.specs.Reads.{is_damage, leaves_at};
+ghost use Rattle.block_tree.specs.Root.{root_spelling};
 ghost use Rattle.leaf_changes.specs.Tops.{root_top, still_top};
+ghost use Rattle.special_files.specs.Limits.{blocks_limit, node_blocks};
+ghost use Rattle.special_files.specs.Nodes.{IsSafeIn};
 ghost use Rattle.special_files.specs.Refusal.{IsDraftTrouble};
 ghost use Rattle.special_files.specs.Shed as spec;
 ghost use Rattle.special_files.specs.View.{DraftView};
 
 use crate::blocks::Blocks;
 use crate::flags::Flags;
-use crate::node::NodeRead;
-use block_tree::{Node, Root, read_node};
+use block_tree::{LEAVES, NODES, Node, Root, Way};
 use cfs_base::{BlockNo, Disk, Trouble};
 use cyl_alloc::KnownMaps;
 use intentions::{Change, change_entry};
 
-/// A node of a draft with this root, which is read unless it was the last that was.
+/// A node of a draft with this root, which is read unless the way has it.
 fn node_again<D: Disk>(
     disk: &mut D,
     at: BlockNo,
     root: &Root,
-    read: &NodeRead,
+    way: &Way,
     number: u32,
 ) -> Result<Node, Trouble>
-    requires below { number < 120 }
+    requires below { number < node_pointers.count }
     requires some { 0 < D.blocks disk.old }
-    requires safe { spec.IsSafeIn (D.blocks disk.old) root.now read.now }
-    ensures node { Tells D.Disk disk.old → spec.IsReadIn (D.content disk.old) root.now read.now
+    requires safe { IsSafeIn (D.blocks disk.old) root.now way.now }
+    ensures node { Tells D.Disk disk.old → IsWay (D.content disk.old) root.now way.now
         → IfOk result (λ node. node.leaves ≡ leaves_at (D.content disk.old) (slice_index root.now.nodes number)) }
     ensures there { OnOk result (slice_index root.now.nodes number < D.blocks disk.old) }
     ensures leaves { IfOk result (λ node. All (λ leaf. leaf < D.blocks disk.old) node.leaves) }
     ensures refused { (kept : Kept)
         → IfErr result (IsDraftTrouble D.Disk (root_top at.0 root.now) disk.old disk.new kept) }
     ensures untried { IfErr result (λ trouble. trouble_had_tried trouble ≡ false) }
-    ensures sound { Tells D.Disk disk.old
-        → IsNear (D.blocks disk.old) (D.content disk.old) (slice_index root.now.nodes number)
+    ensures sound { Tells D.Disk disk.old → IsWay (D.content disk.old) root.now way.now
+        → IsNearTree (D.blocks disk.old) (D.content disk.old) (root_spelling root.now)
         → IfErr result (λ trouble. is_damage trouble ≡ false) }
     ensures reads { OnlyReads D.Disk 1 disk.old disk.new }
 {
-    if read.number == number {
-        return Ok(read.node);
+    let mut way = *way;
+    match way.get(disk, at, root, LEAVES as u32 * number) {
+        Ok(_) => Ok(*way.node(0)),
+        Err(trouble) => Err(trouble),
     }
-    read_node(disk, root.nodes[number as usize], at)
 }
 
 /// Lists a block, if it is to be.
 fn add_if(list: &mut Blocks, add: bool, block: u32)
-    requires { length list.old < 15480 }
+    requires { length list.old < blocks_limit }
     ensures { list.new ≡ list.old ++ spec.list_if add block }
 {
     if add {
@@ -66,18 +71,18 @@ fn add_if(list: &mut Blocks, add: bool, block: u32)
 
 /// Lists a fresh node, where leaf 0 of it is dropped, and its fresh leaves from a place on.
 fn list_node(list: &mut Blocks, leaves: &Flags, block: u32, node: &Node, number: u32, from: u32)
-    requires room { length list.old + 129 ≤ 15480 }
-    requires flags { length leaves.now ≡ 15360 }
-    requires below { number < 120 }
-    requires place { from ≤ 128 }
+    requires room { length list.old + node_blocks ≤ blocks_limit }
+    requires flags { length leaves.now ≡ leaf_limit }
+    requires below { number < node_pointers.count }
+    requires place { from ≤ leaf_pointers.count }
     ensures { list.new ≡ list.old ++ (spec.list_if (from == 0) block
-        ++ spec.fresh_in leaves.now node.now.leaves number from (128 - from)) }
+        ++ spec.fresh_in leaves.now node.now.leaves number from (leaf_pointers.count - from)) }
 {
     add_if(list, from == 0, block);
-    for place in from..128 {
+    for place in from..LEAVES as u32 {
         add_if(
             list,
-            leaves.has(128 * number + place),
+            leaves.has(LEAVES as u32 * number + place),
             node.leaves[place as usize],
         );
     }
@@ -90,39 +95,40 @@ pub(crate) fn list_from<D: Disk>(
     root: &Root,
     leaves: &Flags,
     nodes: &Flags,
-    read: &NodeRead,
+    way: &Way,
     from: u32,
     list: &mut Blocks,
 ) -> Result<(), Trouble>
     requires some { 0 < D.blocks disk.old }
-    requires leaf_flags { length leaves.now ≡ 15360 }
-    requires node_flags { length nodes.now ≡ 120 }
-    requires limit { from ≤ 15360 }
-    requires safe { spec.IsSafeIn (D.blocks disk.old) root.now read.now }
+    requires leaf_flags { length leaves.now ≡ leaf_limit }
+    requires node_flags { length nodes.now ≡ node_pointers.count }
+    requires limit { from ≤ leaf_limit }
+    requires safe { IsSafeIn (D.blocks disk.old) root.now way.now }
     ensures listed { (space : Kept) (was : Drafting) (v : DraftView D.Disk disk.old space was)
-        → spec.HasParts was root.now leaves.now nodes.now → spec.IsReadIn (D.content disk.old) root.now read.now
+        → spec.HasParts was root.now leaves.now nodes.now → IsWay (D.content disk.old) root.now way.now
         → OnOk result (spec.AreShed (D.content disk.old) v.id (opened_as was v.draft) from list.new) }
     // On any disk there are no more than a draft has room for, and each is a block of the disk.
-    ensures room { OnOk result (length list.new ≤ 15480) }
+    ensures room { OnOk result (length list.new ≤ blocks_limit) }
     ensures on_disk { OnOk result (All (λ n. n < D.blocks disk.old) list.new) }
     ensures refused { (kept : Kept)
         → IfErr result (IsDraftTrouble D.Disk (root_top at.0 root.now) disk.old disk.new kept) }
     ensures untried { IfErr result (λ trouble. trouble_had_tried trouble ≡ false) }
     ensures sound { (space : Kept) (was : Drafting) (v : DraftView D.Disk disk.old space was)
-        → spec.HasParts was root.now leaves.now nodes.now → IfErr result (λ trouble. is_damage trouble ≡ false) }
+        → spec.HasParts was root.now leaves.now nodes.now → IsWay (D.content disk.old) root.now way.now
+        → IfErr result (λ trouble. is_damage trouble ≡ false) }
     // Where no node is fresh there is none, and nothing is read.
     ensures none { ((n : ℕ) → get_or nodes.now n false ≡ false)
         → (result ≡ Ok tt) × (list.new ≡ []) × (disk.new ≡ disk.old) }
-    ensures reads { OnlyReads D.Disk 120 disk.old disk.new }
+    ensures reads { OnlyReads D.Disk node_pointers.count disk.old disk.new }
 {
     list.clear();
-    for number in from / 128..120 {
+    for number in from / LEAVES as u32..NODES as u32 {
         if nodes.has(number) {
-            let node = match node_again(disk, at, root, read, number) {
+            let node = match node_again(disk, at, root, way, number) {
                 Ok(node) => node,
                 Err(trouble) => return Err(trouble),
             };
-            let place = from.saturating_sub(128 * number);
+            let place = from.saturating_sub(LEAVES as u32 * number);
             list_node(
                 list,
                 leaves,

@@ -1,15 +1,17 @@
 //! One leaf put into a draft.
-ghost use Rattle.std.specs.Prelude.{◌≡◌, ◌≢◌, ℕ, ◌*◌, ◌/◌, ◌^◌, ◌<◌, length};
+ghost use Rattle.std.specs.Prelude.{◌≡◌, ◌≢◌, ℕ, ◌*◌, ◌^◌, ◌<◌, ◌≤◌, length};
+ghost use Rattle.block_tree.specs.Along.{IsTo};
+ghost use Rattle.block_tree.specs.Pointers.{leaf_limit, node_pointers, size_limit};
 ghost use Rattle.cyl_alloc.specs.Enters.{Enters};
 ghost use Rattle.cyl_alloc.specs.Space.{intended};
 ghost use Rattle.cyl_map.specs.Entry.{IsEntry};
 ghost use Rattle.special_files.specs.Calls as spec;
 ghost use Rattle.special_files.specs.Nodes.{IsRead, IsSafe};
-ghost use Rattle.special_files.specs.Puts.{FitsLeaf, LeafCall, PutsLeaf, StaysBut};
+ghost use Rattle.special_files.specs.Puts.{FitsLeaf, LeafCall, PutsLeaf};
 ghost use Rattle.special_files.specs.View.{GoesHolding, DraftView};
 
 use crate::draft::Draft;
-use crate::node::NodeRead;
+use block_tree::{LEAVES, Root, Way};
 use cfs_base::{Block, BlockNo, Disk, Place, Refused};
 use cyl_alloc::Space;
 
@@ -51,7 +53,7 @@ impl Draft {
         node: u32,
     ) -> Result<BlockNo, Refused>
         requires size { D.blocks disk.old ≡ 64 * length space.old.free }
-        requires below { node < 120 }
+        requires below { node < node_pointers.count }
         ensures { spec.GetsDraftNode D.Disk node disk.old disk.new space.old space.new self.now result }
     {
         if self.has_fresh_node(node) {
@@ -61,35 +63,34 @@ impl Draft {
     }
 
     /// Puts a leaf of this content into the draft. Where the draft has no leaf of its own one is claimed, and after it
-    /// its node, where that needs one. The leaf's node was read, and is as it is then afterwards.
+    /// its node, where that needs one. The way leads to the leaf, as it does afterwards.
     pub(crate) fn put_leaf<D: Disk>(
         &mut self,
         disk: &mut D,
         space: &mut Space,
-        read: &mut NodeRead,
+        way: &mut Way,
         leaf: u32,
         content: &Block,
     ) -> Result<(), Refused>
         requires size { D.blocks disk.old ≡ 64 * length space.old.free }
-        requires below { leaf < 15360 }
-        requires read { read.old.number ≡ leaf / 128 }
-        requires safe { IsSafe (D.blocks disk.old) self.old read.old }
+        requires below { leaf < leaf_limit }
+        requires to { IsTo leaf way.old }
+        requires safe { IsSafe (D.blocks disk.old) self.old way.old }
         ensures goes { (v : DraftView D.Disk disk.old space.old self.old)
-            → IsRead (D.content disk.old) self.old read.old
+            → IsRead (D.content disk.old) self.old way.old
             → FitsLeaf self.old.root leaf content.now → GoesHolding D.Disk v.graph
             (PutsLeaf D.Disk v.graph v.ds v.id leaf content.now
-            disk.old disk.new space.new self.old self.new read.new) disk.old disk.new result }
-        ensures calls { LeafCall D.Disk 6 leaf disk.old disk.new space.old space.new self.old self.new read.new result }
+            disk.old disk.new space.new self.old self.new way.new) disk.old disk.new result }
+        ensures calls { LeafCall D.Disk 6 leaf disk.old disk.new space.old space.new self.old self.new way.new result }
     {
-        let place = (leaf % 128) as usize;
         if self.has_fresh_leaf(leaf) {
-            return write_own(disk, BlockNo(read.node.leaves[place]), content);
+            return write_own(disk, BlockNo(way.end(&self.root)), content);
         }
         let block = match self.claim(disk, space, Place::Leaf(leaf as u16)) {
             Ok(block) => block,
             Err(error) => return Err(error),
         };
-        let node = match self.node_block(disk, space, leaf / 128) {
+        let node = match self.node_block(disk, space, leaf / LEAVES as u32) {
             Ok(node) => node,
             Err(error) => return Err(error.after_try()),
         };
@@ -97,24 +98,24 @@ impl Draft {
             Ok(()) => {}
             Err(error) => return Err(error),
         }
-        read.node.leaves[place] = block.0;
-        match write_own(disk, node, &read.node.encode()) {
+        let mut root = self.root;
+        way.put(&mut root, [node.0, block.0]);
+        match write_own(disk, node, &way.node(0).encode()) {
             Ok(()) => {}
             Err(error) => return Err(error),
         }
-        self.add(leaf, node);
+        self.add(leaf, &root);
         Ok(())
     }
 
-    /// A leaf is the draft's own from now on, and so is its node, which is at this block.
-    fn add(&mut self, leaf: u32, node: BlockNo)
-        requires { leaf < 15360 }
-        ensures stays { StaysBut self.old self.new }
-        ensures nodes { spec.Adds leaf node.0 self.old self.new }
+    /// A leaf is the draft's own from now on, and so is its node, to which this root leads.
+    fn add(&mut self, leaf: u32, root: &Root)
+        requires below { leaf < leaf_limit }
+        requires size { root.now.size ≤ size_limit }
+        ensures { spec.Adopts leaf root.now self.old self.new }
     {
-        let number = leaf / 128;
-        self.root.nodes[number as usize] = node.0;
+        self.root = *root;
         self.leaves.put(leaf, true);
-        self.nodes.put(number, true);
+        self.nodes.put(leaf / LEAVES as u32, true);
     }
 }

@@ -1,55 +1,33 @@
-//! Nodes of a draft that are read.
-ghost use Rattle.std.specs.Prelude.{◌≡◌, ◌<◌};
-ghost use Rattle.block_tree.specs.Pointers.{node_pointers};
+//! The nodes on the path of a draft's leaf, read.
+ghost use Rattle.std.specs.Prelude.{◌≡◌, ◌<◌, IfOk};
+ghost use Rattle.block_tree.specs.Along.{pointer_on};
+ghost use Rattle.block_tree.specs.Pointers.{leaf_limit, node_levels};
+ghost use Rattle.block_tree.specs.Root.{root_spelling};
+ghost use Rattle.block_tree.specs.Tree.{leaf_block};
+ghost use Rattle.cfs_base.specs.Run.{Tells};
 ghost use Rattle.special_files.specs.Nodes as spec;
 
 use crate::draft::Draft;
-use block_tree::{NODES, Node, read_node};
+use block_tree::Way;
 use cfs_base::{Disk, Trouble};
 
-/// The node of a draft that was read last.
-#[derive(Clone, Copy)]
-pub(crate) struct NodeRead {
-    pub number: u32,
-    pub node: Node,
-}
-
-impl NodeRead {
-    /// None was read yet.
-    pub fn nothing() -> NodeRead
-        ensures { result.number ≡ node_pointers.count }
-    {
-        NodeRead {
-            number: NODES as u32,
-            node: Node::empty(),
-        }
-    }
-}
-
 impl Draft {
-    /// Reads a node of the draft, unless it was the last that was read.
+    /// Turns a way to a leaf of the draft, and gives the leaf's block, 0 where it is absent. A node that the way has is
+    /// not read again.
     pub(crate) fn turn_to<D: Disk>(
         &self,
         disk: &mut D,
-        read: &mut NodeRead,
-        number: u32,
-    ) -> Result<(), Trouble>
-        requires below { number < node_pointers.count }
+        way: &mut Way,
+        leaf: u32,
+    ) -> Result<u32, Trouble>
+        requires below { leaf < leaf_limit }
         requires some { 0 < D.blocks disk.old }
-        requires safe { spec.IsSafe (D.blocks disk.old) self.now read.old }
-        ensures turns { spec.TurnsTo D.Disk self.now number 1 disk.old disk.new read.old read.new result }
-        // The node that was read last is not read again.
-        ensures again { read.old.number ≡ number → disk.new ≡ disk.old }
+        requires safe { spec.IsSafe (D.blocks disk.old) self.now way.old }
+        ensures turns { spec.TurnsTo D.Disk self.now leaf 1 disk.old disk.new way.old way.new result }
+        ensures block { Tells D.Disk disk.old → spec.IsRead (D.content disk.old) self.now way.old
+            → IfOk result (λ n. n ≡ leaf_block (D.content disk.old) (root_spelling self.now.root) leaf) }
+        ensures there { IfOk result (λ n. n < D.blocks disk.old) }
     {
-        if read.number == number {
-            return Ok(());
-        }
-        match read_node(disk, self.root.nodes[number as usize], self.at) {
-            Ok(node) => {
-                *read = NodeRead { number, node };
-                Ok(())
-            }
-            Err(trouble) => Err(trouble),
-        }
+        way.get(disk, self.at, &self.root, leaf)
     }
 }

@@ -1,5 +1,6 @@
 //! A draft that is read.
 ghost use Rattle.std.specs.Prelude.{◌≡◌, ◌+◌, ◌-◌, ◌*◌, ◌/◌, ◌<◌, ◌≤◌, length, IfOk};
+ghost use Rattle.block_tree.specs.Pointers.{leaf_limit};
 ghost use Rattle.cyl_alloc.specs.Space.{Kept};
 ghost use Rattle.intentions.specs.Left.{StoreIs};
 ghost use Rattle.special_files.specs.Leaves.{leaves_below};
@@ -12,8 +13,7 @@ ghost use Rattle.vol_image.specs.Reading.{leaf_content};
 ghost use Rattle.vol_owners.specs.Account.{Drafts};
 
 use crate::draft::Draft;
-use crate::node::NodeRead;
-use block_tree::{SIZE_LIMIT, read_block};
+use block_tree::{SIZE_LIMIT, Way, read_block};
 use cfs_base::{Block, Disk, Trouble};
 use leaf_changes::{leaves_in, read_part};
 
@@ -22,26 +22,21 @@ impl Draft {
     pub(crate) fn leaf_bytes<D: Disk>(
         &self,
         disk: &mut D,
-        read: &mut NodeRead,
+        way: &mut Way,
         leaf: u32,
     ) -> Result<Block, Trouble>
-        requires below { leaf < 15360 }
+        requires below { leaf < leaf_limit }
         requires some { 0 < D.blocks disk.old }
-        requires safe { IsSafe (D.blocks disk.old) self.now read.old }
-        ensures bytes { HasTree D.Disk disk.old self.now → IsRead (D.content disk.old) self.now read.old
+        requires safe { IsSafe (D.blocks disk.old) self.now way.old }
+        ensures bytes { HasTree D.Disk disk.old self.now → IsRead (D.content disk.old) self.now way.old
             → IfOk result (λ content. content ≡ leaf_content self.now.root.fill
             (leaves_below (D.content disk.old) self.now.root leaf)) }
-        ensures turns { TurnsTo D.Disk self.now (leaf / 128) 2 disk.old disk.new read.old read.new result }
+        ensures turns { TurnsTo D.Disk self.now leaf 2 disk.old disk.new way.old way.new result }
     {
-        match self.turn_to(disk, read, leaf / 128) {
-            Ok(()) => {}
-            Err(trouble) => return Err(trouble),
+        match self.turn_to(disk, way, leaf) {
+            Ok(block) => read_block(disk, block, self.root.fill),
+            Err(trouble) => Err(trouble),
         }
-        read_block(
-            disk,
-            read.node.leaves[(leaf % 128) as usize],
-            self.root.fill,
-        )
     }
 
     /// Reads a part of a file, from an offset in bytes on. `Damaged` names the root block, or a node, with code 4,
@@ -58,9 +53,9 @@ impl Draft {
             disk.new self.now result }
     {
         prove!(self.root.size <= SIZE_LIMIT);
-        let mut read = NodeRead::nothing();
+        let mut way = Way::new();
         for leaf in (offset / 512) as u32..leaves_in(offset + into.len() as u64) {
-            match self.leaf_bytes(disk, &mut read, leaf) {
+            match self.leaf_bytes(disk, &mut way, leaf) {
                 Ok(content) => read_part(&content, leaf, offset, into),
                 Err(trouble) => return Err(trouble),
             }

@@ -1,5 +1,6 @@
 //! The size of a draft changed.
 ghost use Rattle.std.specs.Prelude.{◌≡◌, ◌+◌, ◌*◌, ◌/◌, ◌<◌, ◌≤◌, length, sum, IfErr, IfOk, OnOk};
+ghost use Rattle.block_tree.specs.Pointers.{size_limit};
 ghost use Rattle.cfs_base.specs.declared.refusal.Refused.TheVariants as refused;
 ghost use Rattle.cyl_alloc.specs.Space.{Kept};
 ghost use Rattle.leaf_changes.specs.Bytes as changes;
@@ -14,7 +15,7 @@ ghost use Rattle.ufs_model.specs.declared.object.Object.TheVariants as objects;
 ghost use Rattle.vol_image.specs.Reading.{leaf_content};
 
 use crate::draft::Draft;
-use crate::node::NodeRead;
+use block_tree::Way;
 use cfs_base::{Block, Disk, Refused, Trouble};
 use cyl_alloc::Space;
 use leaf_changes::cut_leaf;
@@ -29,7 +30,7 @@ impl Draft {
         floor: u32,
     ) -> Result<(), Refused>
         requires more { self.old.root.size ≤ size }
-        requires limit { size ≤ 7864320 }
+        requires limit { size ≤ size_limit }
         ensures resized { (v : DraftView D.Disk _disk.now space.now self.old)
             → OnOk result (ResizesIfFile v size floor _disk.now space.now self.new) }
         ensures full { (v : DraftView D.Disk _disk.now space.now self.old) (f : File) → v.draft.object ≡ objects.File f
@@ -51,22 +52,17 @@ impl Draft {
     }
 
     /// The content of the leaf in which a file of this size ends, with fill bytes from its end on.
-    fn cut_bytes<D: Disk>(
-        &self,
-        disk: &mut D,
-        read: &mut NodeRead,
-        size: u64,
-    ) -> Result<Block, Trouble>
-        requires below { size < 7864320 }
+    fn cut_bytes<D: Disk>(&self, disk: &mut D, way: &mut Way, size: u64) -> Result<Block, Trouble>
+        requires below { size < size_limit }
         requires some { 0 < D.blocks disk.old }
-        requires safe { IsSafe (D.blocks disk.old) self.now read.old }
+        requires safe { IsSafe (D.blocks disk.old) self.now way.old }
         ensures bytes { (kept : Kept) (v : DraftView D.Disk disk.old kept self.now)
-            → IsRead (D.content disk.old) self.now read.old
+            → IsRead (D.content disk.old) self.now way.old
             → IfOk result (λ content. content ≡ changes.cut size self.now.root.fill
             (leaf_content self.now.root.fill (leaves_below (D.content disk.old) self.now.root (size / 512)))) }
-        ensures turns { TurnsTo D.Disk self.now (size / 512 / 128) 2 disk.old disk.new read.old read.new result }
+        ensures turns { TurnsTo D.Disk self.now (size / 512) 2 disk.old disk.new way.old way.new result }
     {
-        let mut content = match self.leaf_bytes(disk, read, (size / 512) as u32) {
+        let mut content = match self.leaf_bytes(disk, way, (size / 512) as u32) {
             Ok(content) => content,
             Err(trouble) => return Err(trouble),
         };
@@ -79,22 +75,22 @@ impl Draft {
         &mut self,
         disk: &mut D,
         space: &mut Space,
-        read: &mut NodeRead,
+        way: &mut Way,
         size: u64,
     ) -> Result<(), Refused>
         requires size { D.blocks disk.old ≡ 64 * length space.old.free }
-        requires below { size < 7864320 }
+        requires below { size < size_limit }
         requires some { 0 < D.blocks disk.old }
-        requires safe { IsSafe (D.blocks disk.old) self.old read.old }
+        requires safe { IsSafe (D.blocks disk.old) self.old way.old }
         ensures goes { (v : DraftView D.Disk disk.old space.old self.old)
-            → IsRead (D.content disk.old) self.old read.old
+            → IsRead (D.content disk.old) self.old way.old
             → size < self.old.root.size → GoesHolding D.Disk v.graph (CutsLeaf D.Disk v.graph v.ds v.id size
-            disk.old disk.new space.new self.old self.new read.new) disk.old disk.new result }
+            disk.old disk.new space.new self.old self.new way.new) disk.old disk.new result }
         ensures calls { LeafCall D.Disk 8 (size / 512)
-            disk.old disk.new space.old space.new self.old self.new read.new result }
+            disk.old disk.new space.old space.new self.old self.new way.new result }
     {
-        match self.cut_bytes(disk, read, size) {
-            Ok(content) => self.put_leaf(disk, space, read, (size / 512) as u32, &content),
+        match self.cut_bytes(disk, way, size) {
+            Ok(content) => self.put_leaf(disk, space, way, (size / 512) as u32, &content),
             Err(trouble) => Err(Refused::from(trouble)),
         }
     }

@@ -1,9 +1,11 @@
 //! The size of a draft set to less, and to any.
 ghost use Rattle.std.specs.Prelude.{◌≡◌, ◌≢◌, ◌+◌, ◌*◌, ◌/◌, ◌%◌, ◌<◌, ◌≤◌, ℕ, true, false, length, slice_index, sum};
 ghost use Rattle.std.specs.Prelude.{Err, IfErr, IfOk};
+ghost use Rattle.block_tree.specs.Along.{CutsRootPast, way_leaves};
+ghost use Rattle.block_tree.specs.Pointers.{leaf_limit, leaf_pointers, node_pointers, size_limit};
 ghost use Rattle.leaf_changes.specs.Bytes as changes;
 ghost use Rattle.special_files.specs.Drafting.{pointer_to_node, shadow_need};
-ghost use Rattle.special_files.specs.Nodes.{IsRead, IsSafe};
+ghost use Rattle.special_files.specs.Nodes.{HasNode, IsRead, IsSafe};
 ghost use Rattle.special_files.specs.Refusal.{is_full_refusal};
 ghost use Rattle.special_files.specs.Shed as spec;
 ghost use Rattle.special_files.specs.View.{GoesHolding, DraftView};
@@ -14,8 +16,7 @@ use crate::draft::{Draft, after};
 use crate::flips::give_all;
 use crate::freed::{list_from, undo_listed};
 use crate::leaf::write_own;
-use crate::node::NodeRead;
-use block_tree::{Node, SIZE_LIMIT};
+use block_tree::{LEAVES, Node, Root, SIZE_LIMIT, Way};
 use cfs_base::{BlockNo, Disk, Refused};
 use cyl_alloc::Space;
 use leaf_changes::leaves_in;
@@ -24,15 +25,15 @@ use leaf_changes::leaves_in;
 /// ends.
 #[derive(Clone, Copy)]
 struct Plan {
-    /// The node in which the file ends.
-    read: NodeRead,
+    /// The way to the last leaf that the file may have.
+    way: Way,
     from: u32,
     cut: bool,
 }
 
 /// Whether a node holds a leaf in these places.
 fn holds(node: &Node, from: u32, to: u32) -> bool
-    requires { to ≤ 128 }
+    requires { to ≤ leaf_pointers.count }
     ensures some { result ≡ true → (k : ℕ) × (from ≤ k) × (k < to) × (slice_index node.now.leaves k ≢ 0) }
     ensures none { result ≡ false → (k : ℕ) → from ≤ k → k < to → slice_index node.now.leaves k ≡ 0 }
 {
@@ -47,17 +48,17 @@ fn holds(node: &Node, from: u32, to: u32) -> bool
 /// From which leaf on a draft drops its leaves that is to keep those before one, which lies in this node or at its end.
 /// Where that is within the node, the node keeps a leaf and drops one.
 fn border(node: &Node, number: u32, to: u32) -> u32
-    requires few { number < 120 }
-    requires low { 128 * number ≤ to }
-    requires high { to ≤ 128 * number + 128 }
+    requires few { number < node_pointers.count }
+    requires low { leaf_pointers.count * number ≤ to }
+    requires high { to ≤ leaf_pointers.count * number + leaf_pointers.count }
     ensures { spec.IsBorder node.now.leaves number to result }
 {
-    let place = to - 128 * number;
+    let place = to - LEAVES as u32 * number;
     if !holds(node, 0, place) {
-        return 128 * number;
+        return LEAVES as u32 * number;
     }
-    if !holds(node, place, 128) {
-        return 128 * number + 128;
+    if !holds(node, place, LEAVES as u32) {
+        return LEAVES as u32 * number + LEAVES as u32;
     }
     to
 }
@@ -66,102 +67,92 @@ fn border(node: &Node, number: u32, to: u32) -> u32
 fn is_cut(node: &Node, size: u64) -> bool
     ensures { spec.IsCutHere size node.now.leaves result }
 {
-    size % 512 != 0 && node.leaves[(size / 512 % 128) as usize] != 0
-}
-
-/// A node without its leaves from a place on.
-fn shortened(node: &Node, from: u32) -> Node
-    ensures before { (k : ℕ) → k < from → slice_index result.leaves k ≡ slice_index node.now.leaves k }
-    ensures past { (k : ℕ) → from ≤ k → k < 128 → slice_index result.leaves k ≡ 0 }
-{
-    let mut node = *node;
-    for place in from..128 {
-        node.leaves[place as usize] = 0;
-    }
-    node
-}
-
-/// The pointers from one on are 0.
-fn clear_pointers(nodes: &mut [u32; 120], from: u32)
-    ensures long { length nodes.new ≡ length nodes.old }
-    ensures before { (k : ℕ) → k < from → slice_index nodes.new k ≡ slice_index nodes.old k }
-    ensures past { (k : ℕ) → from ≤ k → slice_index nodes.new k ≡ 0 }
-{
-    for node in from..120 {
-        nodes[node as usize] = 0;
-    }
+    size % 512 != 0 && node.leaves[(size / 512) as usize % LEAVES] != 0
 }
 
 impl Draft {
     /// How many blocks a resize to less takes, with the shadow root that a commit takes: one for its last leaf where
     /// that is cut and isn't fresh, and one for the node where it changes and isn't fresh.
     fn need_at(&self, cut: bool, from: u32, leaf: u32, node: u32) -> u32
-        requires leaf { leaf < 15360 }
-        requires node { node < 120 }
+        requires leaf { leaf < leaf_limit }
+        requires node { node < node_pointers.count }
         ensures { result ≡ spec.shrink_takes self.now cut from leaf node + shadow_need self.now }
     {
         let stale = cut && !self.has_fresh_leaf(leaf);
-        let changes = (stale || from % 128 != 0) && !self.has_fresh_node(node);
+        let changes = (stale || from % LEAVES as u32 != 0) && !self.has_fresh_node(node);
         stale as u32 + changes as u32 + self.shadow_need()
     }
 
-    /// The node of a leaf is written without its leaves from this one on, into a block of the draft's own.
+    /// The node of a leaf is written without its leaves from this one on, into a block of the draft's own. The root is
+    /// the draft's, and leads to that block then and nowhere past it.
     fn put_short<D: Disk>(
         &self,
         disk: &mut D,
         space: &mut Space,
-        read: &NodeRead,
+        way: &Way,
         from: u32,
+        root: &mut Root,
     ) -> Result<BlockNo, Refused>
         requires size { D.blocks disk.old ≡ 64 * length space.old.free }
-        requires below { from < 15360 }
-        requires safe { pointer_to_node self.now.root (from / 128) < D.blocks disk.old }
-        ensures { spec.PutsShort D.Disk from read.now.node.leaves self.now
+        requires below { from < leaf_limit }
+        requires here { HasNode (from / leaf_pointers.count) way.now }
+        requires safe { pointer_to_node self.now.root (from / leaf_pointers.count) < D.blocks disk.old }
+        ensures puts { spec.PutsShort D.Disk from (way_leaves way.now) self.now
             disk.old disk.new space.old space.new result }
+        ensures root { IfOk result (λ block. CutsRootPast root.old (from / leaf_pointers.count) block.0 root.new) }
     {
-        let block = match self.node_block(disk, space, from / 128) {
+        let block = match self.node_block(disk, space, from / LEAVES as u32) {
             Ok(block) => block,
             Err(error) => return Err(error),
         };
-        match write_own(disk, block, &shortened(&read.node, from % 128).encode()) {
+        let mut way = *way;
+        way.cut(root, from % LEAVES as u32, [block.0]);
+        match write_own(disk, block, &way.node(0).encode()) {
             Ok(()) => Ok(block),
             Err(error) => Err(error),
         }
     }
 
-    /// The draft has no leaf from one on. Where that is within a node, this node is at the block, and of the draft's
-    /// own.
-    fn forget(&mut self, from: u32, block: u32)
-        requires { from ≤ 15360 }
-        ensures { spec.Forgets from block self.old self.new }
-    {
-        self.leaves.clear_from(from);
-        self.nodes.clear_from(from.div_ceil(128));
-        clear_pointers(&mut self.root.nodes, from.div_ceil(128));
-        if from % 128 != 0 {
-            self.root.nodes[(from / 128) as usize] = block;
-            self.nodes.put(from / 128, true);
-        }
-    }
-
-    /// The same where the leaf lies within its node; else nothing is done.
+    /// The same where the leaf lies within its node; else the root leads nowhere from that node on, and nothing is
+    /// written.
     fn put_within<D: Disk>(
         &self,
         disk: &mut D,
         space: &mut Space,
-        read: &NodeRead,
+        way: &Way,
         from: u32,
+        root: &mut Root,
     ) -> Result<BlockNo, Refused>
         requires size { D.blocks disk.old ≡ 64 * length space.old.free }
-        requires limit { from ≤ 15360 }
-        requires safe { from % 128 ≢ 0 → pointer_to_node self.now.root (from / 128) < D.blocks disk.old }
-        ensures { spec.PutsWithin D.Disk from read.now.node.leaves self.now disk.old disk.new space.old space.new
+        requires limit { from ≤ leaf_limit }
+        requires here { from % leaf_pointers.count ≢ 0 → HasNode (from / leaf_pointers.count) way.now }
+        requires safe { from % leaf_pointers.count ≢ 0
+            → pointer_to_node self.now.root (from / leaf_pointers.count) < D.blocks disk.old }
+        ensures puts { spec.PutsWithin D.Disk from (way_leaves way.now) self.now disk.old disk.new space.old space.new
             result }
+        ensures root { IfOk result (λ block. spec.CutsRootAt from block.0 root.old root.new) }
     {
-        if from % 128 == 0 {
+        if from % LEAVES as u32 == 0 {
+            *root = root.cut(from / LEAVES as u32);
             return Ok(BlockNo(0));
         }
-        self.put_short(disk, space, read, from)
+        self.put_short(disk, space, way, from, root)
+    }
+
+    /// The draft has no leaf from one on, and this root. Where that leaf lies within a node, the node is of the draft's
+    /// own.
+    fn forget(&mut self, from: u32, root: Root)
+        requires limit { from ≤ leaf_limit }
+        requires size { root.size ≤ size_limit }
+        ensures { (block : ℕ) → spec.CutsRootAt from block self.old.root root
+            → spec.Forgets from block self.old self.new }
+    {
+        self.root = root;
+        self.leaves.clear_from(from);
+        self.nodes.clear_from(from.div_ceil(LEAVES as u32));
+        if from % LEAVES as u32 != 0 {
+            self.nodes.put(from / LEAVES as u32, true);
+        }
     }
 
     /// Drops the leaves from one on, with the nodes that have no leaf before it. Those of the draft's own become Free.
@@ -169,17 +160,17 @@ impl Draft {
         &mut self,
         disk: &mut D,
         space: &mut Space,
-        read: &NodeRead,
+        way: &Way,
         from: u32,
     ) -> Result<(), Refused>
         requires size { D.blocks disk.old ≡ 64 * length space.old.free }
         requires some { 0 < D.blocks disk.old }
-        requires limit { from ≤ 15360 }
-        requires here { from % 128 ≢ 0 → read.now.number ≡ from / 128 }
-        requires safe { IsSafe (D.blocks disk.old) self.old read.now }
+        requires limit { from ≤ leaf_limit }
+        requires here { from % leaf_pointers.count ≢ 0 → HasNode (from / leaf_pointers.count) way.now }
+        requires safe { IsSafe (D.blocks disk.old) self.old way.now }
         ensures goes { (v : DraftView D.Disk disk.old space.old self.old)
-            → IsRead (D.content disk.old) self.old read.now
-            → spec.KeepsOne from read.now → GoesHolding D.Disk v.graph (spec.DropsFrom D.Disk v.graph v.ds v.id from
+            → IsRead (D.content disk.old) self.old way.now
+            → spec.KeepsOne from way.now → GoesHolding D.Disk v.graph (spec.DropsFrom D.Disk v.graph v.ds v.id from
             disk.old disk.new space.new self.old self.new) disk.old disk.new result }
         ensures calls { spec.DropCall D.Disk from disk.old disk.new space.old space.new self.old self.new result }
     {
@@ -189,23 +180,24 @@ impl Draft {
             &self.root,
             &self.leaves,
             &self.nodes,
-            read,
+            way,
             from,
             &mut self.taken,
         ) {
             Ok(()) => {}
             Err(trouble) => return Err(Refused::from(trouble)),
         }
-        let block = match self.put_within(disk, space, read, from) {
-            Ok(block) => block,
+        let mut root = self.root;
+        match self.put_within(disk, space, way, from, &mut root) {
+            Ok(_) => {}
             Err(error) => return Err(error),
-        };
+        }
         match undo_listed(disk, space.known(), self.taken.as_slice()) {
             Ok(()) => {}
-            Err(trouble) => return Err(after(from % 128 != 0, Refused::from(trouble))),
+            Err(trouble) => return Err(after(from % LEAVES as u32 != 0, Refused::from(trouble))),
         }
         give_all(space, self.taken.as_slice());
-        self.forget(from, block.0);
+        self.forget(from, root);
         Ok(())
     }
 
@@ -214,21 +206,21 @@ impl Draft {
         &mut self,
         disk: &mut D,
         space: &mut Space,
-        read: &mut NodeRead,
+        way: &mut Way,
         size: u64,
         cut: bool,
     ) -> Result<(), Refused>
         requires size { D.blocks disk.old ≡ 64 * length space.old.free }
-        requires below { size < 7864320 }
+        requires below { size < size_limit }
         requires some { 0 < D.blocks disk.old }
-        requires safe { IsSafe (D.blocks disk.old) self.old read.old }
-        ensures { spec.CutsIf D.Disk size cut disk.old disk.new space.old space.new self.old self.new read.old read.new
+        requires safe { IsSafe (D.blocks disk.old) self.old way.old }
+        ensures { spec.CutsIf D.Disk size cut disk.old disk.new space.old space.new self.old self.new way.old way.new
             result }
     {
         if !cut {
             return Ok(());
         }
-        self.cut(disk, space, read, size)
+        self.cut(disk, space, way, size)
     }
 
     /// Reads the node in which a file of less size ends. `Full` where fewer blocks are Free than the resize needs and
@@ -253,17 +245,18 @@ impl Draft {
     {
         prove!(self.root.size <= SIZE_LIMIT);
         let to = leaves_in(size);
-        let number = to.saturating_sub(1) / 128;
-        let mut read = NodeRead::nothing();
-        match self.turn_to(disk, &mut read, number) {
-            Ok(()) => {}
+        let last = to.saturating_sub(1);
+        let number = last / LEAVES as u32;
+        let mut way = Way::new();
+        match self.turn_to(disk, &mut way, last) {
+            Ok(_) => {}
             Err(trouble) => return Err(Refused::from(trouble)),
         }
-        let from = border(&read.node, number, to);
-        let cut = is_cut(&read.node, size);
+        let from = border(way.node(0), number, to);
+        let cut = is_cut(way.node(0), size);
         let need = self.need_at(cut, from, (size / 512) as u32, number);
         match space.has_room(need, floor) {
-            Ok(()) => Ok(Plan { read, from, cut }),
+            Ok(()) => Ok(Plan { way, from, cut }),
             Err(full) => Err(full),
         }
     }
@@ -290,12 +283,12 @@ impl Draft {
             Ok(plan) => plan,
             Err(error) => return Err(error),
         };
-        let mut read = plan.read;
-        match self.cut_if(disk, space, &mut read, size, plan.cut) {
+        let mut way = plan.way;
+        match self.cut_if(disk, space, &mut way, size, plan.cut) {
             Ok(()) => {}
             Err(error) => return Err(error),
         }
-        match self.drop_from(disk, space, &read, plan.from) {
+        match self.drop_from(disk, space, &way, plan.from) {
             Ok(()) => {}
             Err(error) => return Err(after(plan.cut, error)),
         }
@@ -315,7 +308,7 @@ impl Draft {
     ) -> Result<(), Refused>
         requires on_disk { self.old.at < D.blocks disk.old }
         requires size { D.blocks disk.old ≡ 64 * length space.old.free }
-        requires limit { size ≤ 7864320 }
+        requires limit { size ≤ size_limit }
         ensures goes { (v : DraftView D.Disk disk.old space.old self.old) → GoesHolding D.Disk v.graph
             (spec.ResizesIfFile v size floor disk.new space.new self.new) disk.old disk.new result }
         // Full exactly where the model's need and the floor aren't Free.

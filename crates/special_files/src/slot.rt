@@ -5,8 +5,7 @@ ghost use Rattle.special_files.specs.Looks.{FindsSlot, ReadCall};
 ghost use Rattle.special_files.specs.View.{DraftSeen};
 
 use crate::draft::Draft;
-use crate::node::NodeRead;
-use block_tree::SIZE_LIMIT;
+use block_tree::{LEAVES, SIZE_LIMIT, Way};
 use cfs_base::{Disk, Puid, Trouble};
 use leaf_changes::slot_at;
 
@@ -23,7 +22,7 @@ impl Draft {
         if self.has_fresh_leaf(leaf) {
             return 0;
         }
-        1 + !self.has_fresh_node(leaf / 128) as u32
+        1 + !self.has_fresh_node(leaf / LEAVES as u32) as u32
     }
 
     /// What a slot of an index holds: None where it is empty. `Damaged` as in `read`.
@@ -34,8 +33,8 @@ impl Draft {
         ensures call { ReadCall D.Disk 2 disk.old disk.new self.now result }
     {
         prove!(self.root.size <= SIZE_LIMIT);
-        let mut read = NodeRead::nothing();
-        let content = self.leaf_bytes(disk, &mut read, (slot / 64) as u32)?;
+        let mut way = Way::new();
+        let content = self.leaf_bytes(disk, &mut way, (slot / 64) as u32)?;
         Ok(slot_at(&content, (slot % 64) as usize))
     }
 }

@@ -1,5 +1,6 @@
 //! Bytes written into a draft.
 ghost use Rattle.std.specs.Prelude.{◌≡◌, ◌+◌, ◌-◌, ◌*◌, ◌/◌, ◌<◌, ◌≤◌, length, IfOk};
+ghost use Rattle.block_tree.specs.Pointers.{leaf_limit, size_limit};
 ghost use Rattle.cyl_alloc.specs.Space.{Kept};
 ghost use Rattle.leaf_changes.specs.Bytes as changes;
 ghost use Rattle.special_files.specs.Drafting as drafting;
@@ -13,8 +14,7 @@ ghost use Rattle.ufs_model.specs.Object as spec;
 ghost use Rattle.vol_image.specs.Reading.{leaf_content};
 
 use crate::draft::{Draft, after};
-use crate::node::NodeRead;
-use block_tree::SIZE_LIMIT;
+use block_tree::{LEAVES, SIZE_LIMIT, Way};
 use cfs_base::{Block, Disk, Refused, Trouble};
 use cyl_alloc::Space;
 use leaf_changes::{leaves_in, patch_leaf};
@@ -23,7 +23,7 @@ impl Draft {
     /// How many blocks it takes to write these leaves, with the shadow root that a commit takes.
     fn need_to_write(&self, from: u32, to: u32) -> u32
         requires order { from ≤ to }
-        requires within { to ≤ 15360 }
+        requires within { to ≤ leaf_limit }
         ensures some { from < to → result ≡ leaves_take self.now from to + drafting.shadow_need self.now }
         ensures none { to ≤ from → result ≡ drafting.shadow_need self.now }
     {
@@ -31,7 +31,9 @@ impl Draft {
             return self.shadow_need();
         }
         let leaves = self.leaves.lacking(from, to);
-        let nodes = self.nodes.lacking(from / 128, to.div_ceil(128));
+        let nodes = self
+            .nodes
+            .lacking(from / LEAVES as u32, to.div_ceil(LEAVES as u32));
         leaves + nodes + self.shadow_need()
     }
 
@@ -39,30 +41,30 @@ impl Draft {
     fn patched<D: Disk>(
         &self,
         disk: &mut D,
-        read: &mut NodeRead,
+        way: &mut Way,
         leaf: u32,
         offset: u64,
         bytes: &[u8],
     ) -> Result<Block, Trouble>
-        requires below { leaf < 15360 }
-        requires end { offset + length bytes.now ≤ 7864320 }
+        requires below { leaf < leaf_limit }
+        requires end { offset + length bytes.now ≤ size_limit }
         requires some { 0 < D.blocks disk.old }
-        requires safe { IsSafe (D.blocks disk.old) self.now read.old }
+        requires safe { IsSafe (D.blocks disk.old) self.now way.old }
         ensures bytes { (kept : Kept) (v : DraftView D.Disk disk.old kept self.now)
-            → IsRead (D.content disk.old) self.now read.old
+            → IsRead (D.content disk.old) self.now way.old
             → IfOk result (λ content. content ≡ changes.patched leaf offset bytes.now
             (leaf_content self.now.root.fill (leaves_below (D.content disk.old) self.now.root leaf))) }
-        ensures turns { TurnsTo D.Disk self.now (leaf / 128) 2 disk.old disk.new read.old read.new result }
+        ensures turns { TurnsTo D.Disk self.now leaf 2 disk.old disk.new way.old way.new result }
     {
         let start = 512 * leaf as u64;
         let mut content = Block::zero();
         if offset <= start && start + 512 <= offset + bytes.len() as u64 {
-            match self.turn_to(disk, read, leaf / 128) {
-                Ok(()) => {}
+            match self.turn_to(disk, way, leaf) {
+                Ok(_) => {}
                 Err(trouble) => return Err(trouble),
             }
         } else {
-            match self.leaf_bytes(disk, read, leaf) {
+            match self.leaf_bytes(disk, way, leaf) {
                 Ok(was) => content = was,
                 Err(trouble) => return Err(trouble),
             }
@@ -76,26 +78,26 @@ impl Draft {
         &mut self,
         disk: &mut D,
         space: &mut Space,
-        read: &mut NodeRead,
+        way: &mut Way,
         leaf: u32,
         offset: u64,
         bytes: &[u8],
     ) -> Result<(), Refused>
         requires size { D.blocks disk.old ≡ 64 * length space.old.free }
-        requires below { leaf < 15360 }
-        requires end { offset + length bytes.now ≤ 7864320 }
+        requires below { leaf < leaf_limit }
+        requires end { offset + length bytes.now ≤ size_limit }
         requires some { 0 < D.blocks disk.old }
-        requires safe { IsSafe (D.blocks disk.old) self.old read.old }
+        requires safe { IsSafe (D.blocks disk.old) self.old way.old }
         ensures goes { (v : DraftView D.Disk disk.old space.old self.old)
-            → IsRead (D.content disk.old) self.old read.old
+            → IsRead (D.content disk.old) self.old way.old
             → leaf < spec.leaves_in self.old.root.size → offset + length bytes.now ≤ self.old.root.size
             → GoesHolding D.Disk v.graph (PutsLeaf D.Disk v.graph v.ds v.id leaf (changes.patched leaf offset bytes.now
             (leaf_content self.old.root.fill (leaves_below (D.content disk.old) self.old.root leaf)))
-            disk.old disk.new space.new self.old self.new read.new) disk.old disk.new result }
-        ensures calls { LeafCall D.Disk 8 leaf disk.old disk.new space.old space.new self.old self.new read.new result }
+            disk.old disk.new space.new self.old self.new way.new) disk.old disk.new result }
+        ensures calls { LeafCall D.Disk 8 leaf disk.old disk.new space.old space.new self.old self.new way.new result }
     {
-        match self.patched(disk, read, leaf, offset, bytes) {
-            Ok(content) => self.put_leaf(disk, space, read, leaf, &content),
+        match self.patched(disk, way, leaf, offset, bytes) {
+            Ok(content) => self.put_leaf(disk, space, way, leaf, &content),
             Err(trouble) => Err(Refused::from(trouble)),
         }
     }
@@ -126,9 +128,9 @@ impl Draft {
             Ok(()) => {}
             Err(full) => return Err(full),
         }
-        let mut read = NodeRead::nothing();
+        let mut way = Way::new();
         for leaf in from..to {
-            match self.write_leaf(disk, space, &mut read, leaf, offset, bytes) {
+            match self.write_leaf(disk, space, &mut way, leaf, offset, bytes) {
                 Ok(()) => {}
                 Err(error) => return Err(after(leaf > from, error)),
             }

@@ -31,11 +31,11 @@ label_block cylinders word = spelling (record { cylinders = cylinders; root = ro
 
 -- an index of 64 slots with no node
 abbrev pub empty_root : ℕ → roots.Root
-empty_root word = record { kind = Index; fill = 0; word = word; size = 512; nodes = replicate 120 0 }
+empty_root word = record { kind = Index; fill = 0; word = word; size = 512; nodes = replicate node_pointers.count 0 }
 
 pub record IsEmptyIndex (block : List ℕ) (word : ℕ) : Type 0 where
   pub spelled : IsRootBlock block (empty_root word)
-  pub no_node : pointers_of node_pointers block ≡ replicate 120 0
+  pub no_node : pointers_of node_pointers block ≡ replicate node_pointers.count 0
 
 -- ---- its entries
 

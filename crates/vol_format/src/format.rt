@@ -8,7 +8,7 @@ ghost use Rattle.vol_format.specs.Fresh.{HasBody, IsBlank, IsEmptyIndex, IsForma
 ghost use Rattle.vol_format.specs.Fresh.{fresh_entry, label_block};
 
 use crate::map::fresh_map;
-use block_tree::Root;
+use block_tree::{NODES, Root};
 use cfs_base::{Block, BlockNo, Disk, Failed, Kind, Puid};
 use ufs_model::ROOT_SLOTS;
 use vol_label::Label;
@@ -67,7 +67,7 @@ fn root_block(word: u32) -> Block
         fill: 0,
         word,
         size: 8 * ROOT_SLOTS,
-        nodes: [0; 120],
+        nodes: [0; NODES],
     };
     root.encode()
 }

@@ -1,6 +1,6 @@
 -- What differs between the tree of an object and that of its draft.
 use Rattle.std.proofs.Common.{◌≡◌, ◌≢◌, inl, inr, ℕ, zero, suc, ◌+◌, ◌*◌, ◌/◌, ◌%◌, ◌<◌, true, false, List, [], ◌∷◌, length, Some, refl, sym, ◌∙◌, ap, subst, arith}
-use Rattle.special_files.proofs.Words.{nothing_below, AreDropped, AreTaken, Fits, Graph, HasDraft, HasItsBlocks, Holds, Image, IsChanged, IsNear, IsTree, Object, Opened, Puid, StandsIn, all_unlike, and_left, below_is_path, block_at, both_ways, cases_Bool, content_of, entry_in, eqb-false, eqb-true, false_from_ne_true, had_not_meant, has_number, held, held_at, held_block, held_there, in_node, is_had, is_made, is_meant, is_meant_for, is_owned_by, leaves_at, levels_of, meant_differs, pointer_to_node, not_meant_is_own, numbers_differ, object_at, one_path, owner_is, root_owner, root_spelling, shadow_apart, stands_some, tree_in, tree_of, ◌==◌}
+use Rattle.special_files.proofs.Words.{nothing_below, AreDropped, AreTaken, Fits, Graph, HasDraft, HasItsBlocks, Holds, Image, IsChanged, IsNear, IsTree, Object, Opened, Puid, StandsIn, all_unlike, and_left, below_is_path, block_at, both_ways, cases_Bool, content_of, entry_in, eqb-false, eqb-true, false_from_ne_true, had_not_meant, has_number, held, held_at, held_block, held_there, in_node, is_had, is_made, is_meant, is_meant_for, is_owned_by, leaves_at, levels_of, meant_differs, pointer_to_node, not_meant_is_own, numbers_differ, object_at, one_path, owner_is, root_owner, root_spelling, shadow_apart, stands_some, tree_in, tree_of, ◌==◌, blocks_limit, node_blocks}
 use Rattle.block_tree.specs.declared.root.Root as roots
 use Rattle.vol_owners.proofs.Differing.{own_tree as blocks_of_own}
 use Rattle.vol_owners.proofs.Entries.{root_placed}
@@ -9,61 +9,61 @@ use Rattle.special_files.proofs.Fresh.{read_leaf_is}
 use Rattle.special_files.proofs.Trees.{node_at}
 use Rattle.special_files.proofs.changed.Unlike.{in_unlike, once_from, to_unlike, unlike_differ}
 
--- ---- the pointers of a tree, and its paths, in their order: 129 for each node
+-- ---- the pointers of a tree, and its paths, in their order: a node and its leaves after another
 
 abbrev pub in_tree : Image → roots.Root → ℕ → ℕ
-in_tree image root j = in_node image (pointer_to_node root (j / 129)) (j % 129)
+in_tree image root j = in_node image (pointer_to_node root (j / node_blocks)) (j % node_blocks)
 
 in_path : ℕ → ℕ → List ℕ
 in_path m zero = m ∷ []
 in_path m (suc k) = m ∷ k ∷ []
 
 pub path_of : ℕ → List ℕ
-path_of j = in_path (j / 129) (j % 129)
+path_of j = in_path (j / node_blocks) (j % node_blocks)
 
 unfoldable pub index_of : List ℕ → ℕ
 index_of [] = 0
-index_of (m ∷ []) = 129 * m
-index_of (m ∷ k ∷ path) = 129 * m + (k + 1)
+index_of (m ∷ []) = node_blocks * m
+index_of (m ∷ k ∷ path) = node_blocks * m + (k + 1)
 
 pub index_again : (j : ℕ) → index_of (path_of j) ≡ j
 unfolding path_of in_path index_of
-index_again j = by (j % 129) refl
+index_again j = by (j % node_blocks) refl
   where
-    by : (i : ℕ) → j % 129 ≡ i → index_of (in_path (j / 129) i) ≡ j
+    by : (i : ℕ) → j % node_blocks ≡ i → index_of (in_path (j / node_blocks) i) ≡ j
     by zero is = omega (arith, is)
     by (suc k) is = omega (arith, is)
 
 -- each path that leads to a block is one of these
-there_is : (image : Image) (content p : List ℕ) → tree_of image content p ≢ 0 → (j : ℕ) × (j < 15480) × (path_of j ≡ p)
+there_is : (image : Image) (content p : List ℕ) → tree_of image content p ≢ 0 → (j : ℕ) × (j < blocks_limit) × (path_of j ≡ p)
 unfolding path_of in_path levels_of
 there_is image content [] some = absurd (some refl)
 there_is image content (m ∷ []) some =
     let is = below_is_path image (levels_of content) content (m ∷ []) some in
-    let node : 129 * m / 129 ≡ m = omega arith in
-    let place : 129 * m % 129 ≡ 0 = omega arith in
-    (129 * m, omega (arith, is.0), λ i. in_path (node i) (place i))
+    let node : node_blocks * m / node_blocks ≡ m = omega arith in
+    let place : node_blocks * m % node_blocks ≡ 0 = omega arith in
+    (node_blocks * m, omega (arith, is.0), λ i. in_path (node i) (place i))
 there_is image content (m ∷ k ∷ []) some =
     let is = below_is_path image (levels_of content) content (m ∷ k ∷ []) some in
-    let node : (129 * m + suc k) / 129 ≡ m = omega (arith, is.1.0) in
-    let place : (129 * m + suc k) % 129 ≡ suc k = omega (arith, is.1.0) in
-    (129 * m + suc k, omega (arith, is.0, is.1.0), λ i. in_path (node i) (place i))
+    let node : (node_blocks * m + suc k) / node_blocks ≡ m = omega (arith, is.1.0) in
+    let place : (node_blocks * m + suc k) % node_blocks ≡ suc k = omega (arith, is.1.0) in
+    (node_blocks * m + suc k, omega (arith, is.0, is.1.0), λ i. in_path (node i) (place i))
 there_is image content (m ∷ k ∷ l ∷ p) some = absurd (some (nothing_below image content m k l p))
 
 -- the pointers of the tree are those at the ends of its paths
 pub in_tree_is : (image : Image) (root : roots.Root) → Fits root → (j : ℕ) → in_tree image root j ≡ tree_of image (root_spelling root) (path_of j)
 unfolding path_of in_path
-in_tree_is image root fits j = by (j % 129)
+in_tree_is image root fits j = by (j % node_blocks)
   where
-    by : (i : ℕ) → in_node image (pointer_to_node root (j / 129)) i ≡ tree_of image (root_spelling root) (in_path (j / 129) i)
-    by zero = sym (node_at image root fits (j / 129))
-    by (suc k) = sym (read_leaf_is image root fits (j / 129) k (leaves_at image (pointer_to_node root (j / 129))) refl)
+    by : (i : ℕ) → in_node image (pointer_to_node root (j / node_blocks)) i ≡ tree_of image (root_spelling root) (in_path (j / node_blocks) i)
+    by zero = sym (node_at image root fits (j / node_blocks))
+    by (suc k) = sym (read_leaf_is image root fits (j / node_blocks) k (leaves_at image (pointer_to_node root (j / node_blocks))) refl)
 
 -- ---- a tree against another
 
 module _ (image : Image) (size owner : ℕ) (root other : roots.Root) (o : Object) (fits : Fits root) (other_fits : Fits other) (tree : IsTree size owner (tree_in image (root_spelling root)) root o) where
   abbrev listed : List ℕ
-  listed = all_unlike (in_tree image root) (in_tree image other) 15480
+  listed = all_unlike (in_tree image root) (in_tree image other) blocks_limit
 
   -- at this path the one has the block, and the other doesn't
   record Here (n : ℕ) : Type 0 where
@@ -77,7 +77,7 @@ module _ (image : Image) (size owner : ℕ) (root other : roots.Root) (o : Objec
 
   is_listed : (n : ℕ) → has_number n listed ≡ true → Here n
   is_listed n h =
-      let r = in_unlike (in_tree image root) (in_tree image other) 15480 n h in
+      let r = in_unlike (in_tree image root) (in_tree image other) blocks_limit n h in
       record { path = path_of r.0; some = r.3; is = sym (in_tree_is image root fits r.0) ∙ r.2; not = λ is. r.4 (in_tree_is image other other_fits r.0 ∙ is) }
 
   to_listed : (n : ℕ) → (s : StandsIn (tree_in image (root_spelling root)) n) → tree_of image (root_spelling other) s.path ≢ n → has_number n listed ≡ true
@@ -87,20 +87,20 @@ module _ (image : Image) (size owner : ℕ) (root other : roots.Root) (o : Objec
       let j = there_is image (root_spelling root) s.path (λ z. some (sym at ∙ z)) in
       let one : in_tree image root j.0 ≡ n = in_tree_is image root fits j.0 ∙ ap (tree_of image (root_spelling root)) j.2 ∙ at in
       let two : in_tree image other j.0 ≡ tree_of image (root_spelling other) s.path = in_tree_is image other other_fits j.0 ∙ ap (tree_of image (root_spelling other)) j.2 in
-      subst (λ (m : ℕ). has_number m listed ≡ true) one (to_unlike (in_tree image root) (in_tree image other) 15480 j.0 j.1 (λ z. some (sym one ∙ z)) (λ is. not (sym two ∙ is ∙ one)))
+      subst (λ (m : ℕ). has_number m listed ≡ true) one (to_unlike (in_tree image root) (in_tree image other) blocks_limit j.0 j.1 (λ z. some (sym one ∙ z)) (λ is. not (sym two ∙ is ∙ one)))
 
   -- a block stands at one path
   one_stand : (p q : List ℕ) (n : ℕ) → n ≢ 0 → tree_of image (root_spelling root) p ≡ n → tree_of image (root_spelling root) q ≡ n → p ≡ q
   one_stand p q n some at_p at_q =
       one_path image size owner (root_spelling root) root o tree p q (held image n) (held image n) (ap (held_at image) at_p ∙ held_there image n some) (ap (held_at image) at_q ∙ held_there image n some) refl
 
-  listed_differ : (i j : ℕ) → i < 15480 → j < 15480 → in_tree image root i ≡ in_tree image root j → in_tree image root i ≢ 0 → i ≡ j
+  listed_differ : (i j : ℕ) → i < blocks_limit → j < blocks_limit → in_tree image root i ≡ in_tree image root j → in_tree image root i ≢ 0 → i ≡ j
   listed_differ i j low high same some =
       let paths = one_stand (path_of i) (path_of j) (in_tree image root i) some (sym (in_tree_is image root fits i)) (sym (in_tree_is image root fits j) ∙ sym same) in
       sym (index_again i) ∙ ap index_of paths ∙ index_again j
 
   listed_once : numbers_differ listed ≡ true
-  listed_once = once_from listed (unlike_differ (in_tree image root) (in_tree image other) 15480 listed_differ)
+  listed_once = once_from listed (unlike_differ (in_tree image root) (in_tree image other) blocks_limit listed_differ)
 
 -- ---- what a commit takes and drops
 
@@ -130,10 +130,10 @@ module _ (image : Image) (g : Graph) (holds : Holds image g) (id : Puid) (o : Ob
       ∙ not_meant_is_own image g holds id o at has d draft path (held image n) (ap (held_at image) is ∙ held_there image n some) none
 
   abbrev taken : List ℕ
-  taken = all_unlike (in_tree image d.root) (in_tree image d.own) 15480
+  taken = all_unlike (in_tree image d.root) (in_tree image d.own) blocks_limit
 
   abbrev dropped : List ℕ
-  dropped = all_unlike (in_tree image d.own) (in_tree image d.root) 15480
+  dropped = all_unlike (in_tree image d.own) (in_tree image d.root) blocks_limit
 
   are_taken : AreTaken image id d taken
   are_taken = record {

@@ -1,6 +1,6 @@
 -- How commits and aborts end on any disk.
 use Rattle.std.proofs.Common.{◌≡◌, ◌≢◌, Option, false, ℕ, ◌+◌, ◌≤◌, Err, refl, sym, subst, arith}
-use Rattle.special_files.proofs.Words.{AbortCall, AreDraftParts, Drafting, draft_top, parts_top, CommitsSo, FarRoot, Ghosts, IsDraftTrouble, IsNoted, Kept, MakesAtMost, OnOk, OnlyReads, Result, Top, Trouble, far_root, makes_then, reads_make, tells_on, then_tried}
+use Rattle.special_files.proofs.Words.{AbortCall, AreDraftParts, Drafting, draft_top, parts_top, CommitsSo, FarRoot, Ghosts, IsDraftTrouble, IsNoted, Kept, MakesAtMost, OnOk, OnlyReads, Result, Top, Trouble, far_root, makes_then, reads_make, tells_on, then_tried, abort_calls, abort_tries}
 use Rattle.block_tree.specs.declared.root.Root as roots
 use Rattle.cfs_base.specs.declared.refusal.Trouble.TheVariants as trouble
 use Rattle.cyl_alloc.specs.Left.{LeftCommit}
@@ -25,7 +25,7 @@ module _ {D : Type 0} {g : Ghosts D} where
 
   -- an abort that was refused, with the counts as they were
   pub aborts_stopped : {was : Drafting} {at : ℕ} {shadow : Option ℕ} {own root : roots.Root} {created : Option ℕ} {d0 d1 : D} {kept : Kept} {t : Trouble} → AreDraftParts was at shadow own root created → IsDraftTrouble g (parts_top at shadow own root created) d0 d1 kept t
-      → t ≢ trouble.Disk false → MakesAtMost g 31205 15483 d0 d1 → AbortCall g was d0 d1 kept kept (Err t)
+      → t ≢ trouble.Disk false → MakesAtMost g abort_calls abort_tries d0 d1 → AbortCall g was d0 d1 kept kept (Err t)
   aborts_stopped {d0 = d0} {d1} {kept} {t} parts is tried calls = record { refused = subst (λ (top : Top). IsDraftTrouble g top d0 d1 kept t) (top_of_parts parts) is; tried = tried; made = tt; cylinders = refl; left = refl; calls = calls }
 
   -- after calls that only read, as one of another root at the block, which leads past the disk where this one does

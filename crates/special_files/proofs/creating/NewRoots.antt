@@ -1,6 +1,6 @@
 -- The root of a new object: its block is found, claimed for itself, and written.
 use Rattle.std.proofs.Common.{◌≡◌, ◌≢◌, ℕ, ◌/◌, ◌^◌, ◌<◌, false, length, set, replicate, Some, Ok, Err, refl, sym, ◌∙◌, ap, subst, arith, lt-ltb}
-use Rattle.special_files.proofs.Words.{AreCounts, Drafts, EndsCall, Frame, Frames, Free, Ghosts, Graph, HasTried, Holds, IfErr, Image, IsEntry, IsLeastFree, Kept, Leaves, MapEntry, MayPut, OnOk, Refused, Result, Root, StoreHas, Top, Trouble, WritesDraftBlock, after_taking, after_try, both_ways, entry_in, has_met_damage, in_image, intended, is_damage, keeps_frame, length-with_entry, not_map, on_entry, refused_by, root_spelling, then, trouble_after_try, wider, with_entry}
+use Rattle.special_files.proofs.Words.{AreCounts, Drafts, EndsCall, Frame, Frames, Free, Ghosts, Graph, HasTried, Holds, IfErr, Image, IsEntry, IsLeastFree, Kept, Leaves, MapEntry, MayPut, OnOk, Refused, Result, Root, StoreHas, Top, Trouble, WritesDraftBlock, after_taking, after_try, both_ways, entry_in, has_met_damage, in_image, intended, is_damage, keeps_frame, length-with_entry, node_pointers, not_map, on_entry, refused_by, root_spelling, then, trouble_after_try, wider, with_entry}
 use Rattle.block_tree.specs.declared.root.Root as roots
 use Rattle.cfs_base.specs.declared.kind.Kind.{Kind}
 use Rattle.cfs_base.specs.declared.kind.Kind.TheVariants as kinds
@@ -126,7 +126,7 @@ module _ {D : Type 0} {g : Ghosts D} {graph : Graph} {ds : Drafts} {d0 : D} {k0 
 -- ---- the root itself
 
 abbrev root_with : Kind → (fill size word : ℕ) → roots.Root
-root_with kind fill size word = record { kind = kind; fill = fill; word = word; size = size; nodes = replicate 120 0 }
+root_with kind fill size word = record { kind = kind; fill = fill; word = word; size = size; nodes = replicate node_pointers.count 0 }
 
 pub bare_made : (kind : Kind) (fill size word : ℕ) → MayBeMade kind fill size → bare_object (root_with kind fill size word) ≡ made_of kind fill size
 bare_made kinds.Normal fill size word may = bare_normal (root_with kinds.Normal fill size word) refl may

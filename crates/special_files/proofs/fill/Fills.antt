@@ -1,6 +1,6 @@
 -- A slot of an index in a draft, filled or emptied.
 use Rattle.std.proofs.Common.{◌≡◌, ◌⊎◌, inl, inr, ℕ, ◌+◌, ◌-◌, ◌*◌, ◌/◌, ◌%◌, ◌<◌, ◌≤◌, Bool, true, false, cond, List, [], ◌∷◌, length, get_or, set, replicate, Option, Some, None, Ok, Err, refl, sym, ◌∙◌, ap, subst, arith}
-use Rattle.special_files.proofs.Words.{Draft, DraftBecomes, DraftView, Drafting, Drafts, Fill, FillCall, FillsDraft, FillsSlot, FitsLeaf, Ghosts, GivesIndex, HasDraft, Held, Image, Index, IsDraftTrouble, IsErrAnd, IsNearSwap, IsOpen, IsRead, IsSlot, Kept, LeafCall, LeavesFit, NodeRead, Object, OnlyReads, Overwrite, Puid, PutsLeaf, Refused, Result, SetsFresh, StaysBut, Swap, Trouble, branches, bytes_held, changed_object, draft_in, drafts_with, empty_stays, filled, filled_draft, fresh_after, fresh_of, get_or-replicate, held_levels, index_to_leaves, is_empty_already, is_none, is_some, leaf_content, leaves_below, leaves_in, merged, ne_eqb, no_drafts, opened_as, range_with_len, refused_by, root_spelling, same_object, same_slot, slot_fit, slot_in, slot_object, slot_of, top_of, touched, tree_in, with_opened, with_slot, within, ◌&&◌, ◌==◌}
+use Rattle.special_files.proofs.Words.{IsTo, Draft, DraftBecomes, DraftView, Drafting, Drafts, Fill, FillCall, FillsDraft, FillsSlot, FitsLeaf, Ghosts, GivesIndex, HasDraft, Held, Image, Index, IsDraftTrouble, IsErrAnd, IsNearSwap, IsOpen, IsRead, IsSlot, Kept, LeafCall, LeavesFit, Way, Object, OnlyReads, Overwrite, Puid, PutsLeaf, Refused, Result, SetsFresh, StaysBut, Swap, Trouble, branches, bytes_held, changed_object, draft_in, drafts_with, empty_stays, filled, filled_draft, fresh_after, fresh_of, get_or-replicate, held_levels, index_to_leaves, is_empty_already, is_none, is_some, leaf_content, leaves_below, leaves_in, merged, ne_eqb, no_drafts, opened_as, range_with_len, refused_by, root_spelling, same_object, same_slot, slot_fit, slot_in, slot_object, slot_of, top_of, touched, tree_in, with_opened, with_slot, within, ◌&&◌, ◌==◌, way_leaves, leaf_limit, leaf_pointers}
 use Rattle.std.proofs.lemmas.Bool.{eq-eqb}
 use Rattle.block_tree.specs.declared.root.Root as roots
 use Rattle.ufs_model.specs.declared.object.Object.TheVariants as objects
@@ -46,7 +46,7 @@ slot_fits root leaf slot what fit inside = record { within = omega (arith, insid
 
 -- the flags of a leaf and its node are set: the leaves and nodes of these flags are fresh
 module _ (b : Image) (id : Puid) (es : Drafts) (was is : Drafting) (d e : Draft) (ds : Drafts) (opened : IsOpen ds id was d) (now : IsOpen es id is e) (draft : HasDraft b id (opened_as is e))
-    (slot : ℕ) (small : slot / 64 < 15360) (sets : SetsFresh (slot / 64) was is) where
+    (slot : ℕ) (small : slot / 64 < leaf_limit) (sets : SetsFresh (slot / 64) was is) where
   abbrev leaf : ℕ
   leaf = slot / 64
 
@@ -85,11 +85,11 @@ module _ (b : Image) (id : Puid) (es : Drafts) (was is : Drafting) (d e : Draft)
       leaf_below : leaf < length was.leaves
       leaf_below = omega (arith, opened.leaf_flags, small)
 
-      node_below : leaf / 128 < length was.nodes
+      node_below : leaf / leaf_pointers.count < length was.nodes
       node_below = omega (arith, opened.node_flags, small)
 
       written : get_or (fresh_after (Overwrite (8 * slot) eight) e.object d.fresh) k [] ≡ get_or (fresh_of is) k []
-      written = fresh_written b id (with_opened id (opened_as was mid) no_drafts) es was is mid e mid_open now draft (8 * slot) eight (marks (λ l. l) was.leaves is.leaves leaf_below sets.leaves) (marks (λ l. l / 128) was.nodes is.nodes node_below sets.nodes) kept k
+      written = fresh_written b id (with_opened id (opened_as was mid) no_drafts) es was is mid e mid_open now draft (8 * slot) eight (marks (λ l. l) was.leaves is.leaves leaf_below sets.leaves) (marks (λ l. l / leaf_pointers.count) was.nodes is.nodes node_below sets.nodes) kept k
 
 -- ---- the draft
 
@@ -144,8 +144,8 @@ module _ {D : Type 0} {g : Ghosts D} {d0 : D} {k0 : Kept} {was : Drafting} (v : 
             ∙ sym (empty_stays was.root old slot gives.kind (omega (arith, inside)) (sym slot_is ∙ none_is (slot_of i slot) none)) ∙ before.tree.object
 
     -- the leaf was put with the slot in it
-    module _ {d1 : D} {k1 : Kept} {now : Drafting} {next : NodeRead} (stays : StaysBut was now) (puts : PutsLeaf g v.graph v.ds v.id (slot / 64) filled_with d0 d1 k1 was now next) (other : b ≡ false) (good : IsSlot what) where
-      small : slot / 64 < 15360
+    module _ {d1 : D} {k1 : Kept} {now : Drafting} {next : Way} (stays : StaysBut was now) (puts : PutsLeaf g v.graph v.ds v.id (slot / 64) filled_with d0 d1 k1 was now next) (other : b ≡ false) (good : IsSlot what) where
+      small : slot / 64 < leaf_limit
       small = omega (arith, inside, before.tree.spelled.good.1.size.limit)
 
       abbrev later : Draft
@@ -181,18 +181,18 @@ module _ {D : Type 0} {g : Ghosts D} {d0 : D} {k0 : Kept} {was : Drafting} (v : 
       becomes : DraftBecomes g v.graph v.ds v.id (filled_draft i slot what v.draft) d0 d1 k1 now
       becomes = becomes_as g v.graph v.ds v.id v.object v.at d0 d1 k1 now later (filled_draft i slot what v.draft) (record { steps = puts.steps; is_open = puts.is_open }) object fresh
 
-      pub slot_put : (read : NodeRead) → read.number ≡ slot / 64 / 128 → next.number ≡ slot / 64 / 128 → IsRead (g.content d0) was read
-          → FillsDraft v i slot what d1 k1 now (Some (record { leaf = slot / 64; was = get_or read.node.leaves (slot / 64 % 128) 0; is = get_or next.node.leaves (slot / 64 % 128) 0 }))
-      slot_put read read_number next_number is_read = record {
+      pub slot_put : (read : Way) → IsTo (slot / 64) read → IsTo (slot / 64) next → IsRead (g.content d0) was read
+          → FillsDraft v i slot what d1 k1 now (Some (record { leaf = slot / 64; was = get_or (way_leaves read) (slot / 64 % leaf_pointers.count) 0; is = get_or (way_leaves next) (slot / 64 % leaf_pointers.count) 0 }))
+      slot_put read read_to next_to is_read = record {
         becomes = becomes;
         order = λ put. puts.order;
         beside = puts.beside;
-        swaps = λ equal. is_swapped was now (slot / 64) small read next read_number next_number equal stays.own v (filled_draft i slot what v.draft) becomes puts.beside is_read puts.read_is;
+        swaps = λ equal. is_swapped was now (slot / 64) small read next read_to next_to equal stays.own v (filled_draft i slot what v.draft) becomes puts.beside is_read puts.read_is;
       }
 
 -- ---- how the call ends
 
-module _ {D : Type 0} {g : Ghosts D} {d0 d1 : D} {k0 k1 : Kept} {was now : Drafting} {read : NodeRead} (slot : ℕ) (what : Option Puid) where
+module _ {D : Type 0} {g : Ghosts D} {d0 d1 : D} {k0 k1 : Kept} {was now : Drafting} {read : Way} (slot : ℕ) (what : Option Puid) where
   -- a leaf was put
   pub fill_put : (swap : Swap) → LeafCall g 8 (slot / 64) d0 d1 k0 k1 was now read (Ok tt) → (was.root ≡ was.own → IsNearSwap (g.blocks d1) now swap) → FillCall g slot what d0 d1 k0 k1 was now (Ok (Some swap))
   fill_put swap calls near = record { stays = calls.stays; near = near; ends = ends_as _ calls.ends; tried = λ some. calls.tried; spared = λ none. cc; empty = λ none. cc; kept = tt; room = λ enough. tt }
@@ -202,7 +202,7 @@ module _ {D : Type 0} {g : Ghosts D} {d0 d1 : D} {k0 k1 : Kept} {was now : Draft
   fill_refused {e} calls = record { stays = calls.stays; near = λ equal. tt; ends = ends_err g (top_of was) 0 8 4 _ d0 d1 k0 k1 e calls.ends; tried = tt; spared = tt; empty = tt; kept = calls.kept; room = calls.room }
 
 -- the leaf couldn't be read: the result that a `?` made of a trouble
-pub fill_stopped : {D : Type 0} {g : Ghosts D} {d0 d1 : D} {kept : Kept} {was : Drafting} (read : NodeRead) (slot : ℕ) (what : Option Puid) → OnlyReads g 2 d0 d1 → (result : Result (Option Swap) Refused) (t : Trouble) → IsErrAnd result (λ e. e ≡ refused_by t) → IsDraftTrouble g (top_of was) d0 d1 kept t
+pub fill_stopped : {D : Type 0} {g : Ghosts D} {d0 d1 : D} {kept : Kept} {was : Drafting} (read : Way) (slot : ℕ) (what : Option Puid) → OnlyReads g 2 d0 d1 → (result : Result (Option Swap) Refused) (t : Trouble) → IsErrAnd result (λ e. e ≡ refused_by t) → IsDraftTrouble g (top_of was) d0 d1 kept t
     → FillCall g slot what d0 d1 kept kept was was result
 fill_stopped read slot what reads (Ok x) t is refused = absurd is
 fill_stopped read slot what reads (Err e) t is refused = fill_refused slot what (leaf_stopped reads read 8 t e is (omega arith) refused)

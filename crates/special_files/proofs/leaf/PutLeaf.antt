@@ -1,6 +1,6 @@
 -- A leaf is put: over the draft's own, or into blocks that were claimed.
-use Rattle.std.proofs.Common.{◌≡◌, ◌≢◌, ◌⊎◌, inl, inr, ℕ, ◌/◌, ◌%◌, ◌^◌, ◌<◌, true, false, List, [], ◌∷◌, length, get_or, set, Some, refl, sym, ◌∙◌, ap, subst, get_or-set_other, get_or-set_same, eq-eqb, arith}
-use Rattle.special_files.proofs.Words.{leaf_place, node_place, BelongsTo, Drafting, Free, Graph, HasDraft, HasItsBlocks, Holds, Image, IsEntry, Leaf, MapEntry, Node, Object, Place, Puid, block_at, block_at-with_entry, both_ways, entry_in, entry_in-set, entry_in-with_entry_other, entry_in-with_entry_same, free_is_loose, held, held_at, held_there, in_image, intended, is_free_entry, is_free_in, is_fresh_leaf, is_fresh_node, is_meant, is_meant_for, is_owned_by, le-leb, leaf_pointers, leaves_at, length-with_entry, lt-ltb, pointer_to_node, not_map, object_at, one_path, opened_as, part_at, part_of, passes, pointer, pointers_of, root_spelling, set-get_or, slice_index, taken_apart, tree_in, tree_of, tree_placed, with_entry, leaves_there}
+use Rattle.std.proofs.Common.{◌≡◌, ◌≢◌, ◌⊎◌, inl, inr, ℕ, ◌/◌, ◌%◌, ◌^◌, ◌<◌, true, false, List, [], ◌∷◌, length, get_or, set, Some, refl, sym, ◌∙◌, ◌-◌, ap, subst, get_or-set_other, get_or-set_same, eq-eqb, arith}
+use Rattle.special_files.proofs.Words.{leaf_place, node_place, BelongsTo, Drafting, Free, Graph, HasDraft, HasItsBlocks, Holds, Image, IsEntry, Leaf, MapEntry, Node, Object, Place, Puid, block_at, block_at-with_entry, both_ways, entry_in, entry_in-set, entry_in-with_entry_other, entry_in-with_entry_same, free_is_loose, held, held_at, held_there, in_image, intended, is_free_entry, is_free_in, is_fresh_leaf, is_fresh_node, is_meant, is_meant_for, is_owned_by, le-leb, leaf_pointers, leaves_at, length-with_entry, lt-ltb, pointer_to_node, not_map, object_at, one_path, opened_as, part_at, part_of, passes, pointer, pointers_of, root_spelling, set-get_or, slice_index, taken_apart, tree_in, tree_of, tree_placed, with_entry, leaves_there, leaf_limit, node_pointers}
 use Rattle.std.proofs.Math.ListN.{length-set}
 use Rattle.ufs_model.specs.declared.object.Draft as models
 use Rattle.special_files.proofs.Fresh.{fresh_there, node_of_fresh, small_image, read_leaf_is, unfresh}
@@ -10,11 +10,11 @@ use Rattle.special_files.proofs.Trees.{node_at}
 
 -- ---- entries of claims
 
-pub leaf_entry : (l r : ℕ) → l < 15360 → r ≢ 0 → r < 2 ^ 32 → IsEntry (intended (Leaf l) r)
-leaf_entry l r below some small = record { in_table = rw (le-leb l 15359 (omega arith), lt-ltb 0 r (omega (arith, some)), lt-ltb r (2 ^ 32) small) refl }
+pub leaf_entry : (l r : ℕ) → l < leaf_limit → r ≢ 0 → r < 2 ^ 32 → IsEntry (intended (Leaf l) r)
+leaf_entry l r below some small = record { in_table = rw (le-leb l (leaf_limit - 1) (omega arith), lt-ltb 0 r (omega (arith, some)), lt-ltb r (2 ^ 32) small) refl }
 
-pub node_entry : (n r : ℕ) → n < 120 → r ≢ 0 → r < 2 ^ 32 → IsEntry (intended (Node n) r)
-node_entry n r below some small = record { in_table = rw (le-leb n 119 (omega arith), lt-ltb 0 r (omega (arith, some)), lt-ltb r (2 ^ 32) small) refl }
+pub node_entry : (n r : ℕ) → n < node_pointers.count → r ≢ 0 → r < 2 ^ 32 → IsEntry (intended (Node n) r)
+node_entry n r below some small = record { in_table = rw (le-leb n (node_pointers.count - 1) (omega arith), lt-ltb 0 r (omega (arith, some)), lt-ltb r (2 ^ 32) small) refl }
 
 -- the part of a block with such an entry, which is meant for its owner
 pub intended_part : (image : Image) (n r : ℕ) (p : Place) → entry_in image n ≡ Some (intended p r) → BelongsTo r p (part_at image n)
@@ -30,17 +30,17 @@ two_paths n k m same = cc
 
 -- the node of a leaf has these pointers, and the flags tell what is fresh
 pub record IsReadFor (a : Image) (id : Puid) (drafting : Drafting) (l : ℕ) (leaves : List ℕ) : Type 0 where
-  pub node : leaves ≡ leaves_at a (pointer_to_node drafting.root (l / 128))
-  pub leaf_flag : is_fresh_leaf drafting l ≡ passes (is_meant_for a id.block) ((tree_in a (root_spelling drafting.root)).below (l / 128 ∷ l % 128 ∷ []))
-  pub node_flag : is_fresh_node drafting (l / 128) ≡ passes (is_meant_for a id.block) ((tree_in a (root_spelling drafting.root)).below (l / 128 ∷ []))
+  pub node : leaves ≡ leaves_at a (pointer_to_node drafting.root (l / leaf_pointers.count))
+  pub leaf_flag : is_fresh_leaf drafting l ≡ passes (is_meant_for a id.block) ((tree_in a (root_spelling drafting.root)).below (l / leaf_pointers.count ∷ l % leaf_pointers.count ∷ []))
+  pub node_flag : is_fresh_node drafting (l / leaf_pointers.count) ≡ passes (is_meant_for a id.block) ((tree_in a (root_spelling drafting.root)).below (l / leaf_pointers.count ∷ []))
 
 module _ (a : Image) (g : Graph) (holds : Holds a g) (id : Puid) (o : Object) (at : object_at g id ≡ Some o) (has : HasItsBlocks a id.block) (drafting : Drafting) (m : models.Draft)
     (draft : HasDraft a id (opened_as drafting m)) (leaves : List ℕ) (l : ℕ) (is : IsReadFor a id drafting l leaves) (some : 0 < length a) where
   abbrev pub n : ℕ
-  n = l / 128
+  n = l / leaf_pointers.count
 
   abbrev pub k : ℕ
-  k = l % 128
+  k = l % leaf_pointers.count
 
   abbrev pub old : List ℕ
   old = root_spelling drafting.root
@@ -63,7 +63,7 @@ module _ (a : Image) (g : Graph) (holds : Holds a g) (id : Puid) (o : Object) (a
 
   -- ---- over the draft's own leaf
 
-  pub put_again : (content : List ℕ) → l < 15360 → is_fresh_leaf drafting l ≡ true → LeafPut a (set a x_of content) id (opened_as drafting m) drafting.root l x_of (pointer_to_node drafting.root n) content
+  pub put_again : (content : List ℕ) → l < leaf_limit → is_fresh_leaf drafting l ≡ true → LeafPut a (set a x_of content) id (opened_as drafting m) drafting.root l x_of (pointer_to_node drafting.root n) content
   put_again content most fresh =
       let leaf = fresh_at (n ∷ k ∷ []) (sym is.leaf_flag ∙ fresh) in
       let node = above_fresh fresh in
@@ -115,7 +115,7 @@ module _ (a : Image) (g : Graph) (holds : Holds a g) (id : Puid) (o : Object) (a
       (meant, in_image a g holds x_of is.is is.here)
 
   -- the node that was read stays
-  pub node_again : (content : List ℕ) → l < 15360 → is_fresh_leaf drafting l ≡ true → leaves ≡ leaves_at (set a x_of content) (pointer_to_node drafting.root n)
+  pub node_again : (content : List ℕ) → l < leaf_limit → is_fresh_leaf drafting l ≡ true → leaves ≡ leaves_at (set a x_of content) (pointer_to_node drafting.root n)
   node_again content most fresh =
       let put = put_again content most fresh in
       is.node ∙ leaves_there a (pointer_to_node drafting.root n) put.y_some ∙ ap (pointers_of leaf_pointers) (sym (get_or-set_other a x_of (pointer_to_node drafting.root n) content [] (λ e. put.apart (sym e)))) ∙ sym (leaves_there (set a x_of content) (pointer_to_node drafting.root n) put.y_some)

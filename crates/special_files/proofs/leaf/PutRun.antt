@@ -1,6 +1,6 @@
 -- The device calls of one leaf put, one after another.
 use Rattle.std.proofs.Common.{◌≡◌, ◌≢◌, ℕ, ◌/◌, ◌%◌, ◌^◌, ◌<◌, true, false, List, [], ◌∷◌, length, set, Ok, Some, refl, sym, ◌∙◌, ap, subst, eq-eqb, arith, if◌then◌else◌}
-use Rattle.special_files.proofs.Words.{AreClaimed, BlockNo, Claims, Drafting, Enters, GetsDraftNode, Ghosts, Had, HasDraft, HasItsBlocks, Holds, Image, IsEntry, IsLeastFree, IsPlaced, Kept, Leaf, Leaves, Node, Place, Refused, Result, Root, SameEntries, DraftView, WritesDraftBlock, claimed_by, entry_in, entry_in-set, in_image, intended, is_free_in, is_fresh_leaf, is_fresh_node, is_meant, is_meant_for, is_owned_by, leaf_claims, leaf_pointers, pointer_to_node, not_map, opened_as, pointers_of, root_placed, taken_apart, with_entry, written_same}
+use Rattle.special_files.proofs.Words.{AreClaimed, BlockNo, Claims, Drafting, Enters, GetsDraftNode, Ghosts, Had, HasDraft, HasItsBlocks, Holds, Image, IsEntry, IsLeastFree, IsPlaced, Kept, Leaf, Leaves, Node, Place, Refused, Result, Root, SameEntries, DraftView, WritesDraftBlock, claimed_by, entry_in, entry_in-set, in_image, intended, is_free_in, is_fresh_leaf, is_fresh_node, is_meant, is_meant_for, is_owned_by, leaf_claims, leaf_pointers, pointer_to_node, not_map, opened_as, pointers_of, root_placed, taken_apart, with_entry, written_same, leaf_limit}
 use Rattle.std.proofs.Math.ListN.{length-set}
 use Rattle.special_files.proofs.Fresh.{small_image}
 use Rattle.special_files.proofs.Meant.{free_is}
@@ -15,7 +15,7 @@ not_root_leaf l same = cc
 pub not_root_node : (n : ℕ) → Some (Node n) ≢ Some Root
 not_root_node n same = cc
 
-module _ {D : Type 0} {g : Ghosts D} {d0 : D} {k0 : Kept} {was : Drafting} (v : DraftView g d0 k0 was) (d1 d2 : D) (k1 k2 : Kept) (leaves : List ℕ) (leaf : ℕ) (most : leaf < 15360) where
+module _ {D : Type 0} {g : Ghosts D} {d0 : D} {k0 : Kept} {was : Drafting} (v : DraftView g d0 k0 was) (d1 d2 : D) (k1 k2 : Kept) (leaves : List ℕ) (leaf : ℕ) (most : leaf < leaf_limit) where
   abbrev a : Image
   a = g.content d0
 
@@ -32,8 +32,8 @@ module _ {D : Type 0} {g : Ghosts D} {d0 : D} {k0 : Kept} {was : Drafting} (v : 
   leaf_is : IsEntry (intended (Leaf leaf) was.at)
   leaf_is = leaf_entry leaf was.at most some small
 
-  pub node_is : IsEntry (intended (Node (leaf / 128)) was.at)
-  node_is = node_entry (leaf / 128) was.at (omega arith) some small
+  pub node_is : IsEntry (intended (Node (leaf / leaf_pointers.count)) was.at)
+  node_is = node_entry (leaf / leaf_pointers.count) was.at (omega arith) some small
 
   pub mine : (p : Place) → is_owned_by is_meant v.id.block (Some (intended p was.at)) ≡ true
   mine p = eq-eqb v.id.block was.at v.opened.at
@@ -50,11 +50,11 @@ module _ {D : Type 0} {g : Ghosts D} {d0 : D} {k0 : Kept} {was : Drafting} (v : 
     claim1 = claimed g v.graph v.ds v.id v.object d0 k0 v.store v.at d0 d1 k0 k1 (intended (Leaf leaf) was.at) (Ok x) amid0 enters leaf_is (not_root_leaf leaf) x refl (mine (Leaf leaf))
 
     -- the node's block is got
-    pub node_claim_leaves : (result : Result BlockNo Refused) → GetsDraftNode g (leaf / 128) d1 d2 k1 k2 was result → Leaves g d0 d2 (λ c. Holds c v.graph)
+    pub node_claim_leaves : (result : Result BlockNo Refused) → GetsDraftNode g (leaf / leaf_pointers.count) d1 d2 k1 k2 was result → Leaves g d0 d2 (λ c. Holds c v.graph)
     node_claim_leaves result (Had fresh same kept is) = subst (λ (d : D). Leaves g d0 d (λ c. Holds c v.graph)) (sym same) claim1.0.leaves
-    node_claim_leaves result (Claims stale gets) = claim_leaves g v.graph v.ds v.id v.object d0 k0 v.store v.at d1 d2 k1 k2 (intended (Node (leaf / 128)) was.at) result claim1.0 gets node_is (not_root_node (leaf / 128))
+    node_claim_leaves result (Claims stale gets) = claim_leaves g v.graph v.ds v.id v.object d0 k0 v.store v.at d1 d2 k1 k2 (intended (Node (leaf / leaf_pointers.count)) was.at) result claim1.0 gets node_is (not_root_node (leaf / leaf_pointers.count))
 
-    module _ (y : BlockNo) (gets : GetsDraftNode g (leaf / 128) d1 d2 k1 k2 was (Ok y)) (is : IsReadFor a v.id was leaf leaves) where
+    module _ (y : BlockNo) (gets : GetsDraftNode g (leaf / leaf_pointers.count) d1 d2 k1 k2 was (Ok y)) (is : IsReadFor a v.id was leaf leaves) where
       has : HasItsBlocks a v.id.block
       has = v.store.account.objects v.id v.object v.at
 
@@ -70,8 +70,8 @@ module _ {D : Type 0} {g : Ghosts D} {d0 : D} {k0 : Kept} {was : Drafting} (v : 
       leaf_is' : IsEntry (intended (Leaf leaf) v.id.block)
       leaf_is' = subst (λ (r : ℕ). IsEntry (intended (Leaf leaf) r)) (sym v.opened.at) leaf_is
 
-      node_is' : IsEntry (intended (Node (leaf / 128)) v.id.block)
-      node_is' = subst (λ (r : ℕ). IsEntry (intended (Node (leaf / 128)) r)) (sym v.opened.at) node_is
+      node_is' : IsEntry (intended (Node (leaf / leaf_pointers.count)) v.id.block)
+      node_is' = subst (λ (r : ℕ). IsEntry (intended (Node (leaf / leaf_pointers.count)) r)) (sym v.opened.at) node_is
 
       one : g.content d1 ≡ with_entry a x.0 (intended (Leaf leaf) v.id.block)
       one = claim1.2 ∙ ap (λ (r : ℕ). with_entry a x.0 (intended (Leaf leaf) r)) (sym v.opened.at)
@@ -79,17 +79,17 @@ module _ {D : Type 0} {g : Ghosts D} {d0 : D} {k0 : Kept} {was : Drafting} (v : 
       both : IsAmid g v.graph v.id d0 d2 k2 × Both (g.content d2)
       both = by gets
         where
-          by : GetsDraftNode g (leaf / 128) d1 d2 k1 k2 was (Ok y) → IsAmid g v.graph v.id d0 d2 k2 × Both (g.content d2)
+          by : GetsDraftNode g (leaf / leaf_pointers.count) d1 d2 k1 k2 was (Ok y) → IsAmid g v.graph v.id d0 d2 k2 × Both (g.content d2)
           by (Had fresh same kept got) =
-              let there : y.0 ≡ pointer_to_node was.root (leaf / 128) = (let e : y ≡ record { 0 = pointer_to_node was.root (leaf / 128) } = cc in ap (λ (b : BlockNo). b.0) e) in (
+              let there : y.0 ≡ pointer_to_node was.root (leaf / leaf_pointers.count) = (let e : y ≡ record { 0 = pointer_to_node was.root (leaf / leaf_pointers.count) } = cc in ap (λ (b : BlockNo). b.0) e) in (
                 subst (λ (d : D). IsAmid g v.graph v.id d0 d k2) (sym same) (subst (IsAmid g v.graph v.id d0 d1) (sym kept) claim1.0),
                 had_node a v.graph v.store.account.holds v.id v.object v.at has was v.draft draft leaves leaf is some_blocks leaf_is' node_is' x.0 y.0 (g.content d2) claim1.1.free fresh there (ap g.content same ∙ one),
               )
           by (Claims stale enters2) =
-              let claim2 = claimed g v.graph v.ds v.id v.object d0 k0 v.store v.at d1 d2 k1 k2 (intended (Node (leaf / 128)) was.at) (Ok y) claim1.0 enters2 node_is (not_root_node (leaf / 128)) y refl (mine (Node (leaf / 128))) in
+              let claim2 = claimed g v.graph v.ds v.id v.object d0 k0 v.store v.at d1 d2 k1 k2 (intended (Node (leaf / leaf_pointers.count)) was.at) (Ok y) claim1.0 enters2 node_is (not_root_node (leaf / leaf_pointers.count)) y refl (mine (Node (leaf / leaf_pointers.count))) in
               let free : is_free_in (with_entry a x.0 (intended (Leaf leaf) v.id.block)) y.0 ≡ true = ap (λ (i : Image). is_free_in i y.0) (sym one) ∙ claim2.1.free in
-              let content = claim2.2 ∙ ap (λ (i : Image). with_entry i y.0 (intended (Node (leaf / 128)) was.at)) one
-              ∙ ap (λ (r : ℕ). with_entry (with_entry a x.0 (intended (Leaf leaf) v.id.block)) y.0 (intended (Node (leaf / 128)) r)) (sym v.opened.at) in (
+              let content = claim2.2 ∙ ap (λ (i : Image). with_entry i y.0 (intended (Node (leaf / leaf_pointers.count)) was.at)) one
+              ∙ ap (λ (r : ℕ). with_entry (with_entry a x.0 (intended (Leaf leaf) v.id.block)) y.0 (intended (Node (leaf / leaf_pointers.count)) r)) (sym v.opened.at) in (
                 claim2.0,
                 claimed_node a v.graph v.store.account.holds v.id v.object v.at has was v.draft draft leaves leaf is some_blocks leaf_is' node_is' x.0 y.0 (g.content d2) claim1.1.free
                     (subst (λ (i : Image). Holds i v.graph) one claim1.0.carries.holds) stale free content,
@@ -123,20 +123,20 @@ module _ {D : Type 0} {g : Ghosts D} {d0 : D} {k0 : Kept} {was : Drafting} (v : 
             pub amid4 : IsAmid g v.graph v.id d0 d4 k2
             amid4 = wrote g v.graph v.ds v.id v.object d0 k0 v.store v.at d3 d4 k2 y.0 node amid3 y_meant y_below writes.images writes.written writes.told writes.calls.same
 
-            pub run_puts : is_fresh_leaf was leaf ≡ false → pointers_of leaf_pointers node ≡ set leaves (leaf % 128) x.0 → leaf % 128 < length leaves
-                → LeafPut a (g.content d4) v.id (opened_as was v.draft) (record was.root { nodes = set was.root.nodes (leaf / 128) y.0 }) leaf x.0 y.0 content
+            pub run_puts : is_fresh_leaf was leaf ≡ false → pointers_of leaf_pointers node ≡ set leaves (leaf % leaf_pointers.count) x.0 → leaf % leaf_pointers.count < length leaves
+                → LeafPut a (g.content d4) v.id (opened_as was v.draft) (record was.root { nodes = set was.root.nodes (leaf / leaf_pointers.count) y.0 }) leaf x.0 y.0 content
             run_puts stale pointers within =
-                subst (λ (i : Image). LeafPut a i v.id (opened_as was v.draft) (record was.root { nodes = set was.root.nodes (leaf / 128) y.0 }) leaf x.0 y.0 content) (sym (writes.written ∙ ap (λ (i : Image). set i y.0 node) leaf_writes.written))
+                subst (λ (i : Image). LeafPut a i v.id (opened_as was v.draft) (record was.root { nodes = set was.root.nodes (leaf / leaf_pointers.count) y.0 }) leaf x.0 y.0 content) (sym (writes.written ∙ ap (λ (i : Image). set i y.0 node) leaf_writes.written))
                 (put_new a v.graph v.store.account.holds v.id v.object v.at has was v.draft draft leaves leaf is some_blocks leaf_is' node_is' x.0 y.0 (g.content d2) claim1.1.free content node both.1 stale pointers within)
 
             -- the claims in their order
             same : SameEntries (g.content d2) (g.content d4)
             same m = written_same (g.content d3) (g.content d4) y.0 node both.1.y_map writes.written m ∙ written_same (g.content d2) (g.content d3) x.0 content both.1.x_map leaf_writes.written m
 
-            node_claim : GetsDraftNode g (leaf / 128) d1 d2 k1 k2 was (Ok y) → AreClaimed (if is_fresh_node was (leaf / 128) then [] else intended (Node (leaf / 128)) was.at ∷ []) (g.content d1) (g.content d4)
+            node_claim : GetsDraftNode g (leaf / leaf_pointers.count) d1 d2 k1 k2 was (Ok y) → AreClaimed (if is_fresh_node was (leaf / leaf_pointers.count) then [] else intended (Node (leaf / leaf_pointers.count)) was.at ∷ []) (g.content d1) (g.content d4)
             node_claim (Had fresh old kept got) = rw fresh (λ m. same m ∙ ap (λ (d : D). entry_in (g.content d) m) old)
             node_claim (Claims stale enters2) =
-                let claim2 = claimed g v.graph v.ds v.id v.object d0 k0 v.store v.at d1 d2 k1 k2 (intended (Node (leaf / 128)) was.at) (Ok y) claim1.0 enters2 node_is (not_root_node (leaf / 128)) y refl (mine (Node (leaf / 128))) in
+                let claim2 = claimed g v.graph v.ds v.id v.object d0 k0 v.store v.at d1 d2 k1 k2 (intended (Node (leaf / leaf_pointers.count)) was.at) (Ok y) claim1.0 enters2 node_is (not_root_node (leaf / leaf_pointers.count)) y refl (mine (Node (leaf / leaf_pointers.count))) in
                 rw stale (g.content d2, claimed_by _ (g.content d1) (g.content d2) y.0 node_is claim2.1 claim2.2, same)
 
             pub run_order : is_fresh_leaf was leaf ≡ false → AreClaimed (leaf_claims was.at was.leaves was.nodes leaf) a (g.content d4)

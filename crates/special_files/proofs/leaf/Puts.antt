@@ -1,6 +1,6 @@
 -- One leaf of a draft is put into a block of its own, below a node in a block of its own.
 use Rattle.std.proofs.Common.{◌≡◌, ◌≢◌, ◌⊎◌, inl, inr, ℕ, zero, suc, ◌+◌, ◌*◌, ◌/◌, ◌%◌, ◌^◌, ◌<◌, ◌≤◌, true, List, [], ◌∷◌, ◌++◌, length, get_or, set, Option, Some, None, refl, sym, ◌∙◌, ap, subst, get_or-set_other, get_or-set_same, arith, IsTrue}
-use Rattle.special_files.proofs.Words.{leaf_place, node_place, nothing_below, two_levels, Allocated, BelongsTo, BlockState, Fits, Free, Graph, HasDraft, Held, Holds, Image, IntendAllocate, IntendDeallocate, IsGoodRoot, IsPlaced, IsRootBlock, IsTaken, IsTree, Leaf, LeavesFit, MapEntry, Node, Object, Opened, Puid, PutsAt, Root, SameAt, SameBeside, StandsIn, below_apart, block_at, bytes_held, cases_Bool, content_of, end_is, entry_in, eqb-false, eqb-true, held, held_at, held_block, held_there, is_free_entry, is_free_in, is_free_state, is_meant, is_meant_for, is_owned_by, is_some, leaf_pointers, leaves_in, leaves_below, levels_of, levels_standing, not_map, object_at, object_below, one_path, part_at, part_of, passes, path_is, place_at, pointer, root_placed, root_spelling, same_Some, same_levels, shadow_apart, shadow_taken, slice_index, stands_for, taken_apart, tree_in, tree_of, tree_placed, ◌==◌}
+use Rattle.special_files.proofs.Words.{leaf_place, node_place, nothing_below, two_levels, Allocated, BelongsTo, BlockState, Fits, Free, Graph, HasDraft, Held, Holds, Image, IntendAllocate, IntendDeallocate, IsGoodRoot, IsPlaced, IsRootBlock, IsTaken, IsTree, Leaf, LeavesFit, MapEntry, Node, Object, Opened, Puid, PutsAt, Root, SameAt, SameBeside, StandsIn, below_apart, block_at, bytes_held, cases_Bool, content_of, end_is, entry_in, eqb-false, eqb-true, held, held_at, held_block, held_there, is_free_entry, is_free_in, is_free_state, is_meant, is_meant_for, is_owned_by, is_some, leaf_pointers, leaves_in, leaves_below, levels_of, levels_standing, not_map, object_at, object_below, one_path, part_at, part_of, passes, path_is, place_at, pointer, root_placed, root_spelling, same_Some, same_levels, shadow_apart, shadow_taken, slice_index, stands_for, taken_apart, tree_in, tree_of, tree_placed, ◌==◌, leaf_limit}
 use Rattle.block_tree.specs.declared.root.Root as roots
 use Rattle.special_files.proofs.Levels.{fresh_leaf, fresh_node}
 use Rattle.special_files.proofs.Trees.{fits_with, good_with, leaf_at, leaf_from, node_at}
@@ -25,17 +25,17 @@ pub record LeafPut (a b : Image) (id : Puid) (d : Opened) (root : roots.Root) (l
   pub x_meant : is_meant_for b id.block x ≡ true
   pub y_meant : is_meant_for b id.block y ≡ true
   pub x_part : BelongsTo id.block (Leaf l) (part_at b x)
-  pub y_part : BelongsTo id.block (Node (l / 128)) (part_at b y)
+  pub y_part : BelongsTo id.block (Node (l / leaf_pointers.count)) (part_at b y)
   -- each was Free, or is what stood there
-  pub x_was : (is_free_in a x ≡ true) ⊎ (tree_of a (content_of d) (l / 128 ∷ l % 128 ∷ []) ≡ x)
-  pub y_was : (is_free_in a y ≡ true) ⊎ (tree_of a (content_of d) (l / 128 ∷ []) ≡ y)
+  pub x_was : (is_free_in a x ≡ true) ⊎ (tree_of a (content_of d) (l / leaf_pointers.count ∷ l % leaf_pointers.count ∷ []) ≡ x)
+  pub y_was : (is_free_in a y ≡ true) ⊎ (tree_of a (content_of d) (l / leaf_pointers.count ∷ []) ≡ y)
   -- and what stood there was the draft's own only where it is that
-  pub x_stays : is_meant_for a id.block (tree_of a (content_of d) (l / 128 ∷ l % 128 ∷ [])) ≡ true → tree_of a (content_of d) (l / 128 ∷ l % 128 ∷ []) ≡ x
-  pub y_stays : is_meant_for a id.block (tree_of a (content_of d) (l / 128 ∷ [])) ≡ true → tree_of a (content_of d) (l / 128 ∷ []) ≡ y
+  pub x_stays : is_meant_for a id.block (tree_of a (content_of d) (l / leaf_pointers.count ∷ l % leaf_pointers.count ∷ [])) ≡ true → tree_of a (content_of d) (l / leaf_pointers.count ∷ l % leaf_pointers.count ∷ []) ≡ x
+  pub y_stays : is_meant_for a id.block (tree_of a (content_of d) (l / leaf_pointers.count ∷ [])) ≡ true → tree_of a (content_of d) (l / leaf_pointers.count ∷ []) ≡ y
   pub x_content : block_at b x ≡ content
-  pub y_here : pointer leaf_pointers (block_at b y) (l % 128) ≡ x
-  pub y_others : (j : ℕ) → j ≢ l % 128 → pointer leaf_pointers (block_at b y) j ≡ tree_of a (content_of d) (l / 128 ∷ j ∷ [])
-  pub root_is : root ≡ record d.root { nodes = set d.root.nodes (l / 128) y }
+  pub y_here : pointer leaf_pointers (block_at b y) (l % leaf_pointers.count) ≡ x
+  pub y_others : (j : ℕ) → j ≢ l % leaf_pointers.count → pointer leaf_pointers (block_at b y) j ≡ tree_of a (content_of d) (l / leaf_pointers.count ∷ j ∷ [])
+  pub root_is : root ≡ record d.root { nodes = set d.root.nodes (l / leaf_pointers.count) y }
 
 same_held : (a b : Image) (v : ℕ) → ((h : Held) → held_at a v ≡ Some h → SameAt a b h.block) → held_at b v ≡ held_at a v
 same_held a b zero keeps = refl
@@ -47,7 +47,7 @@ taken_not_free a n r taken free = by taken.is taken.taken (ap is_free_entry (sym
     by : (e : MapEntry) → e.state ≢ Free → is_free_entry (Some e) ≡ true → ⊥
     by e some h = some (free_state e.state h)
 
-module _ (a b : Image) (g : Graph) (holds : Holds a g) (id : Puid) (d : Opened) (root : roots.Root) (l x y : ℕ) (content : List ℕ) (draft : HasDraft a id d) (put : LeafPut a b id d root l x y content) (most : l < 15360) where
+module _ (a b : Image) (g : Graph) (holds : Holds a g) (id : Puid) (d : Opened) (root : roots.Root) (l x y : ℕ) (content : List ℕ) (draft : HasDraft a id d) (put : LeafPut a b id d root l x y content) (most : l < leaf_limit) where
   abbrev old : List ℕ
   old = content_of d
 
@@ -55,10 +55,10 @@ module _ (a b : Image) (g : Graph) (holds : Holds a g) (id : Puid) (d : Opened) 
   new = root_spelling root
 
   abbrev n : ℕ
-  n = l / 128
+  n = l / leaf_pointers.count
 
   abbrev k : ℕ
-  k = l % 128
+  k = l % leaf_pointers.count
 
   fits_new : Fits root
   fits_new = subst Fits (sym put.root_is) (fits_with d.root n y draft.tree.spelled.good.0 put.y_small)
@@ -172,20 +172,20 @@ module _ (a b : Image) (g : Graph) (holds : Holds a g) (id : Puid) (d : Opened) 
 
   -- ---- the leaves
 
-  leaf_path : (m : ℕ) → leaves_below b root m ≡ (tree_in b new).below (m / 128 ∷ m % 128 ∷ [])
+  leaf_path : (m : ℕ) → leaves_below b root m ≡ (tree_in b new).below (m / leaf_pointers.count ∷ m % leaf_pointers.count ∷ [])
   leaf_path m = ap (λ (p : List ℕ). (tree_in b new).below p) (path_is new m)
 
-  leaf_was : (m : ℕ) → leaves_below a d.root m ≡ (tree_in a old).below (m / 128 ∷ m % 128 ∷ [])
+  leaf_was : (m : ℕ) → leaves_below a d.root m ≡ (tree_in a old).below (m / leaf_pointers.count ∷ m % leaf_pointers.count ∷ [])
   leaf_was m = ap (λ (p : List ℕ). (tree_in a old).below p) (path_is old m)
 
-  other_leaf : (m : ℕ) → m ≢ l → (m / 128 ∷ m % 128 ∷ []) ≢ n ∷ k ∷ []
-  other_leaf m apart is = let one : m / 128 ≡ n = cc in let two : m % 128 ≡ k = cc in apart (omega (arith, one, two))
+  other_leaf : (m : ℕ) → m ≢ l → (m / leaf_pointers.count ∷ m % leaf_pointers.count ∷ []) ≢ n ∷ k ∷ []
+  other_leaf m apart is = let one : m / leaf_pointers.count ≡ n = cc in let two : m % leaf_pointers.count ≡ k = cc in apart (omega (arith, one, two))
 
-  stays_at : (m : ℕ) → m ≢ l → (tree_in b new).below (m / 128 ∷ m % 128 ∷ []) ≡ (tree_in a old).below (m / 128 ∷ m % 128 ∷ [])
-  stays_at m apart = elim (seen (m / 128 ∷ m % 128 ∷ [])) [ inl is ↦ cc | inr (inl is) ↦ absurd (other_leaf m apart is) | inr (inr is) ↦ is ]
+  stays_at : (m : ℕ) → m ≢ l → (tree_in b new).below (m / leaf_pointers.count ∷ m % leaf_pointers.count ∷ []) ≡ (tree_in a old).below (m / leaf_pointers.count ∷ m % leaf_pointers.count ∷ [])
+  stays_at m apart = elim (seen (m / leaf_pointers.count ∷ m % leaf_pointers.count ∷ [])) [ inl is ↦ cc | inr (inl is) ↦ absurd (other_leaf m apart is) | inr (inr is) ↦ is ]
 
   pub other_leaves : (m : ℕ) → m ≢ l → fresh_leaf (is_meant_for b id.block) (tree_in b new) m ≡ fresh_leaf (is_meant_for a id.block) (tree_in a old) m
-  other_leaves m apart = passes_as (m / 128 ∷ m % 128 ∷ []) (λ e. cc) (other_leaf m apart) (stays_at m apart)
+  other_leaves m apart = passes_as (m / leaf_pointers.count ∷ m % leaf_pointers.count ∷ []) (λ e. cc) (other_leaf m apart) (stays_at m apart)
 
   pub other_nodes : (m : ℕ) → m ≢ n → fresh_node (is_meant_for b id.block) (tree_in b new) m ≡ fresh_node (is_meant_for a id.block) (tree_in a old) m
   other_nodes m apart = passes_as (m ∷ []) (λ e. apart (cc)) (λ e. cc) (elim (seen (m ∷ [])) [ inl is ↦ absurd (apart (cc)) | inr (inl is) ↦ cc | inr (inr is) ↦ is ])

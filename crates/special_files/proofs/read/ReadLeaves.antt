@@ -1,6 +1,6 @@
 -- What is read of a draft's leaves.
-use Rattle.std.proofs.Common.{◌≡◌, ℕ, zero, suc, Ok, Err, ◌+◌, ◌-◌, ◌*◌, ◌/◌, ◌%◌, ◌<◌, ◌≤◌, List, [], ◌∷◌, length, refl, sym, ◌∙◌, ap, subst, arith, slice_range}
-use Rattle.special_files.proofs.Words.{AreBlocks, Drafting, File, Fits, Ghosts, IfOk, Image, IsNear, IsRead, IsReadTo, IsSafe, IsTree, NodeRead, Object, OnlyReads, Result, Tells, block_at, bytes_in, content_is, file_to_leaves, held, held_at, leaf_content, leaves_at, leaves_in, leaves_below, length-overlaid, pointer_to_node, path_is, read_all, read_more, reads_then, root_spelling, slice_index, tree_in, tree_of, with_leaf_copied, length-leaves}
+use Rattle.std.proofs.Common.{◌≡◌, ℕ, zero, suc, Ok, Err, ◌+◌, ◌-◌, ◌*◌, ◌/◌, ◌<◌, ◌≤◌, List, [], ◌∷◌, length, refl, sym, ◌∙◌, ap, subst, arith, slice_range}
+use Rattle.special_files.proofs.Words.{AreBlocks, Drafting, File, Ghosts, IfOk, Image, IsNear, IsNearTree, IsRead, IsReadTo, IsSafe, IsTree, Way, Object, OnlyReads, Result, Tells, block_at, bytes_in, content_is, file_to_leaves, held, held_at, leaf_content, leaves_at, leaves_in, leaves_below, length-overlaid, pointer_to_node, read_all, read_more, reads_then, root_spelling, tree_in, tree_of, with_leaf_copied, leaf_block, leaf_pointers, zeros}
 use Rattle.ufs_model.specs.declared.object.Object.TheVariants as objects
 use Rattle.block_tree.specs.declared.root.Root as roots
 use Rattle.special_files.proofs.Fresh.{read_leaf_is}
@@ -13,21 +13,9 @@ block_content : (image : Image) (fill v : ℕ) → AreBlocks image → v < lengt
 block_content image fill zero blocks below = refl
 block_content image fill (suc v) blocks below = content_is fill (held_at image (suc v)) (block_at image (suc v)) refl (blocks (suc v) below).long
 
-leaf_there : (image : Image) (root : roots.Root) (leaf : ℕ) → leaves_below image root leaf ≡ held_at image (tree_of image (root_spelling root) (leaf / 128 ∷ leaf % 128 ∷ []))
-leaf_there image root leaf = ap (λ (p : List ℕ). (tree_in image (root_spelling root)).below p) (path_is (root_spelling root) leaf)
-
-pub leaf_read_is : (image : Image) (drafting : Drafting) (read : NodeRead) (leaf : ℕ) → AreBlocks image → Fits drafting.root → IsRead image drafting read → read.number ≡ leaf / 128 → leaf < 15360
-    → slice_index read.node.leaves (leaf % 128) < length image → bytes_in image drafting.root.fill (slice_index read.node.leaves (leaf % 128)) ≡ leaf_content drafting.root.fill (leaves_below image drafting.root leaf)
-leaf_read_is image drafting read leaf blocks fits is number most below =
-    let v = slice_index read.node.leaves (leaf % 128) in
-    let node = is (omega (arith, number, most)) ∙ ap (λ (n : ℕ). leaves_at image (pointer_to_node drafting.root n)) number in
-    let there : tree_of image (root_spelling drafting.root) (leaf / 128 ∷ leaf % 128 ∷ []) ≡ v = read_leaf_is image drafting.root fits (leaf / 128) (leaf % 128) read.node.leaves node in
-    sym (block_content image drafting.root.fill v blocks below) ∙ ap (leaf_content drafting.root.fill) (sym (leaf_there image drafting.root leaf ∙ ap (held_at image) there))
-
-pub leaf_below : (image : Image) (drafting : Drafting) (read : NodeRead) (leaf size : ℕ) → IsSafe size drafting read → IsRead image drafting read → read.number ≡ leaf / 128 → leaf < 15360 → slice_index read.node.leaves (leaf % 128) < size
-leaf_below image drafting read leaf size safe is number most =
-    let few : read.number < 120 = omega (arith, number, most) in
-    (safe few).1 (leaf % 128) 0 (omega (arith, ap (length {A = ℕ}) (is few) ∙ length-leaves image (pointer_to_node drafting.root read.number)))
+-- a leaf of this block, read
+pub leaf_read_is : (image : Image) (root : roots.Root) (leaf n : ℕ) → AreBlocks image → n ≡ leaf_block image (root_spelling root) leaf → n < length image → bytes_in image root.fill n ≡ leaf_content root.fill (leaves_below image root leaf)
+leaf_read_is image root leaf n blocks is below = sym (block_content image root.fill n blocks below) ∙ ap (λ (v : ℕ). leaf_content root.fill (held_at image v)) is
 
 -- what a result is, told otherwise
 pub if_ok_is : {A E : Type 0} (r : Result A E) (x y : A) → x ≡ y → IfOk r (λ z. z ≡ x) → IfOk r (λ z. z ≡ y)
@@ -37,17 +25,17 @@ if_ok_is (Err e) x y same is = tt
 -- ---- leaf after leaf
 
 -- the leaves from the one at the offset on and before this one are read into a part of the file
-pub record ReadTo {D : Type 0} (g : Ghosts D) (drafting : Drafting) (offset leaf : ℕ) (initial : List ℕ) (old now : D) (read : NodeRead) (part : List ℕ) : Type 0 where
+pub record ReadTo {D : Type 0} (g : Ghosts D) (drafting : Drafting) (offset leaf : ℕ) (initial : List ℕ) (old now : D) (way : Way) (part : List ℕ) : Type 0 where
   pub from : offset / 512 ≤ leaf
   pub reads : OnlyReads g (2 * (leaf - offset / 512)) old now
   pub long : length part ≡ length initial
-  pub safe : IsSafe (g.blocks now) drafting read
-  pub told : HasTree g old drafting → IsRead (g.content old) drafting read × IsReadTo leaf drafting.root.fill (leaves_below (g.content old) drafting.root) offset part
+  pub safe : IsSafe (g.blocks now) drafting way
+  pub told : HasTree g old drafting → IsRead (g.content old) drafting way × IsReadTo leaf drafting.root.fill (leaves_below (g.content old) drafting.root) offset part
 
-module _ {D : Type 0} (g : Ghosts D) (drafting : Drafting) (offset leaf : ℕ) (initial : List ℕ) (d0 d1 : D) (read : NodeRead) (part : List ℕ) (to : ReadTo g drafting offset leaf initial d0 d1 read part) where
-  pub read_then : (d2 : D) (next : NodeRead) (content after : List ℕ) → OnlyReads g 2 d1 d2 → IsSafe (g.blocks d1) drafting next
-      → (HasTree g d1 drafting → IsRead (g.content d1) drafting read → content ≡ leaf_content drafting.root.fill (leaves_below (g.content d1) drafting.root leaf))
-      → (Tells g d1 → IsRead (g.content d1) drafting read → IsRead (g.content d1) drafting next) → after ≡ with_leaf_copied leaf content offset part → ReadTo g drafting offset (leaf + 1) initial d0 d2 next after
+module _ {D : Type 0} (g : Ghosts D) (drafting : Drafting) (offset leaf : ℕ) (initial : List ℕ) (d0 d1 : D) (way : Way) (part : List ℕ) (to : ReadTo g drafting offset leaf initial d0 d1 way part) where
+  pub read_then : (d2 : D) (next : Way) (content after : List ℕ) → OnlyReads g 2 d1 d2 → IsSafe (g.blocks d1) drafting next
+      → (HasTree g d1 drafting → IsRead (g.content d1) drafting way → content ≡ leaf_content drafting.root.fill (leaves_below (g.content d1) drafting.root leaf))
+      → (Tells g d1 → IsRead (g.content d1) drafting way → IsRead (g.content d1) drafting next) → after ≡ with_leaf_copied leaf content offset part → ReadTo g drafting offset (leaf + 1) initial d0 d2 next after
   read_then d2 next content after reads safe bytes node same = record {
     from = omega (arith, to.from);
     reads = reads_then g d0 d1 d2 (2 * (leaf - offset / 512)) 2 (2 * (leaf + 1 - offset / 512)) to.reads reads (omega (arith, to.from));
@@ -56,7 +44,7 @@ module _ {D : Type 0} (g : Ghosts D) (drafting : Drafting) (offset leaf : ℕ) (
     told = λ v.
         let before = to.told v in
         let w = tree_reads v to.reads in
-        let is = subst (λ (i : Image). IsRead i drafting read) (sym to.reads.content) before.0 in
+        let is = subst (λ (i : Image). IsRead i drafting way) (sym to.reads.content) before.0 in
         let there : content ≡ leaf_content drafting.root.fill (leaves_below (g.content d0) drafting.root leaf) = bytes w is ∙ ap (λ (i : Image). leaf_content drafting.root.fill (leaves_below i drafting.root leaf)) to.reads.content in (
           subst (λ (i : Image). IsRead i drafting next) to.reads.content (node w.tells is),
           subst (IsReadTo (leaf + 1) drafting.root.fill (leaves_below (g.content d0) drafting.root) offset) (sym (same ∙ ap (λ (c : List ℕ). with_leaf_copied leaf c offset part) there))
@@ -65,9 +53,9 @@ module _ {D : Type 0} (g : Ghosts D) (drafting : Drafting) (offset leaf : ℕ) (
   }
 
 -- the whole part
-pub read_whole : {D : Type 0} {g : Ghosts D} {d0 : D} {drafting : Drafting} (v : HasTree g d0 drafting) (f : File) (offset leaf : ℕ) (initial : List ℕ) (d1 : D) (read : NodeRead) (part : List ℕ) → v.object ≡ objects.File f
-    → ReadTo g drafting offset leaf initial d0 d1 read part → leaves_in (offset + length initial) ≤ leaf → offset + length initial ≤ drafting.root.size → part ≡ slice_range f.bytes offset (offset + length initial)
-read_whole {g = g} {d0} {drafting} v f offset leaf initial d1 read part file to all within =
+pub read_whole : {D : Type 0} {g : Ghosts D} {d0 : D} {drafting : Drafting} (v : HasTree g d0 drafting) (f : File) (offset leaf : ℕ) (initial : List ℕ) (d1 : D) (way : Way) (part : List ℕ) → v.object ≡ objects.File f
+    → ReadTo g drafting offset leaf initial d0 d1 way part → leaves_in (offset + length initial) ≤ leaf → offset + length initial ≤ drafting.root.size → part ≡ slice_range f.bytes offset (offset + length initial)
+read_whole {g = g} {d0} {drafting} v f offset leaf initial d1 way part file to all within =
     let gives = file_to_leaves drafting.root (leaves_below (g.content d0) drafting.root) f (v.tree.object ∙ file) in
     subst (λ (n : ℕ). part ≡ slice_range f.bytes offset (offset + n)) to.long (read_all drafting.root (leaves_below (g.content d0) drafting.root) f offset part gives (omega (arith, within, to.long))
     (λ k inside early. (to.told v).1 k inside (omega (arith, early, all, ap (λ (n : ℕ). leaves_in (offset + n)) to.long))))
@@ -90,3 +78,9 @@ node_near image size owner drafting o tree long some n =
       here = omega (arith, near (n ∷ []), node_at image drafting.root tree.spelled.good.0 n, long);
       leaves = λ k. omega (arith, near (n ∷ k ∷ []), read_leaf_is image drafting.root tree.spelled.good.0 n k (leaves_at image (pointer_to_node drafting.root n)) refl, long);
     }
+
+-- so is each node of its tree
+pub tree_near : (image : Image) (size owner : ℕ) (drafting : Drafting) (o : Object) → IsTree (length image) owner (tree_in image (root_spelling drafting.root)) drafting.root o → length image ≡ size → 0 < size → IsNearTree size image (root_spelling drafting.root)
+tree_near image size owner drafting o tree long some [] few = record { here = some; leaves = λ k. omega (arith, zeros leaf_pointers.count k, some) }
+tree_near image size owner drafting o tree long some (n ∷ []) few = subst (IsNear size image) (sym (node_at image drafting.root tree.spelled.good.0 n)) (node_near image size owner drafting o tree long some n)
+tree_near image size owner drafting o tree long some (n ∷ k ∷ path) few = absurd (omega (arith, few))

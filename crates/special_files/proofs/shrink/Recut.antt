@@ -1,6 +1,6 @@
 -- A resize to less, as the model has it: which blocks it writes anew, and what it takes.
 use Rattle.std.proofs.Common.{◌≡◌, ◌≢◌, ◌⊎◌, inl, inr, ℕ, ◌+◌, ◌-◌, ◌*◌, ◌/◌, ◌%◌, ◌<◌, ◌≤◌, Bool, true, false, List, [], ◌∷◌, length, get_or, Option, Some, None, refl, sym, ◌∙◌, ap, subst, arith, ◌++◌, not, if◌then◌else◌}
-use Rattle.special_files.proofs.Words.{Draft, Drafting, Drafts, HasDraft, Held, Image, IsBorder, IsCutHere, IsOpen, Leaf, Node, Puid, SetSize, both_ways, cases_Bool, cases_lt, claims_anew, cut_leaf, eqb-false, eqb-true, filter, filter-rises, first_level, has_number, held_at, held_in, held_leaves, held_of, held_there, here, in_all, in_cons, in_filter, in_held, in_map, in_withs, intended, is_fresh_leaf, is_fresh_node, is_some, is_stale_cut, lacking, le-leb, leaves_at, leaves_below, leaves_in, leb-true, lt-ltb, ltb-true, map, missing, nat_le, nat_lt, need_beside, next_levels, numbers_rise, one_unless, opened_as, parents, path_is, pointer_to_node, resize_anew, root_spelling, same_numbers, set_in, shadow_need, shared, shrink_takes, size_of, slice_index, to_all, to_filter, to_held, to_map, to_withs, tree_of, with_numbers, with_numbers-rise, written_anew, ◌&&◌, ◌==◌, ◌||◌}
+use Rattle.special_files.proofs.Words.{Draft, Drafting, Drafts, HasDraft, Held, Image, IsBorder, IsCutHere, IsOpen, Leaf, Node, Puid, SetSize, both_ways, cases_Bool, cases_lt, claims_anew, cut_leaf, eqb-false, eqb-true, filter, filter-rises, first_level, has_number, held_at, held_in, held_leaves, held_of, held_there, here, in_all, in_cons, in_filter, in_held, in_map, in_withs, intended, is_fresh_leaf, is_fresh_node, is_some, is_stale_cut, lacking, le-leb, leaf_pointers, leaves_at, leaves_below, leaves_in, leb-true, lt-ltb, ltb-true, map, missing, nat_le, nat_lt, need_beside, next_levels, numbers_rise, one_unless, opened_as, parents, path_is, pointer_to_node, resize_anew, root_spelling, same_numbers, set_in, shadow_need, shared, shrink_takes, size_of, slice_index, to_all, to_filter, to_held, to_map, to_withs, tree_of, with_numbers, with_numbers-rise, written_anew, ◌&&◌, ◌==◌, ◌||◌}
 use Rattle.std.proofs.lemmas.Bool.{eq-eqb}
 use Rattle.special_files.proofs.Fresh.{read_leaf_is}
 use Rattle.special_files.proofs.Marks.{first_is, next_is}
@@ -23,18 +23,18 @@ to_only : (b : Bool) (n : ℕ) → b ≡ true → has_number n (only_if b n) ≡
 to_only b n is = ap (λ (c : Bool). has_number n (only_if c n)) is ∙ here n []
 
 -- a pointer of a node that was read tells whether the leaf is held
-module _ (a : Image) (id : Puid) (was : Drafting) (d : Draft) (draft : HasDraft a id (opened_as was d)) (leaves : List ℕ) (n : ℕ) (read : leaves ≡ leaves_at a (pointer_to_node was.root n)) (j : ℕ) (small : j < 128) where
-  at_slot : leaves_below a was.root (128 * n + j) ≡ held_at a (slice_index leaves j)
+module _ (a : Image) (id : Puid) (was : Drafting) (d : Draft) (draft : HasDraft a id (opened_as was d)) (leaves : List ℕ) (n : ℕ) (read : leaves ≡ leaves_at a (pointer_to_node was.root n)) (j : ℕ) (small : j < leaf_pointers.count) where
+  at_slot : leaves_below a was.root (leaf_pointers.count * n + j) ≡ held_at a (slice_index leaves j)
   at_slot =
-      let one : (128 * n + j) / 128 ≡ n = omega (arith, small) in
-      let two : (128 * n + j) % 128 ≡ j = omega (arith, small) in
-      ap (λ (p : List ℕ). held_at a (tree_of a (root_spelling was.root) p)) (path_is (root_spelling was.root) (128 * n + j) ∙ (λ i. one i ∷ two i ∷ []))
+      let one : (leaf_pointers.count * n + j) / leaf_pointers.count ≡ n = omega (arith, small) in
+      let two : (leaf_pointers.count * n + j) % leaf_pointers.count ≡ j = omega (arith, small) in
+      ap (λ (p : List ℕ). held_at a (tree_of a (root_spelling was.root) p)) (path_is (root_spelling was.root) (leaf_pointers.count * n + j) ∙ (λ i. one i ∷ two i ∷ []))
       ∙ ap (held_at a) (read_leaf_is a was.root draft.tree.spelled.good.0 n j leaves read)
 
-  pub none_of_slot : slice_index leaves j ≡ 0 → leaves_below a was.root (128 * n + j) ≡ None
+  pub none_of_slot : slice_index leaves j ≡ 0 → leaves_below a was.root (leaf_pointers.count * n + j) ≡ None
   none_of_slot none = at_slot ∙ ap (held_at a) none
 
-  pub held_of_slot : slice_index leaves j ≢ 0 → is_some (leaves_below a was.root (128 * n + j)) ≡ true
+  pub held_of_slot : slice_index leaves j ≢ 0 → is_some (leaves_below a was.root (leaf_pointers.count * n + j)) ≡ true
   held_of_slot some = ap is_some (at_slot ∙ held_there a (slice_index leaves j) some)
 
 -- of a draft's leaves and nodes those that a resize to less writes anew
@@ -51,13 +51,13 @@ abbrev pub anew_nodes : ℕ → Draft → List ℕ
 anew_nodes size d = shared (parents (kept_leaves size d)) (parents (with_numbers (gone_leaves size d) (lacking (anew_leaves size d) (first_level d.fresh))))
 
 module _ (a : Image) (ds : Drafts) (id : Puid) (was : Drafting) (d : Draft) (opened : IsOpen ds id was d) (draft : HasDraft a id (opened_as was d)) (size : ℕ) (less : size < was.root.size)
-    (leaves : List ℕ) (read : leaves ≡ leaves_at a (pointer_to_node was.root ((leaves_in size - 1) / 128))) (from : ℕ) (border : IsBorder leaves ((leaves_in size - 1) / 128) (leaves_in size) from)
+    (leaves : List ℕ) (read : leaves ≡ leaves_at a (pointer_to_node was.root ((leaves_in size - 1) / leaf_pointers.count))) (from : ℕ) (border : IsBorder leaves ((leaves_in size - 1) / leaf_pointers.count) (leaves_in size) from)
     (cut : Bool) (cuts : IsCutHere size leaves cut) where
   abbrev to : ℕ
   to = leaves_in size
 
   abbrev n : ℕ
-  n = (to - 1) / 128
+  n = (to - 1) / leaf_pointers.count
 
   abbrev e : ℕ
   e = size / 512
@@ -68,29 +68,29 @@ module _ (a : Image) (ds : Drafts) (id : Puid) (was : Drafting) (d : Draft) (ope
   abbrev H : List ℕ
   H = held_leaves d.object
 
-  none_there : (l j : ℕ) → l ≡ 128 * n + j → j < 128 → slice_index leaves j ≡ 0 → old l ≡ None
+  none_there : (l j : ℕ) → l ≡ leaf_pointers.count * n + j → j < leaf_pointers.count → slice_index leaves j ≡ 0 → old l ≡ None
   none_there l j is small none = ap old is ∙ none_of_slot a id was d draft leaves n read j small none
 
-  some_there : (l j : ℕ) → l ≡ 128 * n + j → j < 128 → slice_index leaves j ≢ 0 → is_some (old l) ≡ true
+  some_there : (l j : ℕ) → l ≡ leaf_pointers.count * n + j → j < leaf_pointers.count → slice_index leaves j ≢ 0 → is_some (old l) ≡ true
   some_there l j is small some = ap (λ (m : ℕ). is_some (old m)) is ∙ held_of_slot a id was d draft leaves n read j small some
 
   -- between the size and the border nothing is held
   pub none_between : (l : ℕ) → ((from ≤ l) × (l < to)) ⊎ ((to ≤ l) × (l < from)) → old l ≡ None
   none_between l (inl two) =
-      let j = l - 128 * n in
-      let is : l ≡ 128 * n + j = omega (arith, border.low, two.0) in
+      let j = l - leaf_pointers.count * n in
+      let is : l ≡ leaf_pointers.count * n + j = omega (arith, border.low, two.0) in
       none_there l j is (omega (arith, two.1, border.low, two.0)) (border.none j (omega (arith, two.1, border.low, two.0)) (inl (omega (arith, is, two.0), omega (arith, is, two.1))))
   none_between l (inr two) =
-      let j = l - 128 * n in
-      let low : 128 * n ≤ l = omega (arith, two.0) in
-      let is : l ≡ 128 * n + j = omega (arith, low) in
+      let j = l - leaf_pointers.count * n in
+      let low : leaf_pointers.count * n ≤ l = omega (arith, two.0) in
+      let is : l ≡ leaf_pointers.count * n + j = omega (arith, low) in
       none_there l j is (omega (arith, two.1, border.high, low)) (border.none j (omega (arith, two.1, border.high, low)) (inr (omega (arith, is, two.0), omega (arith, is, two.1))))
 
   pub cut_held_here : cut ≡ true → is_some (old e) ≡ true
-  cut_held_here is = some_there e (e % 128) (omega (arith, (cuts.is is).0)) (omega arith) (cuts.is is).1
+  cut_held_here is = some_there e (e % leaf_pointers.count) (omega (arith, (cuts.is is).0)) (omega arith) (cuts.is is).1
 
   pub no_cut_here : cut ≡ false → size % 512 ≢ 0 → old e ≡ None
-  no_cut_here is within = none_there e (e % 128) (omega (arith, within)) (omega arith) (cuts.none is within)
+  no_cut_here is within = none_there e (e % leaf_pointers.count) (omega (arith, within)) (omega arith) (cuts.none is within)
 
   -- ---- the leaves that are held
 
@@ -178,7 +178,7 @@ module _ (a : Image) (ds : Drafts) (id : Puid) (was : Drafting) (d : Draft) (ope
   -- ---- the node written anew
 
   abbrev changes : Bool
-  changes = is_stale_cut was cut e || not (from % 128 == 0)
+  changes = is_stale_cut was cut e || not (from % leaf_pointers.count == 0)
 
   in_gone : (y : ℕ) → has_number y gone ≡ true → (to ≤ y) × (is_some (old y) ≡ true)
   in_gone y h = let two = in_filter (λ leaf. nat_le to leaf) y H h in (leb-true to y two.0, in_H y two.1)
@@ -186,14 +186,14 @@ module _ (a : Image) (ds : Drafts) (id : Puid) (was : Drafting) (d : Draft) (ope
   in_kept : (y : ℕ) → has_number y kept ≡ true → (y < to) × (is_some (old y) ≡ true)
   in_kept y h = let two = in_filter (λ leaf. nat_lt leaf to) y H h in (ltb-true y to two.0, in_H y two.1)
 
-  child : (x : ℕ) (ns : List ℕ) → has_number x (parents ns) ≡ true → (y : ℕ) × (has_number y ns ≡ true) × (y / 128 ≡ x)
-  child x ns h = in_map (λ (y : ℕ). y / 128) x ns (in_withs x (map (λ (y : ℕ). y / 128) ns) h)
+  child : (x : ℕ) (ns : List ℕ) → has_number x (parents ns) ≡ true → (y : ℕ) × (has_number y ns ≡ true) × (y / leaf_pointers.count ≡ x)
+  child x ns h = in_map (λ (y : ℕ). y / leaf_pointers.count) x ns (in_withs x (map (λ (y : ℕ). y / leaf_pointers.count) ns) h)
 
-  pub parent : (y : ℕ) (ns : List ℕ) → has_number y ns ≡ true → has_number (y / 128) (parents ns) ≡ true
-  parent y ns h = to_withs (y / 128) (map (λ (y : ℕ). y / 128) ns) (to_map (λ (y : ℕ). y / 128) y ns h)
+  pub parent : (y : ℕ) (ns : List ℕ) → has_number y ns ≡ true → has_number (y / leaf_pointers.count) (parents ns) ≡ true
+  parent y ns h = to_withs (y / leaf_pointers.count) (map (λ (y : ℕ). y / leaf_pointers.count) ns) (to_map (λ (y : ℕ). y / leaf_pointers.count) y ns h)
 
   -- a node that keeps a leaf and drops one is the last
-  pub border_within : (z y : ℕ) → z < to → to ≤ y → z / 128 ≡ y / 128 → is_some (old z) ≡ true → is_some (old y) ≡ true → (y / 128 ≡ n) × (from % 128 ≢ 0)
+  pub border_within : (z y : ℕ) → z < to → to ≤ y → z / leaf_pointers.count ≡ y / leaf_pointers.count → is_some (old z) ≡ true → is_some (old y) ≡ true → (y / leaf_pointers.count ≡ n) × (from % leaf_pointers.count ≢ 0)
   border_within z y early late same has has_too = (
     omega (arith, early, late, same),
     λ whole. elim (cases_lt from to) [
@@ -202,7 +202,7 @@ module _ (a : Image) (ds : Drafts) (id : Puid) (was : Drafting) (d : Draft) (ope
     ],
   )
 
-  pub in_a1 : (x : ℕ) → has_number x a1 ≡ true → (n ≡ x) × ((is_stale_cut was cut e ≡ true) ⊎ (from % 128 ≢ 0))
+  pub in_a1 : (x : ℕ) → has_number x a1 ≡ true → (n ≡ x) × ((is_stale_cut was cut e ≡ true) ⊎ (from % leaf_pointers.count ≢ 0))
   in_a1 x h =
       let two = in_filter (λ (y : ℕ). has_number y (parents (with_numbers gone (lacking a0 F0)))) x (parents kept) h in
       let z = child x kept two.1 in
@@ -219,7 +219,7 @@ module _ (a : Image) (ds : Drafts) (id : Puid) (was : Drafting) (d : Draft) (ope
             (omega (arith, (cuts.is c).0, s.1, y.2), inl s.0)
       ]
 
-  to_a1 : (z y : ℕ) → is_some (old z) ≡ true → z < to → (has_number y gone ≡ true) ⊎ (has_number y (lacking a0 F0) ≡ true) → z / 128 ≡ n → y / 128 ≡ n → has_number n a1 ≡ true
+  to_a1 : (z y : ℕ) → is_some (old z) ≡ true → z < to → (has_number y gone ≡ true) ⊎ (has_number y (lacking a0 F0) ≡ true) → z / leaf_pointers.count ≡ n → y / leaf_pointers.count ≡ n → has_number n a1 ≡ true
   to_a1 z y has early either z_in y_in = to_filter (λ (y : ℕ). has_number y (parents (with_numbers gone (lacking a0 F0)))) n (parents kept)
       (subst (λ (x : ℕ). has_number x (parents (with_numbers gone (lacking a0 F0))) ≡ true) y_in (parent y (with_numbers gone (lacking a0 F0)) (to_all y gone (lacking a0 F0) either)))
       (subst (λ (x : ℕ). has_number x (parents kept) ≡ true) z_in (parent z kept (to_filter (λ leaf. nat_lt leaf to) z H (lt-ltb z to early) (to_H z has))))
@@ -228,20 +228,20 @@ module _ (a : Image) (ds : Drafts) (id : Puid) (was : Drafting) (d : Draft) (ope
   stale_a1 is =
       let stale = to_stale is in
       let c = (in_a0 e (in_filter (λ (y : ℕ). not (has_number y F0)) e a0 stale).1).0 in
-      let node : e / 128 ≡ n = omega (arith, (cuts.is c).0) in
+      let node : e / leaf_pointers.count ≡ n = omega (arith, (cuts.is c).0) in
       to_a1 e e (cut_held_here c) (omega (arith, (cuts.is c).0)) (inr stale) node node
 
-  pub within_a1 : from % 128 ≢ 0 → has_number n a1 ≡ true
+  pub within_a1 : from % leaf_pointers.count ≢ 0 → has_number n a1 ≡ true
   within_a1 within =
       let k = (border.keeps within).1 in
       let g = border.drops within in
-      let z = 128 * n + k.0 in
-      let y = 128 * n + g.0 in
-      let small : k.0 < 128 = omega (arith, k.1) in
+      let z = leaf_pointers.count * n + k.0 in
+      let y = leaf_pointers.count * n + g.0 in
+      let small : k.0 < leaf_pointers.count = omega (arith, k.1) in
       to_a1 z y (some_there z k.0 refl small k.2) k.1 (inl (to_filter (λ leaf. nat_le to leaf) y H (le-leb to y g.2) (to_H y (some_there y g.0 refl g.1 g.3)))) (omega (arith, small)) (omega (arith, g.1))
 
   a1_is : a1 ≡ only_if changes n
-  a1_is = same_numbers a1 (only_if changes n) (filter-rises (λ (y : ℕ). has_number y (parents (with_numbers gone (lacking a0 F0)))) (parents kept) (with_numbers-rise (map (λ (y : ℕ). y / 128) kept))) (rises changes)
+  a1_is = same_numbers a1 (only_if changes n) (filter-rises (λ (y : ℕ). has_number y (parents (with_numbers gone (lacking a0 F0)))) (parents kept) (with_numbers-rise (map (λ (y : ℕ). y / leaf_pointers.count) kept))) (rises changes)
       (λ x h. let two = in_a1 x h in subst (λ (y : ℕ). has_number y (only_if changes n) ≡ true) two.0 (to_only changes n (either two.1)))
       (λ x h. let two = in_only changes n x h in subst (λ (y : ℕ). has_number y a1 ≡ true) two.1 (back two.0))
     where
@@ -249,11 +249,11 @@ module _ (a : Image) (ds : Drafts) (id : Puid) (was : Drafting) (d : Draft) (ope
       rises true = refl
       rises false = refl
 
-      either : (is_stale_cut was cut e ≡ true) ⊎ (from % 128 ≢ 0) → changes ≡ true
-      either (inl stale) = ap (λ (b : Bool). b || not (from % 128 == 0)) stale
-      either (inr within) = elim (cases_Bool (from % 128 == 0)) [
-        | inl whole ↦ absurd (within (eqb-true (from % 128) 0 whole))
-        | inr not_whole ↦ by (is_stale_cut was cut e) (from % 128 == 0) not_whole
+      either : (is_stale_cut was cut e ≡ true) ⊎ (from % leaf_pointers.count ≢ 0) → changes ≡ true
+      either (inl stale) = ap (λ (b : Bool). b || not (from % leaf_pointers.count == 0)) stale
+      either (inr within) = elim (cases_Bool (from % leaf_pointers.count == 0)) [
+        | inl whole ↦ absurd (within (eqb-true (from % leaf_pointers.count) 0 whole))
+        | inr not_whole ↦ by (is_stale_cut was cut e) (from % leaf_pointers.count == 0) not_whole
       ]
         where
           by : (s b : Bool) → b ≡ false → (s || not b) ≡ true
@@ -263,7 +263,7 @@ module _ (a : Image) (ds : Drafts) (id : Puid) (was : Drafting) (d : Draft) (ope
       back : changes ≡ true → has_number n a1 ≡ true
       back is = elim (cases_Bool (is_stale_cut was cut e)) [
         | inl stale ↦ stale_a1 stale
-        | inr fresh ↦ within_a1 (λ whole. both_ways _ ((λ i. fresh i || not (eq-eqb (from % 128) 0 whole i))) is)
+        | inr fresh ↦ within_a1 (λ whole. both_ways _ ((λ i. fresh i || not (eq-eqb (from % leaf_pointers.count) 0 whole i))) is)
       ]
 
   -- ---- what it takes

@@ -23,10 +23,10 @@ pub record IsRewritten (a b : Image) (id : Puid) (d : Opened) (n q y : ℕ) : Ty
 -- from image a to image b the draft's own blocks past the leaf became Free, and the node was written, if the leaf lies within one
 pub record IsShort (a b : Image) (id : Puid) (d : Opened) (f y : ℕ) : Type 0 where
   pub size : length b ≡ length a
-  pub each : (m : ℕ) → (f % 128 ≢ 0 → m ≢ y) → IsShed a id d f m ⊎ (entry_in b m ≡ entry_in a m)
+  pub each : (m : ℕ) → (f % leaf_pointers.count ≢ 0 → m ≢ y) → IsShed a id d f m ⊎ (entry_in b m ≡ entry_in a m)
   pub freed : (m : ℕ) → IsShed a id d f m → is_meant_for b id.block m ≡ false
-  pub contents : (m : ℕ) → m % 64 ≢ 0 → (f % 128 ≢ 0 → m ≢ y) → block_at b m ≡ block_at a m
-  pub node : f % 128 ≢ 0 → IsRewritten a b id d (f / 128) (f % 128) y
+  pub contents : (m : ℕ) → m % 64 ≢ 0 → (f % leaf_pointers.count ≢ 0 → m ≢ y) → block_at b m ≡ block_at a m
+  pub node : f % leaf_pointers.count ≢ 0 → IsRewritten a b id d (f / leaf_pointers.count) (f % leaf_pointers.count) y
 
 same_held : (a b : Image) (v : ℕ) → ((h : Held) → held_at a v ≡ Some h → SameAt a b h.block) → held_at b v ≡ held_at a v
 same_held a b zero keeps = refl
@@ -34,10 +34,10 @@ same_held a b (suc v) keeps = let s = keeps (held a (suc v)) refl in λ i. Some 
 
 -- the node that is written, where one is
 abbrev IsBorderNode : ℕ → List ℕ → Type 0
-IsBorderNode f p = (f % 128 ≢ 0) × (p ≡ f / 128 ∷ [])
+IsBorderNode f p = (f % leaf_pointers.count ≢ 0) × (p ≡ f / leaf_pointers.count ∷ [])
 
 module _ (a b : Image) (g : Graph) (holds : Holds a g) (id : Puid) (d : Opened) (f y : ℕ) (draft : HasDraft a id d) (short : IsShort a b id d f y) (nodes : List ℕ) (fits_new : Fits (record d.root { nodes = nodes }))
-    (before : (m : ℕ) → 128 * m + 128 ≤ f → slice_index nodes m ≡ slice_index d.root.nodes m) (past : (m : ℕ) → f ≤ 128 * m → slice_index nodes m ≡ 0) (here : f % 128 ≢ 0 → slice_index nodes (f / 128) ≡ y) where
+    (before : (m : ℕ) → leaf_pointers.count * m + leaf_pointers.count ≤ f → slice_index nodes m ≡ slice_index d.root.nodes m) (past : (m : ℕ) → f ≤ leaf_pointers.count * m → slice_index nodes m ≡ 0) (here : f % leaf_pointers.count ≢ 0 → slice_index nodes (f / leaf_pointers.count) ≡ y) where
   abbrev pub root : roots.Root
   root = record d.root { nodes = nodes }
 
@@ -48,7 +48,7 @@ module _ (a b : Image) (g : Graph) (holds : Holds a g) (id : Puid) (d : Opened) 
   new = root_spelling root
 
   abbrev n : ℕ
-  n = f / 128
+  n = f / leaf_pointers.count
 
   -- ---- blocks that stay
 
@@ -66,7 +66,7 @@ module _ (a b : Image) (g : Graph) (holds : Holds a g) (id : Puid) (d : Opened) 
       some none = real p h v (omega (arith, none))
 
   -- the block of the node is none of the others
-  not_node : (p : List ℕ) (h : Held) → (tree_in a old).below p ≡ Some h → (IsBorderNode f p → ⊥) → f % 128 ≢ 0 → h.block ≢ y
+  not_node : (p : List ℕ) (h : Held) → (tree_in a old).below p ≡ Some h → (IsBorderNode f p → ⊥) → f % leaf_pointers.count ≢ 0 → h.block ≢ y
   not_node p h v apart within same = elim (short.node within).was [
     | inl free ↦ taken_not_free a h.block id.block (stands_taken p h v) (subst (λ (m : ℕ). is_free_in a m ≡ true) (sym same) free)
     | inr at ↦ apart (within, one_path a (length a) id.block old d.root d.draft.object draft.tree p (n ∷ []) h (held a y) v (ap (held_at a) at ∙ held_there a y (short.node within).some) same)
@@ -83,20 +83,20 @@ module _ (a b : Image) (g : Graph) (holds : Holds a g) (id : Puid) (d : Opened) 
   node_of_path : (m k : ℕ) → IsBorderNode f (m ∷ k ∷ []) → ⊥
   node_of_path m k is = let e = is.1 in cc
 
-  node_before : (m : ℕ) → 128 * m + 128 ≤ f → tree_of b new (m ∷ []) ≡ tree_of a old (m ∷ [])
+  node_before : (m : ℕ) → leaf_pointers.count * m + leaf_pointers.count ≤ f → tree_of b new (m ∷ []) ≡ tree_of a old (m ∷ [])
   node_before m early = node_at b root fits_new m ∙ before m early ∙ sym (node_at a d.root draft.tree.spelled.good.0 m)
 
-  early_node : (m : ℕ) → 128 * m + 128 ≤ f → IsBorderNode f (m ∷ []) → ⊥
-  early_node m early is = let same : m ≡ f / 128 = (let e = is.1 in cc) in omega (arith, early, same)
+  early_node : (m : ℕ) → leaf_pointers.count * m + leaf_pointers.count ≤ f → IsBorderNode f (m ∷ []) → ⊥
+  early_node m early is = let same : m ≡ f / leaf_pointers.count = (let e = is.1 in cc) in omega (arith, early, same)
 
-  early_past : (m : ℕ) → 128 * m + 128 ≤ f → IsPathPast f (m ∷ []) → ⊥
+  early_past : (m : ℕ) → leaf_pointers.count * m + leaf_pointers.count ≤ f → IsPathPast f (m ∷ []) → ⊥
   early_past m early late = omega (arith, early, late)
 
-  early_leaf : (m k : ℕ) → 128 * m + 128 ≤ f → IsPathPast f (m ∷ k ∷ []) → ⊥
+  early_leaf : (m k : ℕ) → leaf_pointers.count * m + leaf_pointers.count ≤ f → IsPathPast f (m ∷ k ∷ []) → ⊥
   early_leaf m k early (inl late) = omega (arith, early, late)
   early_leaf m k early (inr late) = omega (arith, early, late.0)
 
-  leaf_before : (m k : ℕ) → 128 * m + 128 ≤ f → tree_of b new (m ∷ k ∷ []) ≡ tree_of a old (m ∷ k ∷ [])
+  leaf_before : (m k : ℕ) → leaf_pointers.count * m + leaf_pointers.count ≤ f → tree_of b new (m ∷ k ∷ []) ≡ tree_of a old (m ∷ k ∷ [])
   leaf_before m k early = leaf_at b root fits_new m k ∙ ap (λ (p : ℕ). leaf_from b p k) (before m early) ∙ by (slice_index d.root.nodes m) (node_at a d.root draft.tree.spelled.good.0 m) ∙ sym (leaf_at a d.root draft.tree.spelled.good.0 m k)
     where
       by : (p : ℕ) → tree_of a old (m ∷ []) ≡ p → leaf_from b p k ≡ leaf_from a p k
@@ -105,10 +105,10 @@ module _ (a b : Image) (g : Graph) (holds : Holds a g) (id : Puid) (d : Opened) 
           let there = ap (held_at a) is in
           ap (λ (c : List ℕ). pointer leaf_pointers c k) (short.contents (suc p) (real (m ∷ []) (held a (suc p)) there) (not_node (m ∷ []) (held a (suc p)) there (early_node m early)))
 
-  leaf_gone : (m k : ℕ) → f ≤ 128 * m → tree_of b new (m ∷ k ∷ []) ≡ 0
+  leaf_gone : (m k : ℕ) → f ≤ leaf_pointers.count * m → tree_of b new (m ∷ k ∷ []) ≡ 0
   leaf_gone m k late = leaf_at b root fits_new m k ∙ ap (λ (p : ℕ). leaf_from b p k) (past m late)
 
-  module _ (within : f % 128 ≢ 0) where
+  module _ (within : f % leaf_pointers.count ≢ 0) where
     leaf_new : (k : ℕ) → tree_of b new (n ∷ k ∷ []) ≡ pointer leaf_pointers (block_at b y) k
     leaf_new k = leaf_at b root fits_new n k ∙ ap (λ (p : ℕ). leaf_from b p k) (here within) ∙ end_is b leaf_pointers y k (short.node within).some
 
@@ -124,22 +124,22 @@ module _ (a b : Image) (g : Graph) (holds : Holds a g) (id : Puid) (d : Opened) 
     where
       nowhere : IsBorderNode f [] → ⊥
       nowhere is = let e = is.1 in cc
-  seen (m ∷ []) = elim (cases_lt (128 * m) f) [
+  seen (m ∷ []) = elim (cases_lt (leaf_pointers.count * m) f) [
     | inr late ↦ inr (inl (late, ap (held_at b) (node_at b root fits_new m ∙ past m late)))
-    | inl less ↦ elim (cases_lt f (128 * m + 128)) [
-      | inl within ↦ let same : m ≡ f / 128 = omega (arith, less, within) in inl ((λ z. omega (arith, z, less, within)), ap (λ (k : ℕ). k ∷ []) same)
+    | inl less ↦ elim (cases_lt f (leaf_pointers.count * m + leaf_pointers.count)) [
+      | inl within ↦ let same : m ≡ f / leaf_pointers.count = omega (arith, less, within) in inl ((λ z. omega (arith, z, less, within)), ap (λ (k : ℕ). k ∷ []) same)
       | inr early ↦ inr (inr (early_node m early, early_past m early, on (m ∷ []) (node_before m early) (early_node m early) (early_past m early)))
     ]
   ]
-  seen (m ∷ k ∷ []) = elim (cases_lt (128 * m) f) [
+  seen (m ∷ k ∷ []) = elim (cases_lt (leaf_pointers.count * m) f) [
     | inr late ↦ inr (inl (at_or_after late, ap (held_at b) (leaf_gone m k late)))
-    | inl less ↦ elim (cases_lt f (128 * m + 128)) [
+    | inl less ↦ elim (cases_lt f (leaf_pointers.count * m + leaf_pointers.count)) [
       | inr early ↦ inr (inr (node_of_path m k, early_leaf m k early, on (m ∷ k ∷ []) (leaf_before m k early) (node_of_path m k) (early_leaf m k early)))
       | inl inside ↦
-          let same : m ≡ f / 128 = omega (arith, less, inside) in
-          let within : f % 128 ≢ 0 = λ z. omega (arith, z, less, inside) in
+          let same : m ≡ f / leaf_pointers.count = omega (arith, less, inside) in
+          let within : f % leaf_pointers.count ≢ 0 = λ z. omega (arith, z, less, inside) in
           let at_n = ap (λ (z : ℕ). z ∷ k ∷ []) same in
-          elim (cases_lt k (f % 128)) [
+          elim (cases_lt k (f % leaf_pointers.count)) [
             | inl early ↦
                 let not_past : IsPathPast f (n ∷ k ∷ []) → ⊥ = λ late. early_place k early late in
                 subst Seen (sym at_n) (inr (inr (node_of_path n k, not_past, on (n ∷ k ∷ []) (leaf_new within k ∙ (short.node within).kept k early) (node_of_path n k) not_past)))
@@ -148,10 +148,10 @@ module _ (a b : Image) (g : Graph) (holds : Holds a g) (id : Puid) (d : Opened) 
     ]
   ]
     where
-      at_or_after : f ≤ 128 * m → IsPathPast f (m ∷ k ∷ [])
-      at_or_after late = elim (cases_lt (f / 128) m) [ inl after ↦ inl after | inr at ↦ inr (omega (arith, late, at), omega (arith, late, at)) ]
+      at_or_after : f ≤ leaf_pointers.count * m → IsPathPast f (m ∷ k ∷ [])
+      at_or_after late = elim (cases_lt (f / leaf_pointers.count) m) [ inl after ↦ inl after | inr at ↦ inr (omega (arith, late, at), omega (arith, late, at)) ]
 
-      early_place : (k : ℕ) → k < f % 128 → IsPathPast f (n ∷ k ∷ []) → ⊥
+      early_place : (k : ℕ) → k < f % leaf_pointers.count → IsPathPast f (n ∷ k ∷ []) → ⊥
       early_place k early (inl late) = omega (arith, late)
       early_place k early (inr late) = omega (arith, early, late.1)
   seen (m ∷ k ∷ i ∷ q) = inr (inr ((λ is. nowhere is), (λ late. late), ap (held_at b) (nothing_below b new m k i q) ∙ ap (held_at a) (sym (nothing_below a old m k i q))))
@@ -160,7 +160,7 @@ module _ (a b : Image) (g : Graph) (holds : Holds a g) (id : Puid) (d : Opened) 
       nowhere is = let e = is.1 in cc
 
   -- what is so of the node and of all that stood before is so of all
-  each : (P : List ℕ → Held → Type 0) → (f % 128 ≢ 0 → P (n ∷ []) (held b y)) → ((p : List ℕ) (h : Held) → (tree_in a old).below p ≡ Some h → P p h) → (p : List ℕ) (h : Held) → (tree_in b new).below p ≡ Some h → P p h
+  each : (P : List ℕ → Held → Type 0) → (f % leaf_pointers.count ≢ 0 → P (n ∷ []) (held b y)) → ((p : List ℕ) (h : Held) → (tree_in a old).below p ≡ Some h → P p h) → (p : List ℕ) (h : Held) → (tree_in b new).below p ≡ Some h → P p h
   each P node rest p h v = elim (seen p) [
     | inl is ↦ subst (λ (q : List ℕ). P q h) (sym is.1) (subst (P (n ∷ [])) (same_Some _ _ (sym (node_there is.0) ∙ ap (λ (q : List ℕ). (tree_in b new).below q) (sym is.1) ∙ v)) (node is.0))
     | inr (inl gone) ↦ let no : None ≡ Some h = sym gone.1 ∙ v in cc
@@ -169,21 +169,21 @@ module _ (a b : Image) (g : Graph) (holds : Holds a g) (id : Puid) (d : Opened) 
 
   -- ---- the leaves
 
-  leaf_path : (l : ℕ) → leaves_below b root l ≡ (tree_in b new).below (l / 128 ∷ l % 128 ∷ [])
+  leaf_path : (l : ℕ) → leaves_below b root l ≡ (tree_in b new).below (l / leaf_pointers.count ∷ l % leaf_pointers.count ∷ [])
   leaf_path l = ap (λ (p : List ℕ). (tree_in b new).below p) (path_is new l)
 
-  leaf_was : (l : ℕ) → leaves_below a d.root l ≡ (tree_in a old).below (l / 128 ∷ l % 128 ∷ [])
+  leaf_was : (l : ℕ) → leaves_below a d.root l ≡ (tree_in a old).below (l / leaf_pointers.count ∷ l % leaf_pointers.count ∷ [])
   leaf_was l = ap (λ (p : List ℕ). (tree_in a old).below p) (path_is old l)
 
-  leaf_seen : (l : ℕ) → ((f ≤ l) × (leaves_below b root l ≡ None)) ⊎ ((l < f) × (IsPathPast f (l / 128 ∷ l % 128 ∷ []) → ⊥) × (leaves_below b root l ≡ leaves_below a d.root l))
-  leaf_seen l = elim (seen (l / 128 ∷ l % 128 ∷ [])) [
-    | inl is ↦ absurd (node_of_path (l / 128) (l % 128) is)
+  leaf_seen : (l : ℕ) → ((f ≤ l) × (leaves_below b root l ≡ None)) ⊎ ((l < f) × (IsPathPast f (l / leaf_pointers.count ∷ l % leaf_pointers.count ∷ []) → ⊥) × (leaves_below b root l ≡ leaves_below a d.root l))
+  leaf_seen l = elim (seen (l / leaf_pointers.count ∷ l % leaf_pointers.count ∷ [])) [
+    | inl is ↦ absurd (node_of_path (l / leaf_pointers.count) (l % leaf_pointers.count) is)
     | inr (inl gone) ↦ inl (elim gone.0 [ inl late ↦ omega (arith, late) | inr late ↦ omega (arith, late.0, late.1) ], leaf_path l ∙ gone.1)
     | inr (inr kept) ↦ inr (elim (cases_lt l f) [ inl less ↦ less | inr late ↦ absurd (kept.1 (is_past late)) ], kept.1, leaf_path l ∙ kept.2 ∙ sym (leaf_was l))
   ]
     where
-      is_past : f ≤ l → IsPathPast f (l / 128 ∷ l % 128 ∷ [])
-      is_past late = elim (cases_lt (f / 128) (l / 128)) [ inl after ↦ inl after | inr at ↦ inr (omega (arith, late, at), omega (arith, late, at)) ]
+      is_past : f ≤ l → IsPathPast f (l / leaf_pointers.count ∷ l % leaf_pointers.count ∷ [])
+      is_past late = elim (cases_lt (f / leaf_pointers.count) (l / leaf_pointers.count)) [ inl after ↦ inl after | inr at ↦ inr (omega (arith, late, at), omega (arith, late, at)) ]
 
   -- those from the one on are gone, and all before are as they were
   pub leaves_gone : (l : ℕ) → f ≤ l → leaves_below b root l ≡ None
@@ -214,7 +214,7 @@ module _ (a b : Image) (g : Graph) (holds : Holds a g) (id : Puid) (d : Opened) 
       | inl gone ↦ forgets.leaf_past l gone.0 ∙ sym (ap (passes (is_meant_for b id.block)) (sym (leaf_path l) ∙ gone.1))
       | inr kept ↦
           forgets.leaf_before l kept.0 ∙ tell.leaf l below
-          ∙ sym (passes_as (l / 128 ∷ l % 128 ∷ []) (node_of_path (l / 128) (l % 128)) kept.1 (sym (leaf_path l) ∙ kept.2 ∙ leaf_was l))
+          ∙ sym (passes_as (l / leaf_pointers.count ∷ l % leaf_pointers.count ∷ []) (node_of_path (l / leaf_pointers.count) (l % leaf_pointers.count)) kept.1 (sym (leaf_path l) ∙ kept.2 ∙ leaf_was l))
     ];
     node = λ m below. elim (seen (m ∷ [])) [
       | inl is ↦
@@ -222,17 +222,17 @@ module _ (a b : Image) (g : Graph) (holds : Holds a g) (id : Puid) (d : Opened) 
           ap (λ (k : ℕ). get_or now.nodes k false) same ∙ (forgets.here is.0).0 ∙ sym (ap (fresh_node (is_meant_for b id.block) (tree_in b new)) same ∙ ap (passes (is_meant_for b id.block)) (node_there is.0) ∙ (short.node is.0).meant)
       | inr (inl gone) ↦ (forgets.past m gone.0).0 ∙ sym (ap (passes (is_meant_for b id.block)) gone.1)
       | inr (inr kept) ↦
-          let early : 128 * m + 128 ≤ f = whole m kept.0 kept.1 in
+          let early : leaf_pointers.count * m + leaf_pointers.count ≤ f = whole m kept.0 kept.1 in
           (forgets.before m early).0 ∙ tell.node m below ∙ sym (passes_as (m ∷ []) kept.0 kept.1 kept.2)
     ];
   }
     where
-      whole : (m : ℕ) → (IsBorderNode f (m ∷ []) → ⊥) → (IsPathPast f (m ∷ []) → ⊥) → 128 * m + 128 ≤ f
-      whole m apart kept = elim (cases_lt f (128 * m + 128)) [
+      whole : (m : ℕ) → (IsBorderNode f (m ∷ []) → ⊥) → (IsPathPast f (m ∷ []) → ⊥) → leaf_pointers.count * m + leaf_pointers.count ≤ f
+      whole m apart kept = elim (cases_lt f (leaf_pointers.count * m + leaf_pointers.count)) [
         | inr early ↦ early
-        | inl less ↦ elim (cases_lt (128 * m) f) [
+        | inl less ↦ elim (cases_lt (leaf_pointers.count * m) f) [
           | inr late ↦ absurd (kept late)
-          | inl inside ↦ let same : m ≡ f / 128 = omega (arith, less, inside) in absurd (apart ((λ z. omega (arith, z, less, inside)), ap (λ (k : ℕ). k ∷ []) same))
+          | inl inside ↦ let same : m ≡ f / leaf_pointers.count = omega (arith, less, inside) in absurd (apart ((λ z. omega (arith, z, less, inside)), ap (λ (k : ℕ). k ∷ []) same))
         ]
       ]
 
@@ -240,12 +240,12 @@ module _ (a b : Image) (g : Graph) (holds : Holds a g) (id : Puid) (d : Opened) 
 
   leads : (p : List ℕ) (h : Held) → (tree_in b new).below p ≡ Some h → length p < length (levels_of old) → (k : ℕ) × IsTrue (is_some ((tree_in b new).below (p ++ k ∷ [])))
   leads [] h v less = let no : None ≡ Some h = v in cc
-  leads (m ∷ []) h v less = elim (cases_lt (128 * m) f) [
+  leads (m ∷ []) h v less = elim (cases_lt (leaf_pointers.count * m) f) [
     | inr late ↦ let no : None ≡ Some h = sym (ap (held_at b) (node_at b root fits_new m ∙ past m late)) ∙ v in cc
-    | inl low ↦ elim (cases_lt f (128 * m + 128)) [
+    | inl low ↦ elim (cases_lt f (leaf_pointers.count * m + leaf_pointers.count)) [
       | inl inside ↦
-          let same : m ≡ f / 128 = omega (arith, low, inside) in
-          let within : f % 128 ≢ 0 = λ z. omega (arith, z, low, inside) in
+          let same : m ≡ f / leaf_pointers.count = omega (arith, low, inside) in
+          let within : f % leaf_pointers.count ≢ 0 = λ z. omega (arith, z, low, inside) in
           let one = (short.node within).one in (
             one.0,
             subst (λ (z : ℕ). IsTrue (is_some ((tree_in b new).below (z ∷ one.0 ∷ [])))) (sym same) (subst (λ o. IsTrue (is_some o))
@@ -267,13 +267,13 @@ module _ (a b : Image) (g : Graph) (holds : Holds a g) (id : Puid) (d : Opened) 
     some_block m meant none = not_map m (taken_apart a g holds m id.block (meant_is a id.block m meant).taken) (omega (arith, none))
 
     -- the block of the node isn't one that stands outside the tree
-    not_y : (m : ℕ) → IsTaken a m id.block → (tree_of a old (n ∷ []) ≡ m → m ≢ 0 → ⊥) → f % 128 ≢ 0 → m ≢ y
+    not_y : (m : ℕ) → IsTaken a m id.block → (tree_of a old (n ∷ []) ≡ m → m ≢ 0 → ⊥) → f % leaf_pointers.count ≢ 0 → m ≢ y
     not_y m taken outside within same = elim (short.node within).was [
       | inl free ↦ taken_not_free a m id.block taken (subst (λ (k : ℕ). is_free_in a k ≡ true) (sym same) free)
       | inr there ↦ outside (there ∙ sym same) (λ z. (short.node within).some (sym same ∙ z))
     ]
 
-    root_apart : f % 128 ≢ 0 → id.block ≢ y
+    root_apart : f % leaf_pointers.count ≢ 0 → id.block ≢ y
     root_apart = not_y id.block root_place.taken (λ there some. below_apart a (length a) id.block old d.root d.draft.object draft.tree root_place (n ∷ []) (held a id.block) (ap (held_at a) there ∙ held_there a id.block some) refl)
 
     own_kept : block_at b id.block ≡ block_at a id.block
@@ -295,11 +295,11 @@ module _ (a b : Image) (g : Graph) (holds : Holds a g) (id : Puid) (d : Opened) 
     shadow_shed s stood shed = shadow_apart a (length a) id.block s old d.root d.draft.object draft.tree stood
         (record { path = shed.path; held = held a s; there = ap (held_at a) shed.there ∙ held_there a s (some_block s shed.meant); is = refl })
 
-    shadow_y : (s : ℕ) → stands_for id.block (entry_in a s) ≡ true → f % 128 ≢ 0 → s ≢ y
+    shadow_y : (s : ℕ) → stands_for id.block (entry_in a s) ≡ true → f % leaf_pointers.count ≢ 0 → s ≢ y
     shadow_y s stood = not_y s (shadow_taken a id.block s stood).taken
         (λ there some. shadow_apart a (length a) id.block s old d.root d.draft.object draft.tree stood (record { path = n ∷ []; held = held a s; there = ap (held_at a) there ∙ held_there a s some; is = refl }))
 
-    still_stands : (m : ℕ) → is_meant_for b id.block m ≡ true → is_meant_for a id.block m ≡ true → (f % 128 ≢ 0 → m ≢ y) → StandsIn (tree_in a old) m → StandsIn (tree_in b new) m
+    still_stands : (m : ℕ) → is_meant_for b id.block m ≡ true → is_meant_for a id.block m ≡ true → (f % leaf_pointers.count ≢ 0 → m ≢ y) → StandsIn (tree_in a old) m → StandsIn (tree_in b new) m
     still_stands m meant was apart s =
         let at_m : tree_of a old s.path ≡ m = sym (held_block a (tree_of a old s.path) s.held s.there) ∙ s.is in
         elim (seen s.path) [
@@ -319,16 +319,16 @@ module _ (a b : Image) (g : Graph) (holds : Holds a g) (id : Puid) (d : Opened) 
           let stood = draft.shadow s is in
           elim (short.each s (shadow_y s stood)) [ inl shed ↦ absurd (shadow_shed s stood shed) | inr same ↦ ap (stands_for id.block) same ∙ stood ];
       fresh = is_fresh;
-      no_other = λ m meant. elim (cases_Bool (f % 128 == 0)) [
-        | inl whole ↦ other m meant (λ within. absurd (within (eqb-true (f % 128) 0 whole)))
+      no_other = λ m meant. elim (cases_Bool (f % leaf_pointers.count == 0)) [
+        | inl whole ↦ other m meant (λ within. absurd (within (eqb-true (f % leaf_pointers.count) 0 whole)))
         | inr not ↦ elim (cases_Bool (m == y)) [
-          | inl is ↦ inr (record { path = n ∷ []; held = held b y; there = node_there (eqb-false (f % 128) 0 not); is = sym (eqb-true m y is) })
+          | inl is ↦ inr (record { path = n ∷ []; held = held b y; there = node_there (eqb-false (f % leaf_pointers.count) 0 not); is = sym (eqb-true m y is) })
           | inr apart ↦ other m meant (λ within. eqb-false m y apart)
         ]
       ];
     }
       where
-        other : (m : ℕ) → is_meant_for b id.block m ≡ true → (f % 128 ≢ 0 → m ≢ y) → (d.shadow ≡ Some m) ⊎ StandsIn (tree_in b new) m
+        other : (m : ℕ) → is_meant_for b id.block m ≡ true → (f % leaf_pointers.count ≢ 0 → m ≢ y) → (d.shadow ≡ Some m) ⊎ StandsIn (tree_in b new) m
         other m meant apart = elim (short.each m apart) [
           | inl shed ↦ absurd (both_ways _ (short.freed m shed) meant)
           | inr same ↦

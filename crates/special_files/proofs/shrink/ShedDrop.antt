@@ -1,7 +1,8 @@
 -- Leaves dropped from a draft, as the call makes it: the list by reads alone, the node, and the claims taken back.
 use Rattle.std.proofs.Common.{◌≡◌, ◌≢◌, ℕ, ◌+◌, ◌*◌, ◌/◌, ◌%◌, ◌^◌, ◌<◌, ◌≤◌, Bool, true, false, IsTrue, List, length, Ok, Err, refl, sym, ◌∙◌, ap, subst, arith, inl, inr, if◌then◌else◌, not}
 use Rattle.block_tree.specs.Reads.{IsPast}
-use Rattle.special_files.proofs.Words.{AreClaimed, AreShed, BlockNo, ChangesOnly, Claims, ClaimsAndDrops, DraftView, Drafting, Drafts, DropCall, DropsFrom, EndsCall, Flips, Forgets, GetsDraftNode, Ghosts, GoesHolding, Graph, Had, HasTried, Holds, Image, IsDraftTrouble, IsFarRoot, IsRead, KeepsOne, Kept, Leaves, MakesAtMost, NoBlock, NoWrite, NodeRead, OnlyReads, Opened, Puid, Put, PutsWithin, Refused, Result, Trouble, Undo, Whole, Within, WritesDraftBlock, border_claims, border_takes, both_ways, cases_Bool, cases_lt, entry_in, eqb-true, flips, get_or_past, given_all, has_met_damage, is_damage, is_fresh_node, is_full_refusal, leaf_pointers, leaves_at, leaves_below, length-map-range_with_len, makes_then, ne_eqb, number_at, of_draft, one_unless, opened_as, pointer_to_node, pointers_of, reads_make, reads_within, refusal_after, refused_by, still_top, sum, then_tried, top_of, tried_then, trouble_after_try, ◌==◌}
+use Rattle.special_files.proofs.Ways.{node_is_read}
+use Rattle.special_files.proofs.Words.{HasNode, AreClaimed, AreShed, BlockNo, ChangesOnly, Claims, ClaimsAndDrops, DraftView, Drafting, Drafts, DropCall, DropsFrom, EndsCall, Flips, Forgets, GetsDraftNode, Ghosts, GoesHolding, Graph, Had, HasTried, Holds, Image, IsDraftTrouble, IsFarRoot, IsRead, KeepsOne, Kept, Leaves, MakesAtMost, NoBlock, NoWrite, Way, OnlyReads, Opened, Puid, Put, PutsWithin, Refused, Result, Trouble, Undo, Whole, Within, WritesDraftBlock, border_claims, border_takes, both_ways, cases_Bool, cases_lt, entry_in, eqb-true, flips, get_or_past, given_all, has_met_damage, is_damage, is_fresh_node, is_full_refusal, leaf_pointers, leaves_at, leaves_below, length-map-range_with_len, makes_then, ne_eqb, number_at, of_draft, one_unless, opened_as, pointer_to_node, pointers_of, reads_make, reads_within, refusal_after, refused_by, still_top, sum, then_tried, top_of, tried_then, trouble_after_try, ◌==◌, way_leaves, blocks_limit, drop_calls, drop_tries, leaf_limit, node_pointers}
 use Rattle.std.proofs.lemmas.Bool.{eq-eqb}
 use Rattle.cfs_base.specs.declared.refusal.Refused.TheVariants as refusals
 use Rattle.cfs_base.specs.declared.refusal.Trouble.TheVariants as trouble
@@ -14,9 +15,9 @@ use Rattle.special_files.proofs.shrink.ShedStore.{shed_drops}
 use Rattle.special_files.proofs.WriteLeaf.{ends_since, images_since, ends_trouble, not_full}
 use Rattle.special_files.proofs.View.{view_reads}
 
-length-pointers : (block : List ℕ) → length (pointers_of leaf_pointers block) ≡ 128
+length-pointers : (block : List ℕ) → length (pointers_of leaf_pointers block) ≡ leaf_pointers.count
 unfolding pointers_of
-length-pointers block = length-map-range_with_len (λ (j : ℕ). number_at block (0 + j)) 0 128
+length-pointers block = length-map-range_with_len (λ (j : ℕ). number_at block (0 + j)) 0 leaf_pointers.count
 
 -- what was found on the disk before the reads
 pub drops_since : {D : Type 0} {g : Ghosts D} {graph : Graph} {ds : Drafts} {id : Puid} {f n : ℕ} {d0 d1 d3 : D} {after : Kept} {was now : Drafting} → OnlyReads g n d0 d1 → DropsFrom g graph ds id f d1 d3 after was now → DropsFrom g graph ds id f d0 d3 after was now
@@ -34,10 +35,10 @@ untried_damage : (t : Trouble) → is_damage (trouble_after_try t) ≡ false →
 untried_damage (trouble.Disk tried) is = refl
 untried_damage (trouble.Damaged damage) is = is
 
-module _ {D : Type 0} {g : Ghosts D} {d0 d1 : D} {k0 : Kept} {was : Drafting} (u : DraftView g d0 k0 was) (f : ℕ) (read : NodeRead) (reads : OnlyReads g 120 d0 d1) (most : f ≤ 15360) (is : IsRead (g.content d0) was read)
-    (here : f % 128 ≢ 0 → read.number ≡ f / 128) (keeps : KeepsOne f read) where
+module _ {D : Type 0} {g : Ghosts D} {d0 d1 : D} {k0 : Kept} {was : Drafting} (u : DraftView g d0 k0 was) (f : ℕ) (read : Way) (reads : OnlyReads g node_pointers.count d0 d1) (most : f ≤ leaf_limit) (is : IsRead (g.content d0) was read)
+    (here : f % leaf_pointers.count ≢ 0 → HasNode (f / leaf_pointers.count) read) (keeps : KeepsOne f read) where
   abbrev leaves : List ℕ
-  leaves = read.node.leaves
+  leaves = (way_leaves read)
 
   abbrev d : Opened
   d = opened_as was u.draft
@@ -51,13 +52,13 @@ module _ {D : Type 0} {g : Ghosts D} {d0 d1 : D} {k0 : Kept} {was : Drafting} (u
   start : IsAmid g u.graph u.id d1 d1 k0
   start = amid_begins g u.graph u.ds u.id u.object d1 k0 u1.store u.at
 
-  less : f % 128 ≢ 0 → f < 15360
+  less : f % leaf_pointers.count ≢ 0 → f < leaf_limit
   less within = omega (arith, within, most)
 
-  read1 : f % 128 ≢ 0 → leaves ≡ leaves_at b (pointer_to_node was.root (f / 128))
+  read1 : f % leaf_pointers.count ≢ 0 → leaves ≡ leaves_at b (pointer_to_node was.root (f / leaf_pointers.count))
   read1 within =
-      is (omega (arith, here within, less within)) ∙ ap (λ (n : ℕ). leaves_at (g.content d0) (pointer_to_node was.root n)) (here within)
-      ∙ ap (λ (i : Image). leaves_at i (pointer_to_node was.root (f / 128))) (sym reads.content)
+      node_is_read (g.content d0) was.root read (f / leaf_pointers.count) (here within) is
+      ∙ ap (λ (i : Image). leaves_at i (pointer_to_node was.root (f / leaf_pointers.count))) (sym reads.content)
 
   -- ---- the node
 
@@ -68,7 +69,7 @@ module _ {D : Type 0} {g : Ghosts D} {d0 d1 : D} {k0 : Kept} {was : Drafting} (u
     put_images result (Within within (NoWrite mid y block e gets short writes done)) = put_leaves u1 mid k2 leaves f (less within) y gets d2 block (Err e) writes
     put_images result (Within within (Put mid y block gets short writes done)) = put_leaves u1 mid k2 leaves f (less within) y gets d2 block (Ok tt) writes
 
-    get_sound : (e : Refused) → GetsDraftNode g (f / 128) d1 d2 k0 k2 was (Err e) → has_met_damage e ≡ false
+    get_sound : (e : Refused) → GetsDraftNode g (f / leaf_pointers.count) d1 d2 k0 k2 was (Err e) → has_met_damage e ≡ false
     get_sound e (Had fresh same kept done) = cc
     get_sound e (Claims stale gets) = find_sound g d1 d2 k0 u1.store.carries.tells u1.store.account.holds.maps u1.store.counts e gets.refused
 
@@ -85,7 +86,7 @@ module _ {D : Type 0} {g : Ghosts D} {d0 d1 : D} {k0 : Kept} {was : Drafting} (u
       record Ready (v : ℕ) : Type 0 where
         amid : IsAmid g u.graph u.id d1 d2 k2
         put : IsPut b (g.content d2) u.id d f v
-        small : f % 128 ≢ 0 → v < 2 ^ 32
+        small : f % leaf_pointers.count ≢ 0 → v < 2 ^ 32
         claims : AreClaimed (border_claims was f) b (g.content d2)
 
       ready : PutsWithin g f leaves was d1 d2 k0 k2 (Ok y) → Ready y.0
@@ -93,7 +94,7 @@ module _ {D : Type 0} {g : Ghosts D} {d0 d1 : D} {k0 : Kept} {was : Drafting} (u
         amid = subst (λ (e : D). IsAmid g u.graph u.id d1 e k2) (sym same) (subst (IsAmid g u.graph u.id d1 d1) (sym kept) start);
         put = subst (λ (e : D). IsPut b (g.content e) u.id d f y.0) (sym same) (put_none b u.id d f y.0 whole);
         small = λ within. absurd (within whole);
-        claims = rw (eq-eqb (f % 128) 0 whole) (λ v. ap (λ (e : D). entry_in (g.content e) v) same);
+        claims = rw (eq-eqb (f % leaf_pointers.count) 0 whole) (λ v. ap (λ (e : D). entry_in (g.content e) v) same);
       }
       ready (Within within (NoBlock e gets done)) = cc
       ready (Within within (NoWrite mid z block e gets short writes done)) = cc
@@ -102,9 +103,9 @@ module _ {D : Type 0} {g : Ghosts D} {d0 d1 : D} {k0 : Kept} {was : Drafting} (u
           subst (λ (x : BlockNo). Ready x.0) same (record {
             amid = put_amid u1 mid k2 leaves f (less within) z gets d2 block writes;
             put = put_is u1 mid k2 leaves f (less within) z gets d2 block writes within (read1 within) short.before
-                (λ j late. elim (cases_lt j 128) [ inl few ↦ short.past j late few | inr over ↦ get_or_past (pointers_of leaf_pointers block) j 0 (omega (arith, over, length-pointers block)) ]) (keeps within);
+                (λ j late. elim (cases_lt j leaf_pointers.count) [ inl few ↦ short.past j late few | inr over ↦ get_or_past (pointers_of leaf_pointers block) j 0 (omega (arith, over, length-pointers block)) ]) (keeps within);
             small = λ w. put_small u1 mid k2 leaves f (less within) z gets d2 block writes;
-            claims = rw (ne_eqb (f % 128) 0 within) (put_claims u1 mid k2 leaves f (less within) z gets d2 block writes gets);
+            claims = rw (ne_eqb (f % leaf_pointers.count) 0 within) (put_claims u1 mid k2 leaves f (less within) z gets d2 block writes gets);
           })
 
       -- ---- the claims
@@ -146,125 +147,125 @@ disk_false (trouble.Disk tried) same = cc
 disk_false (trouble.Damaged damage) same = cc
 
 -- the draft stays as it was
-drop_refused : {D : Type 0} {g : Ghosts D} {f : ℕ} {d0 d3 : D} {k0 k3 : Kept} {was : Drafting} {e : Refused} → EndsCall {A = Unit {0}} g (top_of was) 0 31083 15482 (sum k0.free) d0 d3 k0 k3 (Err e)
-    → (f % 128 ≡ 0 → ((n : ℕ) → is_fresh_node was n ≡ false) → (d3 ≡ d0) × (k3 ≡ k0)) → (border_takes was f ≤ sum k0.free → is_full_refusal e ≡ false) → DropCall g f d0 d3 k0 k3 was was (Err e)
+drop_refused : {D : Type 0} {g : Ghosts D} {f : ℕ} {d0 d3 : D} {k0 k3 : Kept} {was : Drafting} {e : Refused} → EndsCall {A = Unit {0}} g (top_of was) 0 drop_calls drop_tries (sum k0.free) d0 d3 k0 k3 (Err e)
+    → (f % leaf_pointers.count ≡ 0 → ((n : ℕ) → is_fresh_node was n ≡ false) → (d3 ≡ d0) × (k3 ≡ k0)) → (border_takes was f ≤ sum k0.free → is_full_refusal e ≡ false) → DropCall g f d0 d3 k0 k3 was was (Err e)
 drop_refused {was = was} ends untried room = record { stays = stays_itself was; forgets = tt; tried = λ within. tt; untried = untried; near = λ far. far; ends = ends; kept = refl; room = room }
 
-one_taken : (was : Drafting) (f : ℕ) → f % 128 ≢ 0 → is_fresh_node was (f / 128) ≡ false → border_takes was f ≡ 1
-one_taken was f within stale = elim (cases_Bool (f % 128 == 0)) [
-  | inl whole ↦ absurd (within (eqb-true (f % 128) 0 whole))
-  | inr not ↦ ap (λ (b : Bool). if b then 0 else one_unless (is_fresh_node was (f / 128))) not ∙ ap one_unless stale
+one_taken : (was : Drafting) (f : ℕ) → f % leaf_pointers.count ≢ 0 → is_fresh_node was (f / leaf_pointers.count) ≡ false → border_takes was f ≡ 1
+one_taken was f within stale = elim (cases_Bool (f % leaf_pointers.count == 0)) [
+  | inl whole ↦ absurd (within (eqb-true (f % leaf_pointers.count) 0 whole))
+  | inr not ↦ ap (λ (b : Bool). if b then 0 else one_unless (is_fresh_node was (f / leaf_pointers.count))) not ∙ ap one_unless stale
 ]
 
-module _ {D : Type 0} {g : Ghosts D} {d0 d1 : D} {was : Drafting} (reads : OnlyReads g 120 d0 d1) (none : ((n : ℕ) → is_fresh_node was n ≡ false) → d1 ≡ d0) (f : ℕ) where
+module _ {D : Type 0} {g : Ghosts D} {d0 d1 : D} {was : Drafting} (reads : OnlyReads g node_pointers.count d0 d1) (none : ((n : ℕ) → is_fresh_node was n ≡ false) → d1 ≡ d0) (f : ℕ) where
   pub list_err_call : (k0 : Kept) (t : Trouble) (e : Refused) → e ≡ refused_by t → IsDraftTrouble g (top_of was) d0 d1 k0 t → DropCall g f d0 d1 k0 k0 was was (Err e)
-  list_err_call k0 t e same why = drop_refused (ends_trouble reads 15482 (sum k0.free) 31083 t e same (omega arith) why) (λ whole stale. (none stale, refl)) (λ room. ap is_full_refusal same ∙ not_full t)
+  list_err_call k0 t e same why = drop_refused (ends_trouble reads drop_tries (sum k0.free) drop_calls t e same (omega arith) why) (λ whole stale. (none stale, refl)) (λ room. ap is_full_refusal same ∙ not_full t)
 
   module _ {k0 : Kept} (leaves : List ℕ) {d2 : D} {k2 : Kept} where
-    no_write : (mid : D) (y : BlockNo) (block : List ℕ) (e : Refused) → GetsDraftNode g (f / 128) d1 mid k0 k2 was (Ok y) → WritesDraftBlock g y.0 block mid d2 (Err e) → EndsCall {A = BlockNo} g (top_of was) 0 3 2 (sum k0.free) d1 d2 k0 k2 (Err e)
+    no_write : (mid : D) (y : BlockNo) (block : List ℕ) (e : Refused) → GetsDraftNode g (f / leaf_pointers.count) d1 mid k0 k2 was (Ok y) → WritesDraftBlock g y.0 block mid d2 (Err e) → EndsCall {A = BlockNo} g (top_of was) 0 3 2 (sum k0.free) d1 d2 k0 k2 (Err e)
     no_write mid y block e gets writes =
         let one = write_ends g (top_of was) 0 mid d2 k2 y.0 block (Err e) writes in
         ends_err g (top_of was) 0 3 2 (sum k0.free) d1 d2 k0 k2 e (by gets one)
       where
-        by : GetsDraftNode g (f / 128) d1 mid k0 k2 was (Ok y) → EndsCall {A = Unit {0}} g (top_of was) 0 1 1 0 mid d2 k2 k2 (Err e) → EndsCall {A = Unit {0}} g (top_of was) 0 3 2 (sum k0.free) d1 d2 k0 k2 (Err e)
+        by : GetsDraftNode g (f / leaf_pointers.count) d1 mid k0 k2 was (Ok y) → EndsCall {A = Unit {0}} g (top_of was) 0 1 1 0 mid d2 k2 k2 (Err e) → EndsCall {A = Unit {0}} g (top_of was) 0 3 2 (sum k0.free) d1 d2 k0 k2 (Err e)
         by (Had fresh same kept done) one =
             let two = subst (λ (k : Kept). EndsCall {A = Unit {0}} g (top_of was) 0 1 1 0 mid d2 k k2 (Err e)) kept one in
             ends_wider 0 3 2 (sum k0.free) (subst (λ (x : D). EndsCall {A = Unit {0}} g (top_of was) 0 1 1 0 x d2 k0 k2 (Err e)) same two) (omega arith) (omega arith) (omega arith)
         by (Claims stale enters) one =
-            let told = ends_then_err g (top_of was) 0 d1 mid d2 k0 k2 k2 y e 2 1 (one_unless (is_fresh_node was (f / 128))) 1 1 0 (gets_ends g (f / 128) 0 d1 mid k0 k2 was (Ok y) (Claims stale enters)) enters.made one 3 2 ((one_unless (is_fresh_node was (f / 128))) + 0) (omega arith) (omega arith) (omega arith) in
+            let told = ends_then_err g (top_of was) 0 d1 mid d2 k0 k2 k2 y e 2 1 (one_unless (is_fresh_node was (f / leaf_pointers.count))) 1 1 0 (gets_ends g (f / leaf_pointers.count) 0 d1 mid k0 k2 was (Ok y) (Claims stale enters)) enters.made one 3 2 ((one_unless (is_fresh_node was (f / leaf_pointers.count))) + 0) (omega arith) (omega arith) (omega arith) in
             let again : refusal_after true e ≡ e = ap (refusal_after true) writes.refused ∙ sym writes.refused in
-            ends_wider 0 3 2 (sum k0.free) (subst (λ (x : Refused). EndsCall {A = Unit {0}} g (top_of was) 0 3 2 ((one_unless (is_fresh_node was (f / 128))) + 0) d1 d2 k0 k2 (Err x)) again told) (omega arith) (omega arith) (omega arith)
+            ends_wider 0 3 2 (sum k0.free) (subst (λ (x : Refused). EndsCall {A = Unit {0}} g (top_of was) 0 3 2 ((one_unless (is_fresh_node was (f / leaf_pointers.count))) + 0) d1 d2 k0 k2 (Err x)) again told) (omega arith) (omega arith) (omega arith)
 
     pub put_ends : (r : Result BlockNo Refused) → PutsWithin g f leaves was d1 d2 k0 k2 r → EndsCall g (top_of was) 0 3 2 (sum k0.free) d1 d2 k0 k2 r
     put_ends r (Whole y whole same kept done) = subst (EndsCall g (top_of was) 0 3 2 (sum k0.free) d1 d2 k0 k2) (sym done) (subst (λ (e : D). EndsCall g (top_of was) 0 3 2 (sum k0.free) d1 e k0 k2 (Ok y)) (sym same)
         (subst (λ (k : Kept). EndsCall g (top_of was) 0 3 2 (sum k0.free) d1 d1 k0 k (Ok y)) (sym kept) (record { told = λ b h. h; refused = tt; untried = tt; cylinders = refl; left = refl; takes = omega arith; calls = makes_none g d1 3 2 })))
-    put_ends r (Within within (NoBlock e gets done)) = subst (EndsCall g (top_of was) 0 3 2 (sum k0.free) d1 d2 k0 k2) (sym done) (ends_wider 0 3 2 (sum k0.free) (gets_ends g (f / 128) 0 d1 d2 k0 k2 was (Err e) gets) (omega arith) (omega arith) (omega arith))
+    put_ends r (Within within (NoBlock e gets done)) = subst (EndsCall g (top_of was) 0 3 2 (sum k0.free) d1 d2 k0 k2) (sym done) (ends_wider 0 3 2 (sum k0.free) (gets_ends g (f / leaf_pointers.count) 0 d1 d2 k0 k2 was (Err e) gets) (omega arith) (omega arith) (omega arith))
     put_ends r (Within within (NoWrite mid y block e gets short writes done)) = subst (EndsCall g (top_of was) 0 3 2 (sum k0.free) d1 d2 k0 k2) (sym done) (no_write mid y block e gets writes)
     put_ends r (Within within (Put mid y block gets short writes done)) = subst (EndsCall g (top_of was) 0 3 2 (sum k0.free) d1 d2 k0 k2) (sym done)
-        (let both = ends_then_ok g (top_of was) 0 d1 mid d2 k0 k2 k2 y (tt {0}) 2 1 (one_unless (is_fresh_node was (f / 128))) 1 1 0 (gets_ends g (f / 128) 0 d1 mid k0 k2 was (Ok y) gets) (write_ends g (top_of was) 0 mid d2 k2 y.0 block (Ok (tt {0})) writes) 3 2 ((one_unless (is_fresh_node was (f / 128))) + 0) (omega arith) (omega arith) (omega arith) in
+        (let both = ends_then_ok g (top_of was) 0 d1 mid d2 k0 k2 k2 y (tt {0}) 2 1 (one_unless (is_fresh_node was (f / leaf_pointers.count))) 1 1 0 (gets_ends g (f / leaf_pointers.count) 0 d1 mid k0 k2 was (Ok y) gets) (write_ends g (top_of was) 0 mid d2 k2 y.0 block (Ok (tt {0})) writes) 3 2 ((one_unless (is_fresh_node was (f / leaf_pointers.count))) + 0) (omega arith) (omega arith) (omega arith) in
         record { told = both.told; refused = tt; untried = tt; cylinders = both.cylinders; left = both.left; takes = omega arith; calls = both.calls })
 
     put_full : (e : Refused) → border_takes was f ≤ sum k0.free → PutsWithin g f leaves was d1 d2 k0 k2 (Err e) → is_full_refusal e ≡ false
     put_full e room (Whole y whole same kept done) = cc
     put_full e room (Within within (NoBlock x gets done)) = let same : e ≡ x = cc in ap is_full_refusal same ∙ by x gets
       where
-        by : (x : Refused) → GetsDraftNode g (f / 128) d1 d2 k0 k2 was (Err x) → is_full_refusal x ≡ false
+        by : (x : Refused) → GetsDraftNode g (f / leaf_pointers.count) d1 d2 k0 k2 was (Err x) → is_full_refusal x ≡ false
         by x (Had fresh same kept done) = cc
         by x (Claims stale enters) = (claim_real g d1 d2 k0 x (omega (arith, one_taken was f within stale, room)) enters.refused).0
     put_full e room (Within within (NoWrite mid y block x gets short writes done)) = let same : e ≡ x = cc in ap is_full_refusal (same ∙ writes.refused)
     put_full e room (Within within (Put mid y block gets short writes done)) = cc
 
-    put_tried : (y : BlockNo) → f % 128 ≢ 0 → PutsWithin g f leaves was d1 d2 k0 k2 (Ok y) → HasTried g d1 d2
+    put_tried : (y : BlockNo) → f % leaf_pointers.count ≢ 0 → PutsWithin g f leaves was d1 d2 k0 k2 (Ok y) → HasTried g d1 d2
     put_tried y within (Whole z whole same kept done) = absurd (within whole)
     put_tried y within (Within w (NoBlock e gets done)) = cc
     put_tried y within (Within w (NoWrite mid z block e gets short writes done)) = cc
-    put_tried y within (Within w (Put mid z block gets short writes done)) = then_tried g d1 mid d2 2 1 (gets_ends g (f / 128) 0 d1 mid k0 k2 was (Ok z) gets).calls writes.tried
+    put_tried y within (Within w (Put mid z block gets short writes done)) = then_tried g d1 mid d2 2 1 (gets_ends g (f / leaf_pointers.count) 0 d1 mid k0 k2 was (Ok z) gets).calls writes.tried
 
-    put_nothing : (r : Result BlockNo Refused) → f % 128 ≡ 0 → PutsWithin g f leaves was d1 d2 k0 k2 r → (d2 ≡ d1) × (k2 ≡ k0)
+    put_nothing : (r : Result BlockNo Refused) → f % leaf_pointers.count ≡ 0 → PutsWithin g f leaves was d1 d2 k0 k2 r → (d2 ≡ d1) × (k2 ≡ k0)
     put_nothing r whole (Whole z w same kept done) = (same, kept)
     put_nothing r whole (Within within p) = absurd (within whole)
 
     pub put_err_call : (e : Refused) → PutsWithin g f leaves was d1 d2 k0 k2 (Err e) → DropCall g f d0 d2 k0 k2 was was (Err e)
     put_err_call e puts =
-        let ends = ends_since reads 31083 (put_ends (Err e) puts) (omega arith) in
-        drop_refused (ends_wider 0 31083 15482 (sum k0.free) (ends_err g (top_of was) 0 31083 2 (sum k0.free) d0 d2 k0 k2 e ends) (omega arith) (omega arith) (omega arith))
+        let ends = ends_since reads drop_calls (put_ends (Err e) puts) (omega arith) in
+        drop_refused (ends_wider 0 drop_calls drop_tries (sum k0.free) (ends_err g (top_of was) 0 drop_calls 2 (sum k0.free) d0 d2 k0 k2 e ends) (omega arith) (omega arith) (omega arith))
         (λ whole stale. let put = put_nothing (Err e) whole puts in (put.0 ∙ none stale, put.1)) (λ room. put_full e room puts)
 
-    module _ (y : BlockNo) (puts : PutsWithin g f leaves was d1 d2 k0 k2 (Ok y)) (n : ℕ) (few : n ≤ 15480) (d3 : D) (calls : MakesAtMost g (2 * n) n d2 d3) (still : ((n : ℕ) → is_fresh_node was n ≡ false) → d3 ≡ d2) where
-      wide : MakesAtMost g 30960 15480 d2 d3
-      wide = makes_then g d2 d2 d3 0 (2 * n) 30960 0 n 15480 (makes_none g d2 0 0) calls (omega (arith, few)) (omega (arith, few))
+    module _ (y : BlockNo) (puts : PutsWithin g f leaves was d1 d2 k0 k2 (Ok y)) (n : ℕ) (few : n ≤ blocks_limit) (d3 : D) (calls : MakesAtMost g (2 * n) n d2 d3) (still : ((n : ℕ) → is_fresh_node was n ≡ false) → d3 ≡ d2) where
+      wide : MakesAtMost g (2 * blocks_limit) blocks_limit d2 d3
+      wide = makes_then g d2 d2 d3 0 (2 * n) (2 * blocks_limit) 0 n blocks_limit (makes_none g d2 0 0) calls (omega (arith, few)) (omega (arith, few))
 
-      nothing : f % 128 ≡ 0 → ((n : ℕ) → is_fresh_node was n ≡ false) → (d3 ≡ d0) × (k2 ≡ k0)
+      nothing : f % leaf_pointers.count ≡ 0 → ((n : ℕ) → is_fresh_node was n ≡ false) → (d3 ≡ d0) × (k2 ≡ k0)
       nothing whole stale = let put = put_nothing (Ok y) whole puts in (still stale ∙ put.0 ∙ none stale, put.1)
 
-      pub undo_err_call : (t : Trouble) → ((at : ℕ) (kept : Kept) → IsDraftTrouble g (still_top at) d2 d3 kept t) → (t ≡ trouble.Disk false → OnlyReads g 1 d2 d3) → (e : Refused) → e ≡ refusal_after (not (f % 128 == 0)) (refused_by t) → DropCall g f d0 d3 k0 k2 was was (Err e)
+      pub undo_err_call : (t : Trouble) → ((at : ℕ) (kept : Kept) → IsDraftTrouble g (still_top at) d2 d3 kept t) → (t ≡ trouble.Disk false → OnlyReads g 1 d2 d3) → (e : Refused) → e ≡ refusal_after (not (f % leaf_pointers.count == 0)) (refused_by t) → DropCall g f d0 d3 k0 k2 was was (Err e)
       undo_err_call t why only e same = subst (λ (x : Refused). DropCall g f d0 d3 k0 k2 was was (Err x)) (sym same)
-          (drop_refused (ends_since reads 31083 (by (not (f % 128 == 0)) refl) (omega arith)) nothing (λ room. still_room (not (f % 128 == 0)) (refused_by t) (not_full t)))
+          (drop_refused (ends_since reads drop_calls (by (not (f % leaf_pointers.count == 0)) refl) (omega arith)) nothing (λ room. still_room (not (f % leaf_pointers.count == 0)) (refused_by t) (not_full t)))
         where
-          undone : (k : Kept) → EndsCall {A = Unit {0}} g (top_of was) 0 30960 15480 0 d2 d3 k k (Err (refused_by t))
+          undone : (k : Kept) → EndsCall {A = Unit {0}} g (top_of was) 0 (2 * blocks_limit) blocks_limit 0 d2 d3 k k (Err (refused_by t))
           undone k = record {
             told = tt;
             refused = refusal_of g (top_of was) 0 d2 d3 k t (still_as g (top_of was) d2 d3 k t (why was.at k));
-            untried = λ same. (refl, reads_within g d2 d3 1 30960 (omega arith) (only (disk_false t same)));
+            untried = λ same. (refl, reads_within g d2 d3 1 (2 * blocks_limit) (omega arith) (only (disk_false t same)));
             cylinders = refl;
             left = refl;
             takes = omega arith;
             calls = wide;
           }
 
-          by : (b : Bool) → not (f % 128 == 0) ≡ b → EndsCall {A = Unit {0}} g (top_of was) 0 30963 15482 (sum k0.free) d1 d3 k0 k2 (Err (refusal_after b (refused_by t)))
+          by : (b : Bool) → not (f % leaf_pointers.count == 0) ≡ b → EndsCall {A = Unit {0}} g (top_of was) 0 (2 * blocks_limit + 3) drop_tries (sum k0.free) d1 d3 k0 k2 (Err (refusal_after b (refused_by t)))
           by true is =
-              let both = ends_then_err g (top_of was) 0 d1 d2 d3 k0 k2 k2 y (refused_by t) 3 2 (sum k0.free) 30960 15480 0 (put_ends (Ok y) puts) (put_tried y (ne_true (f % 128) is) puts) (undone k2) 30963 15482 (sum k0.free + 0) (omega arith) (omega arith) (omega arith) in
-              ends_wider 0 30963 15482 (sum k0.free) both (omega arith) (omega arith) (omega arith)
+              let both = ends_then_err g (top_of was) 0 d1 d2 d3 k0 k2 k2 y (refused_by t) 3 2 (sum k0.free) (2 * blocks_limit) blocks_limit 0 (put_ends (Ok y) puts) (put_tried y (ne_true (f % leaf_pointers.count) is) puts) (undone k2) (2 * blocks_limit + 3) drop_tries (sum k0.free + 0) (omega arith) (omega arith) (omega arith) in
+              ends_wider 0 (2 * blocks_limit + 3) drop_tries (sum k0.free) both (omega arith) (omega arith) (omega arith)
           by false is =
-              let two = put_nothing (Ok y) (ne_false (f % 128) is) puts in
-              let here = subst (λ (d : D). EndsCall {A = Unit {0}} g (top_of was) 0 30960 15480 0 d d3 k2 k2 (Err (refused_by t))) two.0 (undone k2) in
-              ends_wider 0 30963 15482 (sum k0.free) (subst (λ (k : Kept). EndsCall {A = Unit {0}} g (top_of was) 0 30960 15480 0 d1 d3 k k2 (Err (refused_by t))) two.1 here) (omega arith) (omega arith) (omega arith)
+              let two = put_nothing (Ok y) (ne_false (f % leaf_pointers.count) is) puts in
+              let here = subst (λ (d : D). EndsCall {A = Unit {0}} g (top_of was) 0 (2 * blocks_limit) blocks_limit 0 d d3 k2 k2 (Err (refused_by t))) two.0 (undone k2) in
+              ends_wider 0 (2 * blocks_limit + 3) drop_tries (sum k0.free) (subst (λ (k : Kept). EndsCall {A = Unit {0}} g (top_of was) 0 (2 * blocks_limit) blocks_limit 0 d1 d3 k k2 (Err (refused_by t))) two.1 here) (omega arith) (omega arith) (omega arith)
 
-      put_near : f % 128 ≢ 0 → IsPast (g.blocks d1) y.0 → IsPast (g.blocks d1) (pointer_to_node was.root (f / 128))
+      put_near : f % leaf_pointers.count ≢ 0 → IsPast (g.blocks d1) y.0 → IsPast (g.blocks d1) (pointer_to_node was.root (f / leaf_pointers.count))
       put_near within past = by puts
         where
-          by : PutsWithin g f leaves was d1 d2 k0 k2 (Ok y) → IsPast (g.blocks d1) (pointer_to_node was.root (f / 128))
+          by : PutsWithin g f leaves was d1 d2 k0 k2 (Ok y) → IsPast (g.blocks d1) (pointer_to_node was.root (f / leaf_pointers.count))
           by (Whole z whole same kept done) = absurd (within whole)
           by (Within w (NoBlock e gets done)) = cc
           by (Within w (NoWrite mid z block e gets short writes done)) = cc
           by (Within w (Put mid z block gets short writes done)) =
               let same : y ≡ z = cc in
-              gets_near g (f / 128) d1 mid k0 k2 was z gets (subst (λ (b : BlockNo). IsPast (g.blocks d1) b.0) same past)
+              gets_near g (f / leaf_pointers.count) d1 mid k0 k2 was z gets (subst (λ (b : BlockNo). IsPast (g.blocks d1) b.0) same past)
 
       -- of the nodes that are left only the one that was written is another
       drop_near : {now : Drafting} → Forgets f y.0 was now → IsFarRoot (g.blocks d3) now.root → IsFarRoot (g.blocks d3) was.root
       drop_near {now} forgets far =
           let size : g.blocks d1 ≡ g.blocks d3 = sym (calls.same.size ∙ (put_ends (Ok y) puts).calls.same.size) in
-          elim (cases_lt f (128 * far.0 + 128)) [
+          elim (cases_lt f (leaf_pointers.count * far.0 + leaf_pointers.count)) [
             | inr le ↦ (far.0, subst (IsPast (g.blocks d3)) (forgets.before far.0 le).1 far.1)
-            | inl lt ↦ elim (cases_lt (128 * far.0) f) [
+            | inl lt ↦ elim (cases_lt (leaf_pointers.count * far.0) f) [
               | inr le ↦ absurd (far.1.0 (forgets.past far.0 le).1)
               | inl more ↦
-                  let within : f % 128 ≢ 0 = λ whole. omega (arith, whole, lt, more) in
-                  let at : far.0 ≡ f / 128 = omega (arith, lt, more) in
+                  let within : f % leaf_pointers.count ≢ 0 = λ whole. omega (arith, whole, lt, more) in
+                  let at : far.0 ≡ f / leaf_pointers.count = omega (arith, lt, more) in
                   let there = subst (IsPast (g.blocks d3)) (ap (pointer_to_node now.root) at ∙ (forgets.here within).1) far.1 in
-                  (f / 128, subst (λ (n : ℕ). IsPast n y.0 → IsPast n (pointer_to_node was.root (f / 128))) size (put_near within) there)
+                  (f / leaf_pointers.count, subst (λ (n : ℕ). IsPast n y.0 → IsPast n (pointer_to_node was.root (f / leaf_pointers.count))) size (put_near within) there)
             ]
           ]
 
@@ -272,13 +273,13 @@ module _ {D : Type 0} {g : Ghosts D} {d0 d1 : D} {was : Drafting} (reads : OnlyR
       drop_ok_call k3 now told long left same forgets = record {
         stays = forgets.stays;
         forgets = (y.0, forgets);
-        tried = λ within. tried_then g d0 d2 d3 _ _ (then_tried g d0 d1 d2 120 0 (reads_make g d0 d1 120 reads) (put_tried y within puts)) calls;
+        tried = λ within. tried_then g d0 d2 d3 _ _ (then_tried g d0 d1 d2 node_pointers.count 0 (reads_make g d0 d1 node_pointers.count reads) (put_tried y within puts)) calls;
         untried = λ whole stale. let all = nothing whole stale in (all.0, same stale ∙ all.1);
         near = drop_near forgets;
         ends =
-            let undone : EndsCall {A = Unit {0}} g (top_of was) 0 30960 15480 (sum k2.free) d2 d3 k2 k3 (Ok tt) = record { told = told; refused = tt; untried = tt; cylinders = long; left = left; takes = omega arith; calls = wide } in
-            let both = ends_then_ok g (top_of was) 0 d1 d2 d3 k0 k2 k3 y (tt {0}) 3 2 (sum k0.free) 30960 15480 (sum k2.free) (put_ends (Ok y) puts) undone 30963 15482 (sum k0.free + sum k2.free) (omega arith) (omega arith) (omega arith) in
-            ends_since reads 31083 (ends_wider 0 30963 15482 (sum k0.free) both (omega arith) (omega arith) (omega arith)) (omega arith);
+            let undone : EndsCall {A = Unit {0}} g (top_of was) 0 (2 * blocks_limit) blocks_limit (sum k2.free) d2 d3 k2 k3 (Ok tt) = record { told = told; refused = tt; untried = tt; cylinders = long; left = left; takes = omega arith; calls = wide } in
+            let both = ends_then_ok g (top_of was) 0 d1 d2 d3 k0 k2 k3 y (tt {0}) 3 2 (sum k0.free) (2 * blocks_limit) blocks_limit (sum k2.free) (put_ends (Ok y) puts) undone (2 * blocks_limit + 3) drop_tries (sum k0.free + sum k2.free) (omega arith) (omega arith) (omega arith) in
+            ends_since reads drop_calls (ends_wider 0 (2 * blocks_limit + 3) drop_tries (sum k0.free) both (omega arith) (omega arith) (omega arith)) (omega arith);
         kept = tt;
         room = λ room. tt;
       }

@@ -1,6 +1,6 @@
 -- The blocks of a draft's own at paths that are dropped, listed one after another.
 use Rattle.std.proofs.Common.{◌≡◌, ◌≢◌, ◌⊎◌, inl, inr, ℕ, zero, suc, ◌+◌, ◌-◌, ◌*◌, ◌/◌, ◌%◌, ◌<◌, ◌≤◌, Bool, true, false, List, [], ◌∷◌, ◌++◌, length, get_or, Some, refl, sym, ◌∙◌, ap, subst, append_assoc, length-append, arith}
-use Rattle.special_files.proofs.Words.{All, All-append, All-cons, All-nil, AreShed, Differ, Drafting, Graph, HasDraft, HasItsBlocks, Holds, Image, IsPathPast, Object, Opened, Puid, append-nil, append_differ, both_ways, cases_Bool, cases_lt, content_of, eqb-false, eqb-true, fresh_in, get_or_past, has-append, has_number, held, held_at, held_there, here, is_fresh_node, is_meant_for, leaves_at, pointer_to_node, not_map, object_at, list_if, one_path, opened_as, or_cases, or_left, or_right, passes, slice_index, taken_apart, tree_in, tree_of, ◌==◌, length-leaves}
+use Rattle.special_files.proofs.Words.{All, All-append, All-cons, All-nil, AreShed, Differ, Drafting, Graph, HasDraft, HasItsBlocks, Holds, Image, IsPathPast, Object, Opened, Puid, append-nil, append_differ, both_ways, cases_Bool, cases_lt, content_of, eqb-false, eqb-true, fresh_in, get_or_past, has-append, has_number, held, held_at, held_there, here, is_fresh_node, is_meant_for, leaves_at, pointer_to_node, not_map, object_at, list_if, one_path, opened_as, or_cases, or_left, or_right, passes, slice_index, taken_apart, tree_in, tree_of, ◌==◌, length-leaves, blocks_limit, leaf_pointers, node_blocks, node_pointers}
 use Rattle.ufs_model.specs.declared.object.Draft as models
 use Rattle.special_files.proofs.Fresh.{fresh_there, node_of_fresh, read_leaf_is, unfresh}
 use Rattle.special_files.proofs.Levels.{Tell}
@@ -14,7 +14,7 @@ pub none_in : (flags : List Bool) (leaves : List ℕ) (node from : ℕ) → fres
 unfolding fresh_in
 none_in flags leaves node from = refl
 
-pub more_in : (flags : List Bool) (leaves : List ℕ) (node from k j : ℕ) → j ≡ k + 1 → fresh_in flags leaves node from j ≡ fresh_in flags leaves node from k ++ list_if (get_or flags (128 * node + (from + k)) false) (slice_index leaves (from + k))
+pub more_in : (flags : List Bool) (leaves : List ℕ) (node from k j : ℕ) → j ≡ k + 1 → fresh_in flags leaves node from j ≡ fresh_in flags leaves node from k ++ list_if (get_or flags (leaf_pointers.count * node + (from + k)) false) (slice_index leaves (from + k))
 unfolding fresh_in
 more_in flags leaves node from k j is = let next : j ≡ suc k = omega (arith, is) in ap (fresh_in flags leaves node from) next
 
@@ -28,9 +28,9 @@ length-fresh_in flags leaves node from zero = omega arith
 length-fresh_in flags leaves node from (suc k) =
     omega (
       arith,
-      length-append (fresh_in flags leaves node from k) (list_if (get_or flags (128 * node + (from + k)) false) (slice_index leaves (from + k))),
+      length-append (fresh_in flags leaves node from k) (list_if (get_or flags (leaf_pointers.count * node + (from + k)) false) (slice_index leaves (from + k))),
       length-fresh_in flags leaves node from k,
-      length-one_if (get_or flags (128 * node + (from + k)) false) (slice_index leaves (from + k)),
+      length-one_if (get_or flags (leaf_pointers.count * node + (from + k)) false) (slice_index leaves (from + k)),
     )
 
 -- ---- the loop that makes them
@@ -42,13 +42,13 @@ module _ (old now : List ℕ) (b : Bool) (block : ℕ) (flags : List Bool) (leav
       is ∙ ap (λ (xs : List ℕ). old ++ xs) (sym (append-nil (list_if b block)) ∙ ap (λ (xs : List ℕ). list_if b block ++ xs) (sym (ap (fresh_in flags leaves node from) zero_is ∙ none_in flags leaves node from)))
 
   module _ (k : ℕ) (is : now ≡ old ++ (list_if b block ++ fresh_in flags leaves node from k)) where
-    pub list_room : length old + 129 ≤ 15480 → k < 128 → length now < 15480
+    pub list_room : length old + node_blocks ≤ blocks_limit → k < leaf_pointers.count → length now < blocks_limit
     list_room room less = omega (arith, ap (length {A = ℕ}) is, length-append old (list_if b block ++ fresh_in flags leaves node from k), length-append (list_if b block) (fresh_in flags leaves node from k), length-one_if b block, length-fresh_in flags leaves node from k, room, less)
 
-    pub list_more : (j : ℕ) (next : List ℕ) (place : ℕ) → j ≡ k + 1 → place ≡ from + k → next ≡ now ++ list_if (get_or flags (128 * node + place) false) (slice_index leaves place) → next ≡ old ++ (list_if b block ++ fresh_in flags leaves node from j)
+    pub list_more : (j : ℕ) (next : List ℕ) (place : ℕ) → j ≡ k + 1 → place ≡ from + k → next ≡ now ++ list_if (get_or flags (leaf_pointers.count * node + place) false) (slice_index leaves place) → next ≡ old ++ (list_if b block ++ fresh_in flags leaves node from j)
     list_more j next place step same one =
-        let last = list_if (get_or flags (128 * node + (from + k)) false) (slice_index leaves (from + k)) in
-        one ∙ (λ i. is i ++ list_if (get_or flags (128 * node + same i) false) (slice_index leaves (same i))) ∙ append_assoc old (list_if b block ++ fresh_in flags leaves node from k) last
+        let last = list_if (get_or flags (leaf_pointers.count * node + (from + k)) false) (slice_index leaves (from + k)) in
+        one ∙ (λ i. is i ++ list_if (get_or flags (leaf_pointers.count * node + same i) false) (slice_index leaves (same i))) ∙ append_assoc old (list_if b block ++ fresh_in flags leaves node from k) last
         ∙ ap (λ (xs : List ℕ). old ++ xs) (append_assoc (list_if b block) (fresh_in flags leaves node from k) last ∙ ap (λ (xs : List ℕ). list_if b block ++ xs) (sym (more_in flags leaves node from k j step)))
 
 module _ (size : ℕ) where
@@ -75,7 +75,7 @@ module _ (size : ℕ) where
 
 -- the paths past the leaf f, up to a node
 abbrev pub Upto : ℕ → ℕ → List ℕ → Type 0
-Upto f n p = IsPathPast f p × (IsPathPast (128 * n) p → ⊥)
+Upto f n p = IsPathPast f p × (IsPathPast (leaf_pointers.count * n) p → ⊥)
 
 module _ (a : Image) (g : Graph) (holds : Holds a g) (id : Puid) (o : Object) (at : object_at g id ≡ Some o) (has : HasItsBlocks a id.block) (was : Drafting) (m : models.Draft) (draft : HasDraft a id (opened_as was m)) where
   abbrev d : Opened
@@ -137,7 +137,7 @@ module _ (a : Image) (g : Graph) (holds : Holds a g) (id : Puid) (o : Object) (a
     passes_meant p meant = ap (passes (is_meant_for a id.block)) (held_there a (tree p) (real_block (tree p) meant)) ∙ meant
 
     -- past the node is past the one before it
-    sooner : (n : ℕ) (r : List ℕ) → IsPathPast (128 * (n + 1)) r → IsPathPast (128 * n) r
+    sooner : (n : ℕ) (r : List ℕ) → IsPathPast (leaf_pointers.count * (n + 1)) r → IsPathPast (leaf_pointers.count * n) r
     sooner n [] past = past
     sooner n (k ∷ []) past = omega (arith, past)
     sooner n (k ∷ j ∷ []) (inl past) = inl (omega (arith, past))
@@ -147,8 +147,8 @@ module _ (a : Image) (g : Graph) (holds : Holds a g) (id : Puid) (o : Object) (a
     -- a path between the two is that of the node or of a leaf of it
     data Within (n : ℕ) (r : List ℕ) : Type 0 where
       Before : Upto f n r → Within n r
-      Node : r ≡ n ∷ [] → f ≤ 128 * n → Within n r
-      Leaf : (j : ℕ) → r ≡ n ∷ j ∷ [] → f ≤ 128 * n + j → Within n r
+      Node : r ≡ n ∷ [] → f ≤ leaf_pointers.count * n → Within n r
+      Leaf : (j : ℕ) → r ≡ n ∷ j ∷ [] → f ≤ leaf_pointers.count * n + j → Within n r
 
     within : (n : ℕ) (r : List ℕ) → Upto f (n + 1) r → Within n r
     within n [] is = absurd is.0
@@ -157,7 +157,7 @@ module _ (a : Image) (g : Graph) (holds : Holds a g) (id : Puid) (o : Object) (a
       | inr more ↦ let same : k ≡ n = omega (arith, more, node_end n k is.1) in Node (ap (λ (i : ℕ). i ∷ []) same) (omega (arith, is.0, same))
     ]
       where
-        node_end : (n k : ℕ) → (128 * (n + 1) ≤ 128 * k → ⊥) → k ≤ n
+        node_end : (n k : ℕ) → (leaf_pointers.count * (n + 1) ≤ leaf_pointers.count * k → ⊥) → k ≤ n
         node_end n k never = elim (cases_lt n k) [ inl more ↦ absurd (never (omega (arith, more))) | inr less ↦ less ]
     within n (k ∷ j ∷ []) is = elim (cases_lt k n) [
       | inl less ↦ Before (is.0, λ past. elim past [ inl p ↦ omega (arith, p, less) | inr p ↦ omega (arith, p.0, less) ])
@@ -171,7 +171,7 @@ module _ (a : Image) (g : Graph) (holds : Holds a g) (id : Puid) (o : Object) (a
     within n (k ∷ j ∷ i ∷ q) is = absurd is.0
 
     -- a node that isn't fresh has no fresh leaf
-    pub node_skipped : (n : ℕ) (ns : List ℕ) → n < 120 → is_fresh_node was n ≡ false → Lists (Upto f n) ns → Lists (Upto f (n + 1)) ns
+    pub node_skipped : (n : ℕ) (ns : List ℕ) → n < node_pointers.count → is_fresh_node was n ≡ false → Lists (Upto f n) ns → Lists (Upto f (n + 1)) ns
     node_skipped n ns few stale lists = lists_as (Upto f n) (Upto f (n + 1)) ns lists (λ r is. (is.0, λ later. is.1 (sooner n r later))) (λ r is meant. by r meant (within n r is))
       where
         none : Meant (tree (n ∷ [])) → ⊥
@@ -182,9 +182,9 @@ module _ (a : Image) (g : Graph) (holds : Holds a g) (id : Puid) (o : Object) (a
         by r meant (Node is from) = absurd (none (subst (λ (q : List ℕ). Meant (tree q)) is meant))
         by r meant (Leaf j is from) = absurd (both_ways _ stale (tell.node n few ∙ node_of_fresh a g holds id o at has d draft n j (passes_meant (n ∷ j ∷ []) (subst (λ (q : List ℕ). Meant (tree q)) is meant))))
 
-    module _ (n : ℕ) (few : n < 120) (reached : f < 128 * (n + 1)) (leaves : List ℕ) (read : leaves ≡ leaves_at a (pointer_to_node was.root n)) (fresh : is_fresh_node was n ≡ true) (ns : List ℕ) (lists : Lists (Upto f n) ns) where
+    module _ (n : ℕ) (few : n < node_pointers.count) (reached : f < leaf_pointers.count * (n + 1)) (leaves : List ℕ) (read : leaves ≡ leaves_at a (pointer_to_node was.root n)) (fresh : is_fresh_node was n ≡ true) (ns : List ℕ) (lists : Lists (Upto f n) ns) where
       abbrev place : ℕ
-      place = f - 128 * n
+      place = f - leaf_pointers.count * n
 
       -- so many leaves of the node are done
       abbrev Done : ℕ → List ℕ → Type 0
@@ -204,19 +204,19 @@ module _ (a : Image) (g : Graph) (holds : Holds a g) (id : Puid) (o : Object) (a
             (lists_as (Upto f n) (Done 0) ns lists (λ r is. inl (inl is)) (λ r is meant. elim is [ inl one ↦ elim one [ inl was_done ↦ was_done | inr here_is ↦ absurd (some_place here_is.1) ] | inr j ↦ absurd (omega (arith, j.1)) ])))
       ]
 
-      leaf_flag : (j : ℕ) → j < 128 → get_or was.leaves (128 * n + j) false ≡ passes (is_meant_for a id.block) ((tree_in a (content_of d)).below (n ∷ j ∷ []))
+      leaf_flag : (j : ℕ) → j < leaf_pointers.count → get_or was.leaves (leaf_pointers.count * n + j) false ≡ passes (is_meant_for a id.block) ((tree_in a (content_of d)).below (n ∷ j ∷ []))
       leaf_flag j less =
-          let one : (128 * n + j) / 128 ≡ n = omega (arith, less) in
-          let two : (128 * n + j) % 128 ≡ j = omega (arith, less) in
-          tell.leaf (128 * n + j) (omega (arith, few, less)) ∙ (λ i. passes (is_meant_for a id.block) ((tree_in a (content_of d)).below (one i ∷ two i ∷ [])))
+          let one : (leaf_pointers.count * n + j) / leaf_pointers.count ≡ n = omega (arith, less) in
+          let two : (leaf_pointers.count * n + j) % leaf_pointers.count ≡ j = omega (arith, less) in
+          tell.leaf (leaf_pointers.count * n + j) (omega (arith, few, less)) ∙ (λ i. passes (is_meant_for a id.block) ((tree_in a (content_of d)).below (one i ∷ two i ∷ [])))
 
       leaf_is : (j : ℕ) → tree (n ∷ j ∷ []) ≡ slice_index leaves j
       leaf_is j = read_leaf_is a was.root draft.tree.spelled.good.0 n j leaves read
 
-      leaves_done : (k : ℕ) → place + k ≤ 128 → Lists (Done k) ((ns ++ list_if (place == 0) (pointer_to_node was.root n)) ++ fresh_in was.leaves leaves n place k)
+      leaves_done : (k : ℕ) → place + k ≤ leaf_pointers.count → Lists (Done k) ((ns ++ list_if (place == 0) (pointer_to_node was.root n)) ++ fresh_in was.leaves leaves n place k)
       leaves_done zero room = subst (Lists (Done 0)) (sym (ap (λ (xs : List ℕ). (ns ++ list_if (place == 0) (pointer_to_node was.root n)) ++ xs) (none_in was.leaves leaves n place) ∙ append-nil (ns ++ list_if (place == 0) (pointer_to_node was.root n)))) first
       leaves_done (suc k) room =
-          let b = get_or was.leaves (128 * n + (place + k)) false in
+          let b = get_or was.leaves (leaf_pointers.count * n + (place + k)) false in
           let so_far = (ns ++ list_if (place == 0) (pointer_to_node was.root n)) ++ fresh_in was.leaves leaves n place k in
           let fresh_is = fresh_meant (n ∷ (place + k) ∷ []) b (leaf_flag (place + k) (omega (arith, room))) in
           let added = lists_add (Done k) (Done (suc k)) so_far (n ∷ (place + k) ∷ []) b (leaves_done k (omega (arith, room))) (λ is. not_done k is) fresh_is.0 fresh_is.1 (λ r is. further k r is) (inr (k, omega arith, refl)) (λ r is meant. last k r is) in
@@ -239,22 +239,22 @@ module _ (a : Image) (g : Graph) (holds : Holds a g) (id : Puid) (o : Object) (a
             | inr more ↦ let same : j.0 ≡ k = omega (arith, more, j.1) in inr (j.2 ∙ ap (λ (i : ℕ). n ∷ (place + i) ∷ []) same)
           ]
 
-      pub node_listed : Lists (Upto f (n + 1)) (ns ++ (list_if (place == 0) (pointer_to_node was.root n) ++ fresh_in was.leaves leaves n place (128 - place)))
-      node_listed = subst (Lists (Upto f (n + 1))) (append_assoc ns (list_if (place == 0) (pointer_to_node was.root n)) (fresh_in was.leaves leaves n place (128 - place)))
-          (lists_as (Done (128 - place)) (Upto f (n + 1)) _ (leaves_done (128 - place) (omega (arith, reached))) (λ r is. upto r is) (λ r is meant. by r meant (within n r is)))
+      pub node_listed : Lists (Upto f (n + 1)) (ns ++ (list_if (place == 0) (pointer_to_node was.root n) ++ fresh_in was.leaves leaves n place (leaf_pointers.count - place)))
+      node_listed = subst (Lists (Upto f (n + 1))) (append_assoc ns (list_if (place == 0) (pointer_to_node was.root n)) (fresh_in was.leaves leaves n place (leaf_pointers.count - place)))
+          (lists_as (Done (leaf_pointers.count - place)) (Upto f (n + 1)) _ (leaves_done (leaf_pointers.count - place) (omega (arith, reached))) (λ r is. upto r is) (λ r is meant. by r meant (within n r is)))
         where
-          upto : (r : List ℕ) → Done (128 - place) r → Upto f (n + 1) r
+          upto : (r : List ℕ) → Done (leaf_pointers.count - place) r → Upto f (n + 1) r
           upto r (inl (inl is)) = (is.0, λ later. is.1 (sooner n r later))
           upto r (inl (inr is)) = subst (Upto f (n + 1)) (sym is.0) (omega (arith, is.1), λ past. omega (arith, past))
           upto r (inr j) = subst (Upto f (n + 1)) (sym j.2) (
-            elim (cases_lt (f / 128) n) [ inl after ↦ inl after | inr near ↦ inr (omega (arith, near, reached), omega (arith, near, reached)) ],
+            elim (cases_lt (f / leaf_pointers.count) n) [ inl after ↦ inl after | inr near ↦ inr (omega (arith, near, reached), omega (arith, near, reached)) ],
             λ past. elim past [ inl p ↦ omega (arith, p) | inr p ↦ omega (arith, p.0) ],
           )
 
-          by : (r : List ℕ) → Meant (tree r) → Within n r → Done (128 - place) r
+          by : (r : List ℕ) → Meant (tree r) → Within n r → Done (leaf_pointers.count - place) r
           by r meant (Before is) = inl (inl is)
           by r meant (Node is from) = inl (inr (is, omega (arith, from)))
-          by r meant (Leaf j is from) = elim (cases_lt j 128) [
+          by r meant (Leaf j is from) = elim (cases_lt j leaf_pointers.count) [
             | inl less ↦ let here_is : j ≡ place + (j - place) = omega (arith, from) in inr (j - place, omega (arith, less, from, reached), is ∙ ap (λ (i : ℕ). n ∷ i ∷ []) here_is)
             | inr past ↦
                 let none : tree (n ∷ j ∷ []) ≡ 0 = leaf_is j ∙ get_or_past leaves j 0 (omega (arith, past, ap (length {A = ℕ}) read, length-leaves a (pointer_to_node was.root n))) in
@@ -262,7 +262,7 @@ module _ (a : Image) (g : Graph) (holds : Holds a g) (id : Puid) (o : Object) (a
           ]
 
     -- all are listed
-    pub all_listed : (ns : List ℕ) → Lists (Upto f 120) ns → AreShed a id d f ns
+    pub all_listed : (ns : List ℕ) → Lists (Upto f node_pointers.count) ns → AreShed a id d f ns
     all_listed ns lists = record {
       each = λ v h. let r = lists.each v h in record { meant = r.0; path = r.1.0; past = r.1.1.0; there = r.1.2 };
       all = λ v is. subst (λ (w : ℕ). has_number w ns ≡ true) is.there
@@ -270,10 +270,10 @@ module _ (a : Image) (g : Graph) (holds : Holds a g) (id : Puid) (o : Object) (a
       once = once_from ns lists.once;
     }
       where
-        no_node : (k : ℕ) → 120 ≤ k → slice_index was.root.nodes k ≡ 0
+        no_node : (k : ℕ) → node_pointers.count ≤ k → slice_index was.root.nodes k ≡ 0
         no_node k far = get_or_past was.root.nodes k 0 (omega (arith, far, draft.tree.spelled.good.0.count))
 
-        nowhere : (p : List ℕ) → IsPathPast (128 * 120) p → tree p ≡ 0
+        nowhere : (p : List ℕ) → IsPathPast (leaf_pointers.count * node_pointers.count) p → tree p ≡ 0
         nowhere [] far = absurd far
         nowhere (k ∷ []) far = node_at a was.root draft.tree.spelled.good.0 k ∙ no_node k (omega (arith, far))
         nowhere (k ∷ j ∷ []) far = leaf_at a was.root draft.tree.spelled.good.0 k j ∙ ap (λ (p : ℕ). leaf_from a p j) (no_node k (elim far [ inl more ↦ omega (arith, more) | inr at_end ↦ omega (arith, at_end.0) ]))

@@ -1,6 +1,6 @@
 -- The device calls that drop leaves from a draft: the node of the first is written without them, and claims are taken back.
 use Rattle.std.proofs.Common.{◌≡◌, ◌≢◌, ◌⊎◌, inl, inr, ℕ, ◌/◌, ◌%◌, ◌^◌, ◌<◌, ◌≤◌, Bool, true, false, List, [], ◌∷◌, length, Ok, Some, refl, sym, ◌∙◌, ap, subst, get_or-set_other, get_or-set_same, arith}
-use Rattle.special_files.proofs.Words.{AreClaimed, AreCounts, AreShed, BelongsTo, BlockNo, ChangesOnly, Claims, ClaimsAndDrops, Course, DraftView, Drafting, Drafts, Flips, Frame, GetsDraftNode, Ghosts, Graph, Had, HasDraft, Holds, IfErr, Image, IsOn, IsPathPast, IsShed, Kept, Leaves, MapEntry, MayFlip, Node, Object, Opened, Puid, Refused, Result, Root, StoreHas, Trouble, Undo, WritesDraftBlock, block_at, block_at-with_entry, both_ways, carries_framed, cases_Bool, changes_then, claimed_by, content_of, entry_in, entry_in-set, entry_in-with_entry_other, entry_in-with_entry_same, entry_in_table, false_from_ne_true, flipped, flips, frames_begin, frames_hold, free_is_loose, free_unowned, given_all, has_number, held, held_at, held_there, in_image, intended, is_damage, is_free_entry, is_free_in, is_meant, is_meant_for, is_owned_by, keeps_frame, leaf_pointers, leaves_at, length-with_entry, may_take_back, node_claims, node_place, not_map, numbers_differ, object_at, of_draft, one_path, opened_as, part_at, part_of, pointer, pointer_to_node, root_spelling, same_Some, slice_index, taken_apart, tree_in, tree_of, tree_placed, undone, wider}
+use Rattle.special_files.proofs.Words.{AreClaimed, AreCounts, AreShed, BelongsTo, BlockNo, ChangesOnly, Claims, ClaimsAndDrops, Course, DraftView, Drafting, Drafts, Flips, Frame, GetsDraftNode, Ghosts, Graph, Had, HasDraft, Holds, IfErr, Image, IsOn, IsPathPast, IsShed, Kept, Leaves, MapEntry, MayFlip, Node, Object, Opened, Puid, Refused, Result, Root, StoreHas, Trouble, Undo, WritesDraftBlock, block_at, block_at-with_entry, both_ways, carries_framed, cases_Bool, changes_then, claimed_by, content_of, entry_in, entry_in-set, entry_in-with_entry_other, entry_in-with_entry_same, entry_in_table, false_from_ne_true, flipped, flips, frames_begin, frames_hold, free_is_loose, free_unowned, given_all, has_number, held, held_at, held_there, in_image, intended, is_damage, is_free_entry, is_free_in, is_meant, is_meant_for, is_owned_by, keeps_frame, leaf_limit, leaf_pointers, leaves_at, length-with_entry, may_take_back, node_claims, node_place, not_map, numbers_differ, object_at, of_draft, one_path, opened_as, part_at, part_of, pointer, pointer_to_node, root_spelling, same_Some, slice_index, taken_apart, tree_in, tree_of, tree_placed, undone, wider}
 use Rattle.std.proofs.Math.ListN.{length-set}
 use Rattle.special_files.proofs.Amid.{IsAmid, amid_leaves, claim_leaves, claimed, write_leaves, wrote}
 use Rattle.special_files.proofs.commit.CommitEntries.{meant_not_free, undone_free}
@@ -93,14 +93,14 @@ module _ {D : Type 0} (g : Ghosts D) (graph : Graph) (ds : Drafts) (id : Puid) (
 -- from image a to image b the node was written, if the leaf lies within one, and nothing else changed
 pub record IsPut (a b : Image) (id : Puid) (d : Opened) (f y : ℕ) : Type 0 where
   pub size : length b ≡ length a
-  pub entries : (v : ℕ) → (f % 128 ≢ 0 → v ≢ y) → entry_in b v ≡ entry_in a v
-  pub contents : (v : ℕ) → v % 64 ≢ 0 → (f % 128 ≢ 0 → v ≢ y) → block_at b v ≡ block_at a v
-  pub node : f % 128 ≢ 0 → IsRewritten a b id d (f / 128) (f % 128) y
+  pub entries : (v : ℕ) → (f % leaf_pointers.count ≢ 0 → v ≢ y) → entry_in b v ≡ entry_in a v
+  pub contents : (v : ℕ) → v % 64 ≢ 0 → (f % leaf_pointers.count ≢ 0 → v ≢ y) → block_at b v ≡ block_at a v
+  pub node : f % leaf_pointers.count ≢ 0 → IsRewritten a b id d (f / leaf_pointers.count) (f % leaf_pointers.count) y
 
-pub put_none : (a : Image) (id : Puid) (d : Opened) (f y : ℕ) → f % 128 ≡ 0 → IsPut a a id d f y
+pub put_none : (a : Image) (id : Puid) (d : Opened) (f y : ℕ) → f % leaf_pointers.count ≡ 0 → IsPut a a id d f y
 put_none a id d f y whole = record { size = refl; entries = λ v apart. refl; contents = λ v real apart. refl; node = λ within. absurd (within whole) }
 
-module _ {D : Type 0} {g : Ghosts D} {d0 : D} {k0 : Kept} {was : Drafting} (u : DraftView g d0 k0 was) (d1 : D) (k1 : Kept) (leaves : List ℕ) (f : ℕ) (most : f < 15360) where
+module _ {D : Type 0} {g : Ghosts D} {d0 : D} {k0 : Kept} {was : Drafting} (u : DraftView g d0 k0 was) (d1 : D) (k1 : Kept) (leaves : List ℕ) (f : ℕ) (most : f < leaf_limit) where
   abbrev a : Image
   a = g.content d0
 
@@ -108,7 +108,7 @@ module _ {D : Type 0} {g : Ghosts D} {d0 : D} {k0 : Kept} {was : Drafting} (u : 
   old = root_spelling was.root
 
   abbrev n : ℕ
-  n = f / 128
+  n = f / leaf_pointers.count
 
   abbrev d : Opened
   d = opened_as was u.draft
@@ -208,8 +208,8 @@ module _ {D : Type 0} {g : Ghosts D} {d0 : D} {k0 : Kept} {was : Drafting} (u : 
           let claim = claimed g u.graph u.ds u.id u.object d0 k0 u.store u.at d0 d1 k0 k1 (intended (Node n) was.at) (Ok y) start enters is (not_root_node n) y refl (mine u d1 d1 k1 k1 leaves f most (Node n)) in
           rw stale (g.content d1, claimed_by _ a (g.content d1) y.0 is claim.1 claim.2, entry)
 
-      pub put_is : f % 128 ≢ 0 → leaves ≡ leaves_at a (pointer_to_node was.root n) → ((j : ℕ) → j < f % 128 → pointer leaf_pointers node j ≡ slice_index leaves j) → ((j : ℕ) → f % 128 ≤ j → pointer leaf_pointers node j ≡ 0)
-          → (j : ℕ) × (j < f % 128) × (slice_index leaves j ≢ 0) → IsPut a (g.content d2) u.id d f y.0
+      pub put_is : f % leaf_pointers.count ≢ 0 → leaves ≡ leaves_at a (pointer_to_node was.root n) → ((j : ℕ) → j < f % leaf_pointers.count → pointer leaf_pointers node j ≡ slice_index leaves j) → ((j : ℕ) → f % leaf_pointers.count ≤ j → pointer leaf_pointers node j ≡ 0)
+          → (j : ℕ) × (j < f % leaf_pointers.count) × (slice_index leaves j ≢ 0) → IsPut a (g.content d2) u.id d f y.0
       put_is within read kept past one =
           let is = (got y gets).1 in
           let long : length (g.content d2) ≡ length (g.content d1) = ap (length {A = List ℕ}) writes.written ∙ length-set (g.content d1) y.0 node in
@@ -248,13 +248,13 @@ module _ {D : Type 0} {g : Ghosts D} {d0 d2 : D} {k0 k2 : Kept} {was : Drafting}
   base_draft = the_draft base u.ds u.id was u.draft u.opened (u.store.account.drafts u.id u.object u.at)
 
   -- the node's block is none of them
-  not_y : (v : ℕ) → IsShed base u.id mine_d f v → f % 128 ≢ 0 → v ≢ y
+  not_y : (v : ℕ) → IsShed base u.id mine_d f v → f % leaf_pointers.count ≢ 0 → v ≢ y
   not_y v is within same =
       let node = put.node within in
       elim node.was [
         | inl free ↦ taken_not_free base v u.id.block (meant_is base u.id.block v is.meant).taken (subst (λ (k : ℕ). is_free_in base k ≡ true) (sym same) free)
         | inr there ↦
-            let path : is.path ≡ f / 128 ∷ [] = one_path base (length base) u.id.block (content_of mine_d) was.root u.draft.object base_draft.tree is.path (f / 128 ∷ []) (held base y) (held base y) (ap (held_at base) (is.there ∙ same) ∙ held_there base y node.some) (ap (held_at base) there ∙ held_there base y node.some) refl in
+            let path : is.path ≡ f / leaf_pointers.count ∷ [] = one_path base (length base) u.id.block (content_of mine_d) was.root u.draft.object base_draft.tree is.path (f / leaf_pointers.count ∷ []) (held base y) (held base y) (ap (held_at base) (is.there ∙ same) ∙ held_there base y node.some) (ap (held_at base) there ∙ held_there base y node.some) refl in
             omega (arith, within, subst (IsPathPast f) path is.past)
       ]
 
@@ -325,7 +325,7 @@ module _ {D : Type 0} {g : Ghosts D} {d0 d2 : D} {k0 k2 : Kept} {was : Drafting}
             some = node.some;
             below = omega (arith, node.below, long_end);
             meant = ap (is_owned_by is_meant u.id.block) here ∙ node.meant;
-            part = subst (BelongsTo u.id.block (Node (f / 128))) (ap part_of (sym here)) node.part;
+            part = subst (BelongsTo u.id.block (Node (f / leaf_pointers.count))) (ap part_of (sym here)) node.part;
             was = node.was;
             stays = node.stays;
             kept = λ j early. ap (λ (c : List ℕ). pointer leaf_pointers c j) (block_end y real) ∙ node.kept j early;

@@ -1,6 +1,6 @@
 -- The store after leaves were dropped from a draft.
 use Rattle.std.proofs.Common.{◌≡◌, ◌≢◌, ℕ, ◌+◌, ◌*◌, ◌/◌, ◌%◌, ◌^◌, ◌<◌, ◌≤◌, inl, inr, List, length, refl, sym, ◌∙◌, ap, subst, arith}
-use Rattle.special_files.proofs.Words.{All-from_get_or, All-get_or, ClaimsAndDrops, Drafting, DropsFrom, Fits, Forgets, Ghosts, HasDraft, Image, Kept, DraftView, border_claims, cases_lt, draft_in, fresh_of, is_meant_for, leaves_below, object_below, opened_as, root_spelling, slice_index, tree_in, DraftBecomes}
+use Rattle.special_files.proofs.Words.{All-from_get_or, All-get_or, ClaimsAndDrops, Drafting, DropsFrom, Fits, Forgets, Ghosts, HasDraft, Image, Kept, DraftView, border_claims, cases_lt, draft_in, fresh_of, is_meant_for, leaves_below, object_below, opened_as, root_spelling, slice_index, tree_in, DraftBecomes, leaf_limit, leaf_pointers, node_pointers}
 use Rattle.block_tree.specs.declared.root.Root as roots
 use Rattle.ufs_model.specs.declared.object.Draft as models
 use Rattle.special_files.proofs.Amid.{IsAmid}
@@ -9,26 +9,26 @@ use Rattle.special_files.proofs.PutStore.{flags_of, the_draft, becomes_now}
 use Rattle.special_files.proofs.shrink.Shed.{IsShort, leaves_gone, leaves_kept, short_stands, tell_short}
 
 -- its root has numbers of their widths
-short_fits : (root : roots.Root) (nodes : List ℕ) (f y : ℕ) → Fits root → (f % 128 ≢ 0 → y < 2 ^ 32) → length nodes ≡ length root.nodes → ((m : ℕ) → 128 * m + 128 ≤ f → slice_index nodes m ≡ slice_index root.nodes m)
-    → ((m : ℕ) → f ≤ 128 * m → slice_index nodes m ≡ 0) → (f % 128 ≢ 0 → slice_index nodes (f / 128) ≡ y) → Fits (record root { nodes = nodes })
+short_fits : (root : roots.Root) (nodes : List ℕ) (f y : ℕ) → Fits root → (f % leaf_pointers.count ≢ 0 → y < 2 ^ 32) → length nodes ≡ length root.nodes → ((m : ℕ) → leaf_pointers.count * m + leaf_pointers.count ≤ f → slice_index nodes m ≡ slice_index root.nodes m)
+    → ((m : ℕ) → f ≤ leaf_pointers.count * m → slice_index nodes m ≡ 0) → (f % leaf_pointers.count ≢ 0 → slice_index nodes (f / leaf_pointers.count) ≡ y) → Fits (record root { nodes = nodes })
 short_fits root nodes f y fits small long before past here = record {
   fill = fits.fill;
   word = fits.word;
   count = long ∙ fits.count;
-  nodes = All-from_get_or (λ p. p < 2 ^ 32) nodes 0 (λ m less. elim (cases_lt (128 * m) f) [
+  nodes = All-from_get_or (λ p. p < 2 ^ 32) nodes 0 (λ m less. elim (cases_lt (leaf_pointers.count * m) f) [
     | inr late ↦ omega (arith, past m late)
-    | inl low ↦ elim (cases_lt f (128 * m + 128)) [
+    | inl low ↦ elim (cases_lt f (leaf_pointers.count * m + leaf_pointers.count)) [
       | inr early ↦ let was = All-get_or (λ p. p < 2 ^ 32) root.nodes m 0 (omega (arith, less, long)) fits.nodes in subst (λ (p : ℕ). p < 2 ^ 32) (sym (before m early)) was
       | inl inside ↦
-          let within : f % 128 ≢ 0 = λ z. omega (arith, z, low, inside) in
-          let same : m ≡ f / 128 = omega (arith, low, inside) in
+          let within : f % leaf_pointers.count ≢ 0 = λ z. omega (arith, z, low, inside) in
+          let same : m ≡ f / leaf_pointers.count = omega (arith, low, inside) in
           subst (λ (p : ℕ). p < 2 ^ 32) (sym (ap (slice_index nodes) same ∙ here within)) (small within)
     ]
   ]);
 }
 
 module _ {D : Type 0} {g : Ghosts D} {old new : D} {before after : Kept} {was now : Drafting} {f y : ℕ} (v : DraftView g old before was) (amid : IsAmid g v.graph v.id old new after)
-    (short : IsShort (g.content old) (g.content new) v.id (opened_as was v.draft) f y) (small : f % 128 ≢ 0 → y < 2 ^ 32) (forgets : Forgets f y was now) where
+    (short : IsShort (g.content old) (g.content new) v.id (opened_as was v.draft) f y) (small : f % leaf_pointers.count ≢ 0 → y < 2 ^ 32) (forgets : Forgets f y was now) where
   abbrev a : Image
   a = g.content old
 
@@ -47,10 +47,10 @@ module _ {D : Type 0} {g : Ghosts D} {old new : D} {before after : Kept} {was no
   fits : Fits (record was.root { nodes = now.root.nodes })
   fits = short_fits was.root now.root.nodes f y draft.tree.spelled.good.0 small forgets.count (λ k early. (forgets.before k early).1) (λ k late. (forgets.past k late).1) (λ within. (forgets.here within).1)
 
-  long_leaves : length now.leaves ≡ 15360
+  long_leaves : length now.leaves ≡ leaf_limit
   long_leaves = forgets.long_leaves ∙ v.opened.leaf_flags
 
-  long_nodes : length now.nodes ≡ 120
+  long_nodes : length now.nodes ≡ node_pointers.count
   long_nodes = forgets.long_nodes ∙ v.opened.node_flags
 
   stands : HasDraft b v.id (opened_as now later)

@@ -1,6 +1,6 @@
 -- A draft whose last leaf was cut, and whose leaves past it were dropped, is the model's draft of that size.
 use Rattle.std.proofs.Common.{◌≡◌, ◌≢◌, ◌⊎◌, inl, inr, ℕ, zero, suc, ◌+◌, ◌-◌, ◌*◌, ◌/◌, ◌%◌, ◌<◌, ◌≤◌, Bool, true, false, List, [], ◌∷◌, get_or, Option, Some, None, refl, sym, ◌∙◌, ap, subst, arith, if◌then◌else◌, not}
-use Rattle.special_files.proofs.Words.{AreClaimed, Draft, DraftBecomes, Drafting, Drafts, DropsFrom, File, Ghosts, Graph, HasDraft, Held, Image, IsBorder, IsCutHere, IsOpen, IsRead, IsRoot, Kept, LeavesFit, NodeRead, Object, Puid, PutsLeaf, SetSize, SetsSize, Shrinks, StaysBut, StoreHas, all-rise, both_ways, bytes_held, cases_Bool, cases_lt, changed_draft, changed_object, cut_fit, cut_held, cut_object, draft_in, file_to_leaves, filter-rises, fresh_after, fresh_of, fun_ext, has_number, held_leaves, held_levels, held_nodes, held_of, in_all, in_filter, in_held, in_map, in_withs, is_fresh_leaf, is_fresh_node, is_meant_for, is_some, leaf_claims, leaf_content, leaves_at, leaves_below, leaves_in, map, merged, next_levels, object_at, object_below, object_with, opened_as, pointer_to_node, root_spelling, same_numbers, same_object, set_in, shared, size_of, sized, to_all, to_filter, tree_in, with_numbers, with_opened, within, ◌&&◌}
+use Rattle.special_files.proofs.Words.{AreClaimed, Draft, DraftBecomes, Drafting, Drafts, DropsFrom, File, Ghosts, Graph, HasDraft, Held, Image, IsBorder, IsCutHere, IsOpen, IsRead, IsRoot, Kept, LeavesFit, Way, Object, Puid, PutsLeaf, SetSize, SetsSize, Shrinks, StaysBut, StoreHas, all-rise, both_ways, bytes_held, cases_Bool, cases_lt, changed_draft, changed_object, cut_fit, cut_held, cut_object, draft_in, file_to_leaves, filter-rises, fresh_after, fresh_of, fun_ext, has_number, held_leaves, held_levels, held_nodes, held_of, in_all, in_filter, in_held, in_map, in_withs, is_fresh_leaf, is_fresh_node, is_meant_for, is_some, leaf_claims, leaf_content, leaves_at, leaves_below, leaves_in, map, merged, next_levels, object_at, object_below, object_with, opened_as, pointer_to_node, root_spelling, same_numbers, same_object, set_in, shared, size_of, sized, to_all, to_filter, tree_in, with_numbers, with_opened, within, ◌&&◌, leaf_limit, leaf_pointers, node_pointers, size_limit}
 use Rattle.cfs_base.specs.declared.kind.Kind.TheVariants as kinds
 use Rattle.leaf_changes.specs.Bytes as changes
 use Rattle.ufs_model.specs.declared.object.Object.TheVariants as objects
@@ -21,19 +21,19 @@ abbrev pub upto : Bool → ℕ → ℕ
 upto cut leaf = if cut then leaf + 1 else leaf
 
 -- the draft once the leaf within which the size ends is cut, where it is to be
-pub record CutTo {D : Type 0} (g : Ghosts D) (graph : Graph) (ds : Drafts) (id : Puid) (size : ℕ) (cut : Bool) (d0 d2 : D) (k2 : Kept) (was mid : Drafting) (read : NodeRead) : Type 0 where
+pub record CutTo {D : Type 0} (g : Ghosts D) (graph : Graph) (ds : Drafts) (id : Puid) (size : ℕ) (cut : Bool) (d0 d2 : D) (k2 : Kept) (was mid : Drafting) (read : Way) : Type 0 where
   pub draft : Draft
   pub becomes : DraftBecomes g graph ds id draft d0 d2 k2 mid
   pub stays : StaysBut was mid
   pub same : (l : ℕ) → (l ≡ size / 512 → cut ≡ false) → bytes_held (leaves_below (g.content d2) mid.root l) ≡ bytes_held (leaves_below (g.content d0) was.root l)
   pub here : cut ≡ true → bytes_held (leaves_below (g.content d2) mid.root (size / 512)) ≡ Some (changes.cut size was.root.fill (leaf_content was.root.fill (leaves_below (g.content d0) was.root (size / 512))))
   pub leaf_marks : Marks (λ l. l) (size / 512) (upto cut (size / 512)) was.leaves mid.leaves
-  pub node_marks : Marks (λ l. l / 128) (size / 512) (upto cut (size / 512)) was.nodes mid.nodes
+  pub node_marks : Marks (λ l. l / leaf_pointers.count) (size / 512) (upto cut (size / 512)) was.nodes mid.nodes
   pub read_is : IsRead (g.content d2) mid read
   pub order : AreClaimed (if cut then leaf_claims was.at was.leaves was.nodes (size / 512) else []) (g.content d0) (g.content d2)
 
 module _ {D : Type 0} (g : Ghosts D) (graph : Graph) (ds : Drafts) (id : Puid) (o : Object) (at : object_at graph id ≡ Some o) (d0 : D) (k0 : Kept) (was : Drafting) (d : Draft) (store : StoreHas g graph ds d0 k0) (opened : IsOpen ds id was d)
-    (size : ℕ) (d2 : D) (k2 : Kept) (mid : Drafting) (read : NodeRead) where
+    (size : ℕ) (d2 : D) (k2 : Kept) (mid : Drafting) (read : Way) where
   pub cut_none : d2 ≡ d0 → k2 ≡ k0 → mid ≡ was → IsRead (g.content d0) was read → CutTo g graph ds id size false d0 d2 k2 was mid read
   cut_none same kept still is = subst (λ (x : D). CutTo g graph ds id size false d0 x k2 was mid read) (sym same) (subst (λ (k : Kept). CutTo g graph ds id size false d0 d0 k was mid read) (sym kept)
       (subst (λ (m : Drafting). CutTo g graph ds id size false d0 d0 k0 was m read) (sym still) (record {
@@ -43,12 +43,12 @@ module _ {D : Type 0} (g : Ghosts D) (graph : Graph) (ds : Drafts) (id : Puid) (
         same = λ l any. refl;
         here = λ clash. cc;
         leaf_marks = marks_begin (λ l. l) (size / 512) was.leaves;
-        node_marks = marks_begin (λ l. l / 128) (size / 512) was.nodes;
+        node_marks = marks_begin (λ l. l / leaf_pointers.count) (size / 512) was.nodes;
         read_is = is;
         order = λ v. refl;
       })))
 
-  pub cut_some : size < 7864320 → StaysBut was mid
+  pub cut_some : size < size_limit → StaysBut was mid
       → PutsLeaf g graph ds id (size / 512) (changes.cut size was.root.fill (leaf_content was.root.fill (leaves_below (g.content d0) was.root (size / 512)))) d0 d2 k2 was mid read → CutTo g graph ds id size true d0 d2 k2 was mid read
   cut_some small stays puts =
       let begun = becomes_begin g graph ds id o at d0 k0 was d store opened in
@@ -59,7 +59,7 @@ module _ {D : Type 0} (g : Ghosts D) (graph : Graph) (ds : Drafts) (id : Puid) (
         same = λ l apart. puts.leaves.others l (λ is. let no = apart is in cc);
         here = λ is. puts.leaves.here;
         leaf_marks = marks_more (λ l. l) (size / 512) (size / 512) was.leaves was.leaves mid.leaves (marks_begin (λ l. l) (size / 512) was.leaves) (omega arith) (omega (arith, small, opened.leaf_flags)) puts.sets.leaves;
-        node_marks = marks_more (λ l. l / 128) (size / 512) (size / 512) was.nodes was.nodes mid.nodes (marks_begin (λ l. l / 128) (size / 512) was.nodes) (omega arith) (omega (arith, small, opened.node_flags)) puts.sets.nodes;
+        node_marks = marks_more (λ l. l / leaf_pointers.count) (size / 512) (size / 512) was.nodes was.nodes mid.nodes (marks_begin (λ l. l / leaf_pointers.count) (size / 512) was.nodes) (omega arith) (omega (arith, small, opened.node_flags)) puts.sets.nodes;
         read_is = puts.read_is;
         order = puts.order;
       }
@@ -89,10 +89,10 @@ none_held (Some h) is = cc
 -- ---- to less
 
 module _ {D : Type 0} (g : Ghosts D) (graph : Graph) (ds : Drafts) (id : Puid) (o : Object) (at : object_at graph id ≡ Some o) (d0 : D) (k0 : Kept) (was : Drafting) (d : Draft) (store : StoreHas g graph ds d0 k0) (opened : IsOpen ds id was d)
-    (f : File) (file : d.object ≡ objects.File f) (size : ℕ) (less : size < was.root.size) (limit : was.root.size ≤ 7864320)
-    (leaves : List ℕ) (read : leaves ≡ leaves_at (g.content d0) (pointer_to_node was.root ((leaves_in size - 1) / 128))) (from : ℕ) (border : IsBorder leaves ((leaves_in size - 1) / 128) (leaves_in size) from)
+    (f : File) (file : d.object ≡ objects.File f) (size : ℕ) (less : size < was.root.size) (limit : was.root.size ≤ size_limit)
+    (leaves : List ℕ) (read : leaves ≡ leaves_at (g.content d0) (pointer_to_node was.root ((leaves_in size - 1) / leaf_pointers.count))) (from : ℕ) (border : IsBorder leaves ((leaves_in size - 1) / leaf_pointers.count) (leaves_in size) from)
     (cut : Bool) (cuts : IsCutHere size leaves cut)
-    (d2 d3 : D) (k2 k3 : Kept) (mid now : Drafting) (next : NodeRead) (done : CutTo g graph ds id size cut d0 d2 k2 was mid next)
+    (d2 d3 : D) (k2 k3 : Kept) (mid now : Drafting) (next : Way) (done : CutTo g graph ds id size cut d0 d2 k2 was mid next)
     (drops : DropsFrom g graph (with_opened id (opened_as mid done.draft) ds) id from d2 d3 k3 mid now) where
   abbrev a : Image
   a = g.content d0
@@ -107,7 +107,7 @@ module _ {D : Type 0} (g : Ghosts D) (graph : Graph) (ds : Drafts) (id : Puid) (
   to = leaves_in size
 
   abbrev n : ℕ
-  n = (to - 1) / 128
+  n = (to - 1) / leaf_pointers.count
 
   abbrev old : ℕ → Option Held
   old = leaves_below a was.root
@@ -255,7 +255,7 @@ module _ {D : Type 0} (g : Ghosts D) (graph : Graph) (ds : Drafts) (id : Puid) (
       ]))
       (λ x h.
       let flag = in_set now.leaves x h in
-      to_filter (λ x. has_number x H) x (with_numbers a0 (set_in was.leaves)) (leaf_held b id _ small E first.is_open stands x (below_flags now.leaves 15360 x first.is_open.leaf_flags flag) flag)
+      to_filter (λ x. has_number x H) x (with_numbers a0 (set_in was.leaves)) (leaf_held b id _ small E first.is_open stands x (below_flags now.leaves leaf_limit x first.is_open.leaf_flags flag) flag)
       (to_all x a0 (set_in was.leaves) (elim (cases_lt x from) [
         | inr past ↦ absurd (both_ways _ (drops.forgets.leaf_past x past) flag)
         | inl before ↦ elim (done.leaf_marks.only x (sym (drops.forgets.leaf_before x before) ∙ flag)) [
@@ -270,11 +270,11 @@ module _ {D : Type 0} (g : Ghosts D) (graph : Graph) (ds : Drafts) (id : Puid) (
   second_fresh = same_numbers _ _ (filter-rises (λ x. has_number x (held_nodes E.object)) (with_numbers a1 (set_in was.nodes)) (all-rise a1 (set_in was.nodes) (set-rises was.nodes))) (set-rises now.nodes)
       (λ x h.
       let two = in_filter (λ x. has_number x (held_nodes E.object)) x (with_numbers a1 (set_in was.nodes)) h in
-      let l = in_map (λ (y : ℕ). y / 128) x H (in_withs x (map (λ (y : ℕ). y / 128) H) two.0) in
-      let low : 128 * x < from = (let before = in_H l.0 l.1 in omega (arith, before, l.2)) in
-      to_set now.nodes x (elim (cases_lt from (128 * x + 128)) [
+      let l = in_map (λ (y : ℕ). y / leaf_pointers.count) x H (in_withs x (map (λ (y : ℕ). y / leaf_pointers.count) H) two.0) in
+      let low : leaf_pointers.count * x < from = (let before = in_H l.0 l.1 in omega (arith, before, l.2)) in
+      to_set now.nodes x (elim (cases_lt from (leaf_pointers.count * x + leaf_pointers.count)) [
         | inl inside ↦
-            let here : from / 128 ≡ x = omega (arith, low, inside) in
+            let here : from / leaf_pointers.count ≡ x = omega (arith, low, inside) in
             subst (λ (y : ℕ). is_fresh_node now y ≡ true) here (drops.forgets.here (λ whole. omega (arith, whole, low, inside))).0
         | inr whole ↦ (drops.forgets.before x whole).0 ∙ elim (in_all x a1 (set_in was.nodes) two.1) [
           | inr was_set ↦ done.node_marks.old x (in_set was.nodes x was_set)
@@ -283,7 +283,7 @@ module _ {D : Type 0} (g : Ghosts D) (graph : Graph) (ds : Drafts) (id : Puid) (
               elim c.1 [
                 | inl stale ↦
                     let cut_it : cut ≡ true = left cut (not (is_fresh_leaf was e)) stale in
-                    let node : e / 128 ≡ x = omega (arith, (cuts.is cut_it).0, c.0) in
+                    let node : e / leaf_pointers.count ≡ x = omega (arith, (cuts.is cut_it).0, c.0) in
                     subst (λ (y : ℕ). is_fresh_node mid y ≡ true) node (done.node_marks.new e (omega arith) (omega (arith, upto_more cut_it)))
                 | inr within ↦ absurd (within (omega (arith, border.high, whole, c.0)))
               ]
@@ -291,23 +291,23 @@ module _ {D : Type 0} (g : Ghosts D) (graph : Graph) (ds : Drafts) (id : Puid) (
       ]))
       (λ x h.
       let flag = in_set now.nodes x h in
-      let few = below_flags now.nodes 120 x first.is_open.node_flags flag in
+      let few = below_flags now.nodes node_pointers.count x first.is_open.node_flags flag in
       to_filter (λ x. has_number x (held_nodes E.object)) x (with_numbers a1 (set_in was.nodes)) (node_held b id _ small E first.is_open stands x few flag)
-      (to_all x a1 (set_in was.nodes) (elim (cases_lt (128 * x) from) [
+      (to_all x a1 (set_in was.nodes) (elim (cases_lt (leaf_pointers.count * x) from) [
         | inr past ↦ absurd (both_ways _ (drops.forgets.past x past).0 flag)
-        | inl low ↦ elim (cases_lt from (128 * x + 128)) [
+        | inl low ↦ elim (cases_lt from (leaf_pointers.count * x + leaf_pointers.count)) [
           | inl inside ↦
-              let within : from % 128 ≢ 0 = λ whole. omega (arith, whole, low, inside) in
+              let within : from % leaf_pointers.count ≢ 0 = λ whole. omega (arith, whole, low, inside) in
               let here : n ≡ x = omega (arith, border.low, border.high, low, inside) in
               inl (subst (λ (y : ℕ). has_number y a1 ≡ true) here (within_a1 a ds id was d opened draft size less leaves read from border cut cuts within))
           | inr whole ↦ elim (done.node_marks.only x (sym (drops.forgets.before x whole).0 ∙ flag)) [
             | inl was_set ↦ inr (to_set was.nodes x was_set)
             | inr l ↦
                 let c = upto_is l.0 l.1 l.2 in
-                let node : e / 128 ≡ x = ap (λ (y : ℕ). y / 128) (sym c.1) ∙ l.3 in
+                let node : e / leaf_pointers.count ≡ x = ap (λ (y : ℕ). y / leaf_pointers.count) (sym c.1) ∙ l.3 in
                 elim (cases_Bool (is_fresh_leaf was e)) [
-                  | inl fresh ↦ inr (subst (λ (y : ℕ). has_number y (set_in was.nodes) ≡ true) node (to_set was.nodes (e / 128) (tell.node (e / 128) (omega (arith, few, node))
-                      ∙ node_of_fresh a graph store.account.holds id o at (store.account.objects id o at) (opened_as was d) draft (e / 128) (e % 128) (sym (tell.leaf e (omega (arith, few, node))) ∙ fresh))))
+                  | inl fresh ↦ inr (subst (λ (y : ℕ). has_number y (set_in was.nodes) ≡ true) node (to_set was.nodes (e / leaf_pointers.count) (tell.node (e / leaf_pointers.count) (omega (arith, few, node))
+                      ∙ node_of_fresh a graph store.account.holds id o at (store.account.objects id o at) (opened_as was d) draft (e / leaf_pointers.count) (e % leaf_pointers.count) (sym (tell.leaf e (omega (arith, few, node))) ∙ fresh))))
                   | inr stale ↦ inl (subst (λ (y : ℕ). has_number y a1 ≡ true) (omega (arith, (cuts.is c.0).0, node))
                       (stale_a1 a ds id was d opened draft size less leaves read from border cut cuts ((λ i. c.0 i && not (stale i)))))
                 ]

@@ -1,6 +1,6 @@
 -- The size of a draft changed, while its leaves stay.
 use Rattle.std.proofs.Common.{◌≡◌, ◌≢◌, inl, inr, ℕ, zero, suc, ◌+◌, ◌/◌, ◌%◌, ◌<◌, ◌≤◌, Bool, true, false, if◌then◌else◌, IsTrue, List, [], ◌∷◌, ◌++◌, length, get_or, refl, sym, ◌∙◌, ap, subst, arith}
-use Rattle.special_files.proofs.Words.{BelongsTo, Draft, DraftBecomes, DraftView, Drafting, Drafts, File, Fits, Ghosts, HasDraft, Image, IsFullFor, IsRoot, IsTree, Kept, LeavesFit, Object, Puid, Refused, Resized, SetSize, bytes_held, changed_draft, changed_object, file_to_leaves, filter, filter-rises, first_level, fresh_after, fun_ext, grown_fit, grown_object, has_number, held_at, held_leaves, held_levels, held_nodes, in_filter, inner_levels, is_meant_for, is_some, le-leb, leaves_below, levels_of, levels_standing, merged, missing, need_beside, next_levels, nothing_below, object_below, object_with, opened_as, passes, path_is, place_at, range_with_len, resize_anew, root_spelling, same_levels, same_numbers, set_in, shadow_need, shared, size_of, standing_at, sum, to_filter, tree_in, tree_of, with_opened, within, written_anew}
+use Rattle.special_files.proofs.Words.{BelongsTo, Draft, DraftBecomes, DraftView, Drafting, Drafts, File, Fits, Ghosts, HasDraft, Image, IsFullFor, IsRoot, IsTree, Kept, LeavesFit, Object, Puid, Refused, Resized, SetSize, bytes_held, changed_draft, changed_object, file_to_leaves, filter, filter-rises, first_level, fresh_after, fun_ext, grown_fit, grown_object, has_number, held_at, held_leaves, held_levels, held_nodes, in_filter, inner_levels, is_meant_for, is_some, le-leb, leaf_limit, leaf_pointers, leaves_below, levels_of, levels_standing, merged, missing, need_beside, next_levels, node_pointers, nothing_below, object_below, object_with, opened_as, passes, path_is, place_at, range_with_len, resize_anew, root_spelling, same_levels, same_numbers, set_in, shadow_need, shared, size_limit, size_of, standing_at, sum, to_filter, tree_in, tree_of, with_opened, within, written_anew}
 use Rattle.cfs_base.specs.declared.kind.Kind.TheVariants as kinds
 use Rattle.block_tree.specs.declared.root.Root as roots
 use Rattle.ufs_model.specs.declared.object.Object.TheVariants as objects
@@ -33,7 +33,7 @@ module _ (image : Image) (root : roots.Root) (size : ℕ) (fits : Fits root) whe
 
   pub same_leaf : (n : ℕ) → leaves_below image resized_root n ≡ leaves_below image root n
   same_leaf n =
-      ap (λ (p : List ℕ). (tree_in image (root_spelling resized_root)).below p) (path_is (root_spelling resized_root) n) ∙ same_below (n / 128 ∷ n % 128 ∷ [])
+      ap (λ (p : List ℕ). (tree_in image (root_spelling resized_root)).below p) (path_is (root_spelling resized_root) n) ∙ same_below (n / leaf_pointers.count ∷ n % leaf_pointers.count ∷ [])
       ∙ sym (ap (λ (p : List ℕ). (tree_in image (root_spelling root)).below p) (path_is (root_spelling root) n))
 
   same_standing : (test : ℕ → Bool) (k : ℕ) → get_or (levels_standing test (tree_in image (root_spelling root)) (length (levels_of (root_spelling root)))) k []
@@ -41,8 +41,8 @@ module _ (image : Image) (root : roots.Root) (size : ℕ) (fits : Fits root) whe
   same_standing test k =
       let old = tree_in image (root_spelling root) in
       let new = tree_in image (root_spelling resized_root) in
-      let leaves : standing_at test old 2 ≡ standing_at test new 2 = leaf_level test old ∙ ap (λ (P : ℕ → Bool). filter P (range_with_len 0 15360)) (fun_ext (λ l. ap (passes test) (sym (same_below (l / 128 ∷ l % 128 ∷ []))))) ∙ sym (leaf_level test new) in
-      let nodes : standing_at test old 1 ≡ standing_at test new 1 = node_level test old ∙ ap (λ (P : ℕ → Bool). filter P (range_with_len 0 120)) (fun_ext (λ n. ap (passes test) (sym (same_below (n ∷ []))))) ∙ sym (node_level test new) in
+      let leaves : standing_at test old 2 ≡ standing_at test new 2 = leaf_level test old ∙ ap (λ (P : ℕ → Bool). filter P (range_with_len 0 leaf_limit)) (fun_ext (λ l. ap (passes test) (sym (same_below (l / leaf_pointers.count ∷ l % leaf_pointers.count ∷ []))))) ∙ sym (leaf_level test new) in
+      let nodes : standing_at test old 1 ≡ standing_at test new 1 = node_level test old ∙ ap (λ (P : ℕ → Bool). filter P (range_with_len 0 node_pointers.count)) (fun_ext (λ n. ap (passes test) (sym (same_below (n ∷ []))))) ∙ sym (node_level test new) in
       ap (λ (ls : List (List ℕ)). get_or ls k []) (levels_are test old ∙ (λ i. leaves i ∷ nodes i ∷ []) ∙ sym (levels_are test new))
 
   pub sized_tree : (n owner : ℕ) (o : Object) → IsTree n owner (tree_in image (root_spelling root)) root o → IsRoot resized_root → LeavesFit resized_root (leaves_below image root)
@@ -96,7 +96,7 @@ within_next (ns ∷ levels) there k = refl
 
 -- ---- to more, or to the same
 
-module _ {D : Type 0} {g : Ghosts D} {d0 : D} {k0 : Kept} {was : Drafting} (v : DraftView g d0 k0 was) (f : File) (file : v.draft.object ≡ objects.File f) (size : ℕ) (more : was.root.size ≤ size) (limit : size ≤ 7864320) where
+module _ {D : Type 0} {g : Ghosts D} {d0 : D} {k0 : Kept} {was : Drafting} (v : DraftView g d0 k0 was) (f : File) (file : v.draft.object ≡ objects.File f) (size : ℕ) (more : was.root.size ≤ size) (limit : size ≤ size_limit) where
   abbrev a : Image
   a = g.content d0
 
@@ -144,12 +144,12 @@ module _ {D : Type 0} {g : Ghosts D} {d0 : D} {k0 : Kept} {was : Drafting} (v : 
   same_leaves : shared (get_or v.draft.fresh 0 []) (held_leaves e.object) ≡ get_or v.draft.fresh 0 []
   same_leaves =
       ap (λ (ns : List ℕ). shared ns (held_leaves e.object)) (v.opened.fresh 0)
-      ∙ all_shared was.leaves (held_leaves e.object) (λ x flag. leaf_held a v.id es now e first.is_open stands x (below_flags was.leaves 15360 x v.opened.leaf_flags flag) flag) ∙ sym (v.opened.fresh 0)
+      ∙ all_shared was.leaves (held_leaves e.object) (λ x flag. leaf_held a v.id es now e first.is_open stands x (below_flags was.leaves leaf_limit x v.opened.leaf_flags flag) flag) ∙ sym (v.opened.fresh 0)
 
   same_nodes : shared (get_or (next_levels v.draft.fresh) 0 []) (held_nodes e.object) ≡ get_or v.draft.fresh 1 []
   same_nodes =
       ap (λ (ns : List ℕ). shared ns (held_nodes e.object)) (next_is v.draft.fresh 0 ∙ v.opened.fresh 1)
-      ∙ all_shared was.nodes (held_nodes e.object) (λ x flag. node_held a v.id es now e first.is_open stands x (below_flags was.nodes 120 x v.opened.node_flags flag) flag) ∙ sym (v.opened.fresh 1)
+      ∙ all_shared was.nodes (held_nodes e.object) (λ x flag. node_held a v.id es now e first.is_open stands x (below_flags was.nodes node_pointers.count x v.opened.node_flags flag) flag) ∙ sym (v.opened.fresh 1)
 
   same_fresh : (k : ℕ) → get_or (within v.draft.fresh (held_levels e.object)) k [] ≡ get_or v.draft.fresh k []
   same_fresh zero = within_first v.draft.fresh (held_levels e.object) ∙ same_leaves

@@ -1,6 +1,7 @@
 -- Bytes written into a draft, leaf after leaf, on any disk.
 use Rattle.std.proofs.Common.{◌≡◌, inl, inr, ℕ, ◌+◌, ◌-◌, ◌*◌, ◌/◌, ◌<◌, ◌≤◌, Bool, true, false, List, length, set, Ok, Err, refl, sym, ◌∙◌, ap, subst, arith}
-use Rattle.special_files.proofs.Words.{AreClaimed, Draft, DraftBecomes, DraftView, Drafting, Drafts, EndsCall, File, Ghosts, GoesHolding, HasTried, IsFarRoot, IsOpen, IsRead, IsSafe, Kept, LeafCall, NodeRead, Overwrite, Puid, PutsLeaf, Refused, Result, StaysBut, WriteCall, WritesDraft, both_ways, cases_lt, changed_draft, claims_by_leaf, draft_takes, has_met_damage, is_full_refusal, leaf_content, leaves_below, leaves_in, leaves_take, leaves_written, ltb-false, ltb-true, nat_lt, need_beside, patched, refusal_after, shadow_need, sum, then, then_tried, top_of, write_need}
+use Rattle.special_files.proofs.Ways.{safe_of_none, way_of_none}
+use Rattle.special_files.proofs.Words.{AreClaimed, Draft, DraftBecomes, DraftView, Drafting, Drafts, EndsCall, File, Ghosts, GoesHolding, HasTried, IsFarRoot, IsOpen, IsRead, IsSafe, Kept, LeafCall, Way, Overwrite, Puid, PutsLeaf, Refused, Result, StaysBut, WriteCall, WritesDraft, both_ways, cases_lt, changed_draft, claims_by_leaf, draft_takes, has_met_damage, is_full_refusal, leaf_content, leaves_below, leaves_in, leaves_take, leaves_written, ltb-false, ltb-true, nat_lt, need_beside, patched, refusal_after, shadow_need, sum, then, then_tried, top_of, write_need, leaf_limit, leaf_pointers, node_pointers}
 use Rattle.std.proofs.Math.ListN.{length-set}
 use Rattle.cfs_base.specs.declared.refusal.Refused.TheVariants as refusals
 use Rattle.ufs_model.specs.declared.object.Object.TheVariants as objects
@@ -13,23 +14,23 @@ use Rattle.special_files.proofs.Refusals.{near_at}
 -- ---- leaf after leaf
 
 -- the leaves from the one at the offset on and before this one are written, and Free blocks are left for those before another, and for a shadow root
-pub record WriteRun {D : Type 0} (g : Ghosts D) (offset : ℕ) (bytes : List ℕ) (leaf to : ℕ) (d0 d1 : D) (k0 k1 : Kept) (was now : Drafting) (read : NodeRead) : Type 0 where
+pub record WriteRun {D : Type 0} (g : Ghosts D) (offset : ℕ) (bytes : List ℕ) (leaf to : ℕ) (d0 d1 : D) (k0 k1 : Kept) (was now : Drafting) (read : Way) : Type 0 where
   pub from : offset / 512 ≤ leaf
   pub upto : leaf ≤ to
-  pub most : to ≤ 15360
+  pub most : to ≤ leaf_limit
   pub ends : EndsCall {A = Unit {0}} g (top_of was) 0 (8 * (leaf - offset / 512)) (4 * (leaf - offset / 512)) (sum k0.free) d0 d1 k0 k1 (Ok tt)
   pub stays : StaysBut was now
   pub near : IsFarRoot (g.blocks d1) now.root → IsFarRoot (g.blocks d1) was.root
   pub safe : IsSafe (g.blocks d1) now read
-  pub long_leaves : length now.leaves ≡ 15360
-  pub long_nodes : length now.nodes ≡ 120
+  pub long_leaves : length now.leaves ≡ leaf_limit
+  pub long_nodes : length now.nodes ≡ node_pointers.count
   pub room : leaf < to → leaves_take now leaf to + shadow_need was ≤ sum k1.free
   pub spare : shadow_need was ≤ sum k1.free
   pub begun : leaf ≡ offset / 512 → (d1 ≡ d0) × (k1 ≡ k0) × (now ≡ was)
   pub tried : offset / 512 < leaf → HasTried g d0 d1
   pub model : (v : DraftView g d0 k0 was) → offset + length bytes ≤ was.root.size → WrittenTo g v.graph v.ds v.id offset bytes leaf d0 d1 k1 was now read
 
-pub run_begin : {D : Type 0} (g : Ghosts D) (offset : ℕ) (bytes : List ℕ) (to : ℕ) (d0 : D) (k0 : Kept) (was : Drafting) (read : NodeRead) → offset / 512 ≤ to → to ≤ 15360 → read.number ≡ 120 → length was.leaves ≡ 15360 → length was.nodes ≡ 120
+pub run_begin : {D : Type 0} (g : Ghosts D) (offset : ℕ) (bytes : List ℕ) (to : ℕ) (d0 : D) (k0 : Kept) (was : Drafting) (read : Way) → offset / 512 ≤ to → to ≤ leaf_limit → read.read ≡ 0 → length was.leaves ≡ leaf_limit → length was.nodes ≡ node_pointers.count
     → (offset / 512 < to → leaves_take was (offset / 512) to + shadow_need was ≤ sum k0.free) → shadow_need was ≤ sum k0.free → WriteRun g offset bytes (offset / 512) to d0 d0 k0 k0 was was read
 run_begin g offset bytes to d0 k0 was read order most none leaves nodes room spare = record {
   from = omega arith;
@@ -38,30 +39,30 @@ run_begin g offset bytes to d0 k0 was read order most none leaves nodes room spa
   ends = record { told = λ b is. is; refused = tt; untried = tt; cylinders = refl; left = refl; takes = omega arith; calls = makes_none g d0 (8 * (offset / 512 - offset / 512)) (4 * (offset / 512 - offset / 512)) };
   stays = stays_itself was;
   near = λ far. far;
-  safe = λ few. absurd (omega (arith, none, few));
+  safe = safe_of_none (g.blocks d0) was.root read none;
   long_leaves = leaves;
   long_nodes = nodes;
   room = room;
   spare = spare;
   begun = λ same. (refl, refl, refl);
   tried = λ late. absurd (omega (arith, late));
-  model = λ v within. written_begin g v.graph v.ds v.id v.object v.at d0 k0 was v.draft v.store v.opened offset bytes read (λ few. absurd (omega (arith, none, few))) (stays_itself was);
+  model = λ v within. written_begin g v.graph v.ds v.id v.object v.at d0 k0 was v.draft v.store v.opened offset bytes read (way_of_none (g.content d0) was.root read none) (stays_itself was);
 }
 
 room_left : (takes rest all spare before after : ℕ) → takes + rest ≤ all → all + spare ≤ before → before ≤ after + takes → (rest + spare ≤ after) × (spare ≤ after)
 room_left takes rest all spare before after less has left = (omega (arith, less, has, left), omega (arith, less, has, left))
 
-module _ {D : Type 0} {g : Ghosts D} {offset : ℕ} {bytes : List ℕ} {leaf to : ℕ} {d0 d1 : D} {k0 k1 : Kept} {was mid : Drafting} {read : NodeRead} (run : WriteRun g offset bytes leaf to d0 d1 k0 k1 was mid read) (more : leaf < to) where
+module _ {D : Type 0} {g : Ghosts D} {offset : ℕ} {bytes : List ℕ} {leaf to : ℕ} {d0 d1 : D} {k0 k1 : Kept} {was mid : Drafting} {read : Way} (run : WriteRun g offset bytes leaf to d0 d1 k0 k1 was mid read) (more : leaf < to) where
   below_leaves : leaf < length mid.leaves
   below_leaves = omega (arith, more, run.most, run.long_leaves)
 
-  below_nodes : leaf / 128 < length mid.nodes
+  below_nodes : leaf / leaf_pointers.count < length mid.nodes
   below_nodes = omega (arith, more, run.most, run.long_nodes)
 
   -- the leaf has its room
   pub leaf_room : draft_takes mid leaf ≤ sum k1.free
   leaf_room =
-      let now : Drafting = record mid { leaves = set mid.leaves leaf true; nodes = set mid.nodes (leaf / 128) true } in
+      let now : Drafting = record mid { leaves = set mid.leaves leaf true; nodes = set mid.nodes (leaf / leaf_pointers.count) true } in
       let less = takes_less leaf to mid now more below_nodes below_leaves (record { leaves = refl; nodes = inr refl }) in
       whole (draft_takes mid leaf) (leaves_take now (leaf + 1) to) (leaves_take mid leaf to) (shadow_need was) (sum k1.free) less (run.room more)
     where
@@ -72,22 +73,22 @@ module _ {D : Type 0} {g : Ghosts D} {offset : ℕ} {bytes : List ℕ} {leaf to 
   abbrev there : (v : DraftView g d0 k0 was) → offset + length bytes ≤ was.root.size → DraftView g d1 k1 mid
   there v within = let done = run.model v within in view done.becomes.steps.store v.at done.becomes.is_open
 
-  abbrev Writes : (D → Kept → Drafting → NodeRead → Result (Unit {0}) Refused → Type 0)
+  abbrev Writes : (D → Kept → Drafting → Way → Result (Unit {0}) Refused → Type 0)
   Writes d2 k2 now next result = (w : DraftView g d1 k1 mid) → IsRead (g.content d1) mid read → leaf < leaves_in mid.root.size → offset + length bytes ≤ mid.root.size
       → GoesHolding g w.graph (PutsLeaf g w.graph w.ds w.id leaf (patched leaf offset bytes (leaf_content mid.root.fill (leaves_below (g.content d1) mid.root leaf))) d1 d2 k2 mid now next) d1 d2 result
 
-  leaf_goes : (v : DraftView g d0 k0 was) (within : offset + length bytes ≤ was.root.size) (d2 : D) (k2 : Kept) (now : Drafting) (next : NodeRead) (result : Result (Unit {0}) Refused) → Writes d2 k2 now next result → to ≡ leaves_in (offset + length bytes)
+  leaf_goes : (v : DraftView g d0 k0 was) (within : offset + length bytes ≤ was.root.size) (d2 : D) (k2 : Kept) (now : Drafting) (next : Way) (result : Result (Unit {0}) Refused) → Writes d2 k2 now next result → to ≡ leaves_in (offset + length bytes)
       → GoesHolding g v.graph (PutsLeaf g v.graph (there v within).ds v.id leaf (patched leaf offset bytes (leaf_content mid.root.fill (leaves_below (g.content d1) mid.root leaf))) d1 d2 k2 mid now next) d1 d2 result
   leaf_goes v within d2 k2 now next result writes end =
       let done = run.model v within in
       let size : mid.root.size ≡ was.root.size = done.stays.root.size in
       writes (there v within) done.read_is (omega (arith, more, end, within, size)) (omega (arith, within, size))
 
-  here : {d2 : D} {k2 : Kept} {now : Drafting} {next : NodeRead} {result : Result (Unit {0}) Refused} → LeafCall g 8 leaf d1 d2 k1 k2 mid now next result → EndsCall g (top_of was) 0 8 4 (draft_takes mid leaf) d1 d2 k1 k2 result
+  here : {d2 : D} {k2 : Kept} {now : Drafting} {next : Way} {result : Result (Unit {0}) Refused} → LeafCall g 8 leaf d1 d2 k1 k2 mid now next result → EndsCall g (top_of was) 0 8 4 (draft_takes mid leaf) d1 d2 k1 k2 result
   here calls = ends_at {at = top_of mid} {now = top_of was} run.stays.at (near_at mid.root was.root calls.ends.calls.same.size run.near) calls.ends
 
   -- the leaf was written
-  pub run_more : {d2 : D} {k2 : Kept} {now : Drafting} {next : NodeRead} → LeafCall g 8 leaf d1 d2 k1 k2 mid now next (Ok tt) → Writes d2 k2 now next (Ok tt) → to ≡ leaves_in (offset + length bytes) → WriteRun g offset bytes (leaf + 1) to d0 d2 k0 k2 was now next
+  pub run_more : {d2 : D} {k2 : Kept} {now : Drafting} {next : Way} → LeafCall g 8 leaf d1 d2 k1 k2 mid now next (Ok tt) → Writes d2 k2 now next (Ok tt) → to ≡ leaves_in (offset + length bytes) → WriteRun g offset bytes (leaf + 1) to d0 d2 k0 k2 was now next
   run_more {d2} {k2} {now} {next} calls writes end = record {
     from = omega (arith, run.from);
     upto = omega (arith, more);
@@ -100,7 +101,7 @@ module _ {D : Type 0} {g : Ghosts D} {offset : ℕ} {bytes : List ℕ} {leaf to 
     long_leaves = ap (length {A = Bool}) calls.flags.leaves ∙ length-set mid.leaves leaf true ∙ run.long_leaves;
     long_nodes = elim calls.flags.nodes [
       | inl same ↦ ap (length {A = Bool}) same.1 ∙ run.long_nodes
-      | inr set_now ↦ ap (length {A = Bool}) set_now ∙ length-set mid.nodes (leaf / 128) true ∙ run.long_nodes
+      | inr set_now ↦ ap (length {A = Bool}) set_now ∙ length-set mid.nodes (leaf / leaf_pointers.count) true ∙ run.long_nodes
     ];
     room = λ further. left.0;
     spare = left.1;
@@ -119,7 +120,7 @@ module _ {D : Type 0} {g : Ghosts D} {offset : ℕ} {bytes : List ℕ} {leaf to 
       all_stays = stays_then was mid now run.stays calls.stays
 
   -- the leaf was refused
-  module _ {d2 : D} {k2 : Kept} {now : Drafting} {next : NodeRead} {e : Refused} (calls : LeafCall g 8 leaf d1 d2 k1 k2 mid now next (Err e)) (error : Refused) (same : error ≡ refusal_after (nat_lt (offset / 512) leaf) e) where
+  module _ {d2 : D} {k2 : Kept} {now : Drafting} {next : Way} {e : Refused} (calls : LeafCall g 8 leaf d1 d2 k1 k2 mid now next (Err e)) (error : Refused) (same : error ≡ refusal_after (nat_lt (offset / 512) leaf) e) where
     first : nat_lt (offset / 512) leaf ≡ false → leaf ≡ offset / 512
     first early = omega (arith, ltb-false (offset / 512) leaf early, run.from)
 
@@ -200,7 +201,7 @@ write_full g d0 k0 was offset bytes floor n e need is less = record {
 
 -- ---- all leaves
 
-module _ {D : Type 0} {g : Ghosts D} {offset : ℕ} {bytes : List ℕ} {leaf to : ℕ} {d0 d1 : D} {k0 k1 : Kept} {was now : Drafting} {read : NodeRead} (run : WriteRun g offset bytes leaf to d0 d1 k0 k1 was now read) (over : to ≤ leaf) (end : to ≡ leaves_in (offset + length bytes)) where
+module _ {D : Type 0} {g : Ghosts D} {offset : ℕ} {bytes : List ℕ} {leaf to : ℕ} {d0 d1 : D} {k0 k1 : Kept} {was now : Drafting} {read : Way} (run : WriteRun g offset bytes leaf to d0 d1 k0 k1 was now read) (over : to ≤ leaf) (end : to ≡ leaves_in (offset + length bytes)) where
   run_written : (v : DraftView g d0 k0 was) (f : File) → offset + length bytes ≤ was.root.size → v.draft.object ≡ objects.File f → DraftBecomes g v.graph v.ds v.id (changed_draft (Overwrite offset bytes) v.draft) d0 d1 k1 now
   run_written v f within file =
       let last : leaf ≡ leaves_in (offset + length bytes) = omega (arith, over, run.upto, end) in

@@ -1,6 +1,6 @@
 -- Leaves written into a draft one after another, and what has become of it then.
 use Rattle.std.proofs.Common.{◌≡◌, inl, ℕ, suc, ◌+◌, ◌-◌, ◌/◌, ◌<◌, ◌≤◌, Bool, true, List, [], length, get_or, set, Some, refl, sym, ◌∙◌, ap, subst, arith}
-use Rattle.special_files.proofs.Words.{AreClaimed, Draft, DraftBecomes, Drafting, Drafts, File, Ghosts, Graph, HasDraft, Holds, Image, IsOpen, IsRead, IsTree, Kept, Leaves, NodeRead, Object, Overwrite, Puid, PutsLeaf, StaysBut, Steps, StoreHas, WritesTo, changed_draft, changed_object, changes_begin, changes_then, claims_by_leaf, claims_then, draft_in, fresh_of, leaf_claims, leaf_content, leaves_below, leaves_in, object_at, object_with, opened_as, patched, root_spelling, same_object, then, tree_in, with_opened, writes_begin, writes_more, writes_object}
+use Rattle.special_files.proofs.Words.{AreClaimed, Draft, DraftBecomes, Drafting, Drafts, File, Ghosts, Graph, HasDraft, Holds, Image, IsOpen, IsRead, IsTree, Kept, Leaves, Way, Object, Overwrite, Puid, PutsLeaf, StaysBut, Steps, StoreHas, WritesTo, changed_draft, changed_object, changes_begin, changes_then, claims_by_leaf, claims_then, draft_in, fresh_of, leaf_claims, leaf_content, leaves_below, leaves_in, object_at, object_with, opened_as, patched, root_spelling, same_object, then, tree_in, with_opened, writes_begin, writes_more, writes_object, leaf_limit, leaf_pointers}
 use Rattle.ufs_model.specs.declared.object.Object.TheVariants as objects
 use Rattle.special_files.proofs.Amid.{amid_begins}
 use Rattle.vol_owners.proofs.Drafts.{with_again, with_same}
@@ -9,14 +9,14 @@ use Rattle.special_files.proofs.View.{no_index}
 use Rattle.special_files.proofs.PutStore.{the_draft, becomes_now}
 
 -- the leaves from one on and before another are written
-pub record WrittenTo {D : Type 0} (g : Ghosts D) (graph : Graph) (ds : Drafts) (id : Puid) (offset : ℕ) (bytes : List ℕ) (leaf : ℕ) (old now : D) (space : Kept) (was is : Drafting) (read : NodeRead) : Type 0 where
+pub record WrittenTo {D : Type 0} (g : Ghosts D) (graph : Graph) (ds : Drafts) (id : Puid) (offset : ℕ) (bytes : List ℕ) (leaf : ℕ) (old now : D) (space : Kept) (was is : Drafting) (read : Way) : Type 0 where
   pub draft : Draft
   pub becomes : DraftBecomes g graph ds id draft old now space is
   pub images : Leaves g old now (λ c. Holds c graph)
   pub stays : StaysBut was is
   pub leaves : WritesTo leaf was.root.fill offset bytes (leaves_below (g.content old) was.root) (leaves_below (g.content now) is.root)
   pub leaf_marks : Marks (λ l. l) (offset / 512) leaf was.leaves is.leaves
-  pub node_marks : Marks (λ l. l / 128) (offset / 512) leaf was.nodes is.nodes
+  pub node_marks : Marks (λ l. l / leaf_pointers.count) (offset / 512) leaf was.nodes is.nodes
   pub read_is : IsRead (g.content now) is read
   -- what is claimed for more leaves follows what was claimed for these
   pub order : (n : ℕ) (c : Image) → AreClaimed (claims_by_leaf is.at is.leaves is.nodes leaf n) (g.content now) c → AreClaimed (claims_by_leaf was.at was.leaves was.nodes (offset / 512) (leaf - offset / 512 + n)) (g.content old) c
@@ -61,7 +61,7 @@ module _ {D : Type 0} (g : Ghosts D) (graph : Graph) (ds : Drafts) (id : Puid) (
       becomes_again d0 d1 k1 now now d e is stands refl refl refl refl (λ k. fresh k ∙ is.is_open.fresh k)
 
   module _ (d0 : D) (k0 : Kept) (was : Drafting) (d : Draft) (store : StoreHas g graph ds d0 k0) (opened : IsOpen ds id was d) (offset : ℕ) (bytes : List ℕ) where
-    pub written_begin : (read : NodeRead) → IsRead (g.content d0) was read → StaysBut was was → WrittenTo g graph ds id offset bytes (offset / 512) d0 d0 k0 was was read
+    pub written_begin : (read : Way) → IsRead (g.content d0) was read → StaysBut was was → WrittenTo g graph ds id offset bytes (offset / 512) d0 d0 k0 was was read
     written_begin read is stays = record {
       draft = d;
       becomes = becomes_begin d0 k0 was d store opened;
@@ -69,13 +69,13 @@ module _ {D : Type 0} (g : Ghosts D) (graph : Graph) (ds : Drafts) (id : Puid) (
       stays = stays;
       leaves = writes_begin was.root.fill offset bytes (leaves_below (g.content d0) was.root);
       leaf_marks = marks_begin (λ l. l) (offset / 512) was.leaves;
-      node_marks = marks_begin (λ l. l / 128) (offset / 512) was.nodes;
+      node_marks = marks_begin (λ l. l / leaf_pointers.count) (offset / 512) was.nodes;
       read_is = is;
       order = λ n c more. subst (λ (k : ℕ). AreClaimed (claims_by_leaf was.at was.leaves was.nodes (offset / 512) k) (g.content d0) c) (omega arith) more;
     }
 
     -- a leaf that was put with its bytes
-    pub written_more : (leaf : ℕ) (d1 d2 : D) (k1 k2 : Kept) (mid now : Drafting) (read next : NodeRead) → offset / 512 ≤ leaf → leaf < 15360 → (done : WrittenTo g graph ds id offset bytes leaf d0 d1 k1 was mid read)
+    pub written_more : (leaf : ℕ) (d1 d2 : D) (k1 k2 : Kept) (mid now : Drafting) (read next : Way) → offset / 512 ≤ leaf → leaf < leaf_limit → (done : WrittenTo g graph ds id offset bytes leaf d0 d1 k1 was mid read)
         → PutsLeaf g graph (with_opened id (opened_as mid done.draft) ds) id leaf (patched leaf offset bytes (leaf_content mid.root.fill (leaves_below (g.content d1) mid.root leaf))) d1 d2 k2 mid now next
         → Leaves g d1 d2 (λ c. Holds c graph) → StaysBut mid now → StaysBut was now → WrittenTo g graph ds id offset bytes (leaf + 1) d0 d2 k2 was now next
     written_more leaf d1 d2 k1 k2 mid now read next from most done puts images stays all = record {
@@ -86,18 +86,18 @@ module _ {D : Type 0} (g : Ghosts D) (graph : Graph) (ds : Drafts) (id : Puid) (
       leaves = writes_more was.root.fill offset bytes (leaves_below (g.content d0) was.root) leaf (leaves_below (g.content d1) mid.root) (leaves_below (g.content d2) now.root) from done.leaves
           (puts.leaves.here ∙ ap (λ (fill : ℕ). Some (patched leaf offset bytes (leaf_content fill (leaves_below (g.content d1) mid.root leaf)))) done.stays.root.fill) puts.leaves.others;
       leaf_marks = marks_more (λ l. l) (offset / 512) leaf was.leaves mid.leaves now.leaves done.leaf_marks from (omega (arith, done.becomes.is_open.leaf_flags, most)) puts.sets.leaves;
-      node_marks = marks_more (λ l. l / 128) (offset / 512) leaf was.nodes mid.nodes now.nodes done.node_marks from (omega (arith, done.becomes.is_open.node_flags, most)) puts.sets.nodes;
+      node_marks = marks_more (λ l. l / leaf_pointers.count) (offset / 512) leaf was.nodes mid.nodes now.nodes done.node_marks from (omega (arith, done.becomes.is_open.node_flags, most)) puts.sets.nodes;
       read_is = puts.read_is;
       order = λ n c more.
           let rest = λ (at : ℕ) (ls ns : List Bool). AreClaimed (claims_by_leaf at ls ns (leaf + 1) n) (g.content d2) c in
-          let moved : rest mid.at (set mid.leaves leaf true) (set mid.nodes (leaf / 128) true) = subst (λ (ns : List Bool). rest mid.at (set mid.leaves leaf true) ns) puts.sets.nodes
+          let moved : rest mid.at (set mid.leaves leaf true) (set mid.nodes (leaf / leaf_pointers.count) true) = subst (λ (ns : List Bool). rest mid.at (set mid.leaves leaf true) ns) puts.sets.nodes
           (subst (λ (ls : List Bool). rest mid.at ls now.nodes) puts.sets.leaves (subst (λ (at : ℕ). rest at now.leaves now.nodes) stays.at more)) in
           subst (λ (k : ℕ). AreClaimed (claims_by_leaf was.at was.leaves was.nodes (offset / 512) k) (g.content d0) c) (omega (arith, from))
           (done.order (suc n) c (claims_then (leaf_claims mid.at mid.leaves mid.nodes leaf) _ (g.content d1) (g.content d2) c puts.order moved));
     }
 
     -- all leaves are written: the draft is the model's
-    module _ (f : File) (file : d.object ≡ objects.File f) (inside : offset + length bytes ≤ was.root.size) (d1 : D) (k1 : Kept) (now : Drafting) (read : NodeRead)
+    module _ (f : File) (file : d.object ≡ objects.File f) (inside : offset + length bytes ≤ was.root.size) (d1 : D) (k1 : Kept) (now : Drafting) (read : Way)
         (done : WrittenTo g graph ds id offset bytes (leaves_in (offset + length bytes)) d0 d1 k1 was now read) where
       abbrev a : Image
       a = g.content d0

@@ -2,6 +2,7 @@ use Rattle.file_ops.proofs.Words.{refl, sym, arith, subst, HasNoneFresh}
 use Rattle.file_ops.proofs.Beside.{ended, never_begun, refused_change}
 use Rattle.file_ops.proofs.Exact.{resized_drafts}
 use Rattle.file_ops.proofs.Views.{begun_by, view_begun}
+use Rattle.block_tree.specs.Pointers.{leaf_limit, node_pointers}
 use Rattle.special_files.proofs.Levels.{none_is}
 use Rattle.file_ops.proofs.special.resize_beside.Goals as goal
 
@@ -29,7 +30,7 @@ returns-in-Ok-resize-clause-changes g c =
     let s = r.call.stays in
     let w = c.has_fresh_nodes-wrote.ensures in
     let b = begun_by c.in-Ok.ensures.begins c.in-Ok.ensures.call in
-    let told = r.call.told (subst HasNoneFresh (sym b.call.begun) (record { leaves = none_is 15360; nodes = none_is 120 })) in
+    let told = r.call.told (subst HasNoneFresh (sym b.call.begun) (record { leaves = none_is leaf_limit; nodes = none_is node_pointers.count })) in
     ended (record {
       begun = b;
       goes = λ m. let x = r.goes (view_begun m b) in record { done = resized_drafts m b s.shadow (x.done m.file refl); leaves = x.leaves; sound = tt };

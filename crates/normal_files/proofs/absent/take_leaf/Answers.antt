@@ -1,6 +1,6 @@
-use Rattle.normal_files.proofs.Words.{◌∙◌, ap, refl, sym, subst, arith, Refused, refused_by, trouble_after_try}
+use Rattle.normal_files.proofs.Words.{◌≡◌, ◌∙◌, ℕ, Bool, true, ap, refl, sym, subst, arith, Ok, Err, Result, BlockNo, Ghosts, Kept, Refused, refused_by, trouble_after_try}
 use Rattle.normal_files.specs.Ends.{Halts, is_damaged}
-use Rattle.normal_files.specs.Takes.{leaf_takes}
+use Rattle.normal_files.specs.Takes.{Claims, GetsNode, Had, leaf_takes}
 use Rattle.normal_files.proofs.Ending.{enters_halts, halts_within, leaf_gone, leaf_halts, node_halts, takes_one}
 use Rattle.normal_files.proofs.TakeLeaf.{leaf_err, leaf_taken, node_err, write_leaves}
 use Rattle.normal_files.proofs.absent.take_leaf.Goals as goal
@@ -23,6 +23,17 @@ returns-in-Err-take_node-clause-ends g c =
 pub returns-in-Ok-write_block-clause-takes : goal.returns-in-Ok-write_block-clause-takes
 returns-in-Ok-write_block-clause-takes g c = λ offset bytes w may.
     leaf_taken may c.requires.below c.requires.some (omega arith) c.in-Ok.block c.in-Ok.ensures.enters c.in-Ok-take_node.node c.in-Ok-take_node.ensures c.in-Ok-write_block.ensures.writes refl
+
+kept : {D : Type 0} {g : Ghosts D} {n owner : ℕ} {held : Bool} {block : ℕ} {old new : D} {before after : Kept} {x : BlockNo} → GetsNode g n owner held block old new before after (Ok x) → held ≡ true → x.0 ≡ block
+kept {block = block} (Had is same left got) held = ap (λ (r : Result BlockNo Refused). first r) got
+  where
+    first : Result BlockNo Refused → ℕ
+    first (Ok x) = x.0
+    first (Err e) = 0
+kept (Claims not enters) held = (let clash = sym held ∙ not in cc)
+
+pub returns-in-Ok-write_block-clause-kept : goal.returns-in-Ok-write_block-clause-kept
+returns-in-Ok-write_block-clause-kept g c = kept c.in-Ok-take_node.ensures
 
 pub returns-in-Ok-write_block-clause-ends : goal.returns-in-Ok-write_block-clause-ends
 returns-in-Ok-write_block-clause-ends g c = leaf_gone c.in-Ok.ensures.enters c.in-Ok-take_node.ensures c.in-Ok-write_block.ensures.writes

@@ -2,26 +2,27 @@ use Rattle.normal_files.proofs.Words.{arith, leaf_pointers, node_pointers, leaf_
 use Rattle.normal_files.proofs.Freed.{follows_on, follows_as}
 use Rattle.normal_files.proofs.FreedRun.{end_err, end_first, end_node, end_rest}
 use Rattle.normal_files.proofs.free.free_past.Goals as goal
-use Rattle.std.proofs.Common.{refl}
+use Rattle.std.proofs.Common.{ap, refl}
+use Rattle.block_tree.specs.declared.node.Node as nodes
 use Rattle.leaf_changes.specs.Tops.{root_top, still_top}
 
 pub returns-in-Err-clause-frees : goal.returns-in-Err-clause-frees
 returns-in-Err-clause-frees g c =
     end_err g.D.Disk c.args.root.now c.args.size c.args.end.now c.requires.allowed c.args.disk.now c.free_leaves.new.disk c.args.space.now c.free_leaves.new.space _ _ c.in-Err.trouble
-    (end_first g.D.Disk c.args.root.now c.args.size c.args.end.now c.requires.allowed c.args.disk.now c.free_leaves.new.disk c.args.space.now c.free_leaves.new.space c.leaves_in-keep.result c.last_node-last.result c.leaves_in-keep.ensures c.last_node-last.ensures.node _ c.in-Err.ensures.frees)
+    (end_first g.D.Disk c.args.root.now c.args.size c.args.end.now c.requires.allowed c.args.disk.now c.free_leaves.new.disk c.args.space.now c.free_leaves.new.space c.leaves_in-keep.result c.last_node-last.result c.leaves_in-keep.ensures c.last_node-last.ensures.node (ap (λ (n : nodes.Node). n.leaves) c.way_node.ensures.node) _ c.in-Err.ensures.frees)
 
 pub returns-in-Err-free-clause-frees : goal.returns-in-Err-free-clause-frees
 returns-in-Err-free-clause-frees g c =
     end_err g.D.Disk c.args.root.now c.args.size c.args.end.now c.requires.allowed c.args.disk.now c.free.new.disk c.args.space.now c.free.new.space _ _ c.in-Err-free.trouble
     (end_node g.D.Disk c.args.root.now c.args.size c.args.end.now c.requires.allowed c.args.disk.now c.free_leaves.new.disk c.args.space.now c.free_leaves.new.space (still_top c.args.at.0) c.last_node-last.result c.gone_block.result c.free.new.disk c.free.new.space _ c.last_node-last.ensures.node c.gone_block.ensures
-    (end_first g.D.Disk c.args.root.now c.args.size c.args.end.now c.requires.allowed c.args.disk.now c.free_leaves.new.disk c.args.space.now c.free_leaves.new.space c.leaves_in-keep.result c.last_node-last.result c.leaves_in-keep.ensures c.last_node-last.ensures.node _ c.in-Ok.ensures.frees)
+    (end_first g.D.Disk c.args.root.now c.args.size c.args.end.now c.requires.allowed c.args.disk.now c.free_leaves.new.disk c.args.space.now c.free_leaves.new.space c.leaves_in-keep.result c.last_node-last.result c.leaves_in-keep.ensures c.last_node-last.ensures.node (ap (λ (n : nodes.Node). n.leaves) c.way_node.ensures.node) _ c.in-Ok.ensures.frees)
     c.in-Err-free.ensures.frees c.in-Err-free.ensures.follows)
 
 pub returns-clause-frees : goal.returns-clause-frees
 returns-clause-frees g c =
     end_rest g.D.Disk c.args.root.now c.args.size c.args.end.now c.requires.allowed c.args.disk.now c.free.new.disk c.args.space.now c.free.new.space c.last_node-last.result leaf_limit node_pointers.count c.free_nodes.new.disk c.free_nodes.new.space c.free_nodes.result c.last_node-last.ensures.node
     (end_node g.D.Disk c.args.root.now c.args.size c.args.end.now c.requires.allowed c.args.disk.now c.free_leaves.new.disk c.args.space.now c.free_leaves.new.space (still_top c.args.at.0) c.last_node-last.result c.gone_block.result c.free.new.disk c.free.new.space _ c.last_node-last.ensures.node c.gone_block.ensures
-    (end_first g.D.Disk c.args.root.now c.args.size c.args.end.now c.requires.allowed c.args.disk.now c.free_leaves.new.disk c.args.space.now c.free_leaves.new.space c.leaves_in-keep.result c.last_node-last.result c.leaves_in-keep.ensures c.last_node-last.ensures.node _ c.in-Ok.ensures.frees)
+    (end_first g.D.Disk c.args.root.now c.args.size c.args.end.now c.requires.allowed c.args.disk.now c.free_leaves.new.disk c.args.space.now c.free_leaves.new.space c.leaves_in-keep.result c.last_node-last.result c.leaves_in-keep.ensures c.last_node-last.ensures.node (ap (λ (n : nodes.Node). n.leaves) c.way_node.ensures.node) _ c.in-Ok.ensures.frees)
     c.in-Ok-free.ensures.frees c.in-Ok-free.ensures.follows)
     c.free_nodes.ensures.frees
 

@@ -10,7 +10,7 @@ pub returns-in-Err-clause-shrunk : goal.returns-in-Err-clause-shrunk
 returns-in-Err-clause-shrunk g c = λ v less. (
   record { done = tt; images = images_read c.in-Err.ensures.reads _ },
   tt,
-  c.in-Err.ensures.sound v.store.carries.tells (near_of v.has _ (g.met.D.Disk.sized c.args.disk.now v.store.carries.tells.honest) _),
+  c.in-Err.ensures.sound v.store.carries.tells (near_of v.has _ (g.met.D.Disk.sized c.args.disk.now v.store.carries.tells.honest)),
 )
 
 pub returns-in-Err-clause-refused : goal.returns-in-Err-clause-refused

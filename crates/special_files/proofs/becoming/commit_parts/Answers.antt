@@ -1,5 +1,5 @@
 use Rattle.std.proofs.Common.{Option, refl, ◌∙◌, ap, subst, arith}
-use Rattle.special_files.proofs.Words.{AreDraftParts, BlockNo, number_if, FarShadow, FarMade, FarRoots}
+use Rattle.special_files.proofs.Words.{AreDraftParts, BlockNo, number_if, FarShadow, FarMade, FarRoots, commit_calls, commit_tries}
 use Rattle.special_files.proofs.commit.CommitCalls.{commits_far, commits_on}
 use Rattle.special_files.proofs.CommitDraft.{far_apart, shadow_below}
 use Rattle.special_files.proofs.commit.CommitStore.{made_below}
@@ -19,7 +19,7 @@ returns-in-Err g c = record {
   commits = λ was v made parts makes.
       let far = c.in-Err.ensures.far.0 in
       absurd (omega (arith, made_below v far.n (parts.created_is ∙ far.is), g.met.D.Disk.sized c.args.disk.now v.store.carries.tells.honest, far.far));
-  ends = commits_far 31207 15485 (FarMade c.in-Err.ensures.far.0) c.in-Err.ensures.far.1;
+  ends = commits_far commit_calls commit_tries (FarMade c.in-Err.ensures.far.0) c.in-Err.ensures.far.1;
   tried = λ some. far_apart c.args.at.0 c.in-Err.trouble c.in-Err.ensures.far.1;
   untried = λ same. absurd (far_apart c.args.at.0 c.in-Err.trouble c.in-Err.ensures.far.1 same);
 }
@@ -29,7 +29,7 @@ returns-in-Err-is_on_disk g c =
     let far = c.in-Err-is_on_disk.ensures.far in
     record {
       commits = λ was v made parts makes. absurd (omega (arith, shadow_below v c.in-Some.block.0 (parts.shadow_is ∙ ap number_if c.in-Some.is), g.met.D.Disk.sized c.args.disk.now v.store.carries.tells.honest, far.0));
-      ends = commits_far 31207 15485 (FarShadow (record { n = c.in-Some.block.0; is = ap number_if c.in-Some.is; far = far.0 })) far.1;
+      ends = commits_far commit_calls commit_tries (FarShadow (record { n = c.in-Some.block.0; is = ap number_if c.in-Some.is; far = far.0 })) far.1;
       tried = λ some. far_apart c.args.at.0 c.in-Err-is_on_disk.trouble far.1;
       untried = λ same. absurd (far_apart c.args.at.0 c.in-Err-is_on_disk.trouble far.1 same);
     }
@@ -40,7 +40,7 @@ pub returns-in_default : goal.returns-in_default
 returns-in_default g c = record {
   commits = λ was v made parts makes. c.commit_direct.ensures.commits was v made
       (subst (λ (x : Option BlockNo). AreDraftParts was c.args.at.0 (number_if x) c.args.own.now c.args.root.now (number_if c.args.created)) c.in_default.is parts) makes;
-  ends = commits_on (no_reads g.D.Disk c.args.disk.now 0) refl FarRoots c.commit_direct.ensures.ends 31207 15485 (omega arith) (omega arith);
+  ends = commits_on (no_reads g.D.Disk c.args.disk.now 0) refl FarRoots c.commit_direct.ensures.ends commit_calls commit_tries (omega arith) (omega arith);
   tried = λ some. absurd (some (ap number_if c.in_default.is));
   untried = c.commit_direct.ensures.untried;
 }
@@ -50,4 +50,4 @@ returns-in-Ok-is_on_disk-clause-commits g c = λ was v made parts makes. c.commi
     (subst (λ (x : Option BlockNo). AreDraftParts was c.args.at.0 (number_if x) c.args.own.now c.args.root.now (number_if c.args.created)) c.in-Some.is parts) makes
 
 pub returns-in-Ok-is_on_disk-clause-ends : goal.returns-in-Ok-is_on_disk-clause-ends
-returns-in-Ok-is_on_disk-clause-ends g c = commits_on (no_reads g.D.Disk c.args.disk.now 0) refl FarRoots c.commit_begun.ensures.ends 31207 15485 (omega arith) (omega arith)
+returns-in-Ok-is_on_disk-clause-ends g c = commits_on (no_reads g.D.Disk c.args.disk.now 0) refl FarRoots c.commit_begun.ensures.ends commit_calls commit_tries (omega arith) (omega arith)

@@ -1,5 +1,5 @@
 use Rattle.std.proofs.Common.{ℕ, ◌∙◌, ap, subst, arith, inl, inr}
-use Rattle.special_files.proofs.Words.{Image, leaves_at, tells_on, nodes_top}
+use Rattle.special_files.proofs.Words.{Image, leaves_at, tells_on, nodes_top, node_blocks}
 use Rattle.special_files.specs.Changed.{Adds}
 use Rattle.special_files.proofs.changed.ChangedRun.{node_adds, node_told}
 use Rattle.special_files.proofs.Refusals.{node_trouble, trouble_after_reads}
@@ -27,7 +27,7 @@ returns-clause-dropped g c = λ tells.
 pub returns-clause-takes : goal.returns-clause-takes
 returns-clause-takes g c =
     let size = c.in-Ok.ensures.reads.same.size in
-    subst (λ (n : ℕ). Adds n 129 c.args.taken.now c.add_node.new.list) size
+    subst (λ (n : ℕ). Adds n node_blocks c.args.taken.now c.add_node.new.list) size
     (node_adds (g.D.Disk.blocks c.read_node.new.disk) c.args.new c.args.own c.in-Ok-read_node.node.leaves c.in-Ok.node.leaves c.args.taken.now c.add_node.new.list c.add_node.ensures (omega (arith, c.requires.some, size)) c.in-Ok-read_node.ensures.there c.in-Ok-read_node.ensures.leaves)
 
 pub returns-clause-drops : goal.returns-clause-drops

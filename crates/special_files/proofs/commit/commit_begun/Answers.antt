@@ -1,5 +1,5 @@
 use Rattle.std.proofs.Common.{◌≡◌, ◌≢◌, ℕ, ◌+◌, ◌*◌, ◌<◌, false, length, refl, sym, ◌∙◌, ap, subst, arith}
-use Rattle.special_files.proofs.Words.{All, AreOnDisk, Holds, IsChanged, IsDraftTrouble, Tells, Trouble, all_ok, is_damage, makes_then, opened_as, reads_make, root_spelling, roots_top, still_tells, tells_on, then, tried_then}
+use Rattle.special_files.proofs.Words.{All, AreOnDisk, Holds, IsChanged, IsDraftTrouble, Tells, Trouble, all_ok, begun_calls, begun_tries, changed_reads, is_damage, makes_then, opened_as, reads_make, root_spelling, roots_top, still_tells, tells_on, then, tried_then}
 use Rattle.cfs_base.specs.declared.refusal.Trouble.TheVariants as troubles
 use Rattle.special_files.proofs.CommitDraft.{after_damage, below_all, finish_apart, finish_tried, shadow_leaves, shadow_reads, shadow_stands, shadow_view, tried_apart}
 use Rattle.special_files.proofs.commit.CommitCalls.{commits_stopped}
@@ -11,7 +11,7 @@ use Rattle.special_files.proofs.commit.commit_begun.Goals as goal
 pub returns-in-Err : goal.returns-in-Err
 returns-in-Err g c = record {
   commits = λ was v made parts makes. commit_stops (shadow_leaves v parts.shadow_is c.write_own.ensures.images) refl;
-  ends = commits_stopped c.in-Err.ensures.stopped (makes_more g.D.Disk c.args.disk.now c.write_own.new.disk 1 1 31205 15484 (omega arith) (omega arith) c.write_own.ensures.calls);
+  ends = commits_stopped c.in-Err.ensures.stopped (makes_more g.D.Disk c.args.disk.now c.write_own.new.disk 1 1 begun_calls begun_tries (omega arith) (omega arith) c.write_own.ensures.calls);
   untried = λ same. cc;
 }
 
@@ -29,7 +29,7 @@ returns-in-Err-changed g c =
       ends = commits_stopped
           (subst (IsDraftTrouble g.D.Disk (roots_top c.args.at.0 c.args.own.now c.args.root.now) c.args.disk.now c.changed.new.disk c.args.space.now) (sym c.after_try.ensures)
           (trouble_after_tried g.D.Disk (roots_top c.args.at.0 c.args.own.now c.args.root.now) 0 c.args.disk.now c.write_own.new.disk c.changed.new.disk c.args.space.now 1 1 c.write_own.ensures.calls c.write_own.ensures.tried told c.in-Err-changed.trouble (c.in-Err-changed.ensures.refused c.args.space.now)))
-          (makes_then g.D.Disk c.args.disk.now c.write_own.new.disk c.changed.new.disk 1 240 31205 1 0 15484 c.write_own.ensures.calls (reads_make g.D.Disk c.write_own.new.disk c.changed.new.disk 240 reads) (omega arith) (omega arith));
+          (makes_then g.D.Disk c.args.disk.now c.write_own.new.disk c.changed.new.disk 1 changed_reads begun_calls 1 0 begun_tries c.write_own.ensures.calls (reads_make g.D.Disk c.write_own.new.disk c.changed.new.disk changed_reads reads) (omega arith) (omega arith));
       untried = subst (λ (t : Trouble). t ≢ troubles.Disk false) (sym c.after_try.ensures) (tried_apart c.in-Err-changed.trouble);
     }
 
@@ -53,10 +53,10 @@ returns g c =
     let told = c.in-Ok.ensures.told in
     let reads = c.changed.ensures.reads in
     let room = c.in-Ok-changed.ensures.room in
-    let first = makes_then g.D.Disk c.args.disk.now c.write_own.new.disk c.changed.new.disk 1 240 241 1 0 1 c.write_own.ensures.calls (reads_make g.D.Disk c.write_own.new.disk c.changed.new.disk 240 reads) (omega arith) (omega arith) in
-    let calls = makes_then g.D.Disk c.args.disk.now c.changed.new.disk c.finish.new.disk 241 (2 * length c.as_slice.result.now + 4) 31205 1 (length c.as_slice.result.now + 3) 15484 first c.finish.ensures.calls (omega (arith, room.0, room.1, ap (length {A = ℕ}) c.as_slice.ensures)) (omega (arith, room.0, room.1, ap (length {A = ℕ}) c.as_slice.ensures)) in
-    let tells_amid = λ (tells : Tells g.D.Disk c.args.disk.now). tells_on g.D.Disk c.write_own.new.disk c.changed.new.disk c.finish.new.disk 240 reads (still_tells g.D.Disk tells told c.write_own.ensures.calls.same) in
-    let tried = tried_then g.D.Disk c.args.disk.now c.write_own.new.disk c.finish.new.disk 31205 15484 c.write_own.ensures.tried (makes_then g.D.Disk c.write_own.new.disk c.changed.new.disk c.finish.new.disk 240 (2 * length c.as_slice.result.now + 4) 31205 0 (length c.as_slice.result.now + 3) 15484 (reads_make g.D.Disk c.write_own.new.disk c.changed.new.disk 240 reads) c.finish.ensures.calls (omega (arith, room.0, room.1, ap (length {A = ℕ}) c.as_slice.ensures)) (omega (arith, room.0, room.1, ap (length {A = ℕ}) c.as_slice.ensures))) in
+    let first = makes_then g.D.Disk c.args.disk.now c.write_own.new.disk c.changed.new.disk 1 changed_reads (1 + changed_reads) 1 0 1 c.write_own.ensures.calls (reads_make g.D.Disk c.write_own.new.disk c.changed.new.disk changed_reads reads) (omega arith) (omega arith) in
+    let calls = makes_then g.D.Disk c.args.disk.now c.changed.new.disk c.finish.new.disk (1 + changed_reads) (2 * length c.as_slice.result.now + 4) begun_calls 1 (length c.as_slice.result.now + 3) begun_tries first c.finish.ensures.calls (omega (arith, room.0, room.1, ap (length {A = ℕ}) c.as_slice.ensures)) (omega (arith, room.0, room.1, ap (length {A = ℕ}) c.as_slice.ensures)) in
+    let tells_amid = λ (tells : Tells g.D.Disk c.args.disk.now). tells_on g.D.Disk c.write_own.new.disk c.changed.new.disk c.finish.new.disk changed_reads reads (still_tells g.D.Disk tells told c.write_own.ensures.calls.same) in
+    let tried = tried_then g.D.Disk c.args.disk.now c.write_own.new.disk c.finish.new.disk begun_calls begun_tries c.write_own.ensures.tried (makes_then g.D.Disk c.write_own.new.disk c.changed.new.disk c.finish.new.disk changed_reads (2 * length c.as_slice.result.now + 4) begun_calls 0 (length c.as_slice.result.now + 3) begun_tries (reads_make g.D.Disk c.write_own.new.disk c.changed.new.disk changed_reads reads) c.finish.ensures.calls (omega (arith, room.0, room.1, ap (length {A = ℕ}) c.as_slice.ensures)) (omega (arith, room.0, room.1, ap (length {A = ℕ}) c.as_slice.ensures))) in
     record {
       commits = λ was v made parts makes.
           let lists = c.in-Ok-changed.ensures.changed c.args.space.now was (shadow_view v parts.shadow_is c.in-Ok.ensures) parts.own_is parts.root_is in
@@ -64,7 +64,7 @@ returns g c =
           (subst (IsChanged (g.D.Disk.content c.write_own.new.disk) v.id (opened_as was v.draft) c.changed.new.taken) (sym c.as_slice.ensures) lists) in
           commit_ends (shadow_reads stands reads) parts.created_is made makes (v.opened.at ∙ parts.at_is) c.finish.ensures.finishes;
       ends = record {
-        refused = finish_tried g.D.Disk (roots_top c.args.at.0 c.args.own.now c.args.root.now) c.args.disk.now c.changed.new.disk c.finish.new.disk c.finish.new.space 241 1 _ _ first tells_amid c.finish.ensures.calls tried c.finish.result c.finish.ensures.fails;
+        refused = finish_tried g.D.Disk (roots_top c.args.at.0 c.args.own.now c.args.root.now) c.args.disk.now c.changed.new.disk c.finish.new.disk c.finish.new.space (1 + changed_reads) 1 _ _ first tells_amid c.finish.ensures.calls tried c.finish.result c.finish.ensures.fails;
         made = all_ok c.finish.result tried;
         settled = λ tells. c.finish.ensures.settled (tells_amid tells);
         cylinders = c.finish.ensures.cylinders;

@@ -1,5 +1,5 @@
 use Rattle.std.proofs.Common.{ℕ, length, refl, sym, ap, subst, arith}
-use Rattle.special_files.proofs.Words.{Image, Makes, number_if, reads_make}
+use Rattle.special_files.proofs.Words.{Image, Makes, changed_reads, commit_calls, commit_tries, number_if, reads_make}
 use Rattle.special_files.proofs.commit.CommitCalls.{commits_on, commits_stopped}
 use Rattle.special_files.proofs.CommitDone.{makes_more}
 use Rattle.special_files.proofs.commit.CommitStore.{commit_after, commit_stops}
@@ -11,7 +11,7 @@ returns-in-Err-clause-commits g c = λ was v made parts makes.
     commit_stops (read_leaves c.changed.ensures.reads) (c.in-Err.ensures.sound c.args.space.now was v parts.own_is parts.root_is)
 
 pub returns-in-Err-clause-ends : goal.returns-in-Err-clause-ends
-returns-in-Err-clause-ends g c = commits_stopped (c.in-Err.ensures.refused c.args.space.now) (makes_more g.D.Disk c.args.disk.now c.changed.new.disk 240 0 31207 15485 (omega arith) (omega arith) (reads_make g.D.Disk c.args.disk.now c.changed.new.disk 240 c.changed.ensures.reads))
+returns-in-Err-clause-ends g c = commits_stopped (c.in-Err.ensures.refused c.args.space.now) (makes_more g.D.Disk c.args.disk.now c.changed.new.disk changed_reads 0 commit_calls commit_tries (omega arith) (omega arith) (reads_make g.D.Disk c.args.disk.now c.changed.new.disk changed_reads c.changed.ensures.reads))
 
 pub returns-clause-commits : goal.returns-clause-commits
 returns-clause-commits g c = λ was v made parts makes.
@@ -25,4 +25,4 @@ pub returns-clause-ends : goal.returns-clause-ends
 returns-clause-ends g c =
     let few = c.in-Ok.ensures.room.1 in
     let long = ap (length {A = ℕ}) c.as_slice.ensures in
-    commits_on c.changed.ensures.reads refl (λ far. absurd far) c.commit_listed.ensures.ends 31207 15485 (omega (arith, few, long)) (omega (arith, few, long))
+    commits_on c.changed.ensures.reads refl (λ far. absurd far) c.commit_listed.ensures.ends commit_calls commit_tries (omega (arith, few, long)) (omega (arith, few, long))

@@ -1,7 +1,7 @@
 use Rattle.std.proofs.Common.{◌≡◌, ◌+◌, ◌<◌, ℕ, List, length, get_or, take, refl, sym, ◌∙◌, ap, subst, arith}
 use Rattle.block_tree.proofs.Words.{All, Image, Node, length-take, node_levels, reads_then, reads_within, tells_on}
 use Rattle.block_tree.proofs.Descents.{HasTop, last_below, leaf_on, length-path, on_way, reads_none, way_trouble_after}
-use Rattle.block_tree.specs.Along.{IsWay, IsWayWithin, pointer_on}
+use Rattle.block_tree.specs.Along.{IsTopWithin, IsWay, IsWayWithin, pointer_on}
 use Rattle.block_tree.specs.Path.{SamePlaces, no_node}
 use Rattle.block_tree.specs.Reads.{IsNear}
 use Rattle.block_tree.proofs.along.Way.get.Goals as goal
@@ -12,6 +12,7 @@ loop-depth-init g c = record {
   path = c.turn.ensures.path ∙ c.path_of.ensures.path;
   within = λ d less. subst (λ (ns : List Node). All (λ n. n < g.D.Disk.blocks c.args.disk.now) (get_or ns d no_node).leaves) (sym c.turn.ensures.nodes) (c.requires.within d (omega (arith, less, c.turn.ensures.less)));
   way = λ tells is. is;
+  top = λ is. is;
   reads = reads_none g.D.Disk _ c.args.disk.now;
 }
 
@@ -30,6 +31,7 @@ loop-depth-preserved g c =
           let was = before.way tells is in
           subst (λ (i : Image). IsWay i c.args.root.now c.go_down.new.self) before.reads.content
           (done.way (tells_on g.D.Disk d mid mid _ before.reads tells) (subst (λ (i : Image). IsWay i c.args.root.now c.loop-depth.self) (sym before.reads.content) was));
+      top = λ is. subst (λ (n : ℕ). IsTopWithin n c.args.root.now c.go_down.new.self) size (done.top_within (subst (λ (n : ℕ). IsTopWithin n c.args.root.now c.loop-depth.self) (sym size) (before.top is)));
       reads = reads_then g.D.Disk d mid c.go_down.new.disk _ 1 _ before.reads done.reads (omega (arith, c.loop-depth.auto.depth));
     }
 
@@ -38,6 +40,13 @@ returns-in-Err-clause-refused g c = way_trouble_after g.D.Disk c.args.at.0 c.arg
 
 pub returns-in-Err-clause-within : goal.returns-in-Err-clause-within
 returns-in-Err-clause-within g c = subst (λ (n : ℕ). IsWayWithin n c.go_down.new.self) c.loop-depth.invariant.reads.same.size c.in-Err.ensures.within
+
+pub returns-in-Err-clause-top : goal.returns-in-Err-clause-top
+returns-in-Err-clause-top g c is =
+    let before = c.loop-depth.invariant in
+    let size = before.reads.same.size in
+    subst (λ (n : ℕ). IsTopWithin n c.args.root.now c.go_down.new.self) size
+    (c.in-Err.ensures.top_within (subst (λ (n : ℕ). IsTopWithin n c.args.root.now c.loop-depth.self) (sym size) (before.top (c.turn.ensures.top (g.D.Disk.blocks c.args.disk.now) c.args.root.now is))))
 
 pub returns-in-Err-clause-way : goal.returns-in-Err-clause-way
 returns-in-Err-clause-way g c tells is =
@@ -76,6 +85,9 @@ returns-clause-block g c tells is =
 
 pub returns-clause-way : goal.returns-clause-way
 returns-clause-way g c tells is = c.loop-depth.invariant.way tells (c.turn.ensures.way (g.D.Disk.content c.args.disk.now) c.args.root.now is)
+
+pub returns-clause-top : goal.returns-clause-top
+returns-clause-top g c is = c.loop-depth.invariant.top (c.turn.ensures.top (g.D.Disk.blocks c.args.disk.now) c.args.root.now is)
 
 pub returns-clause-to : goal.returns-clause-to
 returns-clause-to g c = record { path = c.loop-depth.invariant.path; whole = omega (arith, c.loop-depth.invariant.read, c.loop-depth-test.false, c.loop-depth.self.good.most, c.loop-depth.auto.depth) }

@@ -1,38 +1,32 @@
-use Rattle.normal_files.proofs.Words.{inl, inr, sym, ◌∙◌, ap, subst, arith, IsNear, leaves_at}
-use Rattle.normal_files.proofs.Refusals.{node_trouble}
-use Rattle.normal_files.proofs.Trees.{near_none}
+use Rattle.normal_files.proofs.Words.{◌≡◌, ℕ, ◌/◌, ◌∙◌, ap, arith, leaf_pointers, leaves_at}
+use Rattle.normal_files.specs.Laid.{node_of}
+use Rattle.normal_files.proofs.Refusals.{way_refused}
+use Rattle.normal_files.proofs.Ways.{no_places, unread_top, unread_way, way_own, way_top}
 use Rattle.normal_files.proofs.part.Part.read.Goals as goal
-use Rattle.leaf_changes.specs.Tops.{root_top}
-use Rattle.block_tree.specs.Reads.{IsPast}
 
-pub returns-in-Ok-clause-read : goal.returns-in-Ok-clause-read
-returns-in-Ok-clause-read g c = record {
-  number = c.requires.number;
-  from = omega (arith, c.of_node-leaves.ensures.from);
-  to = omega (arith, c.of_node-leaves.ensures.to);
-  some = omega (arith, c.of_node-leaves.ensures.from, c.of_node-leaves.ensures.to, c.requires.order, c.requires.from, c.requires.to);
-  own = c.in-Ok.ensures.leaves;
-  count = c.in-Ok.ensures.count;
-}
+pub returns-in-Err-clause-refused : goal.returns-in-Err-clause-refused
+returns-in-Err-clause-refused g c = way_refused g.D.Disk c.args.at.0 c.args.root.now c.args.disk.now c.get.new.disk c.in-Err.trouble c.in-Err.ensures.refused
+
+pub returns-in-Err-clause-reads : goal.returns-in-Err-clause-reads
+returns-in-Err-clause-reads g c = c.in-Err.ensures.reads 0 (omega arith) (no_places _ _)
+
+pub returns-in-Ok-clause-reads : goal.returns-in-Ok-clause-reads
+returns-in-Ok-clause-reads g c = c.in-Ok.ensures.reads 0 (omega arith) (no_places _ _)
 
 pub returns-in-Ok-clause-part : goal.returns-in-Ok-clause-part
 returns-in-Ok-clause-part g c = λ tells. record {
-  own = λ some. c.in-Ok.ensures.node tells ∙ ap (leaves_at (g.D.Disk.content c.args.disk.now)) (c.touched_node-block.ensures.node some);
+  own = λ some.
+      let image = g.D.Disk.content c.args.disk.now in
+      let leaf = c.of_node-leaves.result.from in
+      let number : leaf / leaf_pointers.count ≡ c.args.number = omega (arith, some, c.of_node-leaves.ensures.from, c.of_node-leaves.ensures.to) in
+      way_own image c.args.root.now c.get.new.self leaf c.in-Ok.ensures.to (c.in-Ok.ensures.way tells (unread_way image c.args.root.now c.new-way.result c.new-way.ensures))
+      ∙ ap (λ (n : ℕ). leaves_at image (node_of c.args.root.now n)) number;
 }
 
-pub returns-in-Err-clause-sound : goal.returns-in-Err-clause-sound
-returns-in-Err-clause-sound g c = λ tells near.
-    c.in-Err.ensures.sound tells (elim c.touched_node-block.ensures.none [
-      | inl none ↦ subst (IsNear (g.D.Disk.blocks c.args.disk.now) (g.D.Disk.content c.args.disk.now)) (sym none) (near_none (g.D.Disk.blocks c.args.disk.now) (g.D.Disk.content c.args.disk.now) c.requires.some)
-      | inr node ↦ subst (IsNear (g.D.Disk.blocks c.args.disk.now) (g.D.Disk.content c.args.disk.now)) (sym node) near
-    ])
-
 pub returns-in-Ok-clause-there : goal.returns-in-Ok-clause-there
-returns-in-Ok-clause-there g c = λ some. let same = c.touched_node-block.ensures.node some in omega (arith, same, c.in-Ok.ensures.there)
-
-pub returns-in-Err-clause-refused : goal.returns-in-Err-clause-refused
-returns-in-Err-clause-refused g c = node_trouble g.D.Disk c.touched_node-block.result (root_top c.args.at.0 c.args.root.now) c.args.disk.now c.read_node.new.disk c.in-Err.trouble
-    (λ past. elim c.touched_node-block.ensures.none [
-      | inl none ↦ absurd (past.0 none)
-      | inr node ↦ (c.args.number, subst (IsPast (g.D.Disk.blocks c.args.disk.now)) node past)
-    ]) c.in-Err.ensures.refused
+returns-in-Ok-clause-there g c = λ some.
+    let leaf = c.of_node-leaves.result.from in
+    let number : leaf / leaf_pointers.count ≡ c.args.number = omega (arith, some, c.of_node-leaves.ensures.from, c.of_node-leaves.ensures.to) in
+    let same = way_top c.args.root.now c.get.new.self leaf c.in-Ok.ensures.to ∙ ap (node_of c.args.root.now) number in
+    let top = c.in-Ok.ensures.top (unread_top (g.D.Disk.blocks c.args.disk.now) c.args.root.now c.new-way.result c.new-way.ensures) (omega (arith, c.in-Ok.ensures.to.whole)) in
+    omega (arith, same, top)

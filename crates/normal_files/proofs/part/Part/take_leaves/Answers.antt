@@ -1,7 +1,9 @@
-use Rattle.normal_files.proofs.Words.{◌≡◌, ◌∙◌, ℕ, ap, refl, subst, sym, arith, ◌-◌, ◌*◌, Refused}
+use Rattle.normal_files.proofs.Words.{◌≡◌, ◌∙◌, ℕ, List, get_or, ap, refl, subst, sym, arith, ◌-◌, ◌*◌, Refused}
 use Rattle.normal_files.specs.Ends.{Halts, is_damaged}
 use Rattle.normal_files.specs.Laid.{node_of}
 use Rattle.normal_files.specs.Parts.{part_need}
+use Rattle.normal_files.specs.Plans.{plan_of}
+use Rattle.normal_files.proofs.Ways.{to_other}
 use Rattle.normal_files.specs.Takes.{HasTaken}
 use Rattle.normal_files.proofs.Ending.{gone_none, still_sound}
 use Rattle.normal_files.proofs.TakeOne.{run_ends, run_passed, run_stops, taken_begins}
@@ -12,11 +14,17 @@ loop-leaf-init g c = record {
   size = refl;
   cylinders = refl;
   left = refl;
-  near = λ some. c.requires.near some;
+  near = λ some. let same = c.requires.leads some in let near = c.requires.near some in omega (arith, same, near);
   grown = λ yes. cc;
-  takes = λ w may. (may, taken_begins (g.D.Disk.content c.args.disk.now) c.args.at.0 c.args.root.now.fill c.args.offset c.args.bytes.now c.args.self.now (node_of c.args.root.now c.args.self.now.number) c.requires.read.count);
+  takes = λ w may. (may, taken_begins (g.D.Disk.content c.args.disk.now) c.args.at.0 c.args.root.now.fill c.args.offset c.args.bytes.now c.args.self.now (node_of c.args.root.now c.args.self.now.number) (node_of c.args.lead c.args.self.now.number) c.requires.stays);
+  way = λ some. let to = c.requires.read.leads some in record { path = λ d less. ap (λ (p : List ℕ). get_or p d 0) to.path; whole = to.whole };
+  root = refl;
   run = gone_none g.D.Disk c.args.disk.now c.args.space.now _ _ _;
 }
+
+pub take_one-requires-clause-way : goal.take_one-requires-clause-way
+take_one-requires-clause-way g c =
+    to_other c.args.self.now.leaves.from c.loop-leaf.leaf c.loop-leaf.next.way (omega (arith, c.loop-leaf.auto.leaf, c.loop-leaf-test.true, c.requires.read.from, c.requires.read.to)) (c.loop-leaf.invariant.way (omega (arith, c.loop-leaf.auto.leaf, c.loop-leaf-test.true)))
 
 pub loop-leaf-preserved : goal.loop-leaf-preserved
 loop-leaf-preserved g c = record {
@@ -26,6 +34,8 @@ loop-leaf-preserved g c = record {
   near = λ some. let less = c.in-Ok.ensures.near (let was = c.loop-leaf.invariant.near some in omega (arith, was, c.loop-leaf.invariant.size)) in omega (arith, less, c.loop-leaf.invariant.size);
   grown = λ yes. omega (arith, c.loop-leaf.auto.leaf);
   takes = c.in-Ok.ensures.takes c.args.disk.now c.args.space.now c.loop-leaf.invariant.takes;
+  way = λ some. to_other c.loop-leaf.leaf c.args.self.now.leaves.from c.in-Ok.more.way (omega (arith, c.loop-leaf.auto.leaf, c.loop-leaf-test.true, c.requires.read.from, c.requires.read.to)) c.in-Ok.ensures.way;
+  root = c.in-Ok.ensures.root c.args.lead (c.requires.leads (omega (arith, c.loop-leaf.auto.leaf, c.loop-leaf-test.true))) c.loop-leaf.invariant.root;
   run = run_passed c.args.root.now c.args.self.now c.loop-leaf.leaf c.loop-leaf.next c.loop-leaf.auto.leaf c.loop-leaf.invariant.run c.in-Ok.more c.in-Ok.ensures.ends;
 }
 
@@ -43,7 +53,7 @@ pub returns-clause-takes : goal.returns-clause-takes
 returns-clause-takes g c = λ w may.
     let last : c.loop-leaf.leaf ≡ c.args.self.now.leaves.to = omega (arith, c.loop-leaf-test.false, c.loop-leaf.auto.leaf-end, c.requires.read.some) in
     let all = c.loop-leaf.invariant.takes w may in
-    (all.0, subst (λ (m : ℕ). HasTaken (g.D.Disk.content c.args.disk.now) (g.D.Disk.content c.loop-leaf.disk) c.args.at.0 c.args.root.now.fill c.args.offset c.args.bytes.now c.args.self.now (node_of c.args.root.now c.args.self.now.number) m c.loop-leaf.next) last all.1)
+    (all.0, subst (λ (m : ℕ). HasTaken (g.D.Disk.content c.args.disk.now) (g.D.Disk.content c.loop-leaf.disk) c.args.at.0 c.args.root.now.fill c.args.offset c.args.bytes.now c.args.self.now (node_of c.args.root.now c.args.self.now.number) m (plan_of c.args.self.now.number c.loop-leaf.next)) last all.1)
 
 pub returns-clause-near : goal.returns-clause-near
 returns-clause-near g c = λ yes.

@@ -1,6 +1,6 @@
 use Rattle.std.proofs.Common.{◌≡◌, Ok, sym, subst}
 use Rattle.special_files.proofs.Words.{Drafting, File, GoesHolding, ResizeCall, Resized, sized}
-use Rattle.special_files.proofs.shrink.ShrinkCall.{cut_err_call, cut_err_full, cut_err_goes, drop_err_call, drop_err_full, drop_err_goes, drop_ok_call, drop_ok_goes}
+use Rattle.special_files.proofs.shrink.ShrinkCall.{cut_err_call, cut_err_full, cut_err_goes, drop_err_call, drop_err_full, drop_err_goes, drop_ok_call, drop_ok_goes, has_border}
 use Rattle.ufs_model.specs.declared.object.Object.TheVariants as objects
 use Rattle.special_files.proofs.draft.Draft.shrink.Goals as goal
 
@@ -19,6 +19,9 @@ returns-in-Err-cut_if-clause-full g c = λ v f file. cut_err_full c.in-Ok.ensure
 
 pub returns-in-Err-cut_if-clause-calls : goal.returns-in-Err-cut_if-clause-calls
 returns-in-Err-cut_if-clause-calls g c = cut_err_call c.in-Ok.ensures.planned c.args.floor c.args.space.now c.in-Ok.ensures.room _ c.in-Err-cut_if.ensures
+
+pub drop_from-requires-clause-here : goal.drop_from-requires-clause-here
+drop_from-requires-clause-here g c = has_border c.in-Ok.ensures.planned c.args.floor c.args.space.now c.in-Ok.ensures.room c.in-Ok-cut_if.ensures
 
 -- ---- the leaves couldn't be dropped
 

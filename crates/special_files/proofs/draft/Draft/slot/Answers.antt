@@ -1,4 +1,5 @@
 use Rattle.std.proofs.Common.{◌≡◌, ◌%◌, List, ℕ, false, sym, ◌∙◌, ap, arith, rules}
+use Rattle.special_files.proofs.Ways.{way_of_none}
 use Rattle.special_files.proofs.Words.{IsDraftTrouble, index_to_leaves, is_damage, leaves_below, slot_in, top_of}
 use Rattle.special_files.proofs.Refusals.{passed}
 use Rattle.special_files.proofs.View.{seen_tree}
@@ -10,7 +11,7 @@ returns-clause-looks g c = λ v. record {
       let tree = seen_tree v in
       let root = c.args.self.now.root in
       let gives = index_to_leaves root (leaves_below (g.D.Disk.content c.args.disk.now) root) i (tree.tree.object ∙ index) in
-      c.slot_at.ensures ∙ ap (λ (content : List ℕ). slot_in content (c.args.slot % 64)) (c.in_ok-content.ensures.bytes tree (λ few. absurd (omega (arith, few, c.nothing-read.ensures))))
+      c.slot_at.ensures ∙ ap (λ (content : List ℕ). slot_in content (c.args.slot % 64)) (c.in_ok-content.ensures.bytes tree (way_of_none (g.D.Disk.content c.args.disk.now) c.args.self.now.root c.new-way.result c.new-way.ensures))
       ∙ sym (gives.slots c.args.slot (omega (arith, c.requires.within)));
   sound = tt;
 }
@@ -19,7 +20,7 @@ pub returns-in_err-content : goal.returns-in_err-content
 returns-in_err-content g c =
     let turns = c.in_err-content.ensures.turns in
     record {
-      looks = λ v. record { found = search rules; sound = passed (λ t. is_damage t ≡ false) _ _ c.from_residual.ensures.1 (turns.sound (seen_tree v)) };
+      looks = λ v. record { found = search rules; sound = passed (λ t. is_damage t ≡ false) _ _ c.from_residual.ensures.1 (turns.sound (seen_tree v) (way_of_none (g.D.Disk.content c.args.disk.now) c.args.self.now.root c.new-way.result c.new-way.ensures)) };
       call = record {
         refused = λ kept. passed (IsDraftTrouble g.D.Disk (top_of c.args.self.now) c.args.disk.now c.leaf_bytes.new.disk kept) _ _ c.from_residual.ensures.1 (turns.refused kept);
         untried = search rules;

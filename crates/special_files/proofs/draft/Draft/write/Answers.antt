@@ -17,8 +17,8 @@ returns-in-Err g c = record {
 
 pub loop-leaf-init : goal.loop-leaf-init
 loop-leaf-init g c =
-    run_begin g.D.Disk c.args.offset c.args.bytes.now c.leaves_in-to.result c.args.disk.now c.args.space.now c.args.self.now c.nothing-read.result (omega (arith, c.leaves_in-to.ensures))
-    (omega (arith, c.leaves_in-to.ensures, c.requires.within, ap (λ (d : Drafting). d.root.size) c.self.view_is, c.self.invariant.3)) c.nothing-read.ensures
+    run_begin g.D.Disk c.args.offset c.args.bytes.now c.leaves_in-to.result c.args.disk.now c.args.space.now c.args.self.now c.new-way.result (omega (arith, c.leaves_in-to.ensures))
+    (omega (arith, c.leaves_in-to.ensures, c.requires.within, ap (λ (d : Drafting). d.root.size) c.self.view_is, c.self.invariant.3)) c.new-way.ensures
     (ap (λ (d : Drafting). length d.leaves) (sym c.self.view_is) ∙ c.self.invariant.1) (ap (λ (d : Drafting). length d.nodes) (sym c.self.view_is) ∙ c.self.invariant.2)
     (λ less. omega (arith, c.need_to_write.ensures.some less, c.in-Ok.ensures.room))
     (elim (cases_lt (c.args.offset / 512) c.leaves_in-to.result) [ inl less ↦ omega (arith, c.need_to_write.ensures.some less, c.in-Ok.ensures.room) | inr past ↦ omega (arith, c.need_to_write.ensures.none past, c.in-Ok.ensures.room) ])
