@@ -80,12 +80,12 @@ goes_down leaf d rest w few is wide = record {
     below : levels_below (node_levels - d) ≡ levels_from (d + 1)
     below = ap levels_from (let e : suc d ≡ d + 1 = omega arith in e)
 
--- a level narrower
-pub narrower : (d w : ℕ) → d + 1 ≤ node_levels → w ≡ width (levels_below (node_levels - d)) → w / leaf_pointers.count ≡ width (levels_below (node_levels - (d + 1)))
-narrower d w few wide =
-    let deeper : levels_below (node_levels - d) ≡ leaf_pointers ∷ levels_below (node_levels - (d + 1)) = ap levels_below (let e : node_levels - d ≡ suc (node_levels - (d + 1)) = omega (arith, few) in e) in
-    let is : w ≡ leaf_pointers.count * width (levels_below (node_levels - (d + 1))) = wide ∙ ap width deeper in
-    omega (arith, is)
+-- a level wider, and a level narrower
+pub wider : (h g w : ℕ) → h ≡ suc g → w ≡ width (levels_below h) → w ≡ leaf_pointers.count * width (levels_below g)
+wider h g w more wide = wide ∙ ap (λ (n : ℕ). width (levels_below n)) more
+
+pub narrower : (h g w : ℕ) → h ≡ suc g → w ≡ width (levels_below h) → w / leaf_pointers.count ≡ width (levels_below g)
+narrower h g w more wide = let is = wider h g w more wide in omega (arith, is)
 
 -- ---- one place more
 

@@ -7,7 +7,9 @@ pub mod Faults
 pub mod Walks
 mod Rows
 pub mod Steps
+pub mod RootSteps
 pub mod Nodes
 mod Words
 pub mod Ways
 pub mod Descents
+pub mod Follows

@@ -1,6 +1,8 @@
 -- The tree of a root as the calls walk it: a pointer of the root, and then one of a node.
-use Rattle.std.proofs.Common.{◌≡◌, ◌≢◌, inl, inr, replicate, ℕ, zero, suc, ◌+◌, ◌/◌, ◌%◌, ◌<◌, ◌^◌, List, [], ◌∷◌, ◌++◌, length, take, get_or, refl, sym, ◌∙◌, ap, subst, arith}
-use Rattle.block_tree.proofs.Words.{Image, IsPast, Level, PastAbove, PastOn, Root, block_at, bytes_in, div-one, end_of, get_or-map-range_with_len, leaf_block, leaf_bytes, leaf_pointers, levels_of, node_pointers, number_at, path_to, pointer, pointers_of, root_spelling, tree_of}
+use Rattle.std.proofs.Common.{◌≡◌, ◌≢◌, replicate, ℕ, zero, suc, ◌+◌, ◌/◌, ◌%◌, ◌<◌, ◌^◌, List, [], ◌∷◌, ◌++◌, length, take, get_or, refl, sym, ◌∙◌, ap, subst, arith, None}
+use Rattle.block_tree.specs.Reads.{holder_block}
+use Rattle.block_tree.specs.Tree.{LeadsPast, pointer_at}
+use Rattle.block_tree.proofs.Words.{Image, IsLeafPointer, IsPast, Level, PastAbove, PastOn, Pointer, Root, block_at, bytes_in, div-one, end_of, get_or-map-range_with_len, leaf_block, leaf_bytes, leaf_pointers, levels_of, node_pointers, number_at, path_to, pointer, pointers_of, root_spelling, tree_of}
 use Rattle.block_tree.proofs.Numbers.{number_back}
 
 -- a pointer of the root
@@ -31,28 +33,39 @@ pub node_block : (image : Image) (root : List ℕ) (k : ℕ) → tree_of image r
 unfolding levels_of
 node_block image root k = refl
 
+-- a pointer of the root
+abbrev pub root_pointer : ℕ → Pointer
+root_pointer block = record { holder = None; block = block }
+
 -- the pointers above a leaf: the one to its node
-pub past_is : (image : Image) (size : ℕ) (root : List ℕ) (leaf block : ℕ) → PastAbove image size root leaf block → (block ≡ pointer node_pointers root (leaf / leaf_pointers.count)) × IsPast size block
-past_is image size root leaf block past = on past.0 past.1 past.2 (past.3 ∙ path_is root leaf) past.4 past.5
+pub past_is : (image : Image) (size : ℕ) (root : List ℕ) (leaf : ℕ) (p : Pointer) → PastAbove image size root leaf p → (p ≡ root_pointer (pointer node_pointers root (leaf / leaf_pointers.count))) × IsPast size p.block
+past_is image size root leaf p past = on past.past.path past.past.k past.past.rest (past.past.on ∙ path_is root leaf) past.above past.past.is past.past.past
   where
-    on : (path : List ℕ) (k : ℕ) (rest : List ℕ) → path ++ k ∷ rest ≡ leaf / leaf_pointers.count ∷ leaf % leaf_pointers.count ∷ [] → tree_of image root path ≡ block → IsPast size block
-        → (block ≡ pointer node_pointers root (leaf / leaf_pointers.count)) × IsPast size block
-    on [] k rest is at past = absurd (past.0 (sym at ∙ nothing))
-      where
-        nothing : tree_of image root [] ≡ 0
-        nothing = refl
-    on (a ∷ []) k rest is at past = (sym at ∙ node_block image root a ∙ ap (pointer node_pointers root) (let e = is in cc), past)
-    on (a ∷ b ∷ []) k rest is at past = cc
-    on (a ∷ b ∷ c ∷ path) k rest is at past = cc
+    on : (path : List ℕ) (k : ℕ) (rest : List ℕ) → path ++ k ∷ rest ≡ leaf / leaf_pointers.count ∷ leaf % leaf_pointers.count ∷ [] → rest ≢ [] → p ≡ pointer_at image root path k → IsPast size p.block
+        → (p ≡ root_pointer (pointer node_pointers root (leaf / leaf_pointers.count))) × IsPast size p.block
+    on [] k rest is more at past = (at ∙ ap (pointer_at image root []) (let e = is in cc) ∙ ap root_pointer (node_block image root (leaf / leaf_pointers.count)), past)
+    on (a ∷ []) k [] is more at past = absurd (more refl)
+    on (a ∷ []) k (b ∷ rest) is more at past = cc
+    on (a ∷ b ∷ []) k rest is more at past = cc
+    on (a ∷ b ∷ c ∷ path) k rest is more at past = cc
 
-pub is_past : (image : Image) (size : ℕ) (root : List ℕ) (leaf block : ℕ) → block ≡ pointer node_pointers root (leaf / leaf_pointers.count) → IsPast size block → PastAbove image size root leaf block
-is_past image size root leaf block is past =
-    (leaf / leaf_pointers.count ∷ [], leaf % leaf_pointers.count, [], sym (path_is root leaf), node_block image root (leaf / leaf_pointers.count) ∙ sym is, past)
+pub is_past : (image : Image) (size : ℕ) (root : List ℕ) (leaf block : ℕ) → block ≡ pointer node_pointers root (leaf / leaf_pointers.count) → IsPast size block → PastAbove image size root leaf (root_pointer block)
+is_past image size root leaf block is past = record {
+  past = record {
+    path = [];
+    k = leaf / leaf_pointers.count;
+    rest = leaf % leaf_pointers.count ∷ [];
+    on = sym (path_is root leaf);
+    is = ap root_pointer (is ∙ sym (node_block image root (leaf / leaf_pointers.count)));
+    past = past;
+  };
+  above = λ none. cc;
+}
 
-pub none_past : (image : Image) (size : ℕ) (root : List ℕ) (leaf n : ℕ) → n ≡ pointer node_pointers root (leaf / leaf_pointers.count) → ¬ IsPast size n → (block : ℕ) → ¬ PastAbove image size root leaf block
-none_past image size root leaf n is none block past =
-    let to = past_is image size root leaf block past in
-    none (subst (IsPast size) (to.0 ∙ sym is) to.1)
+pub none_past : (image : Image) (size : ℕ) (root : List ℕ) (leaf n : ℕ) → n ≡ pointer node_pointers root (leaf / leaf_pointers.count) → ¬ IsPast size n → (p : Pointer) → ¬ PastAbove image size root leaf p
+none_past image size root leaf n is none p past =
+    let to = past_is image size root leaf p past in
+    none (subst (IsPast size) (ap (λ (p : Pointer). p.block) to.0 ∙ sym is) to.1)
 
 -- ---- a leaf's bytes
 
@@ -60,13 +73,36 @@ bytes_none : (image : Image) (fill n : ℕ) → n ≡ 0 → bytes_in image fill 
 bytes_none image fill zero none = refl
 bytes_none image fill (suc n) none = absurd (omega arith)
 
+-- a leaf, by its root's fill byte
+pub leaf_bytes_is : (image : Image) (root : Root) (leaf : ℕ) → leaf_bytes image (root_spelling root) leaf ≡ bytes_in image root.fill (leaf_block image (root_spelling root) leaf)
+unfolding root_spelling
+leaf_bytes_is image root leaf = refl
+
 -- an absent leaf
 pub leaf_absent : (image : Image) (root : Root) (leaf : ℕ) → leaf_block image (root_spelling root) leaf ≡ 0 → leaf_bytes image (root_spelling root) leaf ≡ replicate 512 root.fill
-unfolding root_spelling
-leaf_absent image root leaf none = bytes_none image root.fill (leaf_block image (root_spelling root) leaf) none
+leaf_absent image root leaf none = leaf_bytes_is image root leaf ∙ bytes_none image root.fill (leaf_block image (root_spelling root) leaf) none
+
+-- the pointer to a leaf leads to its block
+pub at_leaf : (image : Image) (root : List ℕ) (leaf : ℕ) (p : Pointer) → IsLeafPointer image root leaf p → p.block ≡ leaf_block image root leaf
+at_leaf image root leaf p to = ap (λ (p : Pointer). p.block) to.is ∙ ap (tree_of image root) to.on
+
+pub past_last : (image : Image) (size : ℕ) (root : List ℕ) (leaf : ℕ) (p : Pointer) → IsLeafPointer image root leaf p → IsPast size p.block → PastOn image size root leaf p
+past_last image size root leaf p to past = record { path = to.path; k = to.k; rest = []; on = to.on; is = to.is; past = past }
+
+-- the block that has it has a pointer that leads past the end
+pub on_leads : (image : Image) (size : ℕ) (root : List ℕ) (leaf r : ℕ) (p : Pointer) → PastOn image size root leaf p → LeadsPast image size root r (holder_block r p.holder)
+on_leads image size root leaf r p past = record {
+  path = past.path;
+  k = past.k;
+  at = ap (λ (p : Pointer). holder_block r p.holder) past.is;
+  past = subst (λ (p : Pointer). IsPast size p.block) past.is past.past;
+}
 
 -- no pointer on a leaf's path is past the end, where none above the leaf is, and its own is not
-pub none_past_on : (image : Image) (size : ℕ) (root : List ℕ) (leaf n : ℕ) → n ≡ leaf_block image root leaf → ((block : ℕ) → ¬ PastAbove image size root leaf block) → ¬ IsPast size n
-    → (block : ℕ) → ¬ PastOn image size root leaf block
-none_past_on image size root leaf n is above own block (inl past) = above block past
-none_past_on image size root leaf n is above own block (inr past) = own (subst (IsPast size) (sym past.0 ∙ sym is) past.1)
+pub none_past_on : (image : Image) (size : ℕ) (root : List ℕ) (leaf n : ℕ) → n ≡ leaf_block image root leaf → ((p : Pointer) → ¬ PastAbove image size root leaf p) → ¬ IsPast size n
+    → (p : Pointer) → ¬ PastOn image size root leaf p
+none_past_on image size root leaf n is above own p past = by past.rest refl
+  where
+    by : (rest : List ℕ) → past.rest ≡ rest → ⊥
+    by [] last = own (subst (IsPast size) (ap (λ (p : Pointer). p.block) past.is ∙ ap (tree_of image root) (ap (λ (r : List ℕ). past.path ++ past.k ∷ r) (sym last) ∙ past.on) ∙ sym is) past.past)
+    by (k ∷ rest) more = above p (record { past = past; above = λ none. let e = sym more ∙ none in cc })

@@ -1,7 +1,7 @@
 -- A walk over the leaves of a tree, node by node.
 use Rattle.std.proofs.Common.{◌≡◌, ◌≢◌, ℕ, ◌+◌, ◌*◌, ◌/◌, ◌%◌, ◌<◌, ◌≤◌, List, [], ◌∷◌, refl, sym, ◌∙◌, ap, subst, arith, inl, inr, Some}
 use Rattle.block_tree.proofs.Words.{AreQuiet, HasNoDeadEnd, HeldLeaf, Image, IsFirstHeld, IsFirstOf, IsFirstPast, IsLaterIn, IsPast, block_at, cases_lt, end_of, get_or_past, leaf_block, leaf_count, leaf_pointers, length-map-range_with_len, levels_of, node_pointers, number_at, pointer, pointers_of, leaf_limit}
-use Rattle.block_tree.proofs.Trees.{leaf_is, end_is, is_past, none_past}
+use Rattle.block_tree.proofs.Trees.{leaf_is, end_is, is_past, none_past, root_pointer}
 
 pub count_is : (root : List ℕ) → leaf_count root ≡ leaf_limit
 unfolding levels_of
@@ -46,7 +46,7 @@ module _ (image : Image) (size : ℕ) (root : List ℕ) (k next b : ℕ) (at : n
       whole : leaf_pointers.count * k + held.leaf % leaf_pointers.count ≡ held.leaf
       whole = omega (arith, later.same_node, at)
 
-  pub past_here : (from : ℕ) → from ≤ next → k < node_pointers.count → AreQuiet image size root from next → IsPast size b → IsFirstPast image size root from b
+  pub past_here : (from : ℕ) → from ≤ next → k < node_pointers.count → AreQuiet image size root from next → IsPast size b → IsFirstPast image size root from (root_pointer b)
   past_here from le below before past = record {
     leaf = next;
     on = le;

@@ -49,7 +49,7 @@ abbrev StaysBeside : (a b : Image) → List Level → (old : ℕ → ℕ) → (p
 StaysBeside a b levels old path = (q : List ℕ) → Part path q → walk a levels old q ≢ 0 → block_at b (walk a levels old q) ≡ block_at a (walk a levels old q)
 
 -- one step, and then the rest
-step_end : (image : Image) (level : Level) (levels : List Level) (n m : ℕ) (r : List ℕ) → end_of image (level ∷ levels) n (m ∷ r) ≡ end_of image levels (pointers_in image level n m) r
+pub step_end : (image : Image) (level : Level) (levels : List Level) (n m : ℕ) (r : List ℕ) → end_of image (level ∷ levels) n (m ∷ r) ≡ end_of image levels (pointers_in image level n m) r
 step_end image level levels zero m [] = refl
 step_end image level levels zero m (k ∷ r) = refl
 step_end image level levels (suc n) m r = refl

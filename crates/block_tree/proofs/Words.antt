@@ -6,11 +6,13 @@ pub use Rattle.block_tree.specs.Prefix.{IsFirstMisspelt}
 pub use Rattle.block_tree.specs.Reads.{IsFault, IsPast, leaves_at}
 pub use Rattle.block_tree.specs.Root.{Fits, IsFill, IsFirstBadByte, IsGoodRoot, IsRootBlock, IsSize, kind_code}
 unfoldable pub use Rattle.block_tree.specs.Root.{root_spelling}
-pub use Rattle.block_tree.specs.Step.{IsFirstSet, IsPastFrom, IsStep, IsStepAt, IsStepIn, IsStepped, NoneHeld, NoneSet, SomeHeld, SomeSet}
-pub use Rattle.block_tree.specs.Tree.{AreQuiet, HasNoDeadEnd, PastAbove, PastOn, bytes_in, end_of, leaves_with_blocks, leaf_block, leaf_bytes, leaf_count, pointer, tree_of}
+pub use Rattle.block_tree.specs.Follow.{PastFrom, first_pointer, next_pointer, pointer_below, pointer_from}
+pub use Rattle.block_tree.specs.Step.{IsFirstSet, IsPastFrom, IsStep, IsStepped, NoneHeld, NoneSet, SomeHeld, SomeSet}
+pub use Rattle.block_tree.specs.Tree.{AreQuiet, HasNoDeadEnd, IsLeafPointer, PastAbove, PastOn, bytes_in, end_of, leaves_with_blocks, leaf_block, leaf_bytes, leaf_count, pointer, tree_of}
 unfoldable pub use Rattle.block_tree.specs.Tree.{levels_of, path_to}
 pub use Rattle.block_tree.specs.Walk.{IsFirstHeld, IsFirstOf, IsFirstPast, IsLaterIn}
 pub use Rattle.block_tree.specs.declared.fault.TreeFault.{TreeFault}
+pub use Rattle.block_tree.specs.declared.follow.Pointer.{Pointer}
 pub use Rattle.block_tree.specs.declared.node.Node.{Node}
 pub use Rattle.block_tree.specs.declared.root.BadRoot.{BadRoot}
 pub use Rattle.block_tree.specs.declared.root.Root.{Root}

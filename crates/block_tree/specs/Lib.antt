@@ -4,6 +4,7 @@ pub mod Node
 pub mod Root
 pub mod Reads
 pub mod Tree
+pub mod Follow
 pub mod Walk
 pub mod Step
 pub mod Way

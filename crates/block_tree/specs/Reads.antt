@@ -1,5 +1,6 @@
 -- Blocks of a tree that are read, and why following pointers ends.
-use Rattle.std.specs.Prelude.{◌≡◌, ◌≢◌, ℕ, zero, suc, ◌<◌, ◌≤◌, Bool, true, false, List, get_or, replicate}
+use Rattle.std.specs.Prelude.{◌≡◌, ◌≢◌, ℕ, zero, suc, ◌<◌, ◌≤◌, Bool, true, false, List, get_or, replicate, Option}
+use Rattle.std.specs.Prelude.{Some, None}
 use Rattle.cfs_base.specs.Calls.{HasFailed, HasStopped}
 use Rattle.cfs_base.specs.Codes.{no_root, past_disk}
 use Rattle.cfs_base.specs.Disk.{Image, block_at}
@@ -12,6 +13,7 @@ use Rattle.block_tree.specs.Pointers.{leaf_pointers, pointers_of}
 use Rattle.block_tree.specs.Root.{IsRootBlock}
 use Rattle.block_tree.specs.declared.fault.TreeFault.{TreeFault}
 use Rattle.block_tree.specs.declared.fault.TreeFault.TheVariants as faults
+use Rattle.block_tree.specs.declared.follow.Pointer.{Pointer}
 use Rattle.block_tree.specs.declared.root.Root.{Root}
 
 -- a number that is not 0, and is no block of a disk of this size
@@ -20,9 +22,21 @@ IsPast size block = (block ≢ 0) × (size ≤ block)
 
 -- Why following pointers ended: a device call failed, or this pointer is past the disk's end and, where the disk tells
 -- its content, has P.
-abbrev pub IsFault : {D : Type 0} → Ghosts D → D → D → (ℕ → Type 0) → TreeFault → Type 0
+abbrev pub IsFault : {D : Type 0} → Ghosts D → D → D → (Pointer → Type 0) → TreeFault → Type 0
 IsFault g old new P faults.Disk = HasFailed g old new
-IsFault g old new P (faults.BadPointer block) = IsPast (g.blocks old) block × (Tells g old → P block)
+IsFault g old new P (faults.BadPointer block holder) =
+    IsPast (g.blocks old) block × (Tells g old → P (record { holder = holder; block = block }))
+
+-- the block that has a pointer: a node, or the root in block r
+abbrev pub holder_block : ℕ → Option ℕ → ℕ
+holder_block r None = r
+holder_block r (Some block) = block
+
+-- what is told of it: a failed device call as it is, and a pointer past the disk by the block that has it
+abbrev pub trouble_of : ℕ → TreeFault → Trouble
+trouble_of r faults.Disk = trouble.Disk false
+trouble_of r (faults.BadPointer block holder) =
+    trouble.Damaged (record { block = holder_block r holder; code = past_disk })
 
 -- ---- nodes
 

@@ -1,10 +1,11 @@
 -- A tree of blocks over an image: what stands at the end of each path of pointers, from a root's content down.
-use Rattle.std.specs.Prelude.{◌≡◌, ◌≢◌, ◌⊎◌, ℕ, zero, suc, ◌/◌, ◌%◌, ◌<◌, ◌≤◌, List, [], ◌∷◌, ◌++◌, length, get_or}
-use Rattle.std.specs.Prelude.{replicate, filter, not, ◌==◌}
+use Rattle.std.specs.Prelude.{◌≡◌, ◌≢◌, ℕ, zero, suc, ◌/◌, ◌%◌, ◌<◌, ◌≤◌, List, [], ◌∷◌, ◌++◌, length, get_or}
+use Rattle.std.specs.Prelude.{replicate, filter, not, ◌==◌, Option, Some, None}
 use Rattle.std.specs.List.{range_with_len}
 use Rattle.cfs_base.specs.Disk.{Image, block_at}
-use Rattle.block_tree.specs.Reads.{IsPast}
+use Rattle.block_tree.specs.Reads.{IsPast, holder_block}
 use Rattle.block_tree.specs.Pointers.{Level, levels_below, node_levels, node_pointers, pointers_of, width}
+use Rattle.block_tree.specs.declared.follow.Pointer.{Pointer}
 
 -- ---- levels and paths
 
@@ -70,23 +71,51 @@ HasNoDeadEnd image root =
     (path : List ℕ) → tree_of image root path ≢ 0 → length path < length (levels_of root)
     → (k : ℕ) × (tree_of image root (path ++ k ∷ []) ≢ 0)
 
--- ---- pointers past the end
+-- ---- pointers
 
--- a pointer on this leaf's path, but for the last, is past the end
-abbrev pub PastAbove : Image → ℕ → List ℕ → ℕ → ℕ → Type 0
-PastAbove image size root leaf block =
-    (path : List ℕ) × (k : ℕ) × (rest : List ℕ) × (path ++ k ∷ rest ≡ path_to (levels_of root) leaf)
-    × (tree_of image root path ≡ block) × IsPast size block
+-- the node to which a path leads, which has the pointers that the path may go on with; with no place it is the root,
+-- which isn't named
+abbrev pub holder_at : Image → List ℕ → List ℕ → Option ℕ
+holder_at image root [] = None
+holder_at image root (j ∷ path) = Some (tree_of image root (j ∷ path))
 
--- a pointer on this leaf's path is past the end, be it the last
-abbrev pub PastOn : Image → ℕ → List ℕ → ℕ → ℕ → Type 0
-PastOn image size root leaf block = PastAbove image size root leaf block
-    ⊎ ((leaf_block image root leaf ≡ block) × IsPast size block)
+-- the pointer at a place of what a path leads to
+abbrev pub pointer_at : Image → List ℕ → (path : List ℕ) → (k : ℕ) → Pointer
+pointer_at image root path k =
+    record { holder = holder_at image root path; block = tree_of image root (path ++ k ∷ []) }
+
+-- the pointer at the end of a leaf's path
+pub record IsLeafPointer (image : Image) (root : List ℕ) (leaf : ℕ) (p : Pointer) : Type 0 where
+  pub path : List ℕ
+  pub k : ℕ
+  pub on : path ++ k ∷ [] ≡ path_to (levels_of root) leaf
+  pub is : p ≡ pointer_at image root path k
+
+-- a pointer on this leaf's path is past the end
+pub record PastOn (image : Image) (size : ℕ) (root : List ℕ) (leaf : ℕ) (p : Pointer) : Type 0 where
+  pub path : List ℕ
+  pub k : ℕ
+  pub rest : List ℕ
+  pub on : path ++ k ∷ rest ≡ path_to (levels_of root) leaf
+  pub is : p ≡ pointer_at image root path k
+  pub past : IsPast size p.block
+
+-- one that isn't the last
+pub record PastAbove (image : Image) (size : ℕ) (root : List ℕ) (leaf : ℕ) (p : Pointer) : Type 0 where
+  pub past : PastOn image size root leaf p
+  pub above : past.rest ≢ []
+
+-- a pointer in this block of the tree with this root leads past the disk
+pub record LeadsPast (image : Image) (size : ℕ) (root : List ℕ) (r block : ℕ) : Type 0 where
+  pub path : List ℕ
+  pub k : ℕ
+  pub at : block ≡ holder_block r (holder_at image root path)
+  pub past : IsPast size (tree_of image root (path ++ k ∷ []))
 
 -- the leaf is absent, and no pointer on its path is past the end
 pub record IsQuiet (image : Image) (size : ℕ) (root : List ℕ) (leaf : ℕ) : Type 0 where
   pub absent : leaf_block image root leaf ≡ 0
-  pub followed : (block : ℕ) → ¬ PastAbove image size root leaf block
+  pub followed : (p : Pointer) → ¬ PastAbove image size root leaf p
 
 -- all leaves from one on up to another are quiet
 abbrev pub AreQuiet : Image → ℕ → List ℕ → ℕ → ℕ → Type 0

@@ -27,13 +27,6 @@ pub record CutsRoot (old : Root) (from : ℕ) (new : Root) : Type 0 where
   pub before : (n : ℕ) → n < from → slice_index new.nodes n ≡ slice_index old.nodes n
   pub past : (n : ℕ) → from ≤ n → n < node_pointers.count → slice_index new.nodes n ≡ 0
 
--- a child, or none
-abbrev pub SomeLeaf : Node → Type 0
-SomeLeaf node = (k : ℕ) × (k < leaf_pointers.count) × (slice_index node.leaves k ≢ 0)
-
-abbrev pub NoLeaf : Node → Type 0
-NoLeaf node = (k : ℕ) → k < leaf_pointers.count → slice_index node.leaves k ≡ 0
-
 -- of all pointers only the one at a place is another
 abbrev pub SetsOne : (ℕ → ℕ) → (place block : ℕ) → (ℕ → ℕ) → Type 0
 SetsOne old k x new = (new k ≡ x) × ((j : ℕ) → j ≢ k → new j ≡ old j)

@@ -17,7 +17,7 @@ pub const PLACES: usize = NODE_LEVELS as usize + 1;
 const INNER: usize = NODE_LEVELS as usize;
 
 /// The path of a leaf.
-fn path_of(leaf: u32) -> [u32; PLACES]
+pub(crate) fn path_of(leaf: u32) -> [u32; PLACES]
     requires { leaf < leaf_limit }
     ensures path { result ≡ paths.path_of leaf }
     ensures places { paths.IsPath result }

@@ -5,6 +5,7 @@
 
 mod along;
 mod fault;
+mod follow;
 mod head;
 mod leaf;
 mod node;
@@ -17,6 +18,7 @@ mod way;
 
 pub use along::{PLACES, Way};
 pub use fault::TreeFault;
+pub use follow::{Pointer, follow_pointer};
 pub use leaf::{LEAF_LIMIT, leaf_at, leaf_of, node_of, read_leaf};
 pub use node::{LEAVES, Node};
 pub use reads::{read_block, read_node, read_root};

@@ -1,5 +1,5 @@
 //! A walk over the held leaves of a tree.
-ghost use Rattle.std.specs.Prelude.{◌≡◌, ◌≢◌, ℕ, ◌+◌, ◌/◌, ◌<◌, ◌≤◌, [], ◌∷◌, IfOk, IfErr, OnOk, IfSome, slice_index};
+ghost use Rattle.std.specs.Prelude.{◌≡◌, ◌≢◌, ℕ, ◌+◌, ◌/◌, ◌<◌, ◌≤◌, [], ◌∷◌, IfOk, IfErr, OnOk, IfSome, None, slice_index};
 ghost use Rattle.cfs_base.specs.Run.{Tells};
 ghost use Rattle.block_tree.specs.Pointers.{leaf_limit, leaf_pointers, node_pointers};
 ghost use Rattle.cfs_base.specs.Calls.{OnlyReads};
@@ -9,7 +9,8 @@ ghost use Rattle.block_tree.specs.Tree.{end_of, HasNoDeadEnd};
 ghost use Rattle.block_tree.specs.Walk.{IsFound, IsFirstPast, IsLaterIn, IsFirstOf};
 
 use crate::fault::TreeFault;
-use crate::leaf::{node_at, node_of};
+use crate::follow::{Pointer, node_at};
+use crate::leaf::node_of;
 use crate::node::{LEAVES, Node};
 use crate::root::{NODES, Root};
 use cfs_base::Disk;
@@ -38,12 +39,13 @@ fn held_in_node(node: &Node, from: u32) -> Option<HeldLeaf>
     None
 }
 
-/// The same of the node to which a pointer leads. Pointer 0 leads to none.
+/// The same of the node to which a pointer of the root leads. Pointer 0 leads to none.
 fn held_below<D: Disk>(disk: &mut D, block: u32, from: u32) -> Result<Option<HeldLeaf>, TreeFault>
     ensures within { IfOk result (λ found. IfSome found (IsLaterIn from)) }
     ensures first { Tells D.Disk disk.old → IfOk result
         (IsFirstOf (λ place. end_of (D.content disk.old) (leaf_pointers ∷ []) block (place ∷ [])) from) }
-    ensures refused { IfErr result (IsFault D.Disk disk.old disk.new (λ b. b ≡ block)) }
+    ensures refused { IfErr result (IsFault D.Disk disk.old disk.new
+        (λ p. p ≡ record { holder = None; block = block })) }
     ensures there { OnOk result (¬ IsPast (D.blocks disk.old) block) }
     ensures reads { OnlyReads D.Disk 1 disk.old disk.new }
     ensures no_call { block ≡ 0 → D.calls disk.new ≡ D.calls disk.old }
@@ -51,7 +53,11 @@ fn held_below<D: Disk>(disk: &mut D, block: u32, from: u32) -> Result<Option<Hel
     if block == 0 {
         return Ok(None);
     }
-    let node = node_at(disk, block)?;
+    let pointer = Pointer {
+        holder: None,
+        block,
+    };
+    let node = node_at(disk, pointer)?;
     Ok(held_in_node(&node, from))
 }
 

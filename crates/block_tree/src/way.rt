@@ -1,5 +1,5 @@
 //! The blocks of one path of a tree, changed from its leaf up: each block is a copy with its child's number in it.
-ghost use Rattle.std.specs.Prelude.{◌≡◌, ◌<◌, ℕ, get_or, IsFalse, IsTrue, List};
+ghost use Rattle.std.specs.Prelude.{◌≡◌, ◌<◌, ℕ, get_or, List};
 ghost use Rattle.cfs_base.specs.Disk.{Image};
 ghost use Rattle.block_tree.specs.Along.{CutsRootPast};
 ghost use Rattle.block_tree.specs.Node.{IsNode, node_spelling};
@@ -80,19 +80,6 @@ impl Node {
         ensures good { IsNode self.now → IsNode result }
     {
         self.cut(place + 1).with_leaf(place, block)
-    }
-
-    /// Whether it has a leaf.
-    pub fn leads(&self) -> bool
-        ensures some { IsTrue result → spec.SomeLeaf self.now }
-        ensures none { IsFalse result → spec.NoLeaf self.now }
-    {
-        for leaf in &self.leaves {
-            if *leaf != 0 {
-                return true;
-            }
-        }
-        false
     }
 }
 

@@ -5,6 +5,7 @@ use Rattle.cfs_core.proofs.Words.{Kept, later, Leaves, list_all, MapEntry, merge
 use Rattle.cfs_base.specs.declared.refusal.Need as needs
 use Rattle.cfs_base.specs.declared.refusal.Refused.TheVariants as refusals
 use Rattle.special_files.specs.Drafting.{set_in}
+use Rattle.special_files.specs.Limits.{resize_calls}
 use Rattle.ufs_model.specs.declared.asked.Event.TheVariants as events
 use Rattle.ufs_model.specs.declared.asked.Reply.TheVariants as replies
 use Rattle.ufs_model.specs.declared.object.Object.TheVariants as objects
@@ -25,7 +26,7 @@ use Rattle.special_files.specs.View.{DraftView}
 use Rattle.cfs_core.proofs.Few.{few_more}
 use Rattle.cfs_core.proofs.Damages.{told_of_draft}
 use Rattle.cfs_core.proofs.Went.{went_done}
-use Rattle.cfs_core.proofs.Filed.{IsChanging}
+use Rattle.cfs_core.proofs.FileChange.{IsChanging}
 use Rattle.cfs_core.proofs.Readied.{ready_at, ready_for}
 use Rattle.cfs_core.proofs.Reached.{written_in}
 use Rattle.cfs_core.proofs.Handled.{grants_with}
@@ -298,16 +299,16 @@ module _ {D : Type 0} (g : Ghosts D) (k : Kernel D) (s : State) (serves : CoreSe
         wide = sized k.disk serves.store.carries.tells.honest ∙ sym changes.calls.same.size
 
         full : (n : needs.Need) → refusals.Full n ≡ refusals.Full (record { free = sum k.space.free; need = need_beside change before was }) → sum k.space.free < need_beside change before was + 4
-            → OnlyReads g 31092 k.disk disk → space ≡ k.space → now ≡ was → Answers g None k new s who request (replies.Full n)
+            → OnlyReads g resize_calls k.disk disk → space ≡ k.space → now ≡ was → Answers g None k new s who request (replies.Full n)
         full n told short reads same before_it =
             let is_need : n ≡ record { free = sum k.space.free; need = need_beside change before was } = cc in
             let need_so : n.need ≡ need_of s who request = ap (λ (y : needs.Need). y.need) is_need ∙ beside_is in
             let free_so : n.free ≡ sum k.space.free = ap (λ (y : needs.Need). y.free) is_need in
             record {
-              event = stays g 31092 k new reads (as_it_was same before_it) s serves left_sized (sized k.disk serves.store.carries.tells.honest) (events.Ask who request (replies.Full n))
+              event = stays g resize_calls k new reads (as_it_was same before_it) s serves left_sized (sized k.disk serves.store.carries.tells.honest) (events.Ask who request (replies.Full n))
                   (is.full k.words.seed n (running g k s serves none) goes need_so (omega (arith, short, need_so, free_so, beside_is)));
               still = λ all. let no : false ≡ true = all in cc;
-              full = λ _. full_still g left_sized sized 31092 k new reads (as_it_was same before_it) s who serves none refl;
+              full = λ _. full_still g left_sized sized resize_calls k new reads (as_it_was same before_it) s who serves none refl;
               taken = λ done. let no : false ≡ true = done in cc;
               noted = λ done. let no : false ≡ true = done in cc;
               owed = ByWant goes (record { delete = is.delete; few = omega (arith, short, beside_is) })
@@ -329,7 +330,7 @@ module _ {D : Type 0} (g : Ghosts D) (k : Kernel D) (s : State) (serves : CoreSe
             let told = (rw (← same) at alters.full) refl in
             let spared = (rw (← same) at changes.spared) refl in
             full n told.0 told.1 spared.0 spared.1 spared.2
-        did (Err (refusals.Disk false)) same = (let two = (rw (← same) at changes.untried) refl in disk_failed g left_sized sized 31092 k new two.0 (as_it_was two.1 two.2) s who serves none request)
+        did (Err (refusals.Disk false)) same = (let two = (rw (← same) at changes.untried) refl in disk_failed g left_sized sized resize_calls k new two.0 (as_it_was two.1 two.2) s who serves none request)
         did (Err (refusals.Disk true)) same = doubtful
         did (Err (refusals.Damaged damage)) same = let no : true ≡ false = rw (← same) at alters.goes.sound in cc
         did (Err refusals.Memory) same = absurd (rw (← same) at changes.refused)

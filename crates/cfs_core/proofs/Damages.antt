@@ -1,5 +1,5 @@
 -- What a damage of one call of the store tells of the core's call.
-use Rattle.std.proofs.Common.{◌≡◌, ◌⊎◌, inl, inr, ℕ, ◌/◌, ◌%◌, ◌<◌, ◌*◌, ◌+◌, Some, None, Option, true, refl, sym, ◌∙◌, ap, subst, arith, List, slice_index, sum, [], ◌∷◌}
+use Rattle.std.proofs.Common.{◌≡◌, ◌⊎◌, inl, inr, ℕ, ◌/◌, ◌<◌, ◌*◌, ◌+◌, Some, None, Option, true, refl, sym, ◌∙◌, ap, subst, arith, List, sum}
 use Rattle.cfs_core.proofs.Words.{Ghosts, Image, IsIndexRefusal, IsOpenMap, OnlyReads, Puid, Request}
 use Rattle.cfs_base.specs.Codes.{past_disk}
 use Rattle.cfs_base.proofs.Calls.{tells_on}
@@ -8,15 +8,13 @@ use Rattle.cfs_base.specs.Run.{Tells}
 use Rattle.cfs_base.specs.declared.refusal.Damage.{Damage}
 use Rattle.cfs_base.specs.declared.refusal.Refused.TheVariants as refusals
 use Rattle.cfs_base.specs.declared.refusal.Trouble.TheVariants as troubles
-use Rattle.block_tree.proofs.Spellings.{nodes_of}
-use Rattle.block_tree.proofs.Trees.{node_block, past_is, path_is}
-use Rattle.block_tree.specs.Pointers.{node_pointers}
-use Rattle.block_tree.specs.Reads.{IsPast, IsRootTrouble}
+use Rattle.block_tree.proofs.Trees.{on_leads}
+use Rattle.block_tree.specs.Reads.{IsRootTrouble}
 use Rattle.block_tree.specs.Root.{IsRootBlock, root_spelling}
-use Rattle.block_tree.specs.Tree.{pointer, tree_of}
 use Rattle.block_tree.specs.declared.root.Root.{Root}
 use Rattle.collector_steps.specs.Scan as scan
-use Rattle.collector_steps.specs.Scan.{IsIndexDamage, LeadsPast}
+use Rattle.block_tree.specs.Tree.{LeadsPast}
+use Rattle.collector_steps.specs.Scan.{IsIndexDamage}
 use Rattle.cyl_alloc.specs.Refusals.{IsNoMap}
 use Rattle.cyl_map.specs.Volume.{entry_in}
 use Rattle.file_ops.specs.Changes as files
@@ -25,7 +23,7 @@ use Rattle.index_ops.specs.Causes as causes
 use Rattle.normal_files.specs.Ends as ends
 use Rattle.normal_files.specs.Frees as frees
 use Rattle.normal_files.specs.Refusal as normal
-use Rattle.special_files.specs.Drafting.{Drafting, pointer_to_node}
+use Rattle.special_files.specs.Drafting.{Drafting}
 use Rattle.special_files.specs.Refusal as special
 use Rattle.special_files.specs.Refusal.{IsFarNode}
 use Rattle.ufs_model.specs.declared.change.Change.{Change}
@@ -182,19 +180,9 @@ spelled : (image : Image) (at : ℕ) (root : Root) → IsRootBlock (block_at ima
 spelled image at root is = is.spelled
 
 far_leaf : (image : Image) (size at : ℕ) (root : Root) (leaf : ℕ) (damage : Damage) → IsRootBlock (block_at image at) root → causes.IsFarLeaf image size at root leaf damage → LeadsPast image size (block_at image at) at damage.block
-far_leaf image size at root leaf damage is (causes.FarNode code block past above) =
-    let two = past_is image size (root_spelling root) leaf past above in
-    record { path = []; k = leaf / 128; at = block; past = rw (spelled image at root is) (subst (IsPast size) (two.0 ∙ sym (node_block image (root_spelling root) (leaf / 128))) two.1) }
-far_leaf image size at root leaf damage is (causes.FarLeaf code block past) =
-    record {
-      path = leaf / 128 ∷ [];
-      k = leaf % 128;
-      at = block ∙ node ∙ sym (node_block image (root_spelling root) (leaf / 128)) ∙ ap (λ (b : List ℕ). tree_of image b (leaf / 128 ∷ [])) (sym (spelled image at root is));
-      past = rw (spelled image at root is) (subst (IsPast size) (ap (tree_of image (root_spelling root)) (path_is (root_spelling root) leaf)) past);
-    }
-  where
-    node : pointer_to_node root (leaf / 128) ≡ pointer node_pointers (root_spelling root) (leaf / 128)
-    node = ap (λ (ns : List ℕ). slice_index ns (leaf / 128)) (nodes_of root is.good.0)
+far_leaf image size at root leaf damage is far =
+    subst (λ (content : List ℕ). LeadsPast image size content at damage.block) (sym (spelled image at root is))
+    (subst (LeadsPast image size (root_spelling root) at) (sym far.block) (on_leads image size (root_spelling root) leaf at far.pointer far.past))
 
 pub outside_slot : {D : Type 0} (g : Ghosts D) (at slot : ℕ) (old : D) (damage : Damage) → causes.IsSlotDamage g at slot old damage → IsOutside (Tells g old) (g.content old) (g.blocks old) (λ n. n ≡ at) 0 damage
 outside_slot g at slot old damage (causes.NoRoot is none) = NoRoot (ap (λ (d : Damage). d.code) is) (ap (λ (d : Damage). d.block) is) (λ tells root there. absurd (none tells root (rw (ap (λ (d : Damage). d.block) is) at there)))

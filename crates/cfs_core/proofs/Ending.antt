@@ -17,6 +17,7 @@ use Rattle.cfs_core.specs.Damage.{IsRootHere}
 use Rattle.cfs_core.proofs.Damages.{told_of_draft}
 use Rattle.cfs_core.proofs.Went.{went_so}
 use Rattle.special_files.specs.Committing.{draft_top}
+use Rattle.special_files.specs.Limits.{commit_calls, commit_tries}
 
 -- a device call failed, or a block is damaged
 pub trouble_cause : {D : Type 0} (g : Ghosts D) (old new : Kernel D) (request : Option Request) (at : ℕ) → IsRootHere old request at → g.blocks new.disk ≡ g.blocks old.disk → (draw : ℕ) (was : Drafting) → drafting_at old.handles draw ≡ Some was → was.at ≡ at → (e : Trouble) → IsDraftTrouble g (draft_top was) old.disk new.disk new.space e → IsCause g old new request (refused_by e)
@@ -31,7 +32,7 @@ closed_handles who t (Err e) old new some done none = let no = subst (λ (o : Op
 module _ {D : Type 0} (g : Ghosts D) (left_sized : (d : D) (t : ℕ) (c : Image) → g.left_since d t c → length c ≡ g.blocks d) (sized : (d : D) → IsTrue (g.honest d) → length (g.content d) ≡ g.blocks d)
     (k : Kernel D) (who : ℕ) (t : Tuid) (was : Drafting) (drafting : drafting_at k.handles t.draw ≡ Some was) (bare : was.created ≡ None) (the : (s : State) → CoreServes g k s → IsHeld g k s who t was)
     (d : D) (space : Kept) (commit : Bool) where
-  wide : MakesAtMost g 31207 15485 k.disk d → (s : State) → CoreServes g k s → length (g.content k.disk) ≡ g.blocks d
+  wide : MakesAtMost g commit_calls commit_tries k.disk d → (s : State) → CoreServes g k s → length (g.content k.disk) ≡ g.blocks d
   wide calls s serves = sized k.disk serves.store.carries.tells.honest ∙ sym calls.same.size
 
   pub tries_ended : EndsDraft g commit was k.disk d k.space space (Ok tt) → TriesWith g None k (record k { disk = d; space = space; handles = handles_but (tables.is_session_grant who t) (with_drafting t.draw None k.handles) }) who (asks.Close t commit) (Ok replies.Done)

@@ -1,6 +1,7 @@
 -- How many blocks a file takes, by the leaves that it may hold.
 use Rattle.std.proofs.Common.{◌≡◌, ◌⊎◌, inl, inr, ℕ, ◌+◌, ◌/◌, ◌≤◌, List, [], ◌∷◌, ◌++◌, length, true, false, cond, not, refl, ap, subst, arith, ◌==◌, filter, map, nat_lt}
 use Rattle.cfs_core.proofs.Words.{above, and_parts, blocks_of, branches, File, first_level, has_number, here, in_cons, in_map, in_withs, lacking, later, list_all, missing, nat_tests, next_levels, numbers_rise, parents, sum_by, sum_by-cons, to_filter, to_map, to_withs, with_numbers-rise}
+use Rattle.ufs_model.specs.Limits.{fan_out}
 use Rattle.ufs_model.specs.declared.object.Object.TheVariants as objects
 
 -- ---- numbers that rise are no more than those among which they are
@@ -61,7 +62,7 @@ few_more xs ms ns there up among held = omega (
 parents_among : (xs ms ns : List ℕ) → ((x : ℕ) → has_number x xs ≡ true → (has_number x ms ≡ true) ⊎ (has_number x ns ≡ true))
     → (y : ℕ) → has_number y (parents xs) ≡ true → (has_number y (parents ms) ≡ true) ⊎ (has_number y (parents ns) ≡ true)
 parents_among xs ms ns among y has =
-    let half : ℕ → ℕ = λ n. n / 128 in
+    let half : ℕ → ℕ = λ n. n / fan_out in
     let x = in_map half y xs (in_withs y (map half xs) has) in
     elim (among x.0 x.1) [
       | inl old ↦ inl (subst (λ (n : ℕ). has_number n (parents ms) ≡ true) x.2 (to_withs (half x.0) (map half ms) (to_map half x.0 ms old)))
@@ -84,5 +85,5 @@ blocks_within x f leaves there up among held above_held =
       two_levels x.held,
       two_levels f.held,
       few_more x.held f.held leaves (first_level there) up among held,
-      few_more (parents x.held) (parents f.held) (parents leaves) (first_level (next_levels there)) (with_numbers-rise (map (λ n. n / 128) x.held)) (parents_among x.held f.held leaves among) above_held,
+      few_more (parents x.held) (parents f.held) (parents leaves) (first_level (next_levels there)) (with_numbers-rise (map (λ n. n / fan_out) x.held)) (parents_among x.held f.held leaves among) above_held,
     )

@@ -1,26 +1,27 @@
 -- How many blocks the objects take once an index has another slot filled, or emptied.
 use Rattle.std.proofs.Common.{◌≡◌, inl, inr, ℕ, ◌+◌, ◌/◌, ◌≤◌, List, [], ◌∷◌, length, Bool, true, false, cond, Option, Some, None, ◌∙◌, ap, subst, arith, ◌==◌, map, nat_lt, sum_by}
 use Rattle.cfs_core.proofs.Words.{blocks_of, filled, Graph, graph_blocks, has_number, ids_of, in_map, in_with, in_withs, Index, insert_entry-there, is_at, lookup, Object, object_at, parents, Puid, puid_cmp, rises, same_numbers, set_value, sorted_from_rises, sum_by-cons, to_map, to_withs, with_itself, with_number, with_number-rises, with_numbers-rise, with_object, with_others}
+use Rattle.ufs_model.specs.Limits.{fan_out}
 use Rattle.ufs_model.specs.declared.object.Object.TheVariants as objects
 
 -- ---- a number more
 
-parents_with : (n : ℕ) (ns : List ℕ) → parents (with_number n ns) ≡ with_number (n / 128) (parents ns)
-parents_with n ns = same_numbers _ _ (with_numbers-rise (map half (with_number n ns))) (with_number-rises (n / 128) (parents ns) (with_numbers-rise (map half ns))) forth back
+parents_with : (n : ℕ) (ns : List ℕ) → parents (with_number n ns) ≡ with_number (n / fan_out) (parents ns)
+parents_with n ns = same_numbers _ _ (with_numbers-rise (map half (with_number n ns))) (with_number-rises (n / fan_out) (parents ns) (with_numbers-rise (map half ns))) forth back
   where
     half : ℕ → ℕ
-    half m = m / 128
+    half m = m / fan_out
 
-    forth : (x : ℕ) → has_number x (parents (with_number n ns)) ≡ true → has_number x (with_number (n / 128) (parents ns)) ≡ true
+    forth : (x : ℕ) → has_number x (parents (with_number n ns)) ≡ true → has_number x (with_number (n / fan_out) (parents ns)) ≡ true
     forth x h =
         let y = in_map half x (with_number n ns) (in_withs x (map half (with_number n ns)) h) in
         elim (in_with y.0 n ns y.1) [
-          | inl same ↦ subst (λ (m : ℕ). has_number m (with_number (n / 128) (parents ns)) ≡ true) (ap half same ∙ y.2) (with_itself (n / 128) (parents ns))
-          | inr old ↦ with_others x (n / 128) (parents ns) (subst (λ (m : ℕ). has_number m (parents ns) ≡ true) y.2 (to_withs (half y.0) (map half ns) (to_map half y.0 ns old)))
+          | inl same ↦ subst (λ (m : ℕ). has_number m (with_number (n / fan_out) (parents ns)) ≡ true) (ap half same ∙ y.2) (with_itself (n / fan_out) (parents ns))
+          | inr old ↦ with_others x (n / fan_out) (parents ns) (subst (λ (m : ℕ). has_number m (parents ns) ≡ true) y.2 (to_withs (half y.0) (map half ns) (to_map half y.0 ns old)))
         ]
 
-    back : (x : ℕ) → has_number x (with_number (n / 128) (parents ns)) ≡ true → has_number x (parents (with_number n ns)) ≡ true
-    back x h = elim (in_with x (n / 128) (parents ns) h) [
+    back : (x : ℕ) → has_number x (with_number (n / fan_out) (parents ns)) ≡ true → has_number x (parents (with_number n ns)) ≡ true
+    back x h = elim (in_with x (n / fan_out) (parents ns) h) [
       | inl same ↦ subst (λ (m : ℕ). has_number m (parents (with_number n ns)) ≡ true) same (to_withs (half n) (map half (with_number n ns)) (to_map half n (with_number n ns) (with_itself n ns)))
       | inr old ↦
           let y = in_map half x ns (in_withs x (map half ns) old) in
@@ -48,7 +49,7 @@ pub filled_blocks : (i : Index) (slot : ℕ) (what : Option Puid) → blocks_of 
 filled_blocks i slot None = omega arith
 filled_blocks i slot (Some id) =
     let n = slot / 64 in
-    omega (arith, held_two (with_number n i.held), held_two i.held, one_more n i.held, one_more (n / 128) (parents i.held), ap (λ (ns : List ℕ). length ns) (parents_with n i.held))
+    omega (arith, held_two (with_number n i.held), held_two i.held, one_more n i.held, one_more (n / fan_out) (parents i.held), ap (λ (ns : List ℕ). length ns) (parents_with n i.held))
 
 -- ---- an object in the place of one
 

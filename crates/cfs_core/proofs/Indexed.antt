@@ -3,6 +3,7 @@ use Rattle.std.proofs.Common.{◌≡◌, inl, inr, ℕ, ◌/◌, ◌==◌, ◌||
 use Rattle.cfs_core.proofs.Words.{AnIndex, Draft, draft_of, Drafting, FileKind, Ghosts, Image, Index, index_to_leaves, is_draft_of, is_id, is_reading, is_there, nat_tests, Object, object_at, Puid, refusal_of, Refused, Reply, Request, slot_of, State, Through, Tuid}
 use Rattle.special_files.specs.Fills.{is_empty_already}
 use Rattle.cyl_alloc.specs.Left.{LeftCommit}
+use Rattle.ufs_model.specs.Limits.{most_slots}
 use Rattle.ufs_model.specs.declared.asked.Reply.TheVariants as replies
 use Rattle.ufs_model.specs.declared.asked.Request.TheVariants as asks
 use Rattle.ufs_model.specs.declared.object.Object.TheVariants as objects
@@ -108,10 +109,10 @@ module _ {D : Type 0} {w : Option LeftCommit} (g : Ghosts D) (who : ℕ) (t : Tu
   pub beyond_index : (slots slot : ℕ) → nat_lt slot (was.root.size / 8) ≡ false → refusal_of s who (asks.CreateIndex slots (Through t) slot) ≡ Some replies.Slot
   beyond_index slots slot is = rw (it.found, there, writes, it.draft_was, index.1, past slot false is) refl
 
-  pub range_index : (slots slot : ℕ) → nat_lt slot (was.root.size / 8) ≡ true → ((slots == 0) || nat_lt 983040 slots) ≡ true → refusal_of s who (asks.CreateIndex slots (Through t) slot) ≡ Some replies.Range
+  pub range_index : (slots slot : ℕ) → nat_lt slot (was.root.size / 8) ≡ true → ((slots == 0) || nat_lt most_slots slots) ≡ true → refusal_of s who (asks.CreateIndex slots (Through t) slot) ≡ Some replies.Range
   range_index slots slot is out = rw (it.found, there, writes, it.draft_was, index.1, past slot true is, out) refl
 
-  pub goes_index : (slots slot : ℕ) → nat_lt slot (was.root.size / 8) ≡ true → (slots == 0) ≡ false → nat_lt 983040 slots ≡ false → refusal_of s who (asks.CreateIndex slots (Through t) slot) ≡ None
+  pub goes_index : (slots slot : ℕ) → nat_lt slot (was.root.size / 8) ≡ true → (slots == 0) ≡ false → nat_lt most_slots slots ≡ false → refusal_of s who (asks.CreateIndex slots (Through t) slot) ≡ None
   goes_index slots slot is some few = rw (it.found, there, writes, it.draft_was, index.1, past slot true is, some, few) refl
 
 -- ---- calls that only read

@@ -25,6 +25,7 @@ mod Putting
 mod Created
 mod Placed
 mod After
+mod FileChange
 mod Filed
 mod Makings
 mod Regranted
@@ -37,6 +38,7 @@ mod Ending
 mod GivenUp
 mod Leaving
 mod Dropping
+mod MayOpen
 mod Openings
 mod Reached
 mod Fitting
@@ -52,6 +54,7 @@ mod Tidied
 mod Swept
 mod DraftRoots
 mod Unread
+mod StepMoves
 mod Stepping
 mod Stepped
 mod Parted

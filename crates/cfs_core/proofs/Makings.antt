@@ -3,6 +3,7 @@ use Rattle.std.proofs.Common.{◌≡◌, ◌⊎◌, inl, inr, ℕ, ◌+◌, ◌*
 use Rattle.cfs_core.proofs.Words.{FileKind, Index, Kind, lt-ltb, made_of, nat_tests, new_file, new_index, Puid, Ref, refusal_of, State}
 use Rattle.cfs_base.specs.declared.kind.FileKind.TheVariants as file_kinds
 use Rattle.cfs_base.specs.declared.kind.Kind.TheVariants as kinds
+use Rattle.ufs_model.specs.Limits.{most_slots}
 use Rattle.ufs_model.specs.declared.asked.Reply.TheVariants as replies
 use Rattle.ufs_model.specs.declared.asked.Request.TheVariants as asks
 use Rattle.ufs_model.specs.declared.object.Object.TheVariants as objects
@@ -45,10 +46,10 @@ module _ (s : State) (who : ℕ) (to : Ref) (index : Puid) (i : Index) (slot : �
   file_goes kind fill r less = r.rest ∙ rw (within 0 s who to index i (asks.CreateFile kind fill to slot) slot r refl less) refl
 
   module _ (slots : ℕ) (r : Reaches s who (asks.CreateIndex slots to slot) index (objects.Index i)) (less : slot < length i.slots) where
-    pub index_goes : (slots == 0) ≡ false → nat_lt 983040 slots ≡ false → refusal_of s who (asks.CreateIndex slots to slot) ≡ None
+    pub index_goes : (slots == 0) ≡ false → nat_lt most_slots slots ≡ false → refusal_of s who (asks.CreateIndex slots to slot) ≡ None
     index_goes some few = r.rest ∙ rw (within 0 s who to index i (asks.CreateIndex slots to slot) slot r refl less, some, few) refl
 
-    pub index_range : ((slots == 0) || nat_lt 983040 slots) ≡ true → refusal_of s who (asks.CreateIndex slots to slot) ≡ Some replies.Range
+    pub index_range : ((slots == 0) || nat_lt most_slots slots) ≡ true → refusal_of s who (asks.CreateIndex slots to slot) ≡ Some replies.Range
     index_range out = r.rest ∙ rw (within 0 s who to index i (asks.CreateIndex slots to slot) slot r refl less, out) refl
 
 -- ---- as the store is asked for them
@@ -71,9 +72,9 @@ index_makes slots to slot = subst (λ (n : ℕ). IsMaking (asks.CreateIndex slot
 pub some_slots : (slots : ℕ) → (slots ≡ 0 → ⊥) → (slots == 0) ≡ false
 some_slots slots some = grind (arith, nat_tests)
 
-pub few_slots : (slots : ℕ) → slots ≤ 983040 → nat_lt 983040 slots ≡ false
+pub few_slots : (slots : ℕ) → slots ≤ most_slots → nat_lt most_slots slots ≡ false
 few_slots slots few = grind (arith, nat_tests)
 
-pub out_of_slots : (slots : ℕ) → (slots ≡ 0) ⊎ ((slots ≡ 0 → ⊥) × 983040 < slots) → ((slots == 0) || nat_lt 983040 slots) ≡ true
+pub out_of_slots : (slots : ℕ) → (slots ≡ 0) ⊎ ((slots ≡ 0 → ⊥) × most_slots < slots) → ((slots == 0) || nat_lt most_slots slots) ≡ true
 out_of_slots slots (inl none) = (let no : (slots == 0) ≡ true = grind (arith, nat_tests) in rw no refl)
-out_of_slots slots (inr (some, many)) = rw (some_slots slots some, lt-ltb 983040 slots many) refl
+out_of_slots slots (inr (some, many)) = rw (some_slots slots some, lt-ltb most_slots slots many) refl

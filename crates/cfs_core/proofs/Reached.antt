@@ -2,10 +2,10 @@
 use Rattle.std.proofs.Common.{◌≡◌, inl, inr, ℕ, List, length, Bool, true, false, Option, Some, None, Result, Ok, Err, IsTrue, refl, sym, ◌∙◌, ap, subst, nat_lt, IfErr, IfOk}
 use Rattle.std.specs.Prelude.{find, option_and_then}
 use Rattle.cfs_core.proofs.Words.{Draft, draft_of, Drafting, File, file_to_leaves, Ghosts, Grant, grant_of, HasDraft, here, Image, has_met_damage, is_draft_of, is_range, is_reading, IsPlainReply, Object, object_at, OnlyReads, opened_as, refusal_of, Refused, Reply, State, the_draft, Through, Tuid, AFile}
-use Rattle.cfs_base.specs.declared.refusal.Refused.TheVariants as refusals
 use Rattle.special_files.specs.Refusal.{top_of}
 use Rattle.cyl_alloc.specs.Left.{LeftCommit}
 use Rattle.intentions.specs.Left.{coming}
+use Rattle.ufs_model.specs.Limits.{most_bytes}
 use Rattle.ufs_model.specs.declared.asked.Reply.TheVariants as replies
 use Rattle.ufs_model.specs.declared.asked.Request.TheVariants as asks
 use Rattle.ufs_model.specs.declared.object.Object.TheVariants as objects
@@ -91,10 +91,10 @@ module _ {D : Type 0} {w : Option LeftCommit} (g : Ghosts D) (who : ℕ) (t : Tu
   pub write_range : (offset : ℕ) (bytes : List ℕ) → is_range was.root.size offset (length bytes) ≡ false → refusal_of s who (asks.Write (Through t) offset bytes) ≡ Some replies.Range
   write_range offset bytes is = rw (it.found, there, writes, it.draft_was, file.1, ranged offset (length bytes) false is) refl
 
-  pub resize_goes : (size : ℕ) → nat_lt 7864320 size ≡ false → refusal_of s who (asks.Resize (Through t) size) ≡ None
+  pub resize_goes : (size : ℕ) → nat_lt most_bytes size ≡ false → refusal_of s who (asks.Resize (Through t) size) ≡ None
   resize_goes size is = rw (it.found, there, writes, is) refl
 
-  pub resize_range : (size : ℕ) → nat_lt 7864320 size ≡ true → refusal_of s who (asks.Resize (Through t) size) ≡ Some replies.Range
+  pub resize_range : (size : ℕ) → nat_lt most_bytes size ≡ true → refusal_of s who (asks.Resize (Through t) size) ≡ Some replies.Range
   resize_range size is = rw (it.found, there, writes, is) refl
 
 -- ---- a grant without a draft

@@ -3,6 +3,7 @@ use Rattle.std.proofs.Common.{◌≡◌, ◌⊎◌, inl, inr, ℕ, List, ◌<◌
 use Rattle.ufs_model.specs.Next.{is_direct_delete}
 use Rattle.cfs_core.proofs.Words.{AFile, AnIndex, Change, changed, changed_draft, changed_object, Draft, draft_of, edge_stays, File, FileKind, Fill, has_no_slot, Index, index_with, is_id, is_range, is_running, object_kind, named, nat_tests, need_of, next, Object, object_at, outcome_of, Puid, put_object-at, Ref, refusal_of, Reply, Request, seen, seen_object, slot_named, slot_of, State, with_object}
 use Rattle.cfs_base.specs.declared.kind.FileKind.TheVariants as file_kinds
+use Rattle.ufs_model.specs.Limits.{most_bytes}
 use Rattle.ufs_model.specs.declared.asked.Reply.TheVariants as replies
 use Rattle.ufs_model.specs.declared.asked.Request.TheVariants as asks
 use Rattle.ufs_model.specs.declared.object.Object.TheVariants as objects
@@ -160,8 +161,8 @@ module _ (seed : ℕ) (s : State) (who : ℕ) (to : Ref) (id : Puid) (f : File) 
     write_range is = r.rest ∙ rw (r.bare, r.name, r.there, is) refl
 
   module _ (size : ℕ) (r : Reaches s who (asks.Resize to size) id (objects.File f)) where
-    pub resize_goes : nat_lt 7864320 size ≡ false → refusal_of s who (asks.Resize to size) ≡ None
+    pub resize_goes : nat_lt most_bytes size ≡ false → refusal_of s who (asks.Resize to size) ≡ None
     resize_goes is = r.rest ∙ rw is refl
 
-    pub resize_range : nat_lt 7864320 size ≡ true → refusal_of s who (asks.Resize to size) ≡ Some replies.Range
+    pub resize_range : nat_lt most_bytes size ≡ true → refusal_of s who (asks.Resize to size) ≡ Some replies.Range
     resize_range is = r.rest ∙ rw is refl

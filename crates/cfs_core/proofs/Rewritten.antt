@@ -7,6 +7,7 @@ use Rattle.cfs_core.specs.Drafts.{AltersDraft, ChangesDraft, KnowsDraft, StaysOf
 use Rattle.special_files.specs.Puts.{StaysBut}
 use Rattle.cfs_core.specs.Looks.{IsDraftCause}
 use Rattle.cfs_core.proofs.Went.{fewer_calls}
+use Rattle.special_files.specs.Limits.{resize_calls, resize_tries}
 use Rattle.special_files.specs.View.{GoesHolding}
 use Rattle.leaf_changes.specs.Tops.{Top}
 use Rattle.special_files.specs.Looks.{ReadCall}
@@ -18,14 +19,14 @@ few_leaves offset count few = omega (arith, few)
 
 module _ {D A : Type 0} (g : Ghosts D) (at : Top) (n t k : ℕ) (old new : D) (before after : Kept) (was now : Drafting) where
   -- where it failed and nothing had been tried, all is as it was
-  pub untried_so : (r : Result A Refused) → n ≤ 31092 → EndsCall g at 4 n t k old new before after r → IfErr r (λ e. e ≡ refusals.Disk false → now ≡ was) → IfErr r (λ e. e ≡ refusals.Disk false → OnlyReads g 31092 old new × (after ≡ before) × (now ≡ was))
+  pub untried_so : (r : Result A Refused) → n ≤ resize_calls → EndsCall g at 4 n t k old new before after r → IfErr r (λ e. e ≡ refusals.Disk false → now ≡ was) → IfErr r (λ e. e ≡ refusals.Disk false → OnlyReads g resize_calls old new × (after ≡ before) × (now ≡ was))
   untried_so (Ok x) less ends kept = tt
-  untried_so (Err e) less ends kept = λ is. (reads_within g old new n 31092 less (ends.untried is).1, (ends.untried is).0, kept is)
+  untried_so (Err e) less ends kept = λ is. (reads_within g old new n resize_calls less (ends.untried is).1, (ends.untried is).0, kept is)
 
   -- where a resize is Full it made one read at most
-  pub spared_one : (r : Result A Refused) → IfErr r (λ e. is_full_refusal e ≡ true → OnlyReads g 1 old new × (after ≡ before) × (now ≡ was)) → IfErr r (λ e. is_full_refusal e ≡ true → OnlyReads g 31092 old new × (after ≡ before) × (now ≡ was))
+  pub spared_one : (r : Result A Refused) → IfErr r (λ e. is_full_refusal e ≡ true → OnlyReads g 1 old new × (after ≡ before) × (now ≡ was)) → IfErr r (λ e. is_full_refusal e ≡ true → OnlyReads g resize_calls old new × (after ≡ before) × (now ≡ was))
   spared_one (Ok x) is = tt
-  spared_one (Err e) is = λ full. (reads_within g old new 1 31092 (omega arith) (is full).0, (is full).1, (is full).2)
+  spared_one (Err e) is = λ full. (reads_within g old new 1 resize_calls (omega arith) (is full).0, (is full).1, (is full).2)
 
 -- what a call has done more
 pub goes_on : {D A P Q : Type 0} {g : Ghosts D} {graph : Graph} {old new : D} {r : Result A Refused} → GoesHolding g graph P old new r → OnOk r (P → Q) → GoesHolding g graph Q old new r
@@ -36,9 +37,9 @@ goes_on {A = A} {P = P} {Q = Q} {r = r} goes more = record { done = by r goes.do
     by (Err e) p f = tt
 
 -- a change of a draft by such a call
-pub changes_so : {D : Type 0} (g : Ghosts D) (change : Change) {n t k : ℕ} (old new : D) (before after : Kept) (was now : Drafting) (r : Result (Unit {0}) Refused) → n ≤ 31092 → t ≤ 15486
+pub changes_so : {D : Type 0} (g : Ghosts D) (change : Change) {n t k : ℕ} (old new : D) (before after : Kept) (was now : Drafting) (r : Result (Unit {0}) Refused) → n ≤ resize_calls → t ≤ resize_tries
     → ((knows : KnowsDraft g change old before was) → AltersDraft knows.view change new after now r) → EndsCall g (top_of was) 4 n t k old new before after r → IfErr r (λ e. e ≡ refusals.Disk false → now ≡ was)
-    → IfErr r (λ e. is_full_refusal e ≡ true → OnlyReads g 31092 old new × (after ≡ before) × (now ≡ was)) → StaysOf was now → ChangesDraft g change old new before after was now r
+    → IfErr r (λ e. is_full_refusal e ≡ true → OnlyReads g resize_calls old new × (after ≡ before) × (now ≡ was)) → StaysOf was now → ChangesDraft g change old new before after was now r
 changes_so g change {n = n} {t = t} {k = k} old new before after was now r few fewer alters ends kept spared stays = record {
   alters = alters;
   untried = untried_so g (top_of was) n t k old new before after was now r few ends kept;
@@ -47,7 +48,7 @@ changes_so g change {n = n} {t = t} {k = k} old new before after was now r few f
   stays = stays;
   cylinders = ends.cylinders;
   left = ends.left;
-  calls = fewer_calls g n t 31092 15486 old new few fewer ends.calls;
+  calls = fewer_calls g n t resize_calls resize_tries old new few fewer ends.calls;
 }
 
 -- ---- where it is, its shadow root and what it makes are left

@@ -10,6 +10,7 @@ use Rattle.index_drafts.specs.Puts.{IndexView, PutCall, PutsIn, PutsInDraft}
 use Rattle.special_files.proofs.Refusals.{if_err}
 use Rattle.special_files.specs.Drafting.{draft_takes, need_beside}
 use Rattle.special_files.specs.Fills.{filled_draft}
+use Rattle.special_files.specs.Limits.{resize_calls}
 use Rattle.special_files.specs.View.{DraftView}
 use Rattle.cfs_core.specs.Claimed.{claims_in_draft}
 use Rattle.cfs_core.specs.Drafts.{AltersDraft, IsAltered, KnowsDraft}
@@ -21,17 +22,17 @@ use Rattle.cfs_core.proofs.Rewritten.{goes_on}
 
 -- where it is Full nothing was done
 pub put_spared : {D : Type 0} (g : Ghosts D) (slot : ℕ) (old new : D) (before after : Kept) (was now : Drafting) (result : Result (Unit {0}) Refused) → PutCall g slot 4 old new before after was now result
-    → IfErr result (λ e. is_full_refusal e ≡ true → OnlyReads g 31092 old new × (after ≡ before) × (now ≡ was))
+    → IfErr result (λ e. is_full_refusal e ≡ true → OnlyReads g resize_calls old new × (after ≡ before) × (now ≡ was))
 put_spared {D = D} g slot old new before after was now result call = by (cases_lt (sum before.free) (draft_takes was (slot / 64) + 4))
   where
     all_err : (r : Result (Unit {0}) Refused) {P : Type 0} → P → IfErr r (λ e. is_full_refusal e ≡ true → P)
     all_err (Ok u) p = tt
     all_err (Err e) p = λ _. p
 
-    by : (sum before.free < draft_takes was (slot / 64) + 4) ⊎ (draft_takes was (slot / 64) + 4 ≤ sum before.free) → IfErr result (λ e. is_full_refusal e ≡ true → OnlyReads g 31092 old new × (after ≡ before) × (now ≡ was))
+    by : (sum before.free < draft_takes was (slot / 64) + 4) ⊎ (draft_takes was (slot / 64) + 4 ≤ sum before.free) → IfErr result (λ e. is_full_refusal e ≡ true → OnlyReads g resize_calls old new × (after ≡ before) × (now ≡ was))
     by (inl less) =
         let none = call.full.full less in
-        all_err result (subst (λ (d : D). OnlyReads g 31092 old d) (sym none.1) (reads_none g 31092 old), none.2, none.3)
+        all_err result (subst (λ (d : D). OnlyReads g resize_calls old d) (sym none.1) (reads_none g resize_calls old), none.2, none.3)
     by (inr enough) = if_err result (λ e spare full. absurd (true≢false (sym full ∙ spare))) (call.full.spare enough)
 
 module _ {D : Type 0} (g : Ghosts D) (slot : ℕ) (what : Option Puid) (old new : D) (before after : Kept) (was now : Drafting) (result : Result (Unit {0}) Refused)

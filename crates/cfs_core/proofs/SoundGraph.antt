@@ -4,6 +4,7 @@ use Rattle.cfs_core.proofs.Words.{absent_byte, all_among, all_filter, all_number
 use Rattle.cfs_core.proofs.Words.{index_to_leaves, is_among, is_object, is_root_index, is_there, is_there-ids, IsGraph, IsSoundAs, IsTree, keys_of, le-leb, leaf_content, leaf_in, leaves_in, list_all, lt-ltb, ne_eqb, Object, object_at, object_there, or_left, or_right, part_at, part_of, Puid, puid_cmp, range_with_len, ReadsAs, reserved, rises, same_block, same_puid, same_slot, slot_get, slot_in, slot_may_stand, source, to_held, tree_in}
 use Rattle.ufs_model.specs.declared.object.Object.TheVariants as objects
 use Rattle.ufs_model.proofs.Reached.{same_puid_is, same_puid_itself}
+use Rattle.ufs_model.specs.Limits.{most_bytes, most_slots}
 use Rattle.vol_image.specs.Sight.{sight}
 
 -- ---- one object
@@ -45,7 +46,7 @@ module _ (image : Image) (blocks : AreBlocks image) (id : Puid) (o : Object) (re
       (omega (arith, held_byte fill h i small inside, ap (λ (c : List ℕ). get_or c i 0) content, block.bytes i), inl refl)
 
   file_whole : (f : File) → o ≡ objects.File f → is_object (objects.File f) ≡ true
-  file_whole f is = and_from _ _ (and_from _ _ (and_from _ _ (and_from _ _ (le-leb (length f.bytes) 7864320 (omega (arith, gives.size, tree.spelled.good.1.size.limit)))
+  file_whole f is = and_from _ _ (and_from _ _ (and_from _ _ (and_from _ _ (le-leb (length f.bytes) most_bytes (omega (arith, gives.size, tree.spelled.good.1.size.limit)))
       (lt-ltb f.fill 256 (omega (arith, gives.fill, tree.spelled.good.0.fill)))) (rw gives.held (held-rise reads.source leaf)))
       (rw gives.held (all_held _ (λ n below. lt-ltb n (leaves_in (length f.bytes)) (omega (arith, below, gives.size)))))) (each_place (byte_may_stand f) 0 f.bytes byte)
     where
@@ -63,7 +64,7 @@ module _ (image : Image) (blocks : AreBlocks image) (id : Puid) (o : Object) (re
 
   index_whole : (i : Index) → o ≡ objects.Index i → is_object (objects.Index i) ≡ true
   index_whole i is = and_from _ _ (and_from _ _ (and_from _ _ (and_from _ _ (ap not (ne_eqb (length i.slots) 0 (λ none. absurd (omega (arith, none, gives.size, sizes.0)))))
-      (le-leb (length i.slots) 983040 (omega (arith, gives.size, tree.spelled.good.1.size.limit)))) (rw gives.held (held-rise reads.source leaf)))
+      (le-leb (length i.slots) most_slots (omega (arith, gives.size, tree.spelled.good.1.size.limit)))) (rw gives.held (held-rise reads.source leaf)))
       (rw gives.held (all_held _ (λ n below. lt-ltb (n * 64) (length i.slots) (omega (arith, below, gives.size, sizes.1)))))) (each_place (slot_may_stand i) None i.slots slot)
     where
       gives : GivesIndex reads.source leaf i

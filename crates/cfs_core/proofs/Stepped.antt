@@ -23,7 +23,8 @@ use Rattle.cfs_core.proofs.Collected.{collection_ready}
 use Rattle.cfs_core.proofs.Lefts.{goes_begun, goes_ended}
 use Rattle.intentions.specs.Left.{coming}
 use Rattle.cfs_core.proofs.Serving.{stored_with, fits, pending, room_with, running, serves_from, serves_is, serves_now, stands_from, nothing_left}
-use Rattle.cfs_core.proofs.Stepping.{begins, ended, read_calls}
+use Rattle.cfs_core.proofs.StepMoves.{begins, ended}
+use Rattle.cfs_core.proofs.Stepping.{read_calls}
 use Rattle.cfs_core.proofs.Tidied.{tidy}
 use Rattle.cfs_core.proofs.Unread.{unread_few}
 

@@ -3,6 +3,7 @@
 use Rattle.std.proofs.Common.{◌≡◌, ◌/◌, ◌⊎◌, inl, inr, ℕ, ◌+◌, ◌-◌, ◌≤◌, List, [], ◌∷◌, length, get_or, Bool, true, false, cond, Option, Some, None, is_some, refl, sym, ◌∙◌, ap, subst, arith, filter, ◌%◌, nat_le, zero, suc}
 use Rattle.std.specs.List.{sum_by, range_with_len}
 use Rattle.std.proofs.lemmas.List.Sums.{sum_by-cons}
+use Rattle.block_tree.specs.Pointers.{leaf_limit, leaf_pointers}
 use Rattle.block_tree.specs.declared.root.Root.{Root}
 use Rattle.block_tree.proofs.Trees.{path_is}
 use Rattle.ufs_model.specs.Need.{one_if}
@@ -73,15 +74,15 @@ module _ (image : Image) (g : Graph) (holds : Holds image g) (id : Puid) (i : In
   own = block_at image id.block
 
   abbrev has_leaf : List ℕ → ℕ → Bool
-  has_leaf content n = is_some ((tree_in image content).below (n / 128 ∷ n % 128 ∷ []))
+  has_leaf content n = is_some ((tree_in image content).below (n / leaf_pointers.count ∷ n % leaf_pointers.count ∷ []))
 
-  held_is : (content : List ℕ) (root : Root) (k : Index) → IsTree (length image) id.block (tree_in image content) root (objects.Index k) → k.held ≡ filter (has_leaf content) (range_with_len 0 15360)
+  held_is : (content : List ℕ) (root : Root) (k : Index) → IsTree (length image) id.block (tree_in image content) root (objects.Index k) → k.held ≡ filter (has_leaf content) (range_with_len 0 leaf_limit)
   unfolding levels_of
   held_is content root k tree =
       ap first_level (sym (blocks_counted image (length image) id.block content root (objects.Index k) tree))
-      ∙ ap (λ (P : ℕ → Bool). filter P (range_with_len 0 15360)) (fun_ext (λ n. ap (λ (p : List ℕ). is_some ((tree_in image content).below p)) (path_is content n)))
+      ∙ ap (λ (P : ℕ → Bool). filter P (range_with_len 0 leaf_limit)) (fun_ext (λ n. ap (λ (p : List ℕ). is_some ((tree_in image content).below p)) (path_is content n)))
 
-  fresh_is : get_or d.draft.fresh 0 [] ≡ filter (fresh_leaf (is_meant_for image id.block) (tree_in image (content_of d))) (range_with_len 0 15360)
+  fresh_is : get_or d.draft.fresh 0 [] ≡ filter (fresh_leaf (is_meant_for image id.block) (tree_in image (content_of d))) (range_with_len 0 leaf_limit)
   fresh_is = draft.fresh 0 ∙ ap (λ (ls : List (List ℕ)). get_or ls 0 []) (levels_are (is_meant_for image id.block) (tree_in image (content_of d))) ∙ leaf_level (is_meant_for image id.block) (tree_in image (content_of d))
 
   -- a leaf that the draft holds is fresh, or its object's own
@@ -89,7 +90,7 @@ module _ (image : Image) (g : Graph) (holds : Holds image g) (id : Puid) (i : In
   fresh_or_own n h = by ((tree_in image (content_of d)).below path) refl h
     where
       path : List ℕ
-      path = n / 128 ∷ n % 128 ∷ []
+      path = n / leaf_pointers.count ∷ n % leaf_pointers.count ∷ []
 
       by : (o : Option Held) → (tree_in image (content_of d)).below path ≡ o → is_some o ≡ true → (passes (is_meant_for image id.block) ((tree_in image (content_of d)).below path) ≡ true) ⊎ (has_leaf own n ≡ true)
       by None v some = cc
@@ -110,7 +111,7 @@ module _ (image : Image) (g : Graph) (holds : Holds image g) (id : Puid) (i : In
       let drafted = held_is (content_of d) d.root j (subst (λ (o : Object). IsTree (length image) id.block (tree_in image (content_of d)) d.root o) is draft.tree) in
       let owned = held_is own its.0 i its.1 in
       sums (length j.held) (length (get_or d.draft.fresh 0 [])) (length i.held) (sum_by length d.draft.fresh) _ _ _ (ap (λ (ns : List ℕ). length ns) drafted) (ap (λ (ns : List ℕ). length ns) fresh_is) (ap (λ (ns : List ℕ). length ns) owned)
-      (few_pass (has_leaf (content_of d)) (fresh_leaf (is_meant_for image id.block) (tree_in image (content_of d))) (has_leaf own) fresh_or_own (range_with_len 0 15360)) (first_few d.draft.fresh)
+      (few_pass (has_leaf (content_of d)) (fresh_leaf (is_meant_for image id.block) (tree_in image (content_of d))) (has_leaf own) fresh_or_own (range_with_len 0 leaf_limit)) (first_few d.draft.fresh)
 
 -- ---- one object
 

@@ -106,7 +106,8 @@ claims_for handles s who (asks.Retain index slot id) reply = claims_for_slot han
 claims_for handles s who (asks.Delete index slot) reply = claims_for_slot handles s who index slot
 claims_for handles s who (asks.OpenFor id mode) reply =
     if takes_draft mode (object_at s.graph id) then intended places.ShadowRoot id.block ∷ [] else []
-claims_for handles s who (asks.Write file offset bytes) reply = claims_through handles s who file (Overwrite offset bytes)
+claims_for handles s who (asks.Write file offset bytes) reply =
+    claims_through handles s who file (Overwrite offset bytes)
 claims_for handles s who (asks.Resize file size) reply = claims_through handles s who file (SetSize size)
 claims_for handles s who request reply = []
 

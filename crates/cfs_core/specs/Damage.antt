@@ -10,8 +10,8 @@ use Rattle.cfs_base.specs.declared.refusal.Damage.{Damage}
 use Rattle.block_tree.specs.Pointers.{node_pointers}
 use Rattle.block_tree.specs.Root.{IsRootBlock, root_spelling}
 use Rattle.block_tree.specs.declared.root.Root.{Root}
+use Rattle.block_tree.specs.Tree.{LeadsPast}
 use Rattle.collector_steps.specs.Collecting.{Collecting, colours_in}
-use Rattle.collector_steps.specs.Scan.{LeadsPast}
 use Rattle.cyl_alloc.specs.Left.{LeftCommit}
 use Rattle.cyl_map.specs.Volume.{is_free_in, map_of}
 use Rattle.finisher.specs.Going.{tries_left}

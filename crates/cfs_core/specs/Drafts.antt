@@ -16,6 +16,7 @@ use Rattle.special_files.specs.Becomes.{DraftBecomes}
 use Rattle.special_files.specs.Committing.{AbortEnds, CommitEnds, IsNoted, draft_top}
 use Rattle.special_files.specs.Drafting.{Drafting, need_beside}
 use Rattle.special_files.specs.Fills.{is_empty_already}
+use Rattle.special_files.specs.Limits.{commit_calls, commit_tries, resize_calls, resize_tries}
 use Rattle.special_files.specs.Refusal.{IsDraftRefusal, IsDraftTrouble, has_met_damage, is_full_refusal, top_of}
 use Rattle.special_files.specs.View.{DraftSeen, DraftView, GoesHolding}
 use Rattle.puid_space.specs.Directory.{directory_kind}
@@ -109,13 +110,15 @@ pub record ChangesDraft {D : Type 0} (g : Ghosts D) (change : Change) (old new :
     (was now : Drafting)
     (result : Result (Unit {0}) Refused) : Type 0 where
   pub alters : (k : KnowsDraft g change old before was) → AltersDraft k.view change new after now result
-  pub untried : IfErr result (λ e. e ≡ refusals.Disk false → OnlyReads g 31092 old new × (after ≡ before) × (now ≡ was))
-  pub spared : IfErr result (λ e. is_full_refusal e ≡ true → OnlyReads g 31092 old new × (after ≡ before) × (now ≡ was))
+  pub untried : IfErr result (λ e. e ≡ refusals.Disk false
+      → OnlyReads g resize_calls old new × (after ≡ before) × (now ≡ was))
+  pub spared : IfErr result (λ e. is_full_refusal e ≡ true
+      → OnlyReads g resize_calls old new × (after ≡ before) × (now ≡ was))
   pub refused : IfErr result (IsDraftRefusal g (top_of was) reserve old new after)
   pub stays : StaysOf was now
   pub cylinders : length after.free ≡ length before.free
   pub left : after.left ≡ before.left
-  pub calls : MakesAtMost g 31092 15486 old new
+  pub calls : MakesAtMost g resize_calls resize_tries old new
 
 -- ---- a request through it
 
@@ -217,4 +220,4 @@ pub record EndsDraft {D : Type 0} (g : Ghosts D) (commit : Bool) (was : Drafting
   pub cylinders : length after.free ≡ length before.free
   -- what is left of the commit is unfinished then; an abort leaves nothing
   pub left : OnOk result (LeavesDraftCommit commit was.at after.left)
-  pub calls : MakesAtMost g 31207 15485 old new
+  pub calls : MakesAtMost g commit_calls commit_tries old new

@@ -43,7 +43,8 @@ IsOnDisk handles draw blocks = (d : Drafting) → drafting_at handles draw ≡ S
 -- the handles with this draft there, or with none
 abbrev pub with_drafting : ℕ → Option Drafting → List Handle → List Handle
 with_drafting draw drafting handles =
-    map (λ handle. if is_drawn draw handle then record { grant = handle.grant; drafting = drafting } else handle) handles
+    map (λ handle. if is_drawn draw handle then record { grant = handle.grant; drafting = drafting } else handle)
+    handles
 
 -- The draft of this draw has become another, so; the other handles are as they were.
 pub record ChangesHeld (draw : ℕ) (old new : List Handle) (So : Drafting → Drafting → Type 0) : Type 0 where

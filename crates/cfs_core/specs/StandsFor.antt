@@ -1,6 +1,6 @@
 -- When a core stands for a state: a relation, since no field of a core has all that a collection remembers.
 use Rattle.std.specs.Prelude.{◌≡◌, ℕ, ◌≤◌, Bool, true, false, ◌||◌, List, [], ◌∷◌}
-use Rattle.std.specs.Prelude.{◌++◌, length, map, sum, Option, Some, None, option_map}
+use Rattle.std.specs.Prelude.{length, map, sum, Option, Some, None, option_map}
 use Rattle.cfs_base.specs.Disk.{Image}
 use Rattle.cfs_base.specs.declared.identifier.Puid.{Puid}
 use Rattle.cfs_base.specs.declared.disk.Disk.{Ghosts}

@@ -5,6 +5,7 @@ ghost use Rattle.ufs_model.specs.Plain.{is_id};
 ghost use Rattle.ufs_model.specs.declared.asked.Ref.{Ref};
 ghost use Rattle.cfs_core.specs.Drafts.{HasNoneOf};
 ghost use Rattle.cfs_core.specs.StandsFor.{ServesIs};
+ghost use Rattle.ufs_model.specs.Limits.{most_slots};
 ghost use Rattle.ufs_model.specs.State.{State, draft_of};
 ghost use Rattle.ufs_model.specs.declared.asked.Wanted.TheVariants.{AnIndex};
 ghost use Rattle.ufs_model.specs.declared.asked.Request.TheVariants as asks;
@@ -148,7 +149,7 @@ impl<D: Disk> Core<D> {
     fn put(&mut self, alloc: Global, index: Puid, slot: u64, id: Puid) -> Result<Reply, Refused>
         requires on_disk { index.block < D.blocks self.old.disk }
         requires some { index.block ≢ 0 }
-        requires few { slot < 983040 }
+        requires few { slot < most_slots }
         requires id { id.block ≢ 0 }
         ensures { (to : Ref) → TriesOn D.Disk self.old self.new index slot (asks.Retain to slot id) result }
     {
@@ -170,7 +171,7 @@ impl<D: Disk> Core<D> {
     fn empty(&mut self, alloc: Global, index: Puid, slot: u64, floor: u32) -> Result<Reply, Refused>
         requires on_disk { index.block < D.blocks self.old.disk }
         requires some { index.block ≢ 0 }
-        requires few { slot < 983040 }
+        requires few { slot < most_slots }
         requires floor { floor ≤ 4 }
         ensures { (to : Ref) → floor ≡ delete_floor to
             → TriesOn D.Disk self.old self.new index slot (asks.Delete to slot) result }

@@ -110,8 +110,8 @@ fn mark<D: Disk>(
     requires room { directory.old.room ≤ volume_of collector.old }
     requires size { D.blocks disk.old ≡ volume_of collector.old }
     ensures { (kept : space.Kept)
-        → StepsSo D.Disk disk.old disk.new kept kept directory.old directory.new handles.now.handles collector.old collector.new
-        result }
+        → StepsSo D.Disk disk.old disk.new kept kept directory.old directory.new handles.now.handles collector.old
+        collector.new result }
 {
     if collector.has_rescue() {
         collector.take(directory);

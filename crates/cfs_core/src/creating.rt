@@ -7,6 +7,7 @@ ghost use Rattle.index_ops.specs.Creates.{PutsObject};
 ghost use Rattle.special_files.specs.Creates.{MayBeMade, made_of};
 ghost use Rattle.cfs_core.specs.Drafts.{HasNoneOf};
 ghost use Rattle.cfs_core.specs.StandsFor.{ServesIs};
+ghost use Rattle.ufs_model.specs.Limits.{most_slots};
 ghost use Rattle.ufs_model.specs.State.{State, draft_of};
 ghost use Rattle.ufs_model.specs.declared.asked.Wanted.TheVariants.{AnIndex};
 ghost use Rattle.ufs_model.specs.declared.asked.Request.TheVariants as asks;
@@ -147,7 +148,7 @@ impl<D: Disk> Core<D> {
     ) -> Result<Reply, Refused>
         requires on_disk { index.block < D.blocks self.old.disk }
         requires some { index.block ≢ 0 }
-        requires few { slot < 983040 }
+        requires few { slot < most_slots }
         requires made { MayBeMade kind fill size }
         requires words { self.old.words.drawn < 4294967295 }
         ensures { (request : Request) → IsMaking request slot (made_of kind fill size)

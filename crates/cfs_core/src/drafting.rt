@@ -1,5 +1,6 @@
 //! Requests on a file through a grant with a draft.
 ghost use Rattle.std.specs.Prelude.{◌≡◌, ◌+◌, ◌*◌, ◌<◌, ◌≤◌, false, IfErr, IfNone, IfOk, IfSome, length};
+ghost use Rattle.block_tree.specs.Pointers.{size_limit};
 ghost use Rattle.cfs_base.specs.Calls.{OnlyReads};
 ghost use Rattle.cfs_core.specs.Calls.{Tries};
 ghost use Rattle.cfs_core.specs.Drafts.{ChangesDraft, HasNoneOf, IsDrafted};
@@ -93,7 +94,7 @@ pub(crate) fn set_size<D: Disk>(
 ) -> Result<(), Refused>
     requires on_disk { draft.old.at < D.blocks disk.old }
     requires size { D.blocks disk.old ≡ 64 * length space.old.free }
-    requires limit { size ≤ 7864320 }
+    requires limit { size ≤ size_limit }
     ensures { ChangesDraft D.Disk (SetSize size) disk.old disk.new space.old space.new draft.old draft.new result }
 {
     draft.resize(disk, space, size, RESERVE)

@@ -82,8 +82,8 @@ pub(crate) fn make_in<D: Disk>(
     requires size { D.blocks disk.old ≡ 64 * length space.old.free }
     requires within { 8 * slot + 8 ≤ draft.old.root.size }
     requires made { MayBeMade kind fill size }
-    ensures { CreatesIn D.Disk slot (made_of kind fill size) word reserve disk.old disk.new space.old space.new draft.old
-        draft.new result }
+    ensures { CreatesIn D.Disk slot (made_of kind fill size) word reserve disk.old disk.new space.old space.new
+        draft.old draft.new result }
 {
     create_in(draft, disk, space, slot, kind, fill, size, word, RESERVE)
 }

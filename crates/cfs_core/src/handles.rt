@@ -2,6 +2,7 @@
 ghost use Rattle.std.specs.Prelude.{◌≡◌, ◌+◌, ◌*◌, ◌≤◌, ◌++◌, [], ◌∷◌, IfOk, IsTrue, None, OnErr, OnOk, Some, length};
 ghost use Rattle.std.specs.Prelude.{option_copied, true, false};
 ghost use Rattle.std.specs.List.{list_any};
+ghost use Rattle.block_tree.specs.Pointers.{size_limit};
 ghost use Rattle.cfs_core.specs.Drafts.{ChangesDraft};
 ghost use Rattle.cfs_core.specs.Kernel.{grants_in};
 ghost use Rattle.cfs_core.specs.Handles.{ChangesHeld, HoldsDraft, IsOnDisk, drafting_at, have_draft, is_at, is_drawn, handles_but};
@@ -165,7 +166,8 @@ impl Handles {
         requires most { length bytes.now ≤ 4096 }
         requires size { D.blocks disk.old ≡ 64 * length space.old.free }
         ensures { ChangesHeld draw self.old.handles self.new.handles
-            (λ was now. ChangesDraft D.Disk (Overwrite offset bytes.now) disk.old disk.new space.old space.new was now result) }
+            (λ was now. ChangesDraft D.Disk (Overwrite offset bytes.now) disk.old disk.new space.old space.new was now
+            result) }
     {
         match self.drafts.get_mut(&draw) {
             Some(draft) => overwrite(draft, disk, space, offset, bytes),
@@ -183,7 +185,7 @@ impl Handles {
     ) -> Result<(), Refused>
         requires has { HoldsDraft self.old.handles draw 0 }
         requires on_disk { IsOnDisk self.old.handles draw (D.blocks disk.old) }
-        requires limit { size ≤ 7864320 }
+        requires limit { size ≤ size_limit }
         requires size { D.blocks disk.old ≡ 64 * length space.old.free }
         ensures { ChangesHeld draw self.old.handles self.new.handles
             (λ was now. ChangesDraft D.Disk (SetSize size) disk.old disk.new space.old space.new was now result) }
@@ -233,8 +235,8 @@ impl Handles {
         requires made { MayBeMade kind fill size }
         requires size { D.blocks disk.old ≡ 64 * length space.old.free }
         ensures { ChangesHeld draw self.old.handles self.new.handles
-            (λ was now. CreatesIn D.Disk slot (made_of kind fill size) word reserve disk.old disk.new space.old space.new
-            was now result) }
+            (λ was now. CreatesIn D.Disk slot (made_of kind fill size) word reserve disk.old disk.new
+            space.old space.new was now result) }
     {
         match self.drafts.get_mut(&draw) {
             Some(draft) => make_in(draft, disk, space, slot, kind, fill, size, word),

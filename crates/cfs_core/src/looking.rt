@@ -4,6 +4,7 @@ ghost use Rattle.cfs_core.specs.Calls.{Tries, looked};
 ghost use Rattle.cfs_core.specs.Looks.{IsCalm, KnowsObject, counted};
 ghost use Rattle.cfs_core.specs.Drafts.{HasNoneOf};
 ghost use Rattle.cfs_core.specs.StandsFor.{ServesIs};
+ghost use Rattle.ufs_model.specs.Limits.{most_slots};
 ghost use Rattle.ufs_model.specs.State.{State, draft_of};
 ghost use Rattle.ufs_model.specs.declared.asked.Wanted.TheVariants.{AnIndex};
 ghost use Rattle.ufs_model.specs.declared.asked.Request.TheVariants as asks;
@@ -23,7 +24,7 @@ pub(crate) fn look<D: Disk>(disk: &mut D, index: BlockNo, slot: u64) -> Result<R
     requires { index.0 < D.blocks disk.old }
     ensures exact { (i : Index) → KnowsObject D.Disk disk.old index.0 (objects.Index i)
         → IfOk result (λ reply. reply ≡ looked i slot) }
-    ensures few { IfOk result (λ reply. is_id reply ≡ true → slot < 983040) }
+    ensures few { IfOk result (λ reply. is_id reply ≡ true → slot < most_slots) }
     ensures plain { IfOk result IsPlainReply }
     ensures calm { IsCalm D.Disk objects.Index 4 index.0 disk.old disk.new result }
 {
@@ -46,7 +47,7 @@ pub(crate) fn has_slot<D: Disk>(disk: &mut D, index: BlockNo, slot: u64) -> Resu
     requires { index.0 < D.blocks disk.old }
     ensures exact { (i : Index) → KnowsObject D.Disk disk.old index.0 (objects.Index i)
         → IfOk result (λ has. has ≡ nat_lt slot (length i.slots)) }
-    ensures few { IfOk result (λ has. has ≡ true → slot < 983040) }
+    ensures few { IfOk result (λ has. has ≡ true → slot < most_slots) }
     ensures calm { IsCalm D.Disk objects.Index 1 index.0 disk.old disk.new result }
 {
     match slots(disk, index) {

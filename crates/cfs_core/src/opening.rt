@@ -6,6 +6,7 @@ ghost use Rattle.cfs_base.specs.Run.{Leaves};
 ghost use Rattle.cfs_recover.specs.Grounds.{IsOpenFault};
 ghost use Rattle.cfs_recover.specs.Recovered.{IsUntouched, LeavesSinceBarrier};
 ghost use Rattle.cfs_recover.specs.Refusals.{IsCaused};
+ghost use Rattle.cfs_recover.specs.Walk.{calls_by_block};
 ghost use Rattle.puid_space.specs.Directory.{has_root_in};
 ghost use Rattle.cfs_core.specs.Opened.{IsOpenedCore, disk_of};
 ghost use Rattle.ufs_model.specs.Graph.{Graph};
@@ -77,7 +78,8 @@ impl<D: Disk> Core<D> {
         ensures images { IsTrue (D.honest disk) → (graph : Graph) → IsSoundAs (D.content disk) graph
             → LeavesSinceBarrier D.Disk disk (disk_of result) (λ c. IsSoundAs c graph) }
         ensures cause { IfErr result (λ e. IsCaused D.Disk disk e.disk e.why) }
-        ensures calls { MakesAtMost D.Disk (15485 * D.blocks disk + 4) (2 * D.blocks disk + 3) disk (disk_of result) }
+        ensures calls { MakesAtMost D.Disk (calls_by_block * D.blocks disk + 4) (2 * D.blocks disk + 3) disk
+            (disk_of result) }
         ensures size { IfOk result (λ k. D.blocks disk ≡ 64 * length k.space.free) }
     {
         let mut disk = disk;

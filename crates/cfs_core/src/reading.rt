@@ -1,5 +1,6 @@
 //! Requests that read a file.
 ghost use Rattle.std.specs.Prelude.{◌≡◌, ◌≢◌, ◌+◌, ◌<◌, ◌≤◌, IfErr, IfOk, None, length};
+ghost use Rattle.block_tree.specs.Pointers.{size_limit};
 ghost use Rattle.cfs_base.specs.Run.{Tells};
 ghost use Rattle.cfs_base.specs.declared.refusal.Refused.TheVariants as refusals;
 ghost use Rattle.cfs_core.specs.Calls.{Tries};
@@ -36,7 +37,7 @@ pub(crate) fn root_in<D: Disk>(disk: &mut D, file: BlockNo) -> Result<Root, Refu
     ensures rooted { Tells D.Disk disk.old → IfOk result (IsRootAt (D.content disk.old) file.0) }
     ensures exact { (f : File) → KnowsObject D.Disk disk.old file.0 (objects.File f)
         → IfOk result (λ root. root.size ≡ length f.bytes) }
-    ensures limit { IfOk result (λ root. root.size ≤ 7864320) }
+    ensures limit { IfOk result (λ root. root.size ≤ size_limit) }
     ensures calm { IsCalm D.Disk objects.File 1 file.0 disk.old disk.new result }
     ensures never { IfErr result (λ e. e ≢ refusals.Memory) }
 {

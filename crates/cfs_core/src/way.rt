@@ -32,8 +32,8 @@ pub struct Way {
 }
 
 impl<D: Disk> Core<D> {
-    /// The index that a request of a session goes to, or its refusal on the way there. It has no draft. Its root block is
-    /// one of the disk's, and not block 0; nor is that of the object that is named besides.
+    /// The index that a request of a session goes to, or its refusal on the way there. It has no draft. Its root block
+    /// is one of the disk's, and not block 0; nor is that of the object that is named besides.
     pub(crate) fn index_at(&self, who: Session, way: Way) -> Result<Puid, Reply>
         requires bare { (s : State) → ServesIs D.Disk self.now s → HasNoneOf AnIndex (draft_of s who way.to) }
         ensures refused { IfErr result (λ reply. (request : Request) → GoesBy request AnIndex way

@@ -78,6 +78,13 @@ reads_by_height (suc height) = 1 + leaf_pointers.count * reads_by_height height
 abbrev pub reads_of_object : ℕ
 reads_of_object = 2 + node_pointers.count * reads_by_height node_levels
 
+-- A survey reads for each block at most an object and a map; a recovery also writes a root and a map.
+abbrev pub reads_by_block : ℕ
+reads_by_block = reads_of_object + 1
+
+abbrev pub calls_by_block : ℕ
+calls_by_block = reads_by_block + 2
+
 -- the object with this root block is read by this root
 pub record IsReadByRoot (image : Image) (owner : ℕ) (root : Root) : Type 0 where
   pub id : Puid

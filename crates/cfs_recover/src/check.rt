@@ -5,6 +5,7 @@ ghost use Rattle.cfs_base.specs.Run.{Tells};
 ghost use Rattle.vol_image.specs.Sound.{IsSound};
 ghost use Rattle.cfs_recover.specs.Grounds.{IsOpenFault};
 ghost use Rattle.cfs_recover.specs.Refusals.{IsCaused};
+ghost use Rattle.cfs_recover.specs.Walk.{reads_by_block};
 
 use crate::fault::RecoverFault;
 use crate::survey::survey_volume;
@@ -21,7 +22,7 @@ pub fn check_volume<D: Disk>(alloc: Global, disk: &mut D) -> Result<(), RecoverF
     ensures free { Tells D.Disk disk.old → IsSound (D.content disk.old)
         → IfErr result (λ e. (e ≡ RecoverFault.Disk) ⊎ (e ≡ RecoverFault.Memory)) }
     ensures cause { IfErr result (IsCaused D.Disk disk.old disk.new) }
-    ensures reads { OnlyReads D.Disk (1 + 15483 * D.blocks disk.old) disk.old disk.new }
+    ensures reads { OnlyReads D.Disk (1 + reads_by_block * D.blocks disk.old) disk.old disk.new }
 {
     survey_volume(alloc, disk)?;
     Ok(())

@@ -10,6 +10,7 @@ ghost use Rattle.cfs_recover.specs.Keeps.{Leads};
 ghost use Rattle.cfs_recover.specs.Recovered.{IsRecovered, IsUntouched, LeavesSinceBarrier, WritesWhatDiffers};
 ghost use Rattle.cfs_recover.specs.Refusals.{IsCaused};
 ghost use Rattle.cfs_recover.specs.Survey.{FitsSurvey, IsSurvey};
+ghost use Rattle.cfs_recover.specs.Walk.{calls_by_block};
 
 use crate::fault::RecoverFault;
 use crate::survey::{Survey, survey_volume};
@@ -79,7 +80,8 @@ fn open_settled<D: Disk>(alloc: Global, disk: &mut D) -> Result<Recovered, Recov
     ensures size { IfOk result (λ r. D.blocks disk.old ≡ 64 * length r.space.free) }
     ensures left { IfOk result (λ r. r.space.left ≡ None) }
     ensures cause { IfErr result (IsCaused D.Disk disk.old disk.new) }
-    ensures calls { MakesAtMost D.Disk (15485 * D.blocks disk.old + 3) (2 * D.blocks disk.old + 2) disk.old disk.new }
+    ensures calls { MakesAtMost D.Disk (calls_by_block * D.blocks disk.old + 3) (2 * D.blocks disk.old + 2) disk.old
+        disk.new }
 {
     let survey = survey_volume(alloc, disk)?;
     let mut space = Space::none(alloc, survey.grounds.maps.len() as u32)?;
@@ -114,7 +116,8 @@ pub fn recover<D: Disk>(alloc: Global, disk: &mut D) -> Result<Recovered, Recove
     // No commit is left to be carried out.
     ensures left { IfOk result (λ r. r.space.left ≡ None) }
     ensures cause { IfErr result (IsCaused D.Disk disk.old disk.new) }
-    ensures calls { MakesAtMost D.Disk (15485 * D.blocks disk.old + 4) (2 * D.blocks disk.old + 3) disk.old disk.new }
+    ensures calls { MakesAtMost D.Disk (calls_by_block * D.blocks disk.old + 4) (2 * D.blocks disk.old + 3) disk.old
+        disk.new }
 {
     flush(disk)?;
     open_settled(alloc, disk)

@@ -13,7 +13,7 @@ ghost use Rattle.cfs_recover.specs.Grounds.{AreGrounds, IsOpenFault};
 ghost use Rattle.cfs_recover.specs.Refusals.{IsCaused, NamesDamage};
 ghost use Rattle.cfs_recover.specs.Stored.{AreMapsOf, Stores};
 ghost use Rattle.cfs_recover.specs.Survey.{FitsSurvey, IsOfSize, IsSurvey, IsWalked, IsWholeWalk};
-ghost use Rattle.cfs_recover.specs.Walk.{reads_of_object};
+ghost use Rattle.cfs_recover.specs.Walk.{reads_by_block, reads_of_object};
 
 use crate::copies::Piece;
 use crate::fault::RecoverFault;
@@ -147,7 +147,7 @@ pub(crate) fn survey_volume<D: Disk>(alloc: Global, disk: &mut D) -> Result<Surv
         → MatchResult result (IsSurvey image) (IsOpenFault image) }
     ensures fits { IfOk result (FitsSurvey (D.blocks disk.old)) }
     ensures cause { IfErr result (IsCaused D.Disk disk.old disk.new) }
-    ensures reads { OnlyReads D.Disk (1 + 15483 * D.blocks disk.old) disk.old disk.new }
+    ensures reads { OnlyReads D.Disk (1 + reads_by_block * D.blocks disk.old) disk.old disk.new }
 {
     let grounds = read_grounds(alloc, disk)?;
     let walked = walk_volume(alloc, disk, &grounds)?;

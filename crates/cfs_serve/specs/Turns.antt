@@ -26,9 +26,11 @@ step_made (Ok step) = Ok (Some step)
 step_made (Err fault) = Err fault
 
 -- A part of the commit that is unfinished, and else a step.
-pub data TakesTurn {D : Type 0} (g : Ghosts D) (old new : Kernel D) (result : Result (Option Step) CollectFault) : Type 0 where
+pub data TakesTurn {D : Type 0} (g : Ghosts D) (old new : Kernel D)
+    (result : Result (Option Step) CollectFault) : Type 0 where
   Tidied : (made : Result Tidy TidyFault) → result ≡ part_made made → IsSome old.space.left
       → TidiesVolume g old new made
       → TakesTurn g old new result
-  Stepped : (made : Result Step CollectFault) → result ≡ step_made made → old.space.left ≡ None → CollectsStep g old new made
+  Stepped : (made : Result Step CollectFault) → result ≡ step_made made → old.space.left ≡ None
+      → CollectsStep g old new made
       → TakesTurn g old new result

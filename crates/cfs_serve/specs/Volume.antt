@@ -49,9 +49,8 @@ pub record ServesSessions {D : Type 0} (g : Ghosts D) (core : Kernel D) (collect
   pub counts : Counts
   pub cause : Cause
   pub told : report ≡ record { counts = Some counts; cause = cause }
-  pub played : IsPlayed (ground_at g core) core.words.seed collections (Rose (g.faults core.disk) (g.faults disk)) clients
-      ports
-      counts cause ending trail
+  pub played : IsPlayed (ground_at g core) core.words.seed collections (Rose (g.faults core.disk) (g.faults disk))
+      clients ports counts cause ending trail
   pub later : g.faults core.disk ≤ g.faults disk
   pub rise : MomentsRise (g.moment core.disk) moments (g.moment disk)
   pub crashes : (graph : Graph) → StandsFor g core (opening graph) → RunSurvives g core.words.seed graph trail

@@ -274,8 +274,8 @@ fn write_report<K: Sink>(
     }
 }
 
-/// Does what the words ask: shows a page, makes a volume, audits a trail, or serves sessions, the words' own or those of
-/// a spin; and writes the report.
+/// Does what the words ask: shows a page, makes a volume, audits a trail, or serves sessions, the words' own or those
+/// of a spin; and writes the report.
 pub fn top<D: Disk + Send, S: Source, K: Sink + Send, G: Gate + Sync, R: Threads + Wait + Sync>(
     rt: &R,
     alloc: Global,
@@ -288,8 +288,8 @@ pub fn top<D: Disk + Send, S: Source, K: Sink + Send, G: Gate + Sync, R: Threads
     ensures disk { OnDisk D.Disk (asked_by words.now) result.told result.ending result.trail.events result.trail.moments
         bay.disk result.disk }
     ensures said { Says (asked_by words.now) (ground_of D.Disk (asked_by words.now) bay.disk)
-        (before D.faults S.supply K.intake bay) (outside_after D.faults S.supply K.intake result) result.told result.status
-        result.ending result.trail.events }
+        (before D.faults S.supply K.intake bay) (outside_after D.faults S.supply K.intake result) result.told
+        result.status result.ending result.trail.events }
 {
     scripts_have_so_many_lines();
     let Bay {

@@ -143,7 +143,8 @@ pub fn serve<A: Server + Send, K: Sink + Send, G: Gate + Sync, R: Threads + Wait
         → A.lasts p.server (A.seed server) graph p.trail.events (A.clock server ∷ p.trail.moments)) }
     ensures size { IfOk result (λ p. A.cylinders p.server ≡ A.cylinders server) }
     ensures called { IfOk result (λ p. (A.tally p.server).called ≡ collections) }
-    ensures over { IfOk result (λ p. AreOver root collections (map client_of ports.items) p.trail.events p.ports.items) }
+    ensures over { IfOk result (λ p. AreOver root collections (map client_of ports.items) p.trail.events
+        p.ports.items) }
     ensures starved { IfOk result (λ p. p.starved ≡ list_any wants_memory p.trail.events) }
     ensures failed { IfOk result (λ p. p.failed ≡ list_any tells_disk p.trail.events) }
     // Whatever disk it is, no more collections began than were called for. Where no step was refused, as many are

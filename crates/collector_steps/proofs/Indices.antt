@@ -131,7 +131,7 @@ module _ (image : Image) (blocks : AreBlocks image) (owner : ℕ) (content : Lis
   -- where the first held leaf is that of a step
   step_at : (cursor : ℕ) (s : HeldStep) → IsStep image content cursor s → next_held cursor i ≡ Some s.held.leaf
   step_at cursor s is =
-      let some : leaf_block image content s.held.leaf ≢ 0 = λ gone. is.is_held (sym is.block ∙ gone) in
+      let some : leaf_block image content s.held.leaf ≢ 0 = λ gone. is.is_held (sym is.block_is ∙ gone) in
       first_next cursor s.held.leaf is.on (in_held s.held.leaf some) (λ leaf on below there. quiet cursor s.held.leaf leaf is.before on below there)
 
   no_step : (cursor : ℕ) → IsStepped image content cursor None → next_held cursor i ≡ None
@@ -140,8 +140,8 @@ module _ (image : Image) (blocks : AreBlocks image) (owner : ℕ) (content : Lis
   -- the bytes that were read are those of its slots
   read_is : (cursor : ℕ) (s : HeldStep) (bytes : List ℕ) → IsStep image content cursor s → bytes ≡ block_at image s.held.block → ids_from bytes 0 ≡ leaf_ids i s.held.leaf
   read_is cursor s bytes is told =
-      let some : leaf_block image content s.held.leaf ≢ 0 = λ gone. is.is_held (sym is.block ∙ gone) in
-      ap (λ (xs : List ℕ). ids_from xs 0) (told ∙ ap (block_at image) (sym is.block)) ∙ sym (ids_are s.held.leaf some)
+      let some : leaf_block image content s.held.leaf ≢ 0 = λ gone. is.is_held (sym is.block_is ∙ gone) in
+      ap (λ (xs : List ℕ). ids_from xs 0) (told ∙ ap (block_at image) (sym is.block_is)) ∙ sym (ids_are s.held.leaf some)
 
   -- a step in an index's own part is one of the model
   pub own_step_is : (cursor : ℕ) (step : Option HeldStep) (bytes : List ℕ) → IsStepped image content cursor step → IfSome step (λ s. bytes ≡ block_at image s.held.block)

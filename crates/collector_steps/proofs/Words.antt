@@ -1,13 +1,12 @@
 -- What lemmas of this crate name of the crates below, and of its own definitions.
-pub use Rattle.block_tree.proofs.Trees.{node_block, past_is, path_is}
 pub use Rattle.block_tree.proofs.Walks.{count_is}
 pub use Rattle.block_tree.specs.Pointers.{leaf_limit, leaf_pointers, node_pointers, number_at}
 unfoldable pub use Rattle.block_tree.specs.Pointers.{pointers_of}
-pub use Rattle.block_tree.specs.Reads.{IsFault, IsPast, IsRootTrouble}
+pub use Rattle.block_tree.specs.Reads.{IsFault, IsRootTrouble, trouble_of}
 pub use Rattle.block_tree.specs.Root.{IsRootBlock}
 unfoldable pub use Rattle.block_tree.specs.Root.{root_spelling}
 pub use Rattle.block_tree.specs.Step.{IsPastFrom, IsStep, IsStepped, NoneHeld}
-pub use Rattle.block_tree.specs.Tree.{HasNoDeadEnd, leaf_block, tree_of}
+pub use Rattle.block_tree.specs.Tree.{HasNoDeadEnd, LeadsPast, leaf_block, tree_of}
 unfoldable pub use Rattle.block_tree.specs.Tree.{levels_of, path_to}
 pub use Rattle.block_tree.specs.declared.fault.TreeFault.{TreeFault}
 pub use Rattle.block_tree.specs.declared.root.Root.{Root}
@@ -28,7 +27,7 @@ pub use Rattle.collector_marks.specs.Kept.{blocks_marked, colours_of}
 pub use Rattle.collector_steps.specs.Collecting.{Collecting, Collects, IsCollecting, AreStepsWithin, Serves, colours_in, volume_of, waiting_in}
 pub use Rattle.collector_steps.specs.Left.{cylinders_of, left_in, most_steps, reads_of, steps_left}
 unfoldable pub use Rattle.collector_steps.specs.Left.{reads_left, unmarked_below}
-pub use Rattle.collector_steps.specs.Scan.{IsDamaged, IsLeafScanTrouble, IsScanTrouble, LeadsPast, NoRoot, PastDisk, trouble_of}
+pub use Rattle.collector_steps.specs.Scan.{IsDamaged, IsScanTrouble, NoRoot, PastDisk}
 unfoldable pub use Rattle.collector_steps.specs.Scan.{ids_from}
 pub use Rattle.collector_steps.specs.Steady.{IsPhaseReady}
 pub use Rattle.collector_steps.specs.Sweep.{IsSweptOf, MayBegin, NoInner, NoStray, goes, is_of_pass, swept, swept_map}

@@ -1,5 +1,5 @@
 -- A leaf of an index as its bytes, a step of the scan, and why one is refused.
-use Rattle.std.specs.Prelude.{◌≡◌, ℕ, ◌+◌, ◌-◌, ◌≤◌, List, [], ◌∷◌, ◌++◌, ◌/◌, Bool, map, false, if◌then◌else◌}
+use Rattle.std.specs.Prelude.{◌≡◌, ℕ, ◌+◌, ◌-◌, List, [], Bool, map, false, if◌then◌else◌}
 use Rattle.std.specs.Prelude.{Option, Some, None, IfSome, length, true}
 use Rattle.std.specs.List.{filter_map, range_with_len}
 use Rattle.cfs_base.specs.Calls.{HasStopped}
@@ -11,17 +11,13 @@ use Rattle.cfs_base.specs.declared.identifier.Puid.{Puid}
 use Rattle.cfs_base.specs.declared.refusal.Damage.{Damage}
 use Rattle.cfs_base.specs.declared.refusal.Trouble.{Trouble}
 use Rattle.cfs_base.specs.declared.refusal.Trouble.TheVariants as trouble
-use Rattle.block_tree.specs.Pointers.{leaf_pointers, node_pointers}
 use Rattle.block_tree.specs.declared.root.Root.{Root}
 use Rattle.block_tree.specs.declared.step.HeldStep.{HeldStep}
-use Rattle.block_tree.specs.declared.fault.TreeFault.{TreeFault}
-use Rattle.block_tree.specs.declared.fault.TreeFault.TheVariants as faults
-use Rattle.block_tree.specs.Reads.{IsPast}
 use Rattle.block_tree.specs.Root.{IsRootBlock}
 use Rattle.vol_image.specs.Reading.{slot_in}
 use Rattle.block_tree.specs.Root.{root_spelling}
 use Rattle.block_tree.specs.Step.{IsStepped, NoneHeld, SomeHeld}
-use Rattle.block_tree.specs.Tree.{leaf_count, pointer, tree_of}
+use Rattle.block_tree.specs.Tree.{LeadsPast, leaf_count}
 use Rattle.collector_steps.specs.declared.scan.Found.{Found}
 use Rattle.marking.specs.Leaves.{own_part}
 use Rattle.ufs_model.specs.State.{State, draft_at}
@@ -80,21 +76,9 @@ IsDraftRoot image s id root d = ⊥
 
 -- ---- why it is refused
 
--- the block with the pointer that is the last of a path, in the tree with this root, which is that of block r or of its
--- draft
-abbrev pub pointer_holder : Image → (root : List ℕ) → ℕ → List ℕ → ℕ
-pointer_holder image root r [] = r
-pointer_holder image root r (k ∷ path) = tree_of image root (k ∷ path)
-
--- a pointer in this block of that tree leads past the disk
-pub record LeadsPast (image : Image) (size : ℕ) (root : List ℕ) (r block : ℕ) : Type 0 where
-  pub path : List ℕ
-  pub k : ℕ
-  pub at : block ≡ pointer_holder image root r path
-  pub past : IsPast size (tree_of image root (path ++ k ∷ []))
-
 -- the root block is none, or a pointer of its tree or of its draft's leads past the disk
-pub data IsIndexDamage {D : Type 0} (g : Ghosts D) (old : D) (draft : Option Root) (r : ℕ) (damage : Damage) : Type 0 where
+pub data IsIndexDamage {D : Type 0} (g : Ghosts D) (old : D) (draft : Option Root) (r : ℕ)
+    (damage : Damage) : Type 0 where
   NoRoot : damage.code ≡ no_root → damage.block ≡ r
       → (Tells g old → (root : Root) → ¬ IsRootBlock (block_at (g.content old) r) root)
       → IsIndexDamage g old draft r damage
@@ -104,18 +88,6 @@ pub data IsIndexDamage {D : Type 0} (g : Ghosts D) (old : D) (draft : Option Roo
   PastDraft : (root : Root) → draft ≡ Some root → damage.code ≡ past_disk
       → (Tells g old → LeadsPast (g.content old) (g.blocks old) (root_spelling root) r damage.block)
       → IsIndexDamage g old draft r damage
-
--- a failed device call is told as it is, and a pointer past the disk by the block that has it
-abbrev pub trouble_of : ℕ → TreeFault → Trouble
-trouble_of block faults.Disk = trouble.Disk false
-trouble_of block (faults.BadPointer past) = trouble.Damaged (record { block = block; code = past_disk })
-
--- a device call failed, or the leaf's pointer leads past the disk, in a node to which the root with these bytes leads
-abbrev pub IsLeafScanTrouble : {D : Type 0} → Ghosts D → D → D → (root : List ℕ) → HeldStep → Trouble → Type 0
-IsLeafScanTrouble g old new root step (trouble.Disk tried) = HasStopped g tried old new
-IsLeafScanTrouble g old new root step (trouble.Damaged damage) =
-    (damage.code ≡ past_disk) × (damage.block ≡ pointer node_pointers root (step.held.leaf / leaf_pointers.count))
-    × (g.blocks old ≤ step.held.block)
 
 -- a device call failed, or a pointer of the tree with this root leads past the disk
 abbrev pub IsTreeTrouble : {D : Type 0} → Ghosts D → D → D → (root : List ℕ) → ℕ → Trouble → Type 0

@@ -16,9 +16,8 @@ ghost use Rattle.collector_marks.specs.Kept.{blocks_marked, colours_of};
 ghost use Rattle.collector_steps.specs.Collecting.{Collects, IsAsBefore, Serves, colours_in, volume_of};
 ghost use Rattle.collector_steps.specs.Left.{steps_left};
 ghost use Rattle.block_tree.specs.Root.{root_spelling};
-ghost use Rattle.collector_steps.specs.Scan.{HoldsAny, IsDamaged, IsDraftRoot, IsFoundIn, IsLeafScanTrouble};
-ghost use Rattle.collector_steps.specs.Scan.{IsScanTrouble};
-ghost use Rattle.collector_steps.specs.Scan.{IsTreeTrouble, after_drafted, after_own, following, ids_read, trouble_of};
+ghost use Rattle.collector_steps.specs.Scan.{HoldsAny, IsDamaged, IsDraftRoot, IsFoundIn, IsScanTrouble};
+ghost use Rattle.collector_steps.specs.Scan.{IsTreeTrouble, after_drafted, after_own, following, ids_read};
 ghost use Rattle.marking.specs.Colours.{first_grey};
 ghost use Rattle.marking.specs.Leaves.{own_part};
 ghost use Rattle.marking.specs.Steps.{read, scanned, step_of};
@@ -33,54 +32,13 @@ ghost use Rattle.vol_owners.specs.Account.{Drafts};
 use crate::collector::Collector;
 use crate::leaf::shade_leaf;
 use crate::phase::Phase;
-use block_tree::{HeldStep, Root, TreeFault, holds_any, node_of, read_root, step_held};
-use cfs_base::{Block, BlockNo, Damage, Disk, Trouble, code};
+use block_tree::{HeldStep, LEAF_LIMIT, Root, follow_pointer, holds_any, read_root, step_held};
+use cfs_base::{Block, BlockNo, Disk, Trouble};
 use collector_marks::{Grey, Marks};
 use puid_space::{Directory, kinds_follow_the_graph};
 
-/// A pointer in this block leads past the disk, or a device call failed.
-fn trouble_at(holder: u32, fault: TreeFault) -> Trouble
-    ensures { result ≡ trouble_of holder fault }
-{
-    match fault {
-        TreeFault::Disk => Trouble::Disk { tried: false },
-        TreeFault::BadPointer { .. } => Trouble::Damaged(Damage {
-            block: holder,
-            code: code::PAST_DISK,
-        }),
-    }
-}
-
-/// Reads the leaf of a step in the tree of a root block.
-fn read_step<D: Disk>(
-    disk: &mut D,
-    root: &Root,
-    step: &HeldStep,
-    into: &mut Block,
-) -> Result<(), Trouble>
-    requires { step.now.held.leaf < leaf_limit }
-    ensures content { Tells D.Disk disk.old
-        → OnOk result (into.new ≡ block_at (D.content disk.old) step.now.held.block) }
-    ensures refused { IfErr result (IsLeafScanTrouble D.Disk disk.old disk.new (root_spelling root.now) step.now) }
-    ensures untried { IfErr result (λ trouble. trouble_had_tried trouble ≡ false) }
-    ensures reads { OnlyReads D.Disk 1 disk.old disk.new }
-{
-    let leaf = step.held;
-    if leaf.block >= disk.blocks() {
-        let holder = root.nodes[node_of(leaf.leaf) as usize];
-        return Err(Trouble::Damaged(Damage {
-            block: holder,
-            code: code::PAST_DISK,
-        }));
-    }
-    match disk.read(BlockNo(leaf.block), into) {
-        Ok(()) => Ok(()),
-        Err(_) => Err(Trouble::Disk { tried: false }),
-    }
-}
-
 /// Places from this one on are leaves of an index itself; those below are leaves of its draft.
-pub(crate) const OWN_PART: u32 = 15_360;
+pub(crate) const OWN_PART: u32 = LEAF_LIMIT;
 
 /// What a step finds: the leaf that was read, if one was, and the place where the reading goes on, if it does.
 #[derive(Clone, Copy, Debug)]
@@ -139,10 +97,12 @@ fn next_leaf<D: Disk>(
     let step = match step_held(disk, root, cursor) {
         Ok(Some(step)) => step,
         Ok(None) => return Ok(None),
-        Err(fault) => return Err(trouble_at(block, fault)),
+        Err(fault) => return Err(fault.in_tree(BlockNo(block))),
     };
-    read_step(disk, root, &step, into)?;
-    Ok(Some(step))
+    match follow_pointer(disk, step.pointer(), into) {
+        Ok(()) => Ok(Some(step)),
+        Err(fault) => Err(fault.in_tree(BlockNo(block))),
+    }
 }
 
 /// A step in the tree of the index with this root block, from a leaf on. At most 4 device calls.

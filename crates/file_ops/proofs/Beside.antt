@@ -1,6 +1,7 @@
 -- A special file changed by a draft that is begun, changed and committed.
 use Rattle.file_ops.proofs.Words.{◌≡◌, inl, inr, ℕ, ◌+◌, ◌<◌, ◌≤◌, Bool, true, false, length, Option, Some, None, Ok, Err, refl, sym, ◌∙◌, ap, subst, arith, IfErr, OnOk, Result, sum, if_err, on_ok, HasStopped, HasTried, MakesAtMost, OnlyReads, Image, block_at, Leaves, Tells, Ghosts, Refused, makes_then, makes_within, reads_make, reads_then, stopped_after_reads, stopped_after_try, tells_on, then_tried, still_tells, then, wider, IsRootBlock, Root, Kept, is_untried, file_to_leaves, AreClaimed, Change, Overwrite, IsOldOrNew, Drafting, begun_at, need_beside, opened_as, EndsCall, damage_since, refusal_after_reads, has_met_damage, is_full_refusal, with_again, without_with, with_object, changed_object, changed_draft, Holds, one_root_block, Drafts, ChangesOnly, of_draft, of_owner, is_meant, is_placed, is_taken, and_from, and_parts, placed_taken, changes_then, changes_wider, MapEntry, reads_within, Draft, File, Object, SetSize}
 use Rattle.file_ops.specs.Changes.{BesideCall, ChangesFile, ChangesSo, ClaimsBeside, CommitsBeside, IsCommitRefusal, IsFileRefusal, MayChangeFile, NoneLeft, OfBlock, Short, claims_beside, is_resize, least_size, need_for}
+use Rattle.file_ops.specs.Limits.{change_calls, change_tries, drafted_calls}
 use Rattle.file_ops.proofs.Views.{Begun, DraftChanged, view_changed, handed, standing}
 use Rattle.cyl_alloc.specs.Left.{LeftCommit}
 use Rattle.intentions.specs.Left as after_commit
@@ -13,6 +14,7 @@ use Rattle.normal_files.proofs.FileCalls.{handed_file, images_read}
 use Rattle.special_files.proofs.Refusals.{damage_as, near_at, refusal_as}
 use Rattle.special_files.specs.Begins.{DirectCall, drafts_begun, equal_to}
 use Rattle.special_files.specs.Committing.{FarMade, FarRoots, FarShadow, IsFarPart, IsNoted, draft_top}
+use Rattle.special_files.specs.Limits.{changed_reads, commit_calls, commit_tries, resize_calls, resize_tries}
 use Rattle.special_files.specs.Refusal.{IsDraftRefusal, top_of}
 use Rattle.special_files.specs.View.{DraftView, GoesHolding, ObjectView}
 use Rattle.cfs_base.specs.declared.kind.FileKind.TheVariants as kinds
@@ -44,7 +46,7 @@ module _ {D : Type 0} {g : Ghosts D} {at floor : ℕ} {change : Change} {d0 d1 :
       → ChangesFile g at kinds.Special floor change d0 d1 k0 k1 (Err e)
   only_read e reads kept spare why sound = record {
     goes = λ m. refused_so m e (images_read reads _) (λ is. (let no : true ≡ false = sym is ∙ spare in cc)) (sound m);
-    ends = record { refused = why; untried = λ is. (kept, reads_within g d0 d1 1 31093 (omega arith) reads); cylinders = ap (λ (k : Kept). length k.free) kept; left = tt; bit = tt; calls = makes_within g d0 d1 1 0 62300 30971 (omega arith) (omega arith) (reads_make g d0 d1 1 reads) };
+    ends = record { refused = why; untried = λ is. (kept, reads_within g d0 d1 1 drafted_calls (omega arith) reads); cylinders = ap (λ (k : Kept). length k.free) kept; left = tt; bit = tt; calls = makes_within g d0 d1 1 0 change_calls change_tries (omega arith) (omega arith) (reads_make g d0 d1 1 reads) };
   }
 
   -- no draft was begun
@@ -84,8 +86,8 @@ pub record MakesBeside {D : Type 0} (g : Ghosts D) (at floor n t : ℕ) (change 
   pub spared : IfErr r (λ e. is_full_refusal e ≡ true → OnlyReads g 1 d1 d2 × (k2 ≡ k1))
   pub stays : OnOk r (SameParts (g.blocks d2) was now)
   pub ends : EndsCall g (top_of was) floor n t (sum k1.free) d1 d2 k1 k2 r
-  pub few : n ≤ 31092
-  pub few_tries : t ≤ 15486
+  pub few : n ≤ resize_calls
+  pub few_tries : t ≤ resize_tries
 
 -- where the draft was begun it equals its object, and the counts are as they were
 flat : {D : Type 0} {g : Ghosts D} {at floor n t : ℕ} {change : Change} {d0 d1 d2 : D} {k0 k1 k2 : Kept} {was now : Drafting} {r : Result (Unit {0}) Refused} → MakesBeside g at floor n t change d0 d1 d2 k0 k1 k2 was now r → MakesBeside g at floor n t change d0 d1 d2 k0 k0 k2 (begun_at at None was.own) now r
@@ -103,8 +105,8 @@ module _ {D : Type 0} {g : Ghosts D} {at floor n t : ℕ} {change : Change} {d0 
   far : (size : ℕ) → IsFarRoot size own → (disk_top g at d0).IsFar size
   far size is tells = far_block size at (g.content d0) own (x.begun.call.root tells) is
 
-  made : MakesAtMost g 31093 15486 d0 d2
-  made = makes_then g d0 d1 d2 1 n 31093 0 t 15486 (reads_make g d0 d1 1 reads) x.ends.calls (omega (arith, x.few)) (omega (arith, x.few_tries))
+  made : MakesAtMost g drafted_calls resize_tries d0 d2
+  made = makes_then g d0 d1 d2 1 n drafted_calls 0 t resize_tries (reads_make g d0 d1 1 reads) x.ends.calls (omega (arith, x.few)) (omega (arith, x.few_tries))
 
 pub refused_change : {D : Type 0} {g : Ghosts D} {at floor n t : ℕ} {change : Change} {d0 d1 d2 : D} {k0 k1 k2 : Kept} {was now : Drafting} {e : Refused} → MakesBeside g at floor n t change d0 d1 d2 k0 k1 k2 was now (Err e) → ChangesFile g at kinds.Special floor change d0 d2 k0 k2 (Err e)
 refused_change {g = g} {at} {floor} {n} {t} {change} {d0} {d1} {d2} {k0} {k1} {k2} {was} {now} {e} y = let x = flat y in record {
@@ -115,14 +117,14 @@ refused_change {g = g} {at} {floor} {n} {t} {change} {d0} {d1} {d2} {k0} {k1} {k
     cylinders = x.ends.cylinders;
     left = tt;
     bit = tt;
-    calls = makes_within g d0 d2 31093 15486 62300 30971 (omega arith) (omega arith) (made x);
+    calls = makes_within g d0 d2 drafted_calls resize_tries change_calls change_tries (omega arith) (omega arith) (made x);
   };
 }
   where
-    by : (e : Refused) → OnlyReads g 1 d0 d1 → IsDraftRefusal g (top_of (begun_at at None was.own)) floor d1 d2 k2 e → (e ≡ refused.Disk false → (k2 ≡ k0) × OnlyReads g n d1 d2) → (is_full_refusal e ≡ true → OnlyReads g 1 d1 d2 × (k2 ≡ k0)) → is_untried e ≡ true → (k2 ≡ k0) × OnlyReads g 31093 d0 d2
-    by (refused.Full need) first is stopped full un = let two = full refl in (two.1, reads_then g d0 d1 d2 1 1 31093 first two.0 (omega arith))
+    by : (e : Refused) → OnlyReads g 1 d0 d1 → IsDraftRefusal g (top_of (begun_at at None was.own)) floor d1 d2 k2 e → (e ≡ refused.Disk false → (k2 ≡ k0) × OnlyReads g n d1 d2) → (is_full_refusal e ≡ true → OnlyReads g 1 d1 d2 × (k2 ≡ k0)) → is_untried e ≡ true → (k2 ≡ k0) × OnlyReads g drafted_calls d0 d2
+    by (refused.Full need) first is stopped full un = let two = full refl in (two.1, reads_then g d0 d1 d2 1 1 drafted_calls first two.0 (omega arith))
     by (refused.Disk true) first is stopped full un = cc
-    by (refused.Disk false) first is stopped full un = let two = stopped refl in (two.0, reads_then g d0 d1 d2 1 n 31093 first two.1 (omega (arith, y.few)))
+    by (refused.Disk false) first is stopped full un = let two = stopped refl in (two.0, reads_then g d0 d1 d2 1 n drafted_calls first two.1 (omega (arith, y.few)))
     by (refused.Damaged damage) first is stopped full un = cc
     by refused.Memory first is stopped full un = absurd is
 
@@ -144,22 +146,22 @@ module _ {D : Type 0} {g : Ghosts D} {at floor n t : ℕ} {change : Change} {d0 
   far_part (FarShadow is) = let no : None ≡ Some is.n = sym x.stays.shadow ∙ is.is in cc
   far_part (FarMade is) = let no : None ≡ Some is.n = sym x.stays.created ∙ is.is in cc
 
-  why : (w : Bool) → (w ≡ true → HasTried g d1 d2) → (w ≡ false → (k2 ≡ k0) × OnlyReads g 1 d1 d2) → (s : Result (Unit {0}) Refused) → IfErr s (IsCommitRefusal g (draft_top now) w d2 d3 k2 k3) → IfErr s (λ e. e ≡ refused.Disk false → (k3 ≡ k2) × OnlyReads g 241 d2 d3)
-      → IfErr s (λ e. IsFileRefusal g (disk_top g at d0) kinds.Special floor change d0 d3 k3 e × (is_untried e ≡ true → (k3 ≡ k0) × OnlyReads g 31093 d0 d3) × (is_full_refusal e ≡ false))
+  why : (w : Bool) → (w ≡ true → HasTried g d1 d2) → (w ≡ false → (k2 ≡ k0) × OnlyReads g 1 d1 d2) → (s : Result (Unit {0}) Refused) → IfErr s (IsCommitRefusal g (draft_top now) w d2 d3 k2 k3) → IfErr s (λ e. e ≡ refused.Disk false → (k3 ≡ k2) × OnlyReads g (1 + changed_reads) d2 d3)
+      → IfErr s (λ e. IsFileRefusal g (disk_top g at d0) kinds.Special floor change d0 d3 k3 e × (is_untried e ≡ true → (k3 ≡ k0) × OnlyReads g drafted_calls d0 d3) × (is_full_refusal e ≡ false))
   why w had none (Ok u) is only = tt
   why w had none (Err (refused.Full need)) is only = absurd is
-  why true had none (Err (refused.Disk true)) is only = (stopped_after_try g d0 d2 d3 31093 15486 is.0 (made x) (then_tried g d0 d1 d2 1 0 (reads_make g d0 d1 1 (reads x)) (had refl)) is.2, λ un. cc, refl)
+  why true had none (Err (refused.Disk true)) is only = (stopped_after_try g d0 d2 d3 drafted_calls resize_tries is.0 (made x) (then_tried g d0 d1 d2 1 0 (reads_make g d0 d1 1 (reads x)) (had refl)) is.2, λ un. cc, refl)
   why true had none (Err (refused.Disk false)) is only = let no : false ≡ true = is.1 in cc
   why false had none (Err (refused.Disk true)) is only = (subst (λ (b : Bool). HasStopped g b d0 d3) (sym is.1) (stopped_after_reads g d0 d2 d3 2 is.0 (reads_then g d0 d1 d2 1 1 2 (reads x) (none refl).1 (omega arith)) is.2), λ un. cc, refl)
   why false had none (Err (refused.Disk false)) is only =
       let first = reads_then g d0 d1 d2 1 1 2 (reads x) (none refl).1 (omega arith) in
       let last = only refl in
-      (subst (λ (b : Bool). HasStopped g b d0 d3) (sym is.1) (stopped_after_reads g d0 d2 d3 2 is.0 first is.2), λ un. (last.0 ∙ (none refl).0, reads_then g d0 d2 d3 2 241 31093 first last.1 (omega arith)), refl)
+      (subst (λ (b : Bool). HasStopped g b d0 d3) (sym is.1) (stopped_after_reads g d0 d2 d3 2 is.0 first is.2), λ un. (last.0 ∙ (none refl).0, reads_then g d0 d2 d3 2 (1 + changed_reads) drafted_calls first last.1 (omega arith)), refl)
   why w had none (Err (refused.Damaged damage)) (inl is) only = (OfBlock (damage_since g (disk_top g at d0) d0 d2 d3 k3 damage on (damage_as g (draft_top now) (disk_top g at d0) x.stays.at d2 d3 k3 far_part damage is)), λ un. cc, refl)
   why w had none (Err (refused.Damaged damage)) (inr is) only = (NoneLeft (lacks (ap (λ (k : Kept). sum k.free) (sym is.1) ∙ is.0.none)) is.0, λ un. cc, refl)
   why w had none (Err refused.Memory) is only = absurd is
 
-  whys : IfErr r (λ e. IsFileRefusal g (disk_top g at d0) kinds.Special floor change d0 d3 k3 e × (is_untried e ≡ true → (k3 ≡ k0) × OnlyReads g 31093 d0 d3) × (is_full_refusal e ≡ false))
+  whys : IfErr r (λ e. IsFileRefusal g (disk_top g at d0) kinds.Special floor change d0 d3 k3 e × (is_untried e ≡ true → (k3 ≡ k0) × OnlyReads g drafted_calls d0 d3) × (is_full_refusal e ≡ false))
   whys = why wrote tried (λ no. let two = untried no in (two.0 ∙ y.begun.call.space, two.1)) r call.refused call.untried
 
   -- ---- where the store has the file
@@ -205,7 +207,7 @@ module _ {D : Type 0} {g : Ghosts D} {at floor n t : ℕ} {change : Change} {d0 
       untried = if_err r (λ e is. is.1) whys;
       cylinders = call.cylinders ∙ x.ends.cylinders;
       left = subst (λ (b : ℕ). OnOk r ((l : LeftCommit) × IsNoted b k3.left l)) x.stays.at call.left;
-      bit = on_ok r (λ bit. record { tried = λ some. then_tried g d0 d2 d3 31093 15486 (made x) (bit.tried some); settled = λ some tells. bit.settled some (on tells) }) call.bit;
-      calls = makes_then g d0 d2 d3 31093 31207 62300 15486 15485 30971 (made x) call.calls (omega arith) (omega arith);
+      bit = on_ok r (λ bit. record { tried = λ some. then_tried g d0 d2 d3 drafted_calls resize_tries (made x) (bit.tried some); settled = λ some tells. bit.settled some (on tells) }) call.bit;
+      calls = makes_then g d0 d2 d3 drafted_calls commit_calls change_calls resize_tries commit_tries change_tries (made x) call.calls (omega arith) (omega arith);
     };
   }

@@ -18,6 +18,7 @@ use Rattle.special_files.specs.Order.{claims_anew}
 use Rattle.special_files.specs.Shed.{Resized}
 use Rattle.special_files.specs.View.{DraftView}
 use Rattle.ufs_model.proofs.Rising.{filter-rises, in_filter, in_withs, same_numbers, to_filter, to_withs, with_numbers-rise}
+use Rattle.ufs_model.specs.Limits.{fan_out}
 use Rattle.ufs_model.specs.Numbers.{lacking, merged, numbers_rise, parents, shared}
 use Rattle.ufs_model.specs.Object.{cut_leaf, resize_anew}
 use Rattle.vol_image.proofs.Parts.{in_image}
@@ -177,7 +178,7 @@ module _ (size : ℕ) (f : File) where
   as_many : sum_by length (fresh_after (SetSize size) (objects.File f) []) ≡ missing (written_anew (SetSize size) (objects.File f) []) []
   as_many = elim (nat_le (length f.bytes) size) as (λ b. sum_by length (within (merged (cond b [] (resize_anew 1 size f.held [])) []) (held ∷ parents held ∷ [])) ≡ missing (cond b [] (resize_anew 1 size f.held [])) []) [
     | true ↦ refl
-    | false ↦ levels_kept (cut_leaf size f.held) (filter changes (parents held)) held (parents held) (cut_kept (size % 512 == 0) refl) (filter-rises changes (parents held) (with_numbers-rise (map (λ n. n / 128) held)), λ x is. (in_filter changes x (parents held) is).1)
+    | false ↦ levels_kept (cut_leaf size f.held) (filter changes (parents held)) held (parents held) (cut_kept (size % 512 == 0) refl) (filter-rises changes (parents held) (with_numbers-rise (map (λ n. n / fan_out) held)), λ x is. (in_filter changes x (parents held) is).1)
   ]
 
 pub resized_drafts : {D : Type 0} {g : Ghosts D} {at size floor : ℕ} {d0 d1 d2 : D} {k0 k1 k2 : Kept} {was now : Drafting} (m : MayChangeFile g at kinds.Special (SetSize size) d0 k0) (b : Begun g at d0 d1 k0 k1 was) → now.shadow ≡ was.shadow

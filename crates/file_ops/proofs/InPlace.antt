@@ -2,6 +2,7 @@
 use Rattle.file_ops.proofs.Words.{if_err, Change, Damage, Err, File, Ghosts, IfErr, Kept, Leaves, MakesAtMost, Ok, OnOk, OnlyReads, Option, Refused, Result, TellsNeed, ap, arith, is_full_refusal, is_untried, length, makes_within, reads_within, refl, subst, sum, sym, true, false, ℕ, ◌+◌, ◌<◌, ◌∙◌, ◌≡◌, ◌≤◌, None, inl}
 use Rattle.cyl_alloc.specs.Left.{LeftCommit}
 use Rattle.file_ops.specs.Changes.{ChangesSo, ClaimsFor, EndsChange, IsDurable, IsFileRefusal, IsPlaceDamage, MayChangeFile, MayLeaveFile, need_for}
+use Rattle.file_ops.specs.Limits.{change_calls, change_tries, drafted_calls}
 use Rattle.intentions.specs.Left.{StoreWith, coming}
 use Rattle.leaf_changes.specs.Tops.{Top}
 use Rattle.normal_files.specs.Ends.{is_damaged}
@@ -65,14 +66,14 @@ module _ {D : Type 0} {g : Ghosts D} {at floor : ℕ} {change : Change} {d0 d1 :
 -- how it ends on any disk
 module _ {D : Type 0} {g : Ghosts D} {at : Top} {floor : ℕ} {change : Change} {d0 d1 : D} {k0 k1 : Kept} {IsSo : Damage → Type 0} (so : (damage : Damage) → IsSo damage → IsPlaceDamage g at d0 d1 k1 damage) where
   pub place_ends : {n k t : ℕ} (r : Result (Unit {0}) Refused) → IfErr r (IsRefusal g IsSo floor d0 d1 k0) → IfErr r (λ e. is_untried e ≡ true → (k1 ≡ k0) × OnlyReads g n d0 d1) → length k1.free ≡ length k0.free → k1.left ≡ None → MakesAtMost g k t d0 d1
-      → n ≤ 31093 → k ≤ 62300 → t ≤ 30971 → EndsChange g at kinds.Normal floor change d0 d1 k0 k1 r
+      → n ≤ drafted_calls → k ≤ change_calls → t ≤ change_tries → EndsChange g at kinds.Normal floor change d0 d1 k0 k1 r
   place_ends {n} {k} {t} r why untried cylinders none calls few most tries = record {
     refused = place_refusal r why (if_err r (λ e is un. (is un).0) untried);
-    untried = if_err r (λ e is un. let two = is un in (two.0, reads_within g d0 d1 n 31093 few two.1)) untried;
+    untried = if_err r (λ e is un. let two = is un in (two.0, reads_within g d0 d1 n drafted_calls few two.1)) untried;
     cylinders = cylinders;
     left = done r none;
     bit = done r (none_unfinished g d0 d1 k1.left none);
-    calls = makes_within g d0 d1 k t 62300 30971 most tries calls;
+    calls = makes_within g d0 d1 k t change_calls change_tries most tries calls;
   }
     where
       done : {P : Type 0} (s : Result (Unit {0}) Refused) → P → OnOk s P

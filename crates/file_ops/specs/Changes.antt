@@ -19,6 +19,7 @@ use Rattle.claims.specs.Claims.{AreClaimed}
 use Rattle.cyl_alloc.specs.Left.{LeftCommit}
 use Rattle.cyl_alloc.specs.Space.{Kept}
 use Rattle.cyl_map.specs.declared.entry.MapEntry.{MapEntry}
+use Rattle.file_ops.specs.Limits.{change_calls, change_tries, drafted_calls}
 use Rattle.intentions.specs.Left as commit
 use Rattle.intentions.specs.Left.{StoreIs}
 use Rattle.leaf_changes.specs.Tops.{Top, disk_top}
@@ -30,6 +31,7 @@ use Rattle.normal_files.specs.Standing.{IsPartly}
 use Rattle.normal_files.specs.WriteRefusal.{is_untried, needs}
 use Rattle.special_files.specs.Committing.{Committed, IsAtBit, IsNoted, IsOldOrNew, TakesShadow, draft_top}
 use Rattle.special_files.specs.Drafting.{Drafting, none_of}
+use Rattle.special_files.specs.Limits.{changed_reads, commit_calls, commit_tries}
 use Rattle.special_files.specs.Order.{claims_anew, claims_by_leaf}
 use Rattle.special_files.specs.Refusal as special
 use Rattle.special_files.specs.Refusal.{has_met_damage, is_full_refusal}
@@ -178,11 +180,11 @@ IsCommitRefusal g at wrote old new before after refusals.Memory = ⊥
 pub record BesideCall {D : Type 0} (g : Ghosts D) (was : Drafting) (wrote : Bool) (old new : D) (before after : Kept)
     (result : Result (Unit {0}) Refused) : Type 0 where
   pub refused : IfErr result (IsCommitRefusal g (draft_top was) wrote old new before after)
-  pub untried : IfErr result (λ e. e ≡ refusals.Disk false → (after ≡ before) × OnlyReads g 241 old new)
+  pub untried : IfErr result (λ e. e ≡ refusals.Disk false → (after ≡ before) × OnlyReads g (1 + changed_reads) old new)
   pub cylinders : length after.free ≡ length before.free
   pub left : OnOk result ((l : LeftCommit) × IsNoted was.at after.left l)
   pub bit : OnOk result (IsAtBit g old new after.left)
-  pub calls : MakesAtMost g 31207 15485 old new
+  pub calls : MakesAtMost g commit_calls commit_tries old new
 
 -- Where the store has a draft of the object: it becomes the object. No damage is met where a block is Free.
 pub record CommitsBeside {D : Type 0} {g : Ghosts D} {old : D} {before : Kept} {was : Drafting}
@@ -203,12 +205,12 @@ pub record EndsChange {D : Type 0} (g : Ghosts D) (at : Top) (kind : FileKind) (
     (old new : D) (before after : Kept) (result : Result (Unit {0}) Refused) : Type 0 where
   pub refused : IfErr result (IsFileRefusal g at kind floor change old new after)
   -- where nothing was tried all is as it was, after Full and want of memory too
-  pub untried : IfErr result (λ e. is_untried e ≡ true → (after ≡ before) × OnlyReads g 31093 old new)
+  pub untried : IfErr result (λ e. is_untried e ≡ true → (after ≡ before) × OnlyReads g drafted_calls old new)
   pub cylinders : length after.free ≡ length before.free
   pub left : OnOk result (LeavesFileCommit kind at.block after.left)
   -- where it is unfinished, its bit was tried
   pub bit : OnOk result (IsAtBit g old new after.left)
-  pub calls : MakesAtMost g 62300 30971 old new
+  pub calls : MakesAtMost g change_calls change_tries old new
 
 -- Where the store has the file: done, it is the changed one, and blocks were taken in their order.
 pub record ChangesSo {D : Type 0} {g : Ghosts D} {at : ℕ} {kind : FileKind} {change : Change} {old : D} {before : Kept}

@@ -1,12 +1,14 @@
 -- An index that the store has, as it is read.
-use Rattle.index_ops.proofs.Words.{◌≡◌, ◌≢◌, ℕ, zero, suc, ◌/◌, ◌%◌, ◌<◌, false, List, length, refl, sym, ◌∙◌, ap, subst, arith, OnlyReads, AreBlocks, Image, block_at, Tells, Ghosts, Damage, Trouble, failed_after, tells_on, IsFault, IsPast, TreeFault, IsRootBlock, root_spelling, PastAbove, bytes_in, leaf_block, levels_of, path_to, tree_of, content_is, index_to_leaves, is_damage, Index, Object, slot_of, IsTree, leaf_content, leaf_in, slot_in, held_at, tree_in, held, GivesIndex}
-use Rattle.std.specs.Prelude.{Err, IfErr, Ok, Result}
+use Rattle.index_ops.proofs.Words.{◌≡◌, ◌≢◌, ℕ, zero, suc, ◌/◌, ◌%◌, ◌<◌, false, List, length, refl, sym, ◌∙◌, ap, subst, arith, OnlyReads, AreBlocks, Image, block_at, Tells, Ghosts, Damage, Trouble, failed_after, tells_on, IsFault, IsPast, TreeFault, IsRootBlock, root_spelling, PastOn, bytes_in, leaf_bytes, leaf_block, levels_of, path_to, tree_of, content_is, index_to_leaves, is_damage, Index, Object, slot_of, IsTree, leaf_content, leaf_in, slot_in, held_at, tree_in, held, GivesIndex}
+use Rattle.block_tree.proofs.Trees.{leaf_bytes_is}
 use Rattle.intentions.proofs.Shown.{root_tree, shown_tells, shown_tree}
 use Rattle.special_files.specs.View.{ShownView}
-use Rattle.cfs_base.specs.Refusals.{trouble_had_tried}
-use Rattle.block_tree.specs.Reads.{HasStoppedBy, IsRootTrouble}
+use Rattle.block_tree.specs.Reads.{IsRootTrouble}
 use Rattle.block_tree.specs.declared.root.Root.{Root}
-use Rattle.index_ops.specs.Causes.{Far, FarLeaf, FarNode, IsFarLeaf, IsFollowTrouble, IsLeafTrouble, IsSlotDamage, IsSlotTrouble, NoRoot, far_from}
+use Rattle.index_ops.specs.Causes.{Far, IsFarLeaf, IsLeafTrouble, IsSlotDamage, IsSlotTrouble, NoRoot}
+use Rattle.block_tree.specs.Reads.{trouble_of}
+use Rattle.block_tree.specs.declared.follow.Pointer.{Pointer}
+use Rattle.std.specs.Prelude.{[], ◌∷◌, ◌++◌}
 use Rattle.cfs_base.specs.declared.refusal.Trouble.TheVariants as trouble
 use Rattle.block_tree.specs.declared.fault.TreeFault.TheVariants as faults
 use Rattle.ufs_model.specs.declared.object.Object.TheVariants as objects
@@ -25,8 +27,7 @@ module _ (image : Image) (owner : ℕ) (o : Object) (root : Root) (tree : IsTree
   near path (suc v) leads past = omega (arith, tree.on_disk path (held image (suc v)) (ap (held_at image) leads), past.1)
 
   far_not : (at leaf : ℕ) (damage : Damage) → ¬ IsFarLeaf image (length image) at root leaf damage
-  far_not at leaf damage (FarNode code block past above) = near above.0 past above.4 above.5
-  far_not at leaf damage (FarLeaf code block past) = near (path_to (levels_of (root_spelling root)) leaf) (leaf_block image (root_spelling root) leaf) refl past
+  far_not at leaf damage far = near (far.past.path ++ far.past.k ∷ []) far.pointer.block (sym (ap (λ (p : Pointer). p.block) far.past.is)) far.past.past
 
   below : (leaf : ℕ) → leaf_block image (root_spelling root) leaf ≢ 0 → leaf_block image (root_spelling root) leaf < length image
   below leaf some = by (leaf_block image (root_spelling root) leaf) refl some
@@ -43,9 +44,9 @@ module _ (image : Image) (owner : ℕ) (o : Object) (root : Root) (tree : IsTree
     pub slots_are : root.size / 8 ≡ length i.slots
     slots_are = sym gives.size
 
-    pub slot_is : AreBlocks image → (slot : ℕ) → slot < length i.slots → slot_in (bytes_in image root.fill (leaf_block image (root_spelling root) (slot / 64))) (slot % 64) ≡ slot_of i slot
+    pub slot_is : AreBlocks image → (slot : ℕ) → slot < length i.slots → slot_in (leaf_bytes image (root_spelling root) (slot / 64)) (slot % 64) ≡ slot_of i slot
     slot_is blocks slot inside =
-        ap (λ (c : List ℕ). slot_in c (slot % 64)) (sym (block_content image root.fill (leaf_block image (root_spelling root) (slot / 64)) blocks (below (slot / 64))))
+        ap (λ (c : List ℕ). slot_in c (slot % 64)) (leaf_bytes_is image root (slot / 64) ∙ sym (block_content image root.fill (leaf_block image (root_spelling root) (slot / 64)) blocks (below (slot / 64))))
         ∙ sym (gives.slots slot (omega (arith, inside, gives.size)))
 
 -- ---- so no damage is met
@@ -71,12 +72,6 @@ pub root_slot : {D : Type 0} (g : Ghosts D) (at slot : ℕ) (old new : D) (t : T
 root_slot g at slot old new (trouble.Disk tried) is = (is.0, is.1.failed)
 root_slot g at slot old new (trouble.Damaged damage) is = NoRoot is.0 is.1
 
--- a leaf on the disk
-pub follow_trouble : {A D : Type 0} (g : Ghosts D) (holder block : ℕ) (old new : D) (r : Result A Trouble) → IfErr r (λ t. trouble_had_tried t ≡ false) → IfErr r (HasStoppedBy g old new) → IfErr r (IsFollowTrouble g holder block old new)
-follow_trouble g holder block old new (Ok x) untried stop = tt
-follow_trouble g holder block old new (Err (trouble.Disk tried)) untried stop = (untried, stop.failed)
-follow_trouble g holder block old new (Err (trouble.Damaged damage)) untried stop = absurd stop
-
 -- a slot of an index whose root was read
 pub slot_after_root : {D : Type 0} (g : Ghosts D) (n at : ℕ) (old mid new : D) (reads : OnlyReads g n old mid) (slot : ℕ) (root : Root) (t : Trouble) → (Tells g old → IsRootBlock (block_at (g.content old) at) root)
     → IsLeafTrouble g at root (slot / 64) mid new t → IsSlotTrouble g at slot old new t
@@ -87,7 +82,8 @@ slot_after_root g n at old mid new reads slot root (trouble.Damaged damage) is b
   subst (λ (c : Image). IsFarLeaf c (g.blocks old) at root (slot / 64) damage) reads.content (subst (λ (size : ℕ). IsFarLeaf (g.content mid) size at root (slot / 64) damage) reads.same.size (bad.1 (tells_on g old mid new n reads tells))),
 ))
 
--- the root's pointer to a leaf's node leads past the disk
-pub far_node : {D : Type 0} (g : Ghosts D) (at : ℕ) (old new : D) (root : Root) (leaf : ℕ) (fault : TreeFault) (block : ℕ) → fault ≡ faults.BadPointer block → IsFault g old new (PastAbove (g.content old) (g.blocks old) (root_spelling root) leaf) fault
-    → IsLeafTrouble g at root leaf old new (far_from at)
-far_node g at old new root leaf fault block is bad = (refl, λ tells. FarNode refl refl block ((subst (IsFault g old new (PastAbove (g.content old) (g.blocks old) (root_spelling root) leaf)) is bad).1 tells))
+-- a leaf of an index whose root was read
+pub leaf_trouble : {D : Type 0} (g : Ghosts D) (at : ℕ) (old new : D) (root : Root) (leaf : ℕ) (fault : TreeFault) → IsFault g old new (PastOn (g.content old) (g.blocks old) (root_spelling root) leaf) fault
+    → IsLeafTrouble g at root leaf old new (trouble_of at fault)
+leaf_trouble g at old new root leaf faults.Disk failed = (refl, failed)
+leaf_trouble g at old new root leaf (faults.BadPointer block holder) past = (refl, λ tells. record { pointer = record { holder = holder; block = block }; past = past.1 tells; block = refl })

@@ -1,7 +1,7 @@
 -- The words of the crates below that most proofs cite, passed on from one place. Declares nothing.
 pub use Rattle.block_tree.specs.Reads.{IsFault, IsPast, is_damage}
 pub use Rattle.block_tree.specs.Root.{IsRootBlock, root_spelling}
-pub use Rattle.block_tree.specs.Tree.{PastAbove, bytes_in, leaf_block, levels_of, path_to, tree_of}
+pub use Rattle.block_tree.specs.Tree.{PastOn, bytes_in, leaf_block, leaf_bytes, levels_of, path_to, tree_of}
 pub use Rattle.block_tree.specs.declared.fault.TreeFault.{TreeFault}
 pub use Rattle.cfs_base.proofs.Calls.{failed_after, reads_make, reads_then, tells_on, then_tried}
 pub use Rattle.cfs_base.proofs.Runs.{then, wider}

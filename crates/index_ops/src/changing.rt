@@ -12,6 +12,7 @@ ghost use Rattle.special_files.specs.Begins.{BeginsDirect};
 ghost use Rattle.special_files.specs.Committing.{IsAtBit};
 ghost use Rattle.special_files.specs.Drafting.{begun_at};
 ghost use Rattle.special_files.specs.View.{GoesTo};
+ghost use Rattle.ufs_model.specs.Limits.{most_slots};
 
 use cfs_base::{BlockNo, Damage, Disk, Puid, Refused, code};
 use cyl_alloc::Space;
@@ -38,7 +39,7 @@ pub(crate) fn begin<D: Disk>(
 ) -> Result<Draft, Refused>
     requires some { index.0 ≢ 0 }
     requires on_disk { index.0 < D.blocks disk.old }
-    requires few { slot < 983040 }
+    requires few { slot < most_slots }
     ensures begins { (h : spec.HasSlot D.Disk disk.old space.old index.0 slot) → GoesTo D.Disk h.view.graph
         (BeginsDirect h.view disk.new space.new) disk.old disk.new result }
     ensures begun { IfOk result (λ draft. draft ≡ begun_at index.0 None draft.own) }
@@ -72,7 +73,7 @@ fn put<D: Disk>(
     requires on_disk { index.0 < D.blocks disk.old }
     requires size { D.blocks disk.old ≡ 64 * length space.old.free }
     requires left { space.old.left ≡ None }
-    requires few { slot < 983040 }
+    requires few { slot < most_slots }
     requires slot { IsSlot what }
     requires room { 3 ≤ sum space.old.free }
     ensures fills { (h : spec.HasSlot D.Disk disk.old space.old index.0 slot)
@@ -128,7 +129,7 @@ pub fn retain<D: Disk>(
     requires size { D.blocks disk.old ≡ 64 * length space.old.free }
     // No commit is unfinished.
     requires left { space.old.left ≡ None }
-    requires few { slot < 983040 }
+    requires few { slot < most_slots }
     requires id { id.block ≢ 0 }
     // Full exactly where 3 and 4 blocks aren't Free; nothing was done then.
     ensures full { sum space.old.free < 3 + 4
@@ -157,7 +158,7 @@ pub fn delete<D: Disk>(
     requires size { D.blocks disk.old ≡ 64 * length space.old.free }
     // No commit is unfinished.
     requires left { space.old.left ≡ None }
-    requires few { slot < 983040 }
+    requires few { slot < most_slots }
     requires room { 3 ≤ sum space.old.free }
     ensures { spec.PutsSlot D.Disk index.0 slot None disk.old disk.new space.old space.new result }
 {

@@ -11,6 +11,7 @@ ghost use Rattle.special_files.specs.Committing.{IsAtBit, IsNoted, puid_at};
 ghost use Rattle.special_files.specs.Creates.{IsBare, IsOpenMap, MayBeMade, made_of};
 ghost use Rattle.special_files.specs.Drafting.{begun_at};
 ghost use Rattle.special_files.specs.Refusal.{IsDraftRefusal, is_full_refusal, top_of};
+ghost use Rattle.ufs_model.specs.Limits.{most_slots};
 ghost use Rattle.vol_owners.specs.Account.{without_draft};
 ghost use Rattle.special_files.specs.View.{DraftView};
 ghost use Rattle.ufs_model.specs.declared.object.Index.{Index};
@@ -81,7 +82,7 @@ fn make<D: Disk>(
     requires on_disk { index.0 < D.blocks disk.old }
     requires size { D.blocks disk.old ≡ 64 * length space.old.free }
     requires left { space.old.left ≡ None }
-    requires few { slot < 983040 }
+    requires few { slot < most_slots }
     requires room { 4 ≤ sum space.old.free }
     requires root { IsBare root.now }
     ensures places { (h : HasSlot D.Disk disk.old space.old index.0 slot)
@@ -126,7 +127,7 @@ pub fn create<D: Disk>(
     requires size { D.blocks disk.old ≡ 64 * length space.old.free }
     // No commit is unfinished.
     requires left { space.old.left ≡ None }
-    requires few { slot < 983040 }
+    requires few { slot < most_slots }
     requires made { MayBeMade kind fill size }
     // Full exactly where 4 and 4 blocks aren't Free; nothing was done then.
     ensures full { sum space.old.free < 4 + 4

@@ -8,7 +8,7 @@ use Rattle.cfs_base.specs.declared.kind.Kind.{Kind}
 use Rattle.cfs_base.specs.declared.kind.Kind.TheVariants as kinds
 use Rattle.cfs_base.specs.declared.kind.FileKind.{FileKind}
 use Rattle.cfs_base.specs.declared.kind.FileKind.TheVariants as file_kinds
-use Rattle.ufs_model.specs.Limits.{leaf_slots}
+use Rattle.ufs_model.specs.Limits.{leaf_slots, most_leaves}
 use Rattle.ufs_model.specs.declared.object.Object.{Object}
 use Rattle.ufs_model.specs.declared.object.Object.TheVariants as objects
 use Rattle.ufs_model.specs.declared.object.Index.{Index}
@@ -30,7 +30,7 @@ in_leaf (Some (objects.Index i)) leaf x = is_among x (leaf_ids i leaf)
 -- Places are in the order in which an index is read. Those below this one are leaves of its draft; those from it on are
 -- its own leaves.
 abbrev pub own_part : ℕ
-own_part = 15360
+own_part = most_leaves
 
 -- At a place of the draft is what that leaf of the draft has and the same leaf of the index has not; at one of the
 -- index itself what that leaf has.

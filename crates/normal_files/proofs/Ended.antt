@@ -1,16 +1,18 @@
 -- The end of a file as it was read, and the images that its trimming leaves.
-use Rattle.normal_files.proofs.Words.{◌≡◌, ◌≢◌, ◌⊎◌, inl, inr, ℕ, ◌+◌, ◌*◌, ◌/◌, ◌%◌, ◌<◌, ◌≤◌, List, [], length, set, get_or, refl, sym, ◌∙◌, ap, subst, get_or-set_other, get_or-set_same, arith, length-set, cases_eq, cases_lt, ne_eqb, get_or_past, Image, block_at, left_now, Ghosts, Puid, Place, Leaf, Node, Root, IsNode, node_spelling, leaf_pointers, pointers_of, IsGoodRoot, node_leaves, Kept, cut, leaves_in, BelongsTo, part_at, frames_begin, node_pointers, leaves_at, leaves_there, zeros}
-use Rattle.normal_files.specs.Cuts.{IsCutRoot, IsEnd, IsReadEnd, MayPutBlock, MayTrim, cut_block, first_gone, last_node, put_at, trimmed}
+use Rattle.normal_files.proofs.Words.{◌≡◌, ◌≢◌, ◌⊎◌, inl, inr, ℕ, ◌+◌, ◌*◌, ◌/◌, ◌%◌, ◌<◌, ◌≤◌, List, [], length, set, get_or, refl, sym, ◌∙◌, ap, subst, get_or-set_other, get_or-set_same, arith, length-set, cases_eq, cases_lt, ne_eqb, Image, block_at, left_now, Ghosts, Puid, Place, Leaf, Node, Root, node_spelling, leaf_pointers, node_levels, pointers_of, IsGoodRoot, node_leaves, Kept, cut, leaves_in, BelongsTo, part_at, frames_begin, leaves_at, leaves_there}
+use Rattle.normal_files.specs.Cuts.{IsEnd, IsReadEnd, MayPutBlock, MayTrim, cut_block, cut_place, last_leaf, last_node, put_at, trimmed}
 use Rattle.normal_files.specs.Laid.{leaf_of, node_of}
 use Rattle.normal_files.specs.declared.cut.End.{End}
 use Rattle.normal_files.proofs.Among.{places_differ}
 use Rattle.normal_files.proofs.Owned.{IsOwn}
-use Rattle.normal_files.proofs.Trees.{same_leaves}
+use Rattle.normal_files.proofs.Trees.{none_below, same_leaves}
 use Rattle.normal_files.proofs.Trimmed.{IsEitherWay, IsTrimmed, either_begin, either_put}
 use Rattle.normal_files.proofs.Places.{leaf_no_node, leaf_no_root, node_no_root, one_leaf, one_node}
 use Rattle.normal_files.proofs.LeafReads.{block_read}
 use Rattle.normal_files.specs.View.{FileView, id_at}
-use Rattle.block_tree.specs.Along.{way_leaves}
+use Rattle.normal_files.proofs.Ways.{way_places}
+use Rattle.block_tree.specs.Along.{pointer_on, way_leaves, way_node}
+use Rattle.block_tree.specs.Way.{CutsPast}
 use Rattle.block_tree.specs.declared.root.Root as roots
 
 -- ---- a block that may be none
@@ -33,17 +35,15 @@ put_other c m v b apart = elim (cases_eq m 0) [
 put_here : (c : Image) (m : ℕ) (v : List ℕ) → m ≢ 0 → m < length c → block_at (put_at c m v) m ≡ v
 put_here c m v some below = ap (λ (i : Image). block_at i m) (put_some c m v some) ∙ get_or-set_same c m v [] below
 
--- the file is to be set to less: how it is to end was read, and this is its next root
-pub record IsCut {D : Type 0} {g : Ghosts D} {block : ℕ} {root : roots.Root} {disk : D} {kept : Kept} (v : FileView g block root disk kept) (size : ℕ) (end : End) (next : roots.Root) : Type 0 where
+-- the file is to be set to less: how it is to end was read
+pub record IsCut {D : Type 0} {g : Ghosts D} {block : ℕ} {root : roots.Root} {disk : D} {kept : Kept} (v : FileView g block root disk kept) (size : ℕ) (end : End) : Type 0 where
   pub less : size < length v.file.bytes
   pub blocks : ℕ
   pub read : IsReadEnd blocks root size end
   pub ended : IsEnd (g.content disk) root size end
-  pub spelled : IsNode end.node
-  pub good : IsGoodRoot next
-  pub cut_is : IsCutRoot root size (first_gone size end.kept) next
+  pub good : IsGoodRoot end.root
 
-module _ {D : Type 0} {g : Ghosts D} {r : ℕ} {root : roots.Root} {start : D} {kept : Kept} {v : FileView g r root start kept} {size : ℕ} {end : End} {next : roots.Root} (z : IsCut v size end next) where
+module _ {D : Type 0} {g : Ghosts D} {r : ℕ} {root : roots.Root} {start : D} {kept : Kept} {v : FileView g r root start kept} {size : ℕ} {end : End} (z : IsCut v size end) where
   abbrev a : Image
   a = g.content start
 
@@ -62,11 +62,14 @@ module _ {D : Type 0} {g : Ghosts D} {r : ℕ} {root : roots.Root} {start : D} {
   abbrev y : ℕ
   y = end.kept
 
-  abbrev from : ℕ
-  from = first_gone size y
+  abbrev next : roots.Root
+  next = end.root
+
+  abbrev node : List ℕ
+  node = node_spelling (way_node end.next)
 
   abbrev j : ℕ
-  j = size / 512 % leaf_pointers.count
+  j = last_leaf size % leaf_pointers.count
 
   abbrev pub e : Image
   e = trimmed a end
@@ -76,22 +79,22 @@ module _ {D : Type 0} {g : Ghosts D} {r : ℕ} {root : roots.Root} {start : D} {
 
   -- ---- which blocks they are
 
-  from_low : y ≡ 0 → from ≡ last
-  from_low none = rw none refl
+  own_at : (k : ℕ) → get_or (way_leaves end.way) k 0 ≡ leaf_of a root last k
+  own_at k = ap (λ (ls : List ℕ). get_or ls k 0) z.ended.own
 
-  from_high : y ≢ 0 → from ≡ last + 1
-  from_high some = rw (ne_eqb y 0 some) refl
+  abbrev pointed : ℕ
+  pointed = pointer_on root end.way node_levels
 
   cut_when : size % 512 ≢ 0 → x ≡ leaf_of a root last j
-  cut_when within = z.read.cut ∙ when ∙ ap (λ (ls : List ℕ). get_or ls j 0) z.ended.own
+  cut_when within = z.read.cut ∙ when ∙ ap (λ (k : ℕ). get_or (way_leaves end.way) k 0) (way_places end.way (last_leaf size) z.read.leads.path).1 ∙ own_at j
     where
-      when : cut_block size (way_leaves end.way) ≡ get_or (way_leaves end.way) j 0
+      when : cut_block size pointed ≡ pointed
       when = rw (ne_eqb (size % 512) 0 within) refl
 
   cut_none : size % 512 ≡ 0 → x ≡ 0
   cut_none whole = z.read.cut ∙ when
     where
-      when : cut_block size (way_leaves end.way) ≡ 0
+      when : cut_block size pointed ≡ 0
       when = rw whole refl
 
   x_within : x ≢ 0 → size % 512 ≢ 0
@@ -113,7 +116,7 @@ module _ {D : Type 0} {g : Ghosts D} {r : ℕ} {root : roots.Root} {start : D} {
   x_own some = inr (inr (last, j, omega arith, x_real some, cut_when (x_within some)))
 
   y_is : y ≢ 0 → y ≡ node_of root last
-  y_is some = elim z.read.kept [ inl node ↦ node.0 | inr none ↦ absurd (some none.0) ]
+  y_is some = elim z.read.kept [ inl keeps ↦ keeps.0 | inr none ↦ absurd (some none.0) ]
 
   y_real : y ≢ 0 → node_of root last ≢ 0
   y_real some none = some (y_is some ∙ none)
@@ -130,13 +133,13 @@ module _ {D : Type 0} {g : Ghosts D} {r : ℕ} {root : roots.Root} {start : D} {
   -- ---- what image e has
 
   e_other : (m : ℕ) → (x ≢ 0 → m ≢ x) → (y ≢ 0 → m ≢ y) → block_at e m ≡ block_at a m
-  e_other m not_x not_y = put_other mid y (node_spelling end.node) m not_y ∙ put_other a x end.content m not_x
+  e_other m not_x not_y = put_other mid y node m not_y ∙ put_other a x end.content m not_x
 
   e_x : x ≢ 0 → block_at e x ≡ end.content
-  e_x some = put_other mid y (node_spelling end.node) x (λ real same. leaf_no_node (leaf_pointers.count * last + j) last (places_differ a x y r (Leaf (leaf_pointers.count * last + j)) (Node last) (x_part some) (y_part real) same)) ∙ put_here a x end.content some (x_below some)
+  e_x some = put_other mid y node x (λ real same. leaf_no_node (leaf_pointers.count * last + j) last (places_differ a x y r (Leaf (leaf_pointers.count * last + j)) (Node last) (x_part some) (y_part real) same)) ∙ put_here a x end.content some (x_below some)
 
-  e_y : y ≢ 0 → block_at e y ≡ node_spelling end.node
-  e_y some = put_here mid y (node_spelling end.node) some (omega (arith, y_below some, put_long a x end.content))
+  e_y : y ≢ 0 → block_at e y ≡ node
+  e_y some = put_here mid y node some (omega (arith, y_below some, put_long a x end.content))
 
   -- a block of the file at another place stays
   place_stays : (m : ℕ) (p : Place) → BelongsTo r p (part_at a m) → p ≢ Leaf (leaf_pointers.count * last + j) ⊎ (x ≡ 0) → p ≢ Node last ⊎ (y ≡ 0) → block_at e m ≡ block_at a m
@@ -147,13 +150,10 @@ module _ {D : Type 0} {g : Ghosts D} {r : ℕ} {root : roots.Root} {start : D} {
   pub node_stays : (n : ℕ) → (n ≢ last) ⊎ (y ≡ 0) → leaves_at e (node_of root n) ≡ leaves_at a (node_of root n)
   node_stays n other = same_leaves e a (node_of root n) (λ some. place_stays (node_of root n) (Node n) (v.has.rooted.laid.nodes n some).part (inl (λ same. leaf_no_node (leaf_pointers.count * last + j) n (sym same))) (elim other [ inl apart ↦ inl (λ same. apart (one_node n last same)) | inr none ↦ inr none ]))
 
-  last_leaves : y ≢ 0 → leaves_at e (node_of root last) ≡ end.node.leaves
-  last_leaves some = ap (leaves_at e) (sym (y_is some)) ∙ leaves_there e y some ∙ ap (λ (c : List ℕ). pointers_of leaf_pointers c) (e_y some) ∙ sym (node_leaves end.node z.spelled)
+  last_leaves : y ≢ 0 → leaves_at e (node_of root last) ≡ way_leaves end.next
+  last_leaves some = ap (leaves_at e) (sym (y_is some)) ∙ leaves_there e y some ∙ ap (λ (c : List ℕ). pointers_of leaf_pointers c) (e_y some) ∙ sym (node_leaves (way_node end.next) (end.next.good.each 0 (omega arith)))
 
-  own_at : (k : ℕ) → get_or (way_leaves end.way) k 0 ≡ leaf_of a root last k
-  own_at k = ap (λ (ls : List ℕ). get_or ls k 0) z.ended.own
-
-  pointer : (n k : ℕ) → (leaf_of e root n k ≡ leaf_of a root n k) ⊎ ((n ≡ last) × (y ≢ 0) × (leaf_of e root n k ≡ get_or end.node.leaves k 0))
+  pointer : (n k : ℕ) → (leaf_of e root n k ≡ leaf_of a root n k) ⊎ ((n ≡ last) × (y ≢ 0) × (leaf_of e root n k ≡ get_or (way_leaves end.next) k 0))
   pointer n k = elim (cases_eq n last) [
     | inr apart ↦ inl (ap (λ (ls : List ℕ). get_or ls k 0) (node_stays n (inl apart)))
     | inl same ↦ elim (cases_eq y 0) [
@@ -165,20 +165,17 @@ module _ {D : Type 0} {g : Ghosts D} {r : ℕ} {root : roots.Root} {start : D} {
   early : (n k : ℕ) → k < leaf_pointers.count → leaf_pointers.count * n + k < keep → leaf_of e root n k ≡ leaf_of a root n k
   early n k small before = elim (pointer n k) [
     | inl same ↦ same
-    | inr now ↦ now.2 ∙ z.read.before k (omega (arith, before, now.0)) ∙ own_at k ∙ ap (λ (m : ℕ). leaf_of a root m k) (sym now.0)
+    | inr now ↦ now.2 ∙ z.read.cuts_node.0 k (omega (arith, before, now.0)) ∙ own_at k ∙ ap (λ (m : ℕ). leaf_of a root m k) (sym now.0)
   ]
 
   late : (n k : ℕ) → k < leaf_pointers.count → keep ≤ leaf_pointers.count * n + k → (leaf_of e root n k ≡ leaf_of a root n k) ⊎ (leaf_of e root n k ≡ 0)
-  late n k small past = elim (pointer n k) [ inl same ↦ inl same | inr now ↦ inr (now.2 ∙ z.read.past k small (omega (arith, past, now.0))) ]
+  late n k small past = elim (pointer n k) [ inl same ↦ inl same | inr now ↦ inr (now.2 ∙ z.read.cuts_node.1 k (omega (arith, past, now.0))) ]
 
-  -- where no node is kept the last one has no leaf that is
-  none_kept : y ≡ 0 → (k : ℕ) → k < leaf_pointers.count → get_or end.node.leaves k 0 ≡ 0
-  none_kept none k small = elim z.read.kept [
-    | inr all ↦ all.1 k small
-    | inl node ↦
-        let zero_node : node_of root last ≡ 0 = sym node.0 ∙ none in
-        let nothing : (i : ℕ) → get_or (way_leaves end.way) i 0 ≡ 0 = λ i. own_at i ∙ ap (λ (m : ℕ). get_or (leaves_at a m) i 0) zero_node ∙ zeros leaf_pointers.count i in
-        absurd (node.1.2 (elim (cases_lt (leaf_pointers.count * last + node.1.0) keep) [ inl before ↦ z.read.before node.1.0 before ∙ nothing node.1.0 | inr past ↦ z.read.past node.1.0 node.1.1 past ]))
+  -- where the last node isn't kept it has no leaf that is
+  none_kept : y ≡ 0 → (k : ℕ) → k < cut_place size → leaf_of a root last k ≡ 0
+  none_kept none k before = elim z.read.kept [
+    | inr all ↦ sym (own_at k) ∙ all.1 k before
+    | inl keeps ↦ none_below a root last k (sym keeps.0 ∙ none)
   ]
 
   leads : (n : ℕ) → node_of root n ≢ 0 → (k : ℕ) × (k < leaf_pointers.count) × (leaf_of e root n k ≢ 0)
@@ -188,7 +185,9 @@ module _ {D : Type 0} {g : Ghosts D} {r : ℕ} {root : roots.Root} {start : D} {
       | inl none ↦ let to = v.has.rooted.laid.leads n real in (to.0, to.1, λ gone. to.2 (sym (ap (λ (ls : List ℕ). get_or ls to.0 0) (node_stays n (inr none))) ∙ gone))
       | inr some ↦ elim z.read.kept [
         | inr none ↦ absurd (some none.0)
-        | inl node ↦ (node.1.0, node.1.1, λ gone. node.1.2 (sym (ap (λ (m : ℕ). leaf_of e root m node.1.0) same ∙ ap (λ (ls : List ℕ). get_or ls node.1.0 0) (last_leaves some)) ∙ gone))
+        | inl keeps ↦
+            let k = keeps.1.0 in
+            (k, omega (arith, keeps.1.1), λ gone. keeps.1.2 (sym (z.read.cuts_node.0 k keeps.1.1) ∙ sym (ap (λ (m : ℕ). leaf_of e root m k) same ∙ ap (λ (ls : List ℕ). get_or ls k 0) (last_leaves some)) ∙ gone))
       ]
     ]
   ]
@@ -209,52 +208,56 @@ module _ {D : Type 0} {g : Ghosts D} {r : ℕ} {root : roots.Root} {start : D} {
 
   -- ---- the next root
 
-  next_past : (n : ℕ) → from ≤ n → node_of next n ≡ 0
-  next_past n past = elim (cases_lt n node_pointers.count) [ inl few ↦ z.cut_is.past n past few | inr many ↦ get_or_past next.nodes n 0 (omega (arith, many, z.good.0.count)) ]
+  abbrev top : CutsPast (node_of root) last y (node_of next)
+  top = z.read.cuts_root.nodes
 
-  next_before : (n : ℕ) → node_of next n ≢ 0 → n < from
-  next_before n real = elim (cases_lt n from) [ inl before ↦ before | inr past ↦ absurd (real (next_past n past)) ]
+  -- it leads to the last node where that is kept, and else to none there
+  at_last : (n : ℕ) → n ≡ last → node_of next n ≡ y
+  at_last n same = ap (node_of next) same ∙ top.0
 
-  from_most : from ≤ last + 1
-  from_most = elim (cases_eq y 0) [ inl none ↦ omega (arith, from_low none) | inr some ↦ omega (arith, from_high some) ]
-
-  from_least : last ≤ from
-  from_least = elim (cases_eq y 0) [ inl none ↦ omega (arith, from_low none) | inr some ↦ omega (arith, from_high some) ]
-
-  past_pointer : (n k : ℕ) → from ≤ n → leaf_of e next n k ≡ 0
-  past_pointer n k past = ap (λ (m : ℕ). get_or (leaves_at e m) k 0) (next_past n past) ∙ zeros leaf_pointers.count k
+  next_nodes : (n : ℕ) → node_of next n ≢ 0 → node_of next n ≡ node_of root n
+  next_nodes n real = elim (cases_lt n last) [
+    | inl before ↦ top.1 n before
+    | inr on ↦ elim (cases_eq n last) [
+      | inl same ↦ let is = at_last n same in is ∙ y_is (λ none. real (is ∙ none)) ∙ ap (node_of root) (sym same)
+      | inr apart ↦ absurd (real (top.2 n (omega (arith, on, apart))))
+    ]
+  ]
 
   next_early : (n k : ℕ) → k < leaf_pointers.count → leaf_pointers.count * n + k < keep → leaf_of e next n k ≡ leaf_of a root n k
-  next_early n k small before = elim (cases_lt n from) [
-    | inl stays ↦ ap (λ (m : ℕ). get_or (leaves_at e m) k 0) (z.cut_is.before n stays) ∙ early n k small before
-    | inr past ↦
-        let same : n ≡ last = omega (arith, from_least, past, before, small) in
-        let none : y ≡ 0 = elim (cases_eq y 0) [ inl is_none ↦ is_none | inr some ↦ absurd (omega (arith, from_high some, past, same)) ] in
-        past_pointer n k past ∙ sym (ap (λ (m : ℕ). leaf_of a root m k) same ∙ sym (own_at k) ∙ sym (z.read.before k (omega (arith, before, same))) ∙ none_kept none k small)
+  next_early n k small before = elim (cases_eq (node_of next n) 0) [
+    | inr real ↦ ap (λ (m : ℕ). get_or (leaves_at e m) k 0) (next_nodes n real) ∙ early n k small before
+    | inl gone ↦ none_below e next n k gone ∙ sym (elim (cases_eq n last) [
+      | inl same ↦ ap (λ (m : ℕ). leaf_of a root m k) same ∙ none_kept (sym (at_last n same) ∙ gone) k (omega (arith, before, same))
+      | inr apart ↦ none_below a root n k (sym (top.1 n (omega (arith, before, apart))) ∙ gone)
+    ])
   ]
 
   next_late : (n k : ℕ) → k < leaf_pointers.count → keep ≤ leaf_pointers.count * n + k → leaf_of e next n k ≡ 0
-  next_late n k small past = elim (cases_lt n from) [
-    | inr gone ↦ past_pointer n k gone
-    | inl stays ↦
-        let same : n ≡ last = omega (arith, from_most, stays, past, small) in
-        let some : y ≢ 0 = λ none. omega (arith, from_low none, stays, same) in
-        ap (λ (m : ℕ). get_or (leaves_at e m) k 0) (z.cut_is.before n stays ∙ ap (node_of root) same) ∙ ap (λ (ls : List ℕ). get_or ls k 0) (last_leaves some) ∙ z.read.past k small (omega (arith, past, same))
+  next_late n k small past = elim (cases_eq (node_of next n) 0) [
+    | inl gone ↦ none_below e next n k gone
+    | inr real ↦ elim (cases_lt last n) [
+      | inl over ↦ absurd (real (top.2 n over))
+      | inr most ↦
+          let same : n ≡ last = omega (arith, most, past, small) in
+          ap (λ (m : ℕ). get_or (leaves_at e m) k 0) (next_nodes n real ∙ ap (node_of root) same) ∙ ap (λ (ls : List ℕ). get_or ls k 0) (last_leaves (λ none. real (at_last n same ∙ none)))
+          ∙ z.read.cuts_node.1 k (omega (arith, past, same))
+    ]
   ]
 
   pub is_trimmed : IsTrimmed a id root next size e
   is_trimmed = record {
     good = z.good;
-    head = z.cut_is.head;
-    word = z.cut_is.word;
-    long = put_long mid y (node_spelling end.node) ∙ put_long a x end.content;
+    head = record { kind = z.read.cuts_root.kind; fill = z.read.cuts_root.fill; size = z.read.cuts_root.size };
+    word = z.read.cuts_root.word;
+    long = put_long mid y node ∙ put_long a x end.content;
     root_kept = place_stays r Root v.has.rooted.part (inl (λ same. leaf_no_root (leaf_pointers.count * last + j) (sym same))) (inl (λ same. node_no_root last (sym same)));
     early = early;
     late = late;
     leads = leads;
     bytes = leaf_stays;
     cut_bytes = leaf_cut;
-    nodes = λ n real. z.cut_is.before n (next_before n real);
+    nodes = next_nodes;
     next_early = next_early;
     next_late = next_late;
   }
@@ -263,12 +266,12 @@ module _ {D : Type 0} {g : Ghosts D} {r : ℕ} {root : roots.Root} {start : D} {
   pub gone_stays : (n : ℕ) → node_of root n ≢ 0 → node_of next n ≡ 0 → leaves_at e (node_of root n) ≡ leaves_at a (node_of root n)
   gone_stays n real gone = node_stays n (elim (cases_eq n last) [
     | inr apart ↦ inl apart
-    | inl same ↦ elim (cases_eq y 0) [ inl none ↦ inr none | inr some ↦ absurd (real (sym (z.cut_is.before n (omega (arith, from_high some, same))) ∙ gone)) ]
+    | inl same ↦ inr (sym (at_last n same) ∙ gone)
   ])
 
   -- and those before the last stay with the root
   pub stay_before : (n : ℕ) → n < last → node_of root n ≢ 0 → node_of next n ≢ 0
-  stay_before n before real none = real (sym (z.cut_is.before n (omega (arith, before, from_least))) ∙ none)
+  stay_before n before real none = real (sym (top.1 n before) ∙ none)
 
   -- ---- what its trimming leaves
 
@@ -284,15 +287,15 @@ module _ {D : Type 0} {g : Ghosts D} {r : ℕ} {root : roots.Root} {start : D} {
   known_x : x ≢ 0 → IsOwn a id root x × (x < length a) × (end.content ≡ block_at e x)
   known_x some = (x_own some, x_below some, sym (e_x some))
 
-  known_y : y ≢ 0 → IsOwn a id root y × (y < length a) × (node_spelling end.node ≡ block_at e y)
+  known_y : y ≢ 0 → IsOwn a id root y × (y < length a) × (node ≡ block_at e y)
   known_y some = (y_own some, y_below some, sym (e_y some))
 
   pub either_e : Either e
-  either_e = either_put_at mid y (node_spelling end.node) known_y (either_put_at a x end.content known_x (either_begin v.has e a (frames_begin a v.graph v.has.holds)))
+  either_e = either_put_at mid y node known_y (either_put_at a x end.content known_x (either_begin v.has e a (frames_begin a v.graph v.has.holds)))
 
   may_put : (images : Image → Type 0) (m : ℕ) (s : List ℕ) → (m ≢ 0 → IsOwn a id root m × (m < length a) × (s ≡ block_at e m)) → ((c : Image) → images c → Either c) → (c : Image) → MayPutBlock images m s c → Either c
   may_put images m s known each c (inl was) = each c was
   may_put images m s known each c (inr (some, w)) = let three = known some in subst Either (sym w.2) (either_put v.has e w.0 m s (each w.0 w.1) three.0 three.1 three.2)
 
   pub either_left : (c : Image) → MayTrim (left_now g start) end c → Either c
-  either_left = may_put (MayPutBlock (left_now g start) x end.content) y (node_spelling end.node) known_y (may_put (left_now g start) x end.content known_x (λ c left. either_begin v.has e c (v.store.carries.here c left)))
+  either_left = may_put (MayPutBlock (left_now g start) x end.content) y node known_y (may_put (left_now g start) x end.content known_x (λ c left. either_begin v.has e c (v.store.carries.here c left)))

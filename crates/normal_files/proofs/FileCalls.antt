@@ -1,8 +1,8 @@
 -- A file written, or set to a size, from what the store has of it.
-use Rattle.normal_files.proofs.Words.{◌≡◌, inl, inr, ℕ, ◌+◌, ◌<◌, ◌≤◌, true, false, List, length, None, Some, refl, sym, ◌∙◌, ap, subst, arith, Ok, Err, set, sum, IfErr, OnOk, Result, OnlyReads, then, wider, AreBlocks, Image, block_at, Leaves, IsSettled, left_now, refused_by, Ghosts, Puid, Refused, Trouble, stopped_after_reads, IsRootBlock, IsGoodRoot, IsRoot, root_spelling, one_root, AreCounts, Kept, file_to_leaves, File, Graph, object_at, with_object, tree_in, IsTree, carries_on, Accounts, Drafts, ChangesOnly, of_owner, IsNode, leaves_in, resized, AreClaimed, node_pointers, leaf_limit, size_limit, is_damage, HasStoppedBy}
+use Rattle.normal_files.proofs.Words.{◌≡◌, inl, inr, ℕ, ◌+◌, ◌<◌, ◌≤◌, true, false, List, length, None, Some, refl, sym, ◌∙◌, ap, subst, arith, Ok, Err, set, sum, IfErr, OnOk, Result, OnlyReads, then, wider, AreBlocks, Image, block_at, Leaves, IsSettled, left_now, refused_by, Ghosts, Puid, Refused, Trouble, stopped_after_reads, IsRootBlock, IsGoodRoot, IsRoot, root_spelling, one_root, AreCounts, Kept, file_to_leaves, File, Graph, object_at, with_object, tree_in, IsTree, carries_on, Accounts, Drafts, ChangesOnly, of_owner, leaves_in, resized, AreClaimed, node_pointers, leaf_limit, size_limit, is_damage, HasStoppedBy}
 use Rattle.normal_files.specs.Calls.{Handed}
 use Rattle.normal_files.specs.Ends.{is_damaged, IsStop}
-use Rattle.normal_files.specs.Cuts.{IsCutRoot, IsEnd, IsReadEnd, MayTrim, first_gone, last_node, trimmed}
+use Rattle.normal_files.specs.Cuts.{IsEnd, IsReadEnd, MayTrim, last_node, trimmed}
 use Rattle.normal_files.specs.Laid.{IsRooted, leaves_of, object_laid}
 use Rattle.normal_files.specs.Parts.{IsPart}
 use Rattle.normal_files.specs.Refusal.{IsTrouble}
@@ -11,7 +11,7 @@ use Rattle.normal_files.specs.WriteRefusal.{IsWriteRefusal, TellsNeed, is_untrie
 use Rattle.normal_files.specs.declared.part.Part.{Part}
 use Rattle.normal_files.proofs.Laid.{rooted_is, tree_of_laid}
 use Rattle.normal_files.proofs.Trees.{near_tree}
-use Rattle.block_tree.specs.Along.{IsNearTree}
+use Rattle.block_tree.specs.Along.{CutsRootPast, IsNearTree}
 use Rattle.normal_files.specs.Frees.{FreesTo, GivesEnd, IsDropTrouble, IsFreeing, IsResizeRefusal, IsShrinkTrouble, TakesNone, NoMap, OfFile}
 use Rattle.normal_files.specs.declared.cut.End.{End}
 use Rattle.normal_files.proofs.Partly.{no_index}
@@ -185,18 +185,20 @@ near_of {a} {graph} {id} {f} {root} s blocks sized =
     (omega (arith, s.holds.label.size_is, s.holds.label.is_label.some)))
 
 -- the next root is one
-pub next_root : {a : Image} {graph : Graph} {id : Puid} {f : File} {root : roots.Root} → HasFile a graph id f root → {size from : ℕ} {next : roots.Root} → size ≤ size_limit → IsCutRoot root size from next → IsRoot next
-next_root {a} {graph} {id} {f} {root} s {size} {from} {next} small cut =
-    let file = λ (index : next.kind ≡ kinds.Index). no_index f.kind (sym (file_to_leaves root (leaves_of a root) f s.same).kind ∙ sym cut.head.kind ∙ index) in
-    record { fill = λ index. absurd (file index); size = record { limit = omega (arith, small, cut.head.size); slots = λ index. absurd (file index) } }
+pub next_root : {a : Image} {graph : Graph} {id : Puid} {f : File} {root : roots.Root} → HasFile a graph id f root → {size n block : ℕ} {next : roots.Root} → size ≤ size_limit → CutsRootPast (record root { size = size }) n block next → IsRoot next
+next_root {a} {graph} {id} {f} {root} s {next = next} small cut =
+    let file = λ (index : next.kind ≡ kinds.Index). no_index f.kind (sym (file_to_leaves root (leaves_of a root) f s.same).kind ∙ sym cut.kind ∙ index) in
+    record { fill = λ index. absurd (file index); size = record { limit = omega (arith, small, cut.size); slots = λ index. absurd (file index) } }
 
--- how it is to end was read, and its next root is made
-pub cut_of : {D : Type 0} {n : ℕ} {g : Ghosts D} {old mid : D} (reads : OnlyReads g n old mid) {r : ℕ} {root : roots.Root} {kept : Kept} (v : FileView g r root old kept) {size blocks from : ℕ} {end : End} {next : roots.Root} → size < length v.file.bytes → IsReadEnd blocks root size end → IsEnd (g.content old) root size end → IsNode end.node
-    → IsGoodRoot next → IsCutRoot root size from next → from ≡ first_gone size end.kept → IsCut (view_on reads v) size end next
-cut_of reads {root = root} v {size = size} {blocks = blocks} {end = end} {next = next} less read ended spelled good cut same =
-    record { less = less; blocks = blocks; read = read; ended = subst (λ (i : Image). IsEnd i root size end) (sym reads.content) ended; spelled = spelled; good = good; cut_is = subst (λ (m : ℕ). IsCutRoot root size m next) same cut }
+-- how it is to end was read
+pub cut_of : {D : Type 0} {n : ℕ} {g : Ghosts D} {old mid : D} (reads : OnlyReads g n old mid) {r : ℕ} {root : roots.Root} {kept : Kept} (v : FileView g r root old kept) {size blocks : ℕ} {end : End} → size < length v.file.bytes → IsReadEnd blocks root size end → IsEnd (g.content old) root size end → IsGoodRoot end.root → IsCut (view_on reads v) size end
+cut_of reads {root = root} v {size = size} {blocks = blocks} {end = end} less read ended good =
+    record { less = less; blocks = blocks; read = read; ended = subst (λ (i : Image). IsEnd i root size end) (sym reads.content) ended; good = good }
 
-module _ {D : Type 0} {g : Ghosts D} {r : ℕ} {root : roots.Root} {start : D} {kept : Kept} {v : FileView g r root start kept} {size : ℕ} {end : End} {next : roots.Root} (z : IsCut v size end next) where
+module _ {D : Type 0} {g : Ghosts D} {r : ℕ} {root : roots.Root} {start : D} {kept : Kept} {v : FileView g r root start kept} {size : ℕ} {end : End} (z : IsCut v size end) where
+  abbrev next : roots.Root
+  next = end.root
+
   abbrev Partly : Image → Type 0
   Partly c = IsPartly c v.graph (id_at r v.word) v.file (resized v.file size)
 
@@ -214,7 +216,7 @@ module _ {D : Type 0} {g : Ghosts D} {r : ℕ} {root : roots.Root} {start : D} {
     module _ (written : g.content now ≡ set (g.content mid) r (root_spelling next)) (settled : IsSettled g now)
         {new : D} {k1 : Kept} {result : Result (Unit {0}) Trouble} (frees : FreesTo g root (GivesEnd root size end) (leaves_in size) (last_node size) leaf_limit node_pointers.count now new kept k1 result) where
       given : GivesEnd root size end (g.content start) next (leaves_in size)
-      given = (refl, z.ended.own, z.cut_is)
+      given = (refl, z.ended.own, z.read.cuts_root.nodes)
 
       pub shrunk_ends : Becomes v (resized v.file size) new k1 result × OnOk result (TakesNone (g.content start) (g.content new)) × IfErr result (λ t. is_damage t ≡ false)
       shrunk_ends = (

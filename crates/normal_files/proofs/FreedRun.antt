@@ -1,8 +1,9 @@
 -- Blocks given back by calls in a row.
-use Rattle.normal_files.proofs.Words.{◌≡◌, ◌≢◌, inl, inr, ℕ, ◌+◌, ◌-◌, ◌*◌, ◌<◌, ◌≤◌, false, IsTrue, Ok, Err, List, length, get_or, refl, sym, ◌∙◌, ap, subst, arith, ◌==◌, if◌then◌else◌, OnOk, Result, cases_eq, ne_eqb, OnlyReads, Image, trouble_after_try, trouble_had_tried, Tells, Ghosts, Puid, Trouble, reads_make, stopped_after_try, Kept, Graph, tried, not_map, leaves_in, leaf_pointers, node_pointers, leaf_limit, size_limit, IsNear, leaves_at, is_damage}
+use Rattle.normal_files.proofs.Words.{◌≡◌, ◌≢◌, inl, inr, ℕ, ◌+◌, ◌-◌, ◌*◌, ◌<◌, ◌≤◌, false, IsTrue, Ok, Err, List, length, get_or, refl, sym, ◌∙◌, ap, subst, arith, ◌==◌, if◌then◌else◌, OnOk, Result, cases_eq, ne_eqb, OnlyReads, Image, trouble_after_try, trouble_had_tried, Tells, Ghosts, Puid, Trouble, reads_make, stopped_after_try, Kept, Graph, tried, not_map, leaves_in, leaf_pointers, node_pointers, leaf_limit, IsNear, leaves_at, is_damage}
 use Rattle.normal_files.specs.Frees.{Drops, FollowsStart, FreesBlock, FreesTo, GivesEnd, GivesLeaves, GivesNode, GivesNodes, HasBegun, IsDropTrouble, IsFreed, IsFreeing, OfFile}
-use Rattle.normal_files.specs.Cuts.{first_gone, last_node}
+use Rattle.normal_files.specs.Cuts.{cut_place, last_node}
 use Rattle.normal_files.specs.Laid.{leaf_of, node_of}
+use Rattle.normal_files.specs.Limits.{free_calls, free_tries}
 use Rattle.normal_files.specs.Refusal.{IsTrouble}
 use Rattle.block_tree.specs.Along.{way_leaves}
 use Rattle.normal_files.specs.declared.cut.End.{End}
@@ -74,14 +75,14 @@ frees_err g root Given leaf node l n to_leaf to_node old new k0 k1 e is = record
 
 -- the leaves of a node, one after another
 pub leaves_on : {D : Type 0} (g : Ghosts D) (root : roots.Root) (leaves : List ℕ) (n from k : ℕ) (at : Top) (old mid new : D) (k0 k1 k2 : Kept) (result : Result (Unit {0}) Trouble) → k < leaf_pointers.count → from ≤ k → FreesTo g root (GivesLeaves root leaves n from) (leaf_pointers.count * n + from) n (leaf_pointers.count * n + k) n old mid k0 k1 (Ok tt)
-    → FreesBlock g (get_or leaves k 0) mid new k1 k2 result → FollowsStart g at 2 1 mid new k1 k2 result → FreesTo g root (GivesLeaves root leaves n from) (leaf_pointers.count * n + from) n (leaf_pointers.count * n + (k + 1)) n old new k0 k2 result
+    → FreesBlock g (get_or leaves k 0) mid new k1 k2 result → FollowsStart g at free_calls free_tries mid new k1 k2 result → FreesTo g root (GivesLeaves root leaves n from) (leaf_pointers.count * n + from) n (leaf_pointers.count * n + (k + 1)) n old new k0 k2 result
 leaves_on g root leaves n from k at old mid new k0 k1 k2 result small late done frees follows =
     frees_on g root (GivesLeaves root leaves n from) (GivesLeaves root leaves n from) (leaf_pointers.count * n + from) n (leaf_pointers.count * n + k) n (leaf_pointers.count * n + (k + 1)) n old mid new k0 k1 k2 result (λ a next keep given. given) done
-    (frees_leaf g root (GivesLeaves root leaves n from) n k n (get_or leaves k 0) mid new k1 k2 at 2 1 result small (λ a next keep given. (ap (λ (ls : List ℕ). get_or ls k 0) given.0, omega (arith, given.1, late))) frees follows)
+    (frees_leaf g root (GivesLeaves root leaves n from) n k n (get_or leaves k 0) mid new k1 k2 at free_calls free_tries result small (λ a next keep given. (ap (λ (ls : List ℕ). get_or ls k 0) given.0, omega (arith, given.1, late))) frees follows)
 
-pub leaves_follow : {D : Type 0} (g : Ghosts D) (from k : ℕ) (at : Top) (old mid new : D) (k0 k1 k2 : Kept) (result : Result (Unit {0}) Trouble) → from ≤ k → (most tries : ℕ) → 2 * (k + 1 - from) ≤ most → k + 1 - from ≤ tries → FollowsStart g at (2 * (k - from)) (k - from) old mid k0 k1 (Ok tt) → FollowsStart g at 2 1 mid new k1 k2 result
+pub leaves_follow : {D : Type 0} (g : Ghosts D) (from k : ℕ) (at : Top) (old mid new : D) (k0 k1 k2 : Kept) (result : Result (Unit {0}) Trouble) → from ≤ k → (most tries : ℕ) → (k + 1 - from) * free_calls ≤ most → (k + 1 - from) * free_tries ≤ tries → FollowsStart g at ((k - from) * free_calls) ((k - from) * free_tries) old mid k0 k1 (Ok tt) → FollowsStart g at free_calls free_tries mid new k1 k2 result
     → FollowsStart g at most tries old new k0 k2 result
-leaves_follow g from k at old mid new k0 k1 k2 result late most tries few fewer done follows = follows_on g at (2 * (k - from)) (k - from) 2 1 most tries old mid new k0 k1 k2 result (omega (arith, few, late)) (omega (arith, fewer, late)) done follows
+leaves_follow g from k at old mid new k0 k1 k2 result late most tries few fewer done follows = follows_on g at ((k - from) * free_calls) ((k - from) * free_tries) free_calls free_tries most tries old mid new k0 k1 k2 result (omega (arith, few, late)) (omega (arith, fewer, late)) done follows
 
 -- ---- a node that was read
 
@@ -146,12 +147,12 @@ module _ {D : Type 0} (g : Ghosts D) (root : roots.Root) (n : ℕ) (old mid : D)
 
 -- its leaves and the node itself
 pub node_on : {D : Type 0} (g : Ghosts D) (root : roots.Root) (leaves : List ℕ) (n : ℕ) (at : Top) (mid mid2 new : D) (k0 k1 k2 : Kept) (result : Result (Unit {0}) Trouble) → FreesTo g root (GivesLeaves root leaves n 0) (leaf_pointers.count * n + 0) n (leaf_pointers.count * n + leaf_pointers.count) n mid mid2 k0 k1 (Ok tt)
-    → FreesBlock g (node_of root n) mid2 new k1 k2 result → FollowsStart g at 2 1 mid2 new k1 k2 result → FreesTo g root (λ a next keep. GivesLeaves root leaves n 0 a next keep × (node_of next n ≡ 0)) (leaf_pointers.count * n) n (leaf_pointers.count * n + leaf_pointers.count) (n + 1) mid new k0 k2 result
+    → FreesBlock g (node_of root n) mid2 new k1 k2 result → FollowsStart g at free_calls free_tries mid2 new k1 k2 result → FreesTo g root (λ a next keep. GivesLeaves root leaves n 0 a next keep × (node_of next n ≡ 0)) (leaf_pointers.count * n) n (leaf_pointers.count * n + leaf_pointers.count) (n + 1) mid new k0 k2 result
 node_on g root leaves n at mid mid2 new k0 k1 k2 result done frees follows =
     frees_on g root (λ a next keep. GivesLeaves root leaves n 0 a next keep × (node_of next n ≡ 0)) (λ a next keep. GivesLeaves root leaves n 0 a next keep × (node_of next n ≡ 0)) (leaf_pointers.count * n) n (leaf_pointers.count * n + leaf_pointers.count) n (leaf_pointers.count * n + leaf_pointers.count) (n + 1) mid mid2 new k0 k1 k2 result (λ a next keep given. given)
     (frees_given g root (λ a next keep. GivesLeaves root leaves n 0 a next keep × (node_of next n ≡ 0)) (GivesLeaves root leaves n 0) (leaf_pointers.count * n) n (leaf_pointers.count * n + leaf_pointers.count) n mid mid2 k0 k1 (Ok tt) (λ a next keep given. given.0)
     (subst (λ (l : ℕ). FreesTo g root (GivesLeaves root leaves n 0) l n (leaf_pointers.count * n + leaf_pointers.count) n mid mid2 k0 k1 (Ok tt)) plus done))
-    (frees_node g root (λ a next keep. GivesLeaves root leaves n 0 a next keep × (node_of next n ≡ 0)) n (leaf_pointers.count * n + leaf_pointers.count) (node_of root n) mid2 new k1 k2 at 2 1 result (λ a next keep given. (λ some. (refl, given.1), λ none real. absurd (real none))) frees follows)
+    (frees_node g root (λ a next keep. GivesLeaves root leaves n 0 a next keep × (node_of next n ≡ 0)) n (leaf_pointers.count * n + leaf_pointers.count) (node_of root n) mid2 new k1 k2 at free_calls free_tries result (λ a next keep given. (λ some. (refl, given.1), λ none real. absurd (real none))) frees follows)
   where
     plus : leaf_pointers.count * n + 0 ≡ leaf_pointers.count * n
     plus = omega arith
@@ -176,18 +177,15 @@ nodes_on g root from n old mid new k0 k1 k2 result late few done frees =
 
 -- ---- the end of a file
 
-module _ {D : Type 0} (g : Ghosts D) (root : roots.Root) (size : ℕ) (end : End) (small : size ≤ size_limit) (old mid : D) (k0 k1 : Kept) where
+module _ {D : Type 0} (g : Ghosts D) (root : roots.Root) (size : ℕ) (end : End) (old mid : D) (k0 k1 : Kept) where
   abbrev last : ℕ
   last = last_node size
 
   abbrev place : ℕ
-  place = leaves_in size - leaf_pointers.count * last
+  place = cut_place size
 
   abbrev Given : Image → roots.Root → ℕ → Type 0
   Given = GivesEnd root size end
-
-  few : last < node_pointers.count
-  few = omega (arith, small)
 
   starts_at : leaf_pointers.count * last + place ≡ leaves_in size
   starts_at = omega arith
@@ -198,30 +196,30 @@ module _ {D : Type 0} (g : Ghosts D) (root : roots.Root) (size : ℕ) (end : End
       subst (λ (l : ℕ). FreesTo g root Given l last to_leaf to_node old mid k0 k1 result) starts_at
       (frees_given g root Given (GivesLeaves root (way_leaves end.way) last place) (leaf_pointers.count * last + place) last to_leaf to_node old mid k0 k1 result (λ a next keep given. (given.1, omega (arith, given.0, starts_at))) frees)
 
-  -- told by how many leaves are kept, and the number of the last node
-  pub end_first : (k n : ℕ) → k ≡ leaves_in size → n ≡ last → {leaves : List ℕ} → leaves ≡ way_leaves end.way → (result : Result (Unit {0}) Trouble) → FreesTo g root (GivesLeaves root leaves n (k - leaf_pointers.count * n)) (leaf_pointers.count * n + (k - leaf_pointers.count * n)) n (leaf_pointers.count * n + leaf_pointers.count) n old mid k0 k1 result
+  -- told by the number of that node, and its place
+  pub end_first : (n k : ℕ) → n ≡ last → k ≡ place → {leaves : List ℕ} → leaves ≡ way_leaves end.way → (result : Result (Unit {0}) Trouble) → FreesTo g root (GivesLeaves root leaves n k) (leaf_pointers.count * n + k) n (leaf_pointers.count * n + leaf_pointers.count) n old mid k0 k1 result
       → FreesTo g root Given (leaves_in size) last (leaf_pointers.count * last + leaf_pointers.count) last old mid k0 k1 result
-  end_first k n same number {leaves} is result frees = end_leaves (leaf_pointers.count * last + leaf_pointers.count) last result
-      (subst (λ (m : ℕ). FreesTo g root (GivesLeaves root (way_leaves end.way) m (leaves_in size - leaf_pointers.count * m)) (leaf_pointers.count * m + (leaves_in size - leaf_pointers.count * m)) m (leaf_pointers.count * m + leaf_pointers.count) m old mid k0 k1 result) number
-      (subst (λ (q : ℕ). FreesTo g root (GivesLeaves root (way_leaves end.way) n (q - leaf_pointers.count * n)) (leaf_pointers.count * n + (q - leaf_pointers.count * n)) n (leaf_pointers.count * n + leaf_pointers.count) n old mid k0 k1 result) same
-      (subst (λ (ls : List ℕ). FreesTo g root (GivesLeaves root ls n (k - leaf_pointers.count * n)) (leaf_pointers.count * n + (k - leaf_pointers.count * n)) n (leaf_pointers.count * n + leaf_pointers.count) n old mid k0 k1 result) is frees)))
+  end_first n k number same {leaves} is result frees = end_leaves (leaf_pointers.count * last + leaf_pointers.count) last result
+      (subst (λ (m : ℕ). FreesTo g root (GivesLeaves root (way_leaves end.way) m place) (leaf_pointers.count * m + place) m (leaf_pointers.count * m + leaf_pointers.count) m old mid k0 k1 result) number
+      (subst (λ (q : ℕ). FreesTo g root (GivesLeaves root (way_leaves end.way) n q) (leaf_pointers.count * n + q) n (leaf_pointers.count * n + leaf_pointers.count) n old mid k0 k1 result) same
+      (subst (λ (ls : List ℕ). FreesTo g root (GivesLeaves root ls n k) (leaf_pointers.count * n + k) n (leaf_pointers.count * n + leaf_pointers.count) n old mid k0 k1 result) is frees)))
 
   pub end_err : (l n : ℕ) (e : Trouble) → FreesTo g root Given (leaves_in size) last l n old mid k0 k1 (Err e) → FreesTo g root Given (leaves_in size) last leaf_limit node_pointers.count old mid k0 k1 (Err e)
   end_err l n e frees = frees_err g root Given (leaves_in size) last l n leaf_limit node_pointers.count old mid k0 k1 e frees
 
   -- that node, where it goes
-  pub end_node : (at : Top) (n block : ℕ) (new : D) (k2 : Kept) (result : Result (Unit {0}) Trouble) → n ≡ last → block ≡ (if end.kept == 0 then node_of root n else 0) → FreesTo g root Given (leaves_in size) last (leaf_pointers.count * last + leaf_pointers.count) last old mid k0 k1 (Ok tt) → FreesBlock g block mid new k1 k2 result → FollowsStart g at 2 1 mid new k1 k2 result
+  pub end_node : (at : Top) (n block : ℕ) (new : D) (k2 : Kept) (result : Result (Unit {0}) Trouble) → n ≡ last → block ≡ (if end.kept == 0 then node_of root n else 0) → FreesTo g root Given (leaves_in size) last (leaf_pointers.count * last + leaf_pointers.count) last old mid k0 k1 (Ok tt) → FreesBlock g block mid new k1 k2 result → FollowsStart g at free_calls free_tries mid new k1 k2 result
       → FreesTo g root Given (leaves_in size) last (leaf_pointers.count * last + leaf_pointers.count) (last + 1) old new k0 k2 result
   end_node at n block new k2 result number is done frees follows =
       frees_on g root Given Given (leaves_in size) last (leaf_pointers.count * last + leaf_pointers.count) last (leaf_pointers.count * last + leaf_pointers.count) (last + 1) old mid new k0 k1 k2 result (λ a next keep given. given) done
-      (frees_node g root Given last (leaf_pointers.count * last + leaf_pointers.count) block mid new k1 k2 at 2 1 result (λ a next keep given. (
+      (frees_node g root Given last (leaf_pointers.count * last + leaf_pointers.count) block mid new k1 k2 at free_calls free_tries result (λ a next keep given. (
         λ some. elim (cases_eq end.kept 0) [
-          | inl none ↦ (gone_is none, given.2.past last (omega (arith, low none)) few)
+          | inl none ↦ (gone_is none, given.2.0 ∙ none)
           | inr some_kept ↦ absurd (some (stays some_kept))
         ],
         λ none real. elim (cases_eq end.kept 0) [
           | inl no_kept ↦ absurd (real (sym (gone_is no_kept) ∙ none))
-          | inr some_kept ↦ λ zero_next. real (sym (given.2.before last (omega (arith, high some_kept))) ∙ zero_next)
+          | inr some_kept ↦ λ zero_next. some_kept (sym given.2.0 ∙ zero_next)
         ],
       )) frees follows)
     where
@@ -237,22 +235,13 @@ module _ {D : Type 0} (g : Ghosts D) (root : roots.Root) (size : ℕ) (end : End
       stays : end.kept ≢ 0 → block ≡ 0
       stays some = is ∙ kept_is some
 
-      low : end.kept ≡ 0 → first_gone size end.kept ≡ last
-      low none = rw none refl
-
-      high : end.kept ≢ 0 → first_gone size end.kept ≡ last + 1
-      high some = rw (ne_eqb end.kept 0 some) refl
-
   -- and all nodes past it
   pub end_rest : (n to_leaf to_node : ℕ) (new : D) (k2 : Kept) (result : Result (Unit {0}) Trouble) → n ≡ last → FreesTo g root Given (leaves_in size) last (leaf_pointers.count * last + leaf_pointers.count) (last + 1) old mid k0 k1 (Ok tt) → FreesTo g root (GivesNodes (n + 1)) (leaf_pointers.count * (n + 1)) (n + 1) to_leaf to_node mid new k1 k2 result
       → FreesTo g root Given (leaves_in size) last to_leaf to_node old new k0 k2 result
   end_rest n to_leaf to_node new k2 result number done frees =
-      frees_on g root Given (GivesNodes (last + 1)) (leaves_in size) last (leaf_pointers.count * last + leaf_pointers.count) (last + 1) to_leaf to_node old mid new k0 k1 k2 result (λ a next keep given. (λ q late below. given.2.past q (omega (arith, late, most)) below, omega (arith, given.0))) done
+      frees_on g root Given (GivesNodes (last + 1)) (leaves_in size) last (leaf_pointers.count * last + leaf_pointers.count) (last + 1) to_leaf to_node old mid new k0 k1 k2 result (λ a next keep given. (λ q late below. given.2.2 q (omega (arith, late)), omega (arith, given.0))) done
       (subst (λ (l : ℕ). FreesTo g root (GivesNodes (last + 1)) l (last + 1) to_leaf to_node mid new k1 k2 result) at_next
       (subst (λ (m : ℕ). FreesTo g root (GivesNodes (m + 1)) (leaf_pointers.count * (m + 1)) (m + 1) to_leaf to_node mid new k1 k2 result) number frees))
     where
       at_next : leaf_pointers.count * (last + 1) ≡ leaf_pointers.count * last + leaf_pointers.count
       at_next = omega arith
-
-      most : first_gone size end.kept ≤ last + 1
-      most = elim (cases_eq end.kept 0) [ inl none ↦ rw none (omega arith) | inr some ↦ rw (ne_eqb end.kept 0 some) (omega arith) ]

@@ -1,9 +1,9 @@
 -- How many blocks a write takes, told by the pointers of the file.
-use Rattle.normal_files.proofs.Words.{◌≡◌, ◌≢◌, inl, inr, ℕ, zero, suc, ◌+◌, ◌-◌, ◌*◌, ◌/◌, ◌%◌, ◌<◌, ◌≤◌, Bool, true, false, List, length, get_or, refl, sym, ◌∙◌, ap, subst, arith, cond, ◌==◌, count_by, is_some, map, not, ◌&&◌, filter, if◌then◌else◌, nat_lt, range_with_len, fun_ext, cases_lt, ne_eqb, lt-ltb, length-filter, Image, Puid, IsRootBlock, root_spelling, GivesFile, file_to_leaves, held_each, in_touched, to_touched, first_to_last, branches, has_number, lacking, missing, parents, held_levels, leaves_in, touched, File, in_map, in_numbers, in_withs, numbers-rise, same_numbers, to_map, to_numbers, to_withs, with_numbers-rise, held_at, held_some, held_there, some_held, nat_tests, Graph, leaf_pointers, leaves_at, zeros}
+use Rattle.normal_files.proofs.Words.{◌≡◌, ◌≢◌, inl, inr, ℕ, zero, suc, ◌+◌, ◌-◌, ◌*◌, ◌/◌, ◌%◌, ◌<◌, ◌≤◌, Bool, true, false, List, length, get_or, refl, sym, ◌∙◌, ap, subst, arith, cond, ◌==◌, count_by, is_some, map, not, ◌&&◌, filter, if◌then◌else◌, nat_lt, range_with_len, fun_ext, cases_lt, ne_eqb, lt-ltb, length-filter, Image, Puid, IsRootBlock, root_spelling, GivesFile, file_to_leaves, held_each, in_touched, to_touched, first_to_last, branches, has_number, lacking, missing, parents, held_levels, leaves_in, touched, File, in_map, in_numbers, in_withs, numbers-rise, same_numbers, to_map, to_numbers, to_withs, with_numbers-rise, held_at, held_some, held_there, some_held, nat_tests, Graph, leaf_pointers}
 use Rattle.normal_files.specs.Laid.{leaf_of, leaves_of, node_of}
 use Rattle.normal_files.specs.Parts.{IsPart, IsReadPart, absent_in, lacking_to, part_need, AreParts}
 use Rattle.normal_files.specs.declared.part.Part.{Part}
-use Rattle.normal_files.proofs.Trees.{leaf_stands}
+use Rattle.normal_files.proofs.Trees.{leaf_stands, none_below}
 use Rattle.normal_files.proofs.LackingTo.{filter_more}
 use Rattle.normal_files.specs.View.{HasFile}
 use Rattle.block_tree.specs.Along.{way_leaves}
@@ -75,9 +75,6 @@ module _ {a : Image} {graph : Graph} {id : Puid} {f : File} {root : roots.Root} 
       ap (λ (ls : List ℕ). get_or ls (l % leaf_pointers.count) 0 == 0) (is.own some) ∙ no_block (leaf_of a root part.number (l % leaf_pointers.count))
       ∙ ap not (sym (some_is part.number (l % leaf_pointers.count) (omega arith)) ∙ ap (λ (m : ℕ). is_some (leaves_of a root m)) at)
 
-  no_node : (n k : ℕ) → node_of root n ≡ 0 → leaf_of a root n k ≡ 0
-  no_node n k none = ap (λ (p : ℕ). get_or (leaves_at a p) k 0) none ∙ zeros leaf_pointers.count k
-
   pub node_held : (n : ℕ) → has_number n (parents f.held) ≡ not (absent_node n)
   node_held n = same_test (has_number n (parents f.held)) (not (absent_node n)) forth back
     where
@@ -96,7 +93,7 @@ module _ {a : Image} {graph : Graph} {id : Puid} {f : File} {root : roots.Root} 
           let at : leaf_pointers.count * n + k ≡ l = omega (arith, of.2) in
           let small : k < leaf_pointers.count = omega arith in
           let there : is_some (held_at a (leaf_of a root n k)) ≡ true = sym (some_is n k small) ∙ ap (λ (m : ℕ). is_some (leaves_of a root m)) at ∙ sym (held_is l) ∙ of.1 in
-          real (node_of root n) (λ none. some_held a (leaf_of a root n k) there (no_node n k none))
+          real (node_of root n) (λ none. some_held a (leaf_of a root n k) there (none_below a root n k none))
 
       back : not (absent_node n) ≡ true → has_number n (parents f.held) ≡ true
       back h =

@@ -1,5 +1,5 @@
 -- A file that was set to less: what its root no longer leads to becomes Free, and then the store has the file.
-use Rattle.normal_files.proofs.Words.{◌≡◌, ◌≢◌, ◌⊎◌, inl, inr, ℕ, ◌+◌, ◌*◌, ◌<◌, ◌≤◌, Bool, true, false, cond, List, [], length, set, get_or, Some, refl, sym, ◌∙◌, ap, subst, get_or-set_other, arith, nat_lt, length-set, both_ways, cases_eq, cases_lt, get_or_past, Image, block_at, IsSettled, left_now, Ghosts, Puid, Place, Leaf, Node, Root, node_spelling, root_spelling, AreCounts, Kept, entry_in, BlockState, Free, File, Object, Graph, object_at, with_object, same_puid, leaves_in, resized, filter-rises, object_at-with_object, rises-with_object, same_puid_is, same_puid_itself, Frames, IsBlockOf, IsLoose, BelongsTo, is_committed, part_at, part_of, sight, Holds, ReadsAs, carried, other_at, others, owned_is_loose, frames_hold, framed_sight, same_blocks, placed, begins, HasDraftIf, HasItsBlocks, ChangesOnly, of_owner, is_had, is_leaving, is_meant, is_owned_by, changes_begin, changes_then, free_unowned, changes_in_place, leaf_pointers, node_pointers, leaf_limit, leaves_at, zeros}
+use Rattle.normal_files.proofs.Words.{◌≡◌, ◌≢◌, ◌⊎◌, inl, inr, ℕ, ◌+◌, ◌*◌, ◌<◌, ◌≤◌, Bool, true, false, cond, List, [], length, set, get_or, Some, refl, sym, ◌∙◌, ap, subst, get_or-set_other, arith, nat_lt, length-set, both_ways, cases_eq, cases_lt, get_or_past, Image, block_at, IsSettled, left_now, Ghosts, Puid, Place, Leaf, Node, Root, node_spelling, root_spelling, AreCounts, Kept, entry_in, BlockState, Free, File, Object, Graph, object_at, with_object, same_puid, leaves_in, resized, filter-rises, object_at-with_object, rises-with_object, same_puid_is, same_puid_itself, Frames, IsBlockOf, IsLoose, BelongsTo, is_committed, part_at, part_of, sight, Holds, ReadsAs, carried, other_at, others, owned_is_loose, frames_hold, framed_sight, same_blocks, placed, begins, HasDraftIf, HasItsBlocks, ChangesOnly, of_owner, is_had, is_leaving, is_meant, is_owned_by, changes_begin, changes_then, free_unowned, changes_in_place, leaf_pointers, node_pointers, leaf_limit, leaves_at}
 use Rattle.normal_files.specs.Cuts.{MayTrim, last_node, put_at, trimmed}
 use Rattle.normal_files.specs.Frees.{Drops, IsDropped, IsFreed, IsFreeing, TakesNone, FreedLeaf, FreedNode}
 use Rattle.normal_files.specs.Laid.{IsRooted, leaf_of, leaves_of, node_of}
@@ -10,14 +10,15 @@ use Rattle.normal_files.proofs.Ended.{either_e, either_left, gone_stays, is_trim
 use Rattle.normal_files.proofs.Laid.{tree_of_laid}
 use Rattle.normal_files.proofs.Partly.{held_rises}
 use Rattle.normal_files.proofs.Owned.{IsOwn, block_from_own, own_from_block}
-use Rattle.normal_files.proofs.Trees.{near, same_leaves}
+use Rattle.normal_files.proofs.Trees.{near, none_below, same_leaves}
 use Rattle.normal_files.proofs.Trimmed.{IsEitherWay, IsLed, IsTrimmed, KeepsEntries, either_partly, entries_begin, gives, led, set_content, shrunk_holds, shrunk_own, shrunk_partly, shrunk_parts, shrunk_rooted}
 use Rattle.normal_files.proofs.Places.{one_leaf, one_node}
 use Rattle.normal_files.specs.View.{FileView, id_at}
+use Rattle.block_tree.specs.Along.{way_node}
 use Rattle.block_tree.specs.declared.root.Root as roots
 use Rattle.ufs_model.specs.declared.object.Object.TheVariants as objects
 
-module _ {D : Type 0} {g : Ghosts D} {r : ℕ} {root : roots.Root} {start : D} {kept : Kept} {v : FileView g r root start kept} {size : ℕ} {end : End} {next : roots.Root} (z : IsCut v size end next) where
+module _ {D : Type 0} {g : Ghosts D} {r : ℕ} {root : roots.Root} {start : D} {kept : Kept} {v : FileView g r root start kept} {size : ℕ} {end : End} (z : IsCut v size end) where
   abbrev a : Image
   a = g.content start
 
@@ -26,6 +27,9 @@ module _ {D : Type 0} {g : Ghosts D} {r : ℕ} {root : roots.Root} {start : D} {
 
   abbrev e : Image
   e = trimmed a end
+
+  abbrev next : roots.Root
+  next = end.root
 
   abbrev pub b : Image
   b = set e r (root_spelling next)
@@ -177,7 +181,7 @@ module _ {D : Type 0} {g : Ghosts D} {r : ℕ} {root : roots.Root} {start : D} {
 
   contents : OnlyContents b
   contents = set_content v.has kept e r (root_spelling next) (inl refl)
-      (put_content (put_at a end.cut end.content) end.kept (node_spelling end.node) (y_own z)
+      (put_content (put_at a end.cut end.content) end.kept (node_spelling (way_node end.next)) (y_own z)
       (put_content a end.cut end.content (x_own z)
       (entries_begin v.has kept v.store.counts)))
 
@@ -208,7 +212,7 @@ module _ {D : Type 0} {g : Ghosts D} {r : ℕ} {root : roots.Root} {start : D} {
     few_nodes n real = elim (cases_lt n node_pointers.count) [ inl few ↦ few | inr past ↦ absurd (real (get_or_past root.nodes n 0 (omega (arith, past, v.has.rooted.laid.good.0.count)))) ]
 
     has_node : (n k : ℕ) → leaf_of a root n k ≢ 0 → node_of root n ≢ 0
-    has_node n k real none = real (ap (λ (m : ℕ). get_or (leaves_at a m) k 0) none ∙ zeros leaf_pointers.count k)
+    has_node n k real none = real (none_below a root n k none)
 
     -- a block of before is kept, or Free now
     kept_or_freed : (m : ℕ) → IsOwn a id root m → IsOwn b id next m ⊎ Freed m

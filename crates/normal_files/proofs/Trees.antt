@@ -1,6 +1,6 @@
 -- A tree of nodes and leaves: what stands at each path, as the pointers say.
 use Rattle.normal_files.proofs.Words.{◌≡◌, ◌≢◌, inl, inr, ℕ, zero, suc, ◌+◌, ◌*◌, ◌/◌, ◌%◌, ◌<◌, ◌≤◌, List, [], ◌∷◌, get_or, refl, sym, ◌∙◌, ap, subst, arith, slice_index, cases_eq, cases_lt, get_or_past, Image, block_at, leaf_pointers, node_pointers, pointers_of, IsGoodRoot, IsRootBlock, root_spelling, end_of, pointer, tree_of, nodes_of, leaf_is, node_block, path_is, Object, IsTree, leaf_in, held_at, tree_in, held_there, held, IsNear, leaves_at, length-leaves, pointed, zeros}
-use Rattle.normal_files.specs.Laid.{leaf_of, leaves_of}
+use Rattle.normal_files.specs.Laid.{leaf_of, leaves_of, node_of}
 use Rattle.block_tree.specs.Along.{IsNearTree}
 use Rattle.block_tree.specs.declared.root.Root as roots
 
@@ -61,6 +61,9 @@ module _ (image : Image) (content : List ℕ) (root : roots.Root) (is : IsRootBl
     }
 
 -- a node that is absent leads nowhere
+pub none_below : (image : Image) (root : roots.Root) (n k : ℕ) → node_of root n ≡ 0 → leaf_of image root n k ≡ 0
+none_below image root n k none = ap (λ (m : ℕ). get_or (leaves_at image m) k 0) none ∙ zeros leaf_pointers.count k
+
 pub near_none : (size : ℕ) (image : Image) → 0 < size → IsNear size image 0
 near_none size image some = record { here = some; leaves = λ k. omega (arith, zeros leaf_pointers.count k, some) }
 

@@ -1,43 +1,54 @@
--- A file set to less: the leaf in which it ends is cut, and the last node that it keeps is written without the leaves
--- past it.
-use Rattle.std.specs.Prelude.{◌≡◌, ◌≢◌, ◌⊎◌, ℕ, ◌+◌, ◌-◌, ◌*◌, ◌/◌, ◌%◌, ◌<◌, ◌≤◌, ◌==◌, if◌then◌else◌, List}
-use Rattle.std.specs.Prelude.{get_or, set}
-use Rattle.block_tree.specs.Along.{IsTo, IsWayWithin}
-use Rattle.block_tree.specs.Reads.{leaves_at}
-use Rattle.block_tree.specs.Pointers.{leaf_pointers, node_pointers}
-use Rattle.cfs_base.specs.Disk.{Image, Written}
+-- A file set to less: the leaf in which it ends is cut, and so is the way to the last leaf that it may keep.
+use Rattle.std.specs.Prelude.{◌≡◌, ◌≢◌, ◌⊎◌, ℕ, ◌-◌, ◌*◌, ◌/◌, ◌%◌, ◌<◌, ◌==◌, if◌then◌else◌, List, get_or, set}
+use Rattle.block_tree.specs.Along.{CutsRootPast, IsTo, IsWayWithin, pointer_on, way_leaves, way_node}
 use Rattle.block_tree.specs.Node.{node_spelling}
+use Rattle.block_tree.specs.Pointers.{leaf_pointers, node_levels}
+use Rattle.block_tree.specs.Reads.{leaves_at}
 use Rattle.block_tree.specs.Tree.{bytes_in}
-use Rattle.block_tree.specs.Way.{NoLeaf, SomeLeaf}
+use Rattle.block_tree.specs.Way.{CutsAt}
+use Rattle.cfs_base.specs.Disk.{Image, Written}
 use Rattle.leaf_changes.specs.Bytes.{cut}
-use Rattle.leaf_changes.specs.Changes.{SetsSize}
 use Rattle.ufs_model.specs.Object.{leaves_in}
 use Rattle.normal_files.specs.Laid.{node_of}
-use Rattle.block_tree.specs.Along.{way_leaves}
 use Rattle.normal_files.specs.declared.cut.End.{End}
 use Rattle.block_tree.specs.declared.root.Root as roots
 
--- the last node of which a file of this size may keep a leaf
-abbrev pub last_node : ℕ → ℕ
-last_node size = (leaves_in size - 1) / leaf_pointers.count
+-- ---- where a file of a size ends
 
--- the block of the leaf within which it ends, in this node; 0 where it ends between leaves, or the leaf is absent
-abbrev pub cut_block : ℕ → List ℕ → ℕ
-cut_block size leaves = if size % 512 == 0 then 0 else get_or leaves (size / 512 % leaf_pointers.count) 0
+-- the last leaf that it may keep; where it may keep none the first
+abbrev pub last_leaf : ℕ → ℕ
+last_leaf size = leaves_in size - 1
+
+-- the node of that leaf
+abbrev pub last_node : ℕ → ℕ
+last_node size = last_leaf size / leaf_pointers.count
+
+-- the place in that node from which on it has no leaf
+abbrev pub cut_place : ℕ → ℕ
+cut_place size = leaves_in size - leaf_pointers.count * last_node size
+
+-- the block of the leaf within which it ends: that of the last leaf, and 0 where it ends between leaves
+abbrev pub cut_block : (size block : ℕ) → ℕ
+cut_block size block = if size % 512 == 0 then 0 else block
+
+-- the block as which a node with these leaves is kept: its own where it has one of them before a place, else 0
+abbrev pub IsKeptNode : (leaves : List ℕ) → (place block kept : ℕ) → Type 0
+IsKeptNode leaves place block kept =
+    ((kept ≡ block) × ((k : ℕ) × (k < place) × (get_or leaves k 0 ≢ 0)))
+    ⊎ ((kept ≡ 0) × ((k : ℕ) → k < place → get_or leaves k 0 ≡ 0))
 
 -- all that is known of the end on any disk
 pub record IsReadEnd (blocks : ℕ) (root : roots.Root) (size : ℕ) (end : End) : Type 0 where
-  pub within : IsWayWithin blocks end.way
   -- the way leads to the last leaf that it may keep
-  pub leads : IsTo (leaves_in size - 1) end.way
-  pub cut : end.cut ≡ cut_block size (way_leaves end.way)
-  pub near : end.cut < blocks
-  pub before : (k : ℕ) → leaf_pointers.count * last_node size + k < leaves_in size
-      → get_or end.node.leaves k 0 ≡ get_or (way_leaves end.way) k 0
-  pub past : (k : ℕ) → k < leaf_pointers.count → leaves_in size ≤ leaf_pointers.count * last_node size + k
-      → get_or end.node.leaves k 0 ≡ 0
-  pub kept : ((end.kept ≡ node_of root (last_node size)) × SomeLeaf end.node) ⊎ ((end.kept ≡ 0) × NoLeaf end.node)
+  pub leads : IsTo (last_leaf size) end.way
+  pub within : IsWayWithin blocks end.way
   pub there : node_of root (last_node size) < blocks
+  pub cut : end.cut ≡ cut_block size (pointer_on root end.way node_levels)
+  pub near : end.cut < blocks
+  pub kept : IsKeptNode (way_leaves end.way) (cut_place size) (node_of root (last_node size)) end.kept
+  pub cuts_node : CutsAt (λ k. get_or (way_leaves end.way) k 0) (cut_place size)
+      (λ k. get_or (way_leaves end.next) k 0)
+  pub cuts_root : CutsRootPast (record root { size = size }) (last_node size) end.kept end.root
 
 -- it is that of the file with this root
 pub record IsEnd (image : Image) (root : roots.Root) (size : ℕ) (end : End) : Type 0 where
@@ -55,19 +66,7 @@ MayPutBlock images block content c = images c ⊎ ((block ≢ 0) × Written imag
 
 -- the image once both are
 abbrev pub trimmed : Image → End → Image
-trimmed c end = put_at (put_at c end.cut end.content) end.kept (node_spelling end.node)
+trimmed c end = put_at (put_at c end.cut end.content) end.kept (node_spelling (way_node end.next))
 
 abbrev pub MayTrim : (Image → Type 0) → End → Image → Type 0
-MayTrim images end = MayPutBlock (MayPutBlock images end.cut end.content) end.kept (node_spelling end.node)
-
--- ---- the root
-
--- the node from which on the root leads nowhere
-abbrev pub first_gone : (size kept : ℕ) → ℕ
-first_gone size kept = if kept == 0 then last_node size else last_node size + 1
-
-pub record IsCutRoot (root : roots.Root) (size from : ℕ) (next : roots.Root) : Type 0 where
-  pub head : SetsSize size root next
-  pub word : next.word ≡ root.word
-  pub before : (n : ℕ) → n < from → node_of next n ≡ node_of root n
-  pub past : (n : ℕ) → from ≤ n → n < node_pointers.count → node_of next n ≡ 0
+MayTrim images end = MayPutBlock (MayPutBlock images end.cut end.content) end.kept (node_spelling (way_node end.next))

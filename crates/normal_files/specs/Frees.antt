@@ -22,11 +22,12 @@ use Rattle.vol_image.specs.Part.{BelongsTo, part_at}
 use Rattle.vol_image.specs.Run.{Within}
 use Rattle.vol_image.specs.Sound.{Holds}
 use Rattle.vol_owners.specs.Change.{ChangesOnly, of_owner}
-use Rattle.normal_files.specs.Cuts.{IsCutRoot, first_gone, last_node}
+use Rattle.normal_files.specs.Cuts.{last_node}
 use Rattle.normal_files.specs.Laid.{leaf_of, node_of}
 use Rattle.leaf_changes.specs.Tops.{Top}
 use Rattle.normal_files.specs.Refusal.{IsDamage, IsRefusal}
 use Rattle.block_tree.specs.Along.{way_leaves}
+use Rattle.block_tree.specs.Way.{CutsPast}
 use Rattle.normal_files.specs.declared.cut.End.{End}
 use Rattle.ufs_model.specs.Object.{leaves_in}
 use Rattle.cfs_base.specs.declared.refusal.Trouble.TheVariants as trouble
@@ -36,8 +37,8 @@ use Rattle.block_tree.specs.declared.root.Root as roots
 
 -- what is wrong: the map of a block is none, or a block of the file is damaged, as the disk is then
 pub data IsDropDamage {D : Type 0} (g : Ghosts D) (at : Top) (start new : D) (damage : Damage) : Type 0 where
-  NoMap : damage.code ≡ no_entry → damage.block ≡ map_of damage.block → (Tells g start → IsBadMap (g.content new) damage.block)
-      → IsDropDamage g at start new damage
+  NoMap : damage.code ≡ no_entry → damage.block ≡ map_of damage.block
+      → (Tells g start → IsBadMap (g.content new) damage.block) → IsDropDamage g at start new damage
   OfFile : (mid : D) → (Tells g start → Tells g mid) → g.content mid ≡ g.content new → g.blocks mid ≡ g.blocks new
       → IsDamage g at mid damage → IsDropDamage g at start new damage
 
@@ -149,11 +150,11 @@ abbrev pub GivesNodes : (from : ℕ) → Image → roots.Root → ℕ → Type 0
 GivesNodes from a next keep =
     ((q : ℕ) → from ≤ q → q < node_pointers.count → node_of next q ≡ 0) × (keep ≤ leaf_pointers.count * from)
 
--- the last node is as it was read, and the root leads to none from one on
+-- the last node is as it was read, and the root leads to it where it is kept, and to none past it
 abbrev pub GivesEnd : roots.Root → (size : ℕ) → End → Image → roots.Root → ℕ → Type 0
 GivesEnd root size end a next keep =
     (keep ≡ leaves_in size) × (way_leaves end.way ≡ leaves_at a (node_of root (last_node size)))
-    × IsCutRoot root size (first_gone size end.kept) next
+    × CutsPast (node_of root) (last_node size) end.kept (node_of next)
 
 -- ---- a resize
 

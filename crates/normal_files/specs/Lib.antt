@@ -4,6 +4,7 @@ pub mod Cuts
 pub mod Ends
 pub mod Frees
 pub mod Laid
+pub mod Limits
 pub mod Links
 pub mod Order
 pub mod Parts

@@ -1,12 +1,10 @@
-//! The end of a file that is set to less: the leaf in which it ends, and the last node that it keeps.
-ghost use Rattle.std.specs.Prelude.{◌≡◌, ◌≢◌, ◌⊎◌, ◌+◌, ◌-◌, ◌*◌, ◌/◌, ◌<◌, ◌≤◌, ℕ, true, false, length, get_or};
-ghost use Rattle.std.specs.Prelude.{slice_index, IsTrue, IfErr, IfOk, OnOk};
-ghost use Rattle.std.specs.List.{All};
+//! The end of a file that is set to less: the leaf in which it ends, and the way to the last leaf that it may keep.
+ghost use Rattle.std.specs.Prelude.{◌≡◌, ◌<◌, ◌≤◌, ℕ, true, false, IsTrue, IfErr, IfOk, OnOk};
 ghost use Rattle.block_tree.specs.Along.{IsNearTree};
-ghost use Rattle.block_tree.specs.Pointers.{leaf_pointers, node_pointers, size_limit};
-ghost use Rattle.block_tree.specs.Node.{IsNode};
+ghost use Rattle.block_tree.specs.Pointers.{leaf_limit, leaf_pointers, node_pointers, size_limit};
+ghost use Rattle.block_tree.specs.Reads.{HasStoppedBy, is_damage};
+ghost use Rattle.block_tree.specs.Root.{root_spelling};
 ghost use Rattle.block_tree.specs.Tree.{bytes_in};
-ghost use Rattle.block_tree.specs.Way.{NoLeaf, SomeLeaf};
 ghost use Rattle.cfs_base.specs.Calls.{HasTried, MakesAtMost, OnlyReads};
 ghost use Rattle.cfs_base.specs.Refusals.{trouble_had_tried};
 ghost use Rattle.cfs_base.specs.Run.{IsSettled, Leaves as LeavesOf, Tells, left_now};
@@ -14,26 +12,38 @@ ghost use Rattle.cfs_base.specs.declared.refusal.Trouble.TheVariants as troubles
 ghost use Rattle.leaf_changes.specs.Bytes.{cut};
 ghost use Rattle.leaf_changes.specs.Tops.{root_top};
 ghost use Rattle.normal_files.specs.Cuts as spec;
-ghost use Rattle.normal_files.specs.Laid.{node_of};
-ghost use Rattle.block_tree.specs.Reads.{is_damage};
-ghost use Rattle.block_tree.specs.Root.{root_spelling};
 ghost use Rattle.normal_files.specs.Refusal.{IsTrouble};
-ghost use Rattle.block_tree.specs.Along.{way_leaves};
-ghost use Rattle.block_tree.specs.Reads.{HasStoppedBy};
-ghost use Rattle.ufs_model.specs.Object.{leaves_in as leaves_of};
 
 use crate::lowest::way_node;
 use block_tree::{LEAVES, Node, Root, Way, node_of, read_block};
 use cfs_base::{Block, BlockNo, Disk, Trouble};
 use leaf_changes::{cut_leaf, leaves_in};
 
-/// The last node of which a file of this size may keep a leaf.
+/// The last leaf that a file of this size may keep, and the first where it may keep none.
+fn last_leaf(size: u64) -> u32
+    requires { size ≤ size_limit }
+    ensures leaf { result ≡ spec.last_leaf size }
+    ensures few { result < leaf_limit }
+{
+    leaves_in(size).saturating_sub(1)
+}
+
+/// The node of that leaf.
 pub(crate) fn last_node(size: u64) -> u32
     requires { size ≤ size_limit }
     ensures node { result ≡ spec.last_node size }
     ensures few { result < node_pointers.count }
 {
-    node_of(leaves_in(size).saturating_sub(1))
+    node_of(last_leaf(size))
+}
+
+/// The place in that node from which on a file of this size has no leaf.
+pub(crate) fn cut_place(size: u64) -> u32
+    requires { size ≤ size_limit }
+    ensures place { result ≡ spec.cut_place size }
+    ensures few { result ≤ leaf_pointers.count }
+{
+    leaves_in(size) - LEAVES as u32 * last_node(size)
 }
 
 /// How a file is to end.
@@ -41,34 +51,38 @@ pub(crate) fn last_node(size: u64) -> u32
 pub(crate) struct End {
     /// The way to the last leaf that it may keep, as it stands.
     pub way: Way,
-    /// The last node of which it may keep a leaf, as it is to be.
-    pub node: Node,
-    /// The block of that node, and 0 where it is not kept.
+    /// That way, and the root, as they are to be.
+    pub next: Way,
+    pub root: Root,
+    /// The block of the lowest node on it, and 0 where that is not kept.
     pub kept: u32,
     /// The block of the leaf that is cut, and 0 where none is; and what it is to hold.
     pub cut: u32,
     pub content: Block,
 }
 
-/// The block of a node, if it is kept with these leaves.
-fn kept_block(node: &Node, block: u32) -> u32
-    ensures { ((result ≡ block) × SomeLeaf node.now) ⊎ ((result ≡ 0) × NoLeaf node.now) }
+/// The block of a node, if it has a leaf before a place.
+fn kept_block(node: &Node, place: u32, block: u32) -> u32
+    requires { place ≤ leaf_pointers.count }
+    ensures { spec.IsKeptNode node.now.leaves place block result }
 {
-    if node.leads() {
-        return block;
+    for before in 0..place {
+        if node.leaves[before as usize] != 0 {
+            return block;
+        }
     }
     0
 }
 
-/// The block of the leaf within which a file of this size ends.
-fn cut_block(way: &Way, size: u64) -> u32
-    ensures block { result ≡ spec.cut_block size (way_leaves way.now) }
-    ensures near { (blocks : ℕ) → 0 < blocks → All (λ leaf. leaf < blocks) (way_leaves way.now) → result < blocks }
+/// The block of the leaf within which a file of this size ends, whose last leaf has this one.
+fn cut_block(size: u64, block: u32) -> u32
+    ensures block { result ≡ spec.cut_block size block }
+    ensures near { (blocks : ℕ) → block < blocks → result < blocks }
 {
     if size % 512 == 0 {
         return 0;
     }
-    way_node(way).leaves[(size / 512) as usize % LEAVES]
+    block
 }
 
 /// What that leaf is to hold.
@@ -106,24 +120,26 @@ pub(crate) fn read_end<D: Disk>(
         → IfErr result (λ trouble. is_damage trouble ≡ false) }
     ensures reads { OnlyReads D.Disk 2 disk.old disk.new }
 {
-    let keep = leaves_in(size);
-    let last = last_node(size);
-    let block = root.nodes[last as usize];
     let mut way = Way::new();
-    match way.get(disk, at, root, keep.saturating_sub(1)) {
-        Ok(_) => {}
+    let last = match way.get(disk, at, root, last_leaf(size)) {
+        Ok(block) => block,
         Err(trouble) => return Err(trouble),
-    }
-    let cut = cut_block(&way, size);
+    };
+    let cut = cut_block(size, last);
     let content = match cut_content(disk, cut, size, root.fill) {
         Ok(content) => content,
         Err(trouble) => return Err(trouble),
     };
-    let node = way_node(&way).cut(keep - LEAVES as u32 * last);
-    let kept = kept_block(&node, block);
+    let place = cut_place(size);
+    let kept = kept_block(way_node(&way), place, root.nodes[last_node(size) as usize]);
+    let mut next = way;
+    let mut next_root = *root;
+    next_root.size = size;
+    next.cut(&mut next_root, place, [kept]);
     Ok(End {
         way,
-        node,
+        next,
+        root: next_root,
         kept,
         cut,
         content,
@@ -153,7 +169,6 @@ fn put_at<D: Disk>(disk: &mut D, block: u32, content: &Block) -> Result<(), Trou
 pub(crate) fn trim<D: Disk>(disk: &mut D, end: &End) -> Result<(), Trouble>
     requires cut { end.now.cut < D.blocks disk.old }
     requires kept { end.now.kept < D.blocks disk.old }
-    ensures node { IsNode end.now.node }
     ensures done { OnOk result (D.content disk.new ≡ spec.trimmed (D.content disk.old) end.now) }
     ensures settled { Tells D.Disk disk.old → OnOk result (IsSettled D.Disk disk.new) }
     ensures told { OnOk result ((b : ℕ) → IsTrue (D.told disk.old b) → IsTrue (D.told disk.new b)) }
@@ -163,12 +178,11 @@ pub(crate) fn trim<D: Disk>(disk: &mut D, end: &End) -> Result<(), Trouble>
     ensures stopped { IfErr result (HasStoppedBy D.Disk disk.old disk.new) }
     ensures calls { MakesAtMost D.Disk 3 3 disk.old disk.new }
 {
-    let node = end.node.encode();
     match put_at(disk, end.cut, &end.content) {
         Ok(()) => {}
         Err(trouble) => return Err(trouble),
     }
-    match put_at(disk, end.kept, &node) {
+    match put_at(disk, end.kept, &way_node(&end.next).encode()) {
         Ok(()) => {}
         Err(trouble) => return Err(trouble),
     }
@@ -176,13 +190,4 @@ pub(crate) fn trim<D: Disk>(disk: &mut D, end: &End) -> Result<(), Trouble>
         Ok(()) => Ok(()),
         Err(_) => Err(Trouble::Disk { tried: true }),
     }
-}
-
-/// The root with another size, which leads to no node from one on.
-pub(crate) fn cut_root(root: &Root, size: u64, from: u32) -> Root
-    ensures { spec.IsCutRoot root.now size from result }
-{
-    let mut next = root.cut(from);
-    next.size = size;
-    next
 }

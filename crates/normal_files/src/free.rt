@@ -5,21 +5,22 @@ ghost use Rattle.block_tree.specs.Pointers.{leaf_limit, leaf_pointers, node_poin
 ghost use Rattle.leaf_changes.specs.Tops.{root_top, still_top};
 ghost use Rattle.normal_files.specs.Cuts.{IsReadEnd, last_node as node_at};
 ghost use Rattle.normal_files.specs.Frees as spec;
+ghost use Rattle.normal_files.specs.Limits as limits;
 ghost use Rattle.ufs_model.specs.Object.{leaves_in as leaves_of};
 
-use crate::cut::{End, last_node};
+use crate::cut::{End, cut_place, last_node};
 use crate::lowest::way_node;
 use block_tree::{LEAVES, NODES, Node, Root, read_node};
 use cfs_base::{BlockNo, Disk, Trouble};
 use cyl_alloc::Space;
-use leaf_changes::leaves_in;
 
 /// Frees a block, unless it is 0.
 fn free<D: Disk>(disk: &mut D, space: &mut Space, at: BlockNo, block: u32) -> Result<(), Trouble>
     requires size { D.blocks disk.old ≡ 64 * length space.old.free }
     requires on_disk { block < D.blocks disk.old }
     ensures frees { spec.FreesBlock D.Disk block disk.old disk.new space.old space.new result }
-    ensures follows { spec.FollowsStart D.Disk (still_top at.0) 2 1 disk.old disk.new space.old space.new result }
+    ensures follows { spec.FollowsStart D.Disk (still_top at.0) limits.free_calls limits.free_tries disk.old disk.new
+        space.old space.new result }
 {
     if block == 0 {
         return Ok(());
@@ -46,8 +47,8 @@ fn free_leaves<D: Disk>(
     ensures frees { spec.FreesTo D.Disk root.now (spec.GivesLeaves root.now node.now.leaves number from)
         (leaf_pointers.count * number + from) number
         (leaf_pointers.count * number + leaf_pointers.count) number disk.old disk.new space.old space.new result }
-    ensures follows { spec.FollowsStart D.Disk (still_top at.0) 256 leaf_pointers.count disk.old disk.new
-        space.old space.new result }
+    ensures follows { spec.FollowsStart D.Disk (still_top at.0) limits.free_leaves_calls limits.free_leaves_tries
+        disk.old disk.new space.old space.new result }
 {
     for place in from..LEAVES as u32 {
         match free(disk, space, at, node.leaves[place as usize]) {
@@ -72,8 +73,8 @@ fn free_node<D: Disk>(
     ensures frees { spec.FreesTo D.Disk root.now (spec.GivesNode number)
         (leaf_pointers.count * number) number
         (leaf_pointers.count * number + leaf_pointers.count) (number + 1) disk.old disk.new space.old space.new result }
-    ensures follows { spec.FollowsStart D.Disk (root_top at.0 root.now) 259 129 disk.old disk.new space.old space.new
-        result }
+    ensures follows { spec.FollowsStart D.Disk (root_top at.0 root.now) limits.free_node_calls limits.free_node_tries
+        disk.old disk.new space.old space.new result }
 {
     let block = root.nodes[number as usize];
     let node = match read_node(disk, block, at) {
@@ -100,9 +101,8 @@ fn free_nodes<D: Disk>(
     requires from { from ≤ node_pointers.count }
     ensures frees { spec.FreesTo D.Disk root.now (spec.GivesNodes from)
         (leaf_pointers.count * from) from leaf_limit node_pointers.count disk.old disk.new space.old space.new result }
-    ensures follows { spec.FollowsStart D.Disk (root_top at.0 root.now) 31080 15480 disk.old disk.new space.old
-        space.new
-        result }
+    ensures follows { spec.FollowsStart D.Disk (root_top at.0 root.now) limits.free_nodes_calls limits.free_nodes_tries
+        disk.old disk.new space.old space.new result }
 {
     for number in from..NODES as u32 {
         match free_node(disk, space, at, root, number) {
@@ -138,11 +138,9 @@ pub(crate) fn free_past<D: Disk>(
     requires read { IsReadEnd (D.blocks disk.old) root.now size end.now }
     ensures frees { spec.FreesTo D.Disk root.now (spec.GivesEnd root.now size end.now)
         (leaves_of size) (node_at size) leaf_limit node_pointers.count disk.old disk.new space.old space.new result }
-    ensures follows { spec.FollowsStart D.Disk (root_top at.0 root.now) 31338 15609 disk.old disk.new space.old
-        space.new
-        result }
+    ensures follows { spec.FollowsStart D.Disk (root_top at.0 root.now) limits.free_past_calls limits.free_past_tries
+        disk.old disk.new space.old space.new result }
 {
-    let keep = leaves_in(size);
     let last = last_node(size);
     match free_leaves(
         disk,
@@ -151,7 +149,7 @@ pub(crate) fn free_past<D: Disk>(
         root,
         way_node(&end.way),
         last,
-        keep - LEAVES as u32 * last,
+        cut_place(size),
     ) {
         Ok(()) => {}
         Err(trouble) => return Err(trouble),

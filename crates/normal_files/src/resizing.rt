@@ -1,11 +1,12 @@
 //! The size of a file, set.
-ghost use Rattle.std.specs.Prelude.{◌≡◌, ◌+◌, ◌*◌, ◌<◌, ◌≤◌, true, length, sum, IfErr, OnOk};
+ghost use Rattle.std.specs.Prelude.{◌≡◌, ◌*◌, ◌<◌, ◌≤◌, true, length, sum, IfErr, OnOk};
 ghost use Rattle.block_tree.specs.Pointers.{size_limit};
 ghost use Rattle.cfs_base.specs.Calls.{MakesAtMost, OnlyReads};
 ghost use Rattle.cfs_base.specs.declared.refusal.Refused.TheVariants as refusals;
 ghost use Rattle.leaf_changes.specs.Tops.{disk_top};
 ghost use Rattle.normal_files.specs.Calls.{Handed, ResizesFile};
 ghost use Rattle.normal_files.specs.Frees.{IsResizeRefusal};
+ghost use Rattle.normal_files.specs.Limits.{in_place_resize_calls, in_place_resize_tries};
 ghost use Rattle.normal_files.specs.WriteRefusal.{TellsNeed, is_untried};
 
 use crate::grow::grow;
@@ -43,7 +44,7 @@ pub fn resize<D: Disk>(
         × OnlyReads D.Disk 3 disk.old disk.new) }
     ensures cylinders { length space.new.free ≡ length space.old.free }
     ensures left { space.new.left ≡ space.old.left }
-    ensures calls { MakesAtMost D.Disk 31346 15614 disk.old disk.new }
+    ensures calls { MakesAtMost D.Disk in_place_resize_calls in_place_resize_tries disk.old disk.new }
 {
     match space.has_room(0, floor) {
         Ok(()) => {}

@@ -1,32 +1,23 @@
 //! A smaller size, set.
-ghost use Rattle.std.specs.Prelude.{◌≡◌, ◌*◌, ◌+◌, ◌<◌, ◌≤◌, false, length, IfErr, OnOk};
+ghost use Rattle.std.specs.Prelude.{◌≡◌, ◌*◌, ◌<◌, ◌≤◌, false, length, IfErr, OnOk};
 ghost use Rattle.block_tree.specs.Pointers.{size_limit};
 ghost use Rattle.cfs_base.specs.Calls.{MakesAtMost, OnlyReads};
 ghost use Rattle.cfs_base.specs.declared.refusal.Trouble.TheVariants as troubles;
 ghost use Rattle.leaf_changes.specs.Tops.{root_top};
-ghost use Rattle.normal_files.specs.Cuts as spec;
 ghost use Rattle.normal_files.specs.Frees.{IsShrinkTrouble, TakesNone};
+ghost use Rattle.normal_files.specs.Limits.{shrink_calls, shrink_tries};
 ghost use Rattle.block_tree.specs.Reads.{is_damage};
 ghost use Rattle.normal_files.specs.Standing.{Becomes};
 ghost use Rattle.normal_files.specs.View.{FileView};
 ghost use Rattle.ufs_model.specs.Object.{resized};
 
-use crate::cut::{End, cut_root, last_node, read_end, trim};
+use crate::cut::{read_end, trim};
 use crate::free::free_past;
 use crate::in_place::after;
 use crate::link::write_through;
 use block_tree::Root;
 use cfs_base::{BlockNo, Disk, Trouble};
 use cyl_alloc::Space;
-
-/// The node from which on a file of this size has none.
-fn first_gone(end: &End, size: u64) -> u32
-    requires { size ≤ size_limit }
-    ensures { result ≡ spec.first_gone size end.now.kept }
-{
-    let last = last_node(size);
-    if end.kept == 0 { last } else { last + 1 }
-}
 
 /// Sets the size of a file to less. First the leaf in which it ends and the last node that it keeps outlast a crash,
 /// then its root, and then what it no longer has becomes Free, which no barrier follows. `Damaged` as in `read_node`,
@@ -50,14 +41,13 @@ pub(crate) fn shrink<D: Disk>(
         × OnlyReads D.Disk 2 disk.old disk.new) }
     ensures cylinders { length space.new.free ≡ length space.old.free }
     ensures left { space.new.left ≡ space.old.left }
-    ensures calls { MakesAtMost D.Disk 31345 15614 disk.old disk.new }
+    ensures calls { MakesAtMost D.Disk shrink_calls shrink_tries disk.old disk.new }
 {
     let end = match read_end(disk, at, root, size) {
         Ok(end) => end,
         Err(trouble) => return Err(trouble),
     };
-    let next = cut_root(root, size, first_gone(&end, size));
-    let content = next.encode();
+    let content = end.root.encode();
     match trim(disk, &end) {
         Ok(()) => {}
         Err(trouble) => return Err(trouble),

@@ -129,7 +129,10 @@ fn a_pointer_past_the_end_and_a_failed_read_are_told_apart(rt: HostRuntime) -> R
         size: 512,
         nodes,
     };
-    let past = TreeFault::BadPointer { block: 6 };
+    let past = TreeFault::BadPointer {
+        block: 6,
+        holder: None,
+    };
     for (leaf, wanted) in [(0, Err(TreeFault::Disk)), (255, Err(past)), (0, Ok(0))] {
         assert_eq!(rt; leaf_at(&mut disk, &root, leaf), wanted);
     }
@@ -138,7 +141,10 @@ fn a_pointer_past_the_end_and_a_failed_read_are_told_apart(rt: HostRuntime) -> R
 
 #[test]
 fn a_pointer_past_the_end_is_told_in_words(rt: HostRuntime) -> Result<(), Fail> {
-    let past = TreeFault::BadPointer { block: 6 };
+    let past = TreeFault::BadPointer {
+        block: 6,
+        holder: None,
+    };
     let text = format!(in rt.alloc(); "{past}")?;
     assert_eq!(rt;
         text.as_str(),

@@ -1,6 +1,7 @@
 -- What may happen keeps a state well-formed.
 use Rattle.std.proofs.Common.{◌≡◌, ℕ, zero, suc, ◌+◌, List, [], ◌∷◌, length, refl, ◌∙◌, ap, subst, arith, Bool, true, false, not, ◌&&◌, ◌||◌, Some, None, Option, map}
 use Rattle.ufs_model.proofs.Words.{All, Event, Fill, Grant, Graph, IsGraph, IsInside, IsSpeakable, IsState, Object, Overwrite, Puid, Reply, Request, SetSize, State, after_leave, allowed_if, and_from, and_parts, answered, block_named, by_outcome, changed, conditions, creates, goes_nowhere, goes_through, has_no_grant, has_no_object, has_no_slot, is_among, is_beyond, is_free_root, is_grant_in, is_none, is_open_so, is_out_of_range, is_outcome, is_range, is_running, is_there, leb-false, leb-true, list_all, ltb-false, may_vanish, named, nat_le, nat_lt, new_file, new_index, next, not-false, opening, option_and_then, or_left, or_right, outcome_of, pairs_of, referred, refusal_of, replay_from, retains_nothing, same_puid, same_reply, seen, starts_now, stopped_at, stores_bytes, target, the_file, the_index, with_edge, without, ◌==◌}
+use Rattle.ufs_model.specs.Limits.{most_bytes, most_slots}
 use Rattle.std.specs.Prelude.{is_some}
 use Rattle.cfs_base.specs.declared.kind.Mode.{Mode}
 use Rattle.ufs_model.specs.declared.asked.Ref.TheVariants.{Direct}
@@ -37,8 +38,8 @@ inside_range : (o : Object) (offset : ℕ) (bytes : List ℕ) → not (is_range 
 inside_range (objects.File f) offset bytes h = leb-true (offset + length bytes) (length f.bytes) (and_parts _ (nat_le (offset + length bytes) (length f.bytes)) (not-false _ h)).1
 inside_range (objects.Index i) offset bytes h = tt
 
-inside_size : (o : Object) (size : ℕ) → nat_lt 7864320 size ≡ false → IsInside (SetSize size) o
-inside_size (objects.File f) size h = ltb-false 7864320 size h
+inside_size : (o : Object) (size : ℕ) → nat_lt most_bytes size ≡ false → IsInside (SetSize size) o
+inside_size (objects.File f) size h = ltb-false most_bytes size h
 inside_size (objects.Index i) size h = tt
 
 -- ---- the outcome
@@ -71,9 +72,9 @@ outcome_keeps seed s who (asks.CreateFile kind fill index slot) b h small none f
     (new_file_whole kind fill small) (λ x. refl) (free refl)
 outcome_keeps seed s who (asks.CreateIndex slots index slot) b h small none free =
     let r = asks.CreateIndex slots index slot in
-    let range = or_none (slots == 0) (nat_lt 983040 slots) (in_range s who r h none) in
+    let range = or_none (slots == 0) (nat_lt most_slots slots) (in_range s who r h none) in
     created_keeps seed s who index slot (objects.Index (new_index slots)) b h (to s who r h none) (alone s who r h none) (inside_slot (seen s who index).object slot None (in_slots s who r h none))
-    (new_index_whole slots range.0 (ltb-false 983040 slots range.1)) (none_referred slots) (free refl)
+    (new_index_whole slots range.0 (ltb-false most_slots slots range.1)) (none_referred slots) (free refl)
   where
     none_referred : (n : ℕ) (x : Puid) → is_among x (referred (objects.Index (new_index n))) ≡ false
     none_referred zero x = refl

@@ -1,6 +1,7 @@
 -- A change that is within an object keeps it well-formed, and of its kind.
 use Rattle.std.proofs.Common.{◌≡◌, ℕ, ◌+◌, ◌-◌, ◌*◌, ◌/◌, ◌<◌, ◌≤◌, List, ◌++◌, length, take, drop, replicate, set, refl, ◌∙◌, ap, arith, true, false, not, ◌||◌, Some, None, Option, inl, inr, length-append, length-set}
 use Rattle.ufs_model.proofs.Words.{Change, File, FileKind, Fill, Index, IsInside, Object, Overwrite, Puid, SetSize, and_from, and_parts, byte_may_stand, cases_lt, changed_object, each_from, eq-eqb, filled, has_number, is_none, is_object, le-leb, leaves_in, length-replicate, length-take, length-take-le, list_all, lt-ltb, nat_le, nat_lt, new_file, new_index, numbers_rise, or_cases, or_left, or_right, resized, slot_may_stand, touched, written, ◌==◌}
+use Rattle.ufs_model.specs.Limits.{most_bytes, most_slots}
 use Rattle.std.proofs.lemmas.List.{length-drop}
 use Rattle.ufs_model.specs.declared.object.Object.TheVariants as objects
 use Rattle.ufs_model.proofs.Tests.{all_passing, each_append, each_take, each_drop, each_set, each_same, each_weaker, each_all}
@@ -39,7 +40,7 @@ still_may_stand f d at byte same more h =
     ])
 
 record FileParts (f : File) : Type 0 where
-  size : nat_le (length f.bytes) 7864320 ≡ true
+  size : nat_le (length f.bytes) most_bytes ≡ true
   fill : nat_lt f.fill 256 ≡ true
   rise : numbers_rise f.held ≡ true
   within : list_all (λ leaf. nat_lt leaf (leaves_in (length f.bytes))) f.held ≡ true
@@ -50,7 +51,7 @@ file_parts f h =
     let last = and_parts _ (each_from (byte_may_stand f) 0 f.bytes) h in
     let third = and_parts _ (list_all (λ leaf. nat_lt leaf (leaves_in (length f.bytes))) f.held) last.0 in
     let second = and_parts _ (numbers_rise f.held) third.0 in
-    let first = and_parts (nat_le (length f.bytes) 7864320) (nat_lt f.fill 256) second.0 in
+    let first = and_parts (nat_le (length f.bytes) most_bytes) (nat_lt f.fill 256) second.0 in
     record { size = first.0; fill = first.1; rise = second.1; within = third.1; each = last.1 }
 
 file_whole : (f : File) → FileParts f → is_object (objects.File f) ≡ true
@@ -102,7 +103,7 @@ module _ (f : File) (parts : FileParts f) where
     })
 
   -- a size
-  module _ (size : ℕ) (few : size ≤ 7864320) where
+  module _ (size : ℕ) (few : size ≤ most_bytes) where
     abbrev cut : File
     cut = resized f size
 
@@ -127,7 +128,7 @@ module _ (f : File) (parts : FileParts f) where
 
     resized_whole : is_object (objects.File cut) ≡ true
     resized_whole = file_whole cut (record {
-      size = rw resized_size (le-leb size 7864320 few);
+      size = rw resized_size (le-leb size most_bytes few);
       fill = parts.fill;
       rise = filter-rises (λ leaf. nat_lt leaf (leaves_in size)) f.held parts.rise;
       within = rw resized_size (all_passing (λ leaf. nat_lt leaf (leaves_in size)) f.held);
@@ -138,7 +139,7 @@ module _ (f : File) (parts : FileParts f) where
 
 record IndexParts (i : Index) : Type 0 where
   some : not (length i.slots == 0) ≡ true
-  size : nat_le (length i.slots) 983040 ≡ true
+  size : nat_le (length i.slots) most_slots ≡ true
   rise : numbers_rise i.held ≡ true
   within : list_all (λ leaf. nat_lt (leaf * 64) (length i.slots)) i.held ≡ true
   each : each_from (slot_may_stand i) 0 i.slots ≡ true
@@ -148,7 +149,7 @@ index_parts i h =
     let last = and_parts _ (each_from (slot_may_stand i) 0 i.slots) h in
     let third = and_parts _ (list_all (λ leaf. nat_lt (leaf * 64) (length i.slots)) i.held) last.0 in
     let second = and_parts _ (numbers_rise i.held) third.0 in
-    let first = and_parts (not (length i.slots == 0)) (nat_le (length i.slots) 983040) second.0 in
+    let first = and_parts (not (length i.slots == 0)) (nat_le (length i.slots) most_slots) second.0 in
     record { some = first.0; size = first.1; rise = second.1; within = third.1; each = last.1 }
 
 index_whole : (i : Index) → IndexParts i → is_object (objects.Index i) ≡ true
@@ -208,12 +209,12 @@ changed_whole (SetSize size) (objects.Index i) inside small h = h
 pub new_file_whole : (kind : FileKind) (fill : ℕ) → nat_lt fill 256 ≡ true → is_object (objects.File (new_file kind fill)) ≡ true
 new_file_whole kind fill small = file_whole (new_file kind fill) (record { size = refl; fill = small; rise = refl; within = refl; each = refl })
 
-pub new_index_whole : (slots : ℕ) → (slots == 0) ≡ false → slots ≤ 983040 → is_object (objects.Index (new_index slots)) ≡ true
+pub new_index_whole : (slots : ℕ) → (slots == 0) ≡ false → slots ≤ most_slots → is_object (objects.Index (new_index slots)) ≡ true
 new_index_whole slots some few =
     let long : length (new_index slots).slots ≡ slots = length-replicate slots None in
     index_whole (new_index slots) (record {
       some = rw long (ap not some);
-      size = rw long (le-leb slots 983040 few);
+      size = rw long (le-leb slots most_slots few);
       rise = refl;
       within = refl;
       each = each_same (slot_may_stand (new_index slots)) 0 slots None (λ k _. refl);

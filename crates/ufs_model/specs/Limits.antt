@@ -1,5 +1,5 @@
 -- The limits of the server, as numbers.
-use Rattle.std.specs.Prelude.{ℕ}
+use Rattle.std.specs.Prelude.{ℕ, ◌*◌}
 
 -- the bytes of a leaf, and its slots, each of 8 bytes
 abbrev pub leaf_size : ℕ
@@ -12,12 +12,16 @@ leaf_slots = 64
 abbrev pub fan_out : ℕ
 fan_out = 128
 
+-- the leaves of the largest object
+abbrev pub most_leaves : ℕ
+most_leaves = 15360
+
 -- the bytes of the largest file, and the slots of the largest index
 abbrev pub most_bytes : ℕ
-most_bytes = 7864320
+most_bytes = leaf_size * most_leaves
 
 abbrev pub most_slots : ℕ
-most_slots = 983040
+most_slots = leaf_slots * most_leaves
 
 -- the slots of the root index
 abbrev pub root_slots : ℕ

@@ -5,7 +5,7 @@ ghost use Rattle.cfs_base.specs.declared.identifier.Puid.{Puid};
 ghost use Rattle.ufs_model.specs.Graph.{Graph, IsClosedGraph, IsGraph, fresh_graph, is_free_root, is_there, object_at};
 ghost use Rattle.ufs_model.specs.Identifier.{is_among};
 ghost use Rattle.ufs_model.specs.Limits.{fan_out, leaf_size, leaf_slots, most_at_once, most_bytes, most_grants};
-ghost use Rattle.ufs_model.specs.Limits.{most_line, most_name, most_slots, reserve, root_slots};
+ghost use Rattle.ufs_model.specs.Limits.{most_leaves, most_line, most_name, most_slots, reserve, root_slots};
 ghost use Rattle.ufs_model.specs.Next.{next};
 ghost use Rattle.ufs_model.specs.Object.{IsObject};
 ghost use Rattle.ufs_model.specs.Outcome.{creates, outcome_of};
@@ -22,8 +22,8 @@ ghost use Rattle.ufs_model.specs.declared.object.Object.{Object};
 
 use crate::asked::Request;
 use crate::limits::{
-    FAN_OUT, LEAF_BYTES, LEAF_SLOTS, MOST_AT_ONCE, MOST_BYTES, MOST_GRANTS, MOST_LINE, MOST_NAME,
-    MOST_SLOTS, RESERVE, ROOT_SLOTS,
+    FAN_OUT, LEAF_BYTES, LEAF_SLOTS, MOST_AT_ONCE, MOST_BYTES, MOST_GRANTS, MOST_LEAVES, MOST_LINE,
+    MOST_NAME, MOST_SLOTS, RESERVE, ROOT_SLOTS,
 };
 
 /// The constants are the numbers of the definitions.
@@ -31,6 +31,7 @@ pub fn limits_are_stated()
     ensures leaf_bytes { LEAF_BYTES ≡ leaf_size }
     ensures leaf_slots { LEAF_SLOTS ≡ leaf_slots }
     ensures fan_out { FAN_OUT ≡ fan_out }
+    ensures most_leaves { MOST_LEAVES ≡ most_leaves }
     ensures most_bytes { MOST_BYTES ≡ most_bytes }
     ensures most_slots { MOST_SLOTS ≡ most_slots }
     ensures root_slots { ROOT_SLOTS ≡ root_slots }

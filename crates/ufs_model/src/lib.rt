@@ -33,8 +33,8 @@ pub use change::Change;
 pub use collection::{Collection, Pairs};
 pub use follower::Follower;
 pub use limits::{
-    FAN_OUT, LEAF_BYTES, LEAF_SLOTS, MOST_AT_ONCE, MOST_BYTES, MOST_GRANTS, MOST_LINE, MOST_NAME,
-    MOST_SLOTS, RESERVE, ROOT_SLOTS,
+    FAN_OUT, LEAF_BYTES, LEAF_SLOTS, MOST_AT_ONCE, MOST_BYTES, MOST_GRANTS, MOST_LEAVES, MOST_LINE,
+    MOST_NAME, MOST_SLOTS, RESERVE, ROOT_SLOTS,
 };
 pub use numbers::{Levels, Numbers};
 pub use object::{Content, Draft, File, Grant, Index, Object, Slots};

@@ -9,11 +9,14 @@ pub const LEAF_SLOTS: u64 = 64;
 /// How many blocks of the level below an inner block leads to.
 pub const FAN_OUT: u64 = 128;
 
+/// The leaves of the largest object.
+pub const MOST_LEAVES: u64 = 15_360;
+
 /// The bytes of the largest file.
-pub const MOST_BYTES: u64 = 7_864_320;
+pub const MOST_BYTES: u64 = LEAF_BYTES * MOST_LEAVES;
 
 /// The slots of the largest index.
-pub const MOST_SLOTS: u64 = 983_040;
+pub const MOST_SLOTS: u64 = LEAF_SLOTS * MOST_LEAVES;
 
 /// The slots of the root index.
 pub const ROOT_SLOTS: u64 = 64;

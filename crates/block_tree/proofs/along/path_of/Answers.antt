@@ -1,4 +1,4 @@
-use Rattle.std.proofs.Common.{inl, inr, ℕ, ◌/◌, ◌≤◌, get_or, set, get_or-set_other, get_or-set_same, sym, ◌∙◌, ap, subst, arith}
+use Rattle.std.proofs.Common.{inl, inr, ℕ, ◌+◌, ◌-◌, ◌/◌, ◌≤◌, get_or, set, get_or-set_other, get_or-set_same, sym, ◌∙◌, ap, subst, arith}
 use Rattle.std.proofs.Math.ListN.{length-set}
 use Rattle.block_tree.proofs.Words.{cases_eq, ext_get_or, node_levels}
 use Rattle.block_tree.proofs.Descents.{goes_down, length-path, narrower, places}
@@ -20,7 +20,7 @@ loop-depth-preserved c =
       ];
       rest = step.rest_is;
       small = step.small;
-      wide = λ more. narrower d c.loop-depth.width more wide;
+      wide = λ more. narrower (node_levels - d) (node_levels - (d + 1)) c.loop-depth.width (omega (arith, more)) wide;
     }
 
 pub returns-clause-path : goal.returns-clause-path

@@ -1,6 +1,6 @@
-use Rattle.std.proofs.Common.{◌≡◌, ◌∙◌, ◌+◌, ◌*◌, ◌-◌, ◌/◌, ◌%◌, ◌<◌, ◌≤◌, ℕ, [], ◌∷◌, get_or, sym, subst, arith, inl, inr, Option, Some, None}
-use Rattle.block_tree.proofs.Words.{HeldLeaf, IfSome, Image, IsFirstOf, IsFirstPast, IsLaterIn, IsPast, Tells, cases_eq, cases_lt, end_of, err_from_is_err_and, leaf_pointers, node_pointers, pointer, reads_then, reads_within, root_spelling, tells_on}
-use Rattle.block_tree.proofs.Trees.{node_is}
+use Rattle.std.proofs.Common.{◌≡◌, ◌+◌, ◌*◌, ◌-◌, ◌/◌, ◌%◌, ◌<◌, ◌≤◌, ℕ, [], ◌∷◌, get_or, sym, subst, arith, inl, inr, Option, Some, None}
+use Rattle.block_tree.proofs.Words.{HeldLeaf, IfSome, Image, IsFirstOf, IsFirstPast, IsLaterIn, IsPast, Pointer, Tells, cases_eq, cases_lt, end_of, err_from_is_err_and, leaf_pointers, node_pointers, pointer, reads_then, reads_within, root_spelling, tells_on}
+use Rattle.block_tree.proofs.Trees.{node_is, root_pointer}
 use Rattle.block_tree.proofs.Faults.{fault_after}
 use Rattle.block_tree.proofs.Walks.{count_is, quiet_join, quiet_part, found_here, past_here, leads_on}
 use Rattle.block_tree.proofs.walk.walk_held.Goals as goal
@@ -14,10 +14,10 @@ returns-in_err-held-clause-refused g c =
     let size = g.D.Disk.blocks c.args.disk.now in
     let root = root_spelling c.args.root.now in
     let pointer_is : block ≡ pointer node_pointers root node = sym (node_is c.args.root.now node (omega arith) (omega arith) (omega arith)) in
-    let stops : (b : ℕ) → Tells g.D.Disk c.args.disk.now → IsPast size b → b ≡ block → IsFirstPast image size root c.args.from b = λ b tells past is.
-    past_here image size root node c.loop-node.next b before.at (is ∙ pointer_is) c.args.from before.on (omega arith) (before.quiet tells) past in
+    let stops : (p : Pointer) → Tells g.D.Disk c.args.disk.now → IsPast size p.block → p ≡ root_pointer block → IsFirstPast image size root c.args.from p = λ p tells past is.
+    subst (IsFirstPast image size root c.args.from) (sym is) (past_here image size root node c.loop-node.next block before.at pointer_is c.args.from before.on (omega arith) (before.quiet tells) (subst (λ (q : Pointer). IsPast size q.block) is past)) in
     let p = err_from_is_err_and c.from_residual.result c.from_residual.ensures.1 in
-    rw (p.1, p.2) (fault_after g.D.Disk c.args.disk.now c.loop-node.disk c.held_below.new.disk (node - c.args.from / leaf_pointers.count) (λ b. b ≡ block) (IsFirstPast image size root c.args.from)
+    rw (p.1, p.2) (fault_after g.D.Disk c.args.disk.now c.loop-node.disk c.held_below.new.disk (node - c.args.from / leaf_pointers.count) (λ p. p ≡ root_pointer block) (IsFirstPast image size root c.args.from)
     c.in_err-held.field-0.0 before.reads stops c.in_err-held.ensures.refused)
 
 pub returns-in-Some-clause-found : goal.returns-in-Some-clause-found

@@ -3,7 +3,8 @@ use Rattle.cfs_core.proofs.Words.{both_ways, Collecting, colours_in, Ghosts, Ind
 use Rattle.cfs_core.specs.declared.collecting.Step.TheVariants as steps
 use Rattle.cfs_core.specs.Collect.{StepsSo, with_parts}
 use Rattle.cfs_core.proofs.Answering.{reads_none}
-use Rattle.cfs_core.proofs.Stepping.{marks_on, no_want, none_left, scan_calm, scan_cause, served, steps_condemned, steps_failed, steps_read}
+use Rattle.cfs_core.proofs.StepMoves.{served}
+use Rattle.cfs_core.proofs.Stepping.{marks_on, no_want, none_left, scan_calm, scan_cause, steps_condemned, steps_failed, steps_read}
 use Rattle.std.proofs.lemmas.Option.{same_Some}
 use Rattle.block_tree.specs.declared.root.Root.{Root}
 use Rattle.collector_steps.proofs.Kept.{grey_index, of_marking}

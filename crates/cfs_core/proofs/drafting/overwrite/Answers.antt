@@ -6,6 +6,7 @@ use Rattle.cfs_core.proofs.Claimed.{claims_all}
 use Rattle.cfs_core.proofs.Handled.{on_ok}
 use Rattle.cfs_core.proofs.Rewritten.{changes_so, few_leaves, goes_on, stays_of}
 use Rattle.special_files.proofs.Refusals.{if_err}
+use Rattle.special_files.specs.Limits.{resize_calls}
 use Rattle.cfs_core.proofs.drafting.overwrite.Goals as goal
 
 pub returns : goal.returns
@@ -22,4 +23,4 @@ returns g c =
       }) (call.room v.ds v.id v.draft v.opened));
       full = if_err c.write.result (λ e is full. (is full).3 v.ds v.id v.draft v.opened) call.full;
     })
-    call.ends call.kept (if_err c.write.result (λ e is full. let all = is full in (subst (OnlyReads G 31092 c.args.disk.now) (sym all.0) (reads_none G 31092 c.args.disk.now), all.1, all.2)) call.full) (stays_of call.stays)
+    call.ends call.kept (if_err c.write.result (λ e is full. let all = is full in (subst (OnlyReads G resize_calls c.args.disk.now) (sym all.0) (reads_none G resize_calls c.args.disk.now), all.1, all.2)) call.full) (stays_of call.stays)

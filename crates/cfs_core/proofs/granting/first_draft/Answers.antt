@@ -1,6 +1,7 @@
 use Rattle.std.proofs.Common.{◌≡◌, true, is_some, refl, ap}
 use Rattle.cfs_core.proofs.Words.{Drafting, nothing_made}
-use Rattle.cfs_core.proofs.Openings.{begun_open, or_memory, refusal_so}
+use Rattle.cfs_core.proofs.MayOpen.{begun_open, refusal_so}
+use Rattle.cfs_core.proofs.Openings.{or_memory}
 use Rattle.cfs_core.proofs.granting.first_draft.Goals as goal
 
 pub returns-in-None-clause-begins : goal.returns-in-None-clause-begins

@@ -1,8 +1,10 @@
-use Rattle.normal_files.proofs.Words.{◌≡◌, ℕ, ◌-◌, ◌/◌, inl, inr, ap, ◌∙◌, subst, arith, get_or, Image, bytes_in, cut, leaf_pointers, leaves_at, leaves_in, reads_then, reads_within}
+use Rattle.normal_files.proofs.Words.{◌≡◌, ℕ, refl, ap, ◌∙◌, subst, arith, get_or, Image, bytes_in, cut, reads_then, reads_within}
+use Rattle.normal_files.specs.Cuts.{IsKeptNode, cut_block, cut_place, last_leaf}
 use Rattle.normal_files.specs.Laid.{node_of}
 use Rattle.normal_files.proofs.Refusals.{stopped_is, stopped_undamaged, tells_after, trouble_after_reads, way_refused}
-use Rattle.normal_files.proofs.Ways.{all_near, no_places, unread_top, unread_way, way_own, way_top}
-use Rattle.block_tree.specs.Along.{IsTo}
+use Rattle.normal_files.proofs.Ways.{no_places, unread_top, unread_way, way_own, way_places, way_top}
+use Rattle.block_tree.specs.Along.{CutsRootPast, IsTo, way_leaves}
+use Rattle.block_tree.specs.Way.{CutsAt}
 use Rattle.block_tree.specs.declared.node.Node as nodes
 use Rattle.leaf_changes.specs.Tops.{root_top}
 use Rattle.normal_files.proofs.cut.read_end.Goals as goal
@@ -10,32 +12,37 @@ use Rattle.normal_files.proofs.cut.read_end.Goals as goal
 pub returns-clause-read : goal.returns-clause-read
 returns-clause-read g c =
     let got = c.in-Ok.ensures in
-    let leaf : c.saturating_sub.result ≡ leaves_in c.args.size - 1 = omega (arith, c.saturating_sub.ensures, c.leaves_in-keep.ensures) in
-    let same = ap (node_of c.args.root.now) c.last_node-last.ensures.node in
-    let top = way_top c.args.root.now c.get.new.self c.saturating_sub.result got.to ∙ ap (λ (k : ℕ). node_of c.args.root.now (k / leaf_pointers.count)) leaf in
+    let root = c.args.root.now in
+    let size = c.args.size in
+    let way = c.get.new.self in
+    let next = c.cut.new.self in
+    let kept = c.kept_block-kept.result in
+    let to : IsTo (last_leaf size) way = subst (λ (k : ℕ). IsTo k way) c.last_leaf.ensures.leaf got.to in
     record {
+      leads = to;
       within = got.within;
-      leads = subst (λ (k : ℕ). IsTo k c.get.new.self) leaf got.to;
-      cut = c.cut_block-cut.ensures.block;
-      near = c.cut_block-cut.ensures.near _ c.requires.some (all_near (g.D.Disk.blocks c.args.disk.now) c.get.new.self got.within got.to.whole);
-      before = λ k early. c.cut-node.ensures.cut.before k (omega (arith, early, c.leaves_in-keep.ensures, c.last_node-last.ensures.node)) ∙ ap (λ (n : nodes.Node). get_or n.leaves k 0) c.way_node.ensures.node;
-      past = λ k small late. c.cut-node.ensures.cut.past k (omega (arith, late, c.leaves_in-keep.ensures, c.last_node-last.ensures.node)) small;
-      kept = elim c.kept_block-kept.ensures [ inl node ↦ inl (node.0 ∙ same, node.1) | inr none ↦ inr none ];
-      there = (let is = got.top (unread_top (g.D.Disk.blocks c.args.disk.now) c.args.root.now c.new-way.result c.new-way.ensures) (omega (arith, got.to.whole)) in omega (arith, is, top));
+      there = (let is = got.top (unread_top (g.D.Disk.blocks c.args.disk.now) root c.new-way.result c.new-way.ensures) (omega (arith, to.whole)) in omega (arith, is, way_top root way (last_leaf size) to));
+      cut = c.cut_block-cut.ensures.block ∙ ap (cut_block size) got.end;
+      near = c.cut_block-cut.ensures.near _ got.there;
+      kept = subst (λ (n : ℕ). IsKeptNode (way_leaves way) (cut_place size) (node_of root n) kept) c.last_node.ensures.node
+          (subst (λ (p : ℕ). IsKeptNode (way_leaves way) p (node_of root c.last_node.result) kept) c.cut_place-place.ensures.place
+          (subst (λ (n : nodes.Node). IsKeptNode n.leaves c.cut_place-place.result (node_of root c.last_node.result) kept) c.way_node.ensures.node c.kept_block-kept.ensures));
+      cuts_node = subst (λ (p : ℕ). CutsAt (λ k. get_or (way_leaves way) k 0) p (λ k. get_or (way_leaves next) k 0)) c.cut_place-place.ensures.place ((c.cut.ensures.nodes 0 (omega arith)).last refl);
+      cuts_root = subst (λ (n : ℕ). CutsRootPast (record root { size = size }) n kept c.cut.new.root) (way_places way (last_leaf size) to.path).0 c.cut.ensures.root;
     }
 
 pub returns-clause-end : goal.returns-clause-end
 returns-clause-end g c = λ tells.
+    let root = c.args.root.now in
     let fill = c.args.root.now.fill in
     let image = g.D.Disk.content c.args.disk.now in
     let got = c.in-Ok.ensures in
-    let leaf : c.saturating_sub.result ≡ leaves_in c.args.size - 1 = omega (arith, c.saturating_sub.ensures, c.leaves_in-keep.ensures) in
+    let way = c.get.new.self in
     let one = got.reads 0 (omega arith) (no_places _ _) in
     record {
-      own = way_own image c.args.root.now c.get.new.self c.saturating_sub.result got.to (got.way tells (unread_way image c.args.root.now c.new-way.result c.new-way.ensures))
-          ∙ ap (λ (k : ℕ). leaves_at image (node_of c.args.root.now (k / leaf_pointers.count))) leaf;
-      content = c.in-Ok-cut_content.ensures.content (tells_after g.D.Disk c.args.disk.now c.get.new.disk one tells)
-          ∙ ap (λ (i : Image). cut c.args.size fill (bytes_in i fill c.cut_block-cut.result)) one.content;
+      own = way_own image root way (last_leaf c.args.size) (subst (λ (k : ℕ). IsTo k way) c.last_leaf.ensures.leaf got.to) (got.way tells (unread_way image root c.new-way.result c.new-way.ensures));
+      content = subst (λ (i : Image). c.in-Ok-cut_content.content ≡ cut c.args.size fill (bytes_in i fill c.cut_block-cut.result)) one.content
+          (c.in-Ok-cut_content.ensures.content (tells_after g.D.Disk c.args.disk.now c.get.new.disk one tells));
     }
 
 pub returns-clause-reads : goal.returns-clause-reads

@@ -1,5 +1,6 @@
 use Rattle.normal_files.proofs.Words.{◌≡◌, ℕ, ◌+◌, ◌*◌, Ok, subst, arith, leaf_pointers}
 use Rattle.normal_files.specs.Frees.{FreesTo, GivesLeaves}
+use Rattle.normal_files.specs.Limits.{free_leaves_calls, free_leaves_tries}
 use Rattle.normal_files.proofs.FreedRun.{frees_err, leaves_follow, leaves_on}
 use Rattle.normal_files.proofs.free.free_leaves.Goals as goal
 use Rattle.leaf_changes.specs.Tops.{still_top}
@@ -14,7 +15,7 @@ returns-in-Err-clause-frees g c =
 
 pub returns-in-Err-clause-follows : goal.returns-in-Err-clause-follows
 returns-in-Err-clause-follows g c =
-    leaves_follow g.D.Disk c.args.from c.loop-place.place (still_top c.args.at.0) c.args.disk.now c.loop-place.disk c.free.new.disk c.args.space.now c.loop-place.space c.free.new.space _ (omega (arith, c.loop-place.auto.place)) 256 leaf_pointers.count (omega (arith, c.loop-place-test.true)) (omega (arith, c.loop-place-test.true))
+    leaves_follow g.D.Disk c.args.from c.loop-place.place (still_top c.args.at.0) c.args.disk.now c.loop-place.disk c.free.new.disk c.args.space.now c.loop-place.space c.free.new.space _ (omega (arith, c.loop-place.auto.place)) free_leaves_calls free_leaves_tries (omega (arith, c.loop-place-test.true)) (omega (arith, c.loop-place-test.true))
     c.loop-place.invariant.follows c.in-Err.ensures.follows
 
 pub loop-place-preserved : goal.loop-place-preserved

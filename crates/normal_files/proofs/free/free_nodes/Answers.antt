@@ -1,5 +1,6 @@
 use Rattle.normal_files.proofs.Words.{◌≡◌, ℕ, ◌+◌, ◌*◌, Ok, subst, arith, leaf_pointers, node_pointers, leaf_limit}
 use Rattle.normal_files.specs.Frees.{FreesTo, GivesNodes}
+use Rattle.normal_files.specs.Limits.{free_node_calls, free_node_tries, free_nodes_calls, free_nodes_tries}
 use Rattle.normal_files.proofs.Freed.{follows_on}
 use Rattle.normal_files.proofs.FreedRun.{frees_err, nodes_on}
 use Rattle.normal_files.proofs.free.free_nodes.Goals as goal
@@ -16,7 +17,7 @@ pub returns-in-Err-clause-follows : goal.returns-in-Err-clause-follows
 returns-in-Err-clause-follows g c =
     let n = c.loop-number.number in
     let from = c.args.from in
-    follows_on g.D.Disk (root_top c.args.at.0 c.args.root.now) _ _ 259 129 31080 15480 c.args.disk.now c.loop-number.disk c.free_node.new.disk c.args.space.now c.loop-number.space c.free_node.new.space _ (omega (arith, c.loop-number-test.true)) (omega (arith, c.loop-number-test.true)) c.loop-number.invariant.follows c.in-Err.ensures.follows
+    follows_on g.D.Disk (root_top c.args.at.0 c.args.root.now) _ _ free_node_calls free_node_tries free_nodes_calls free_nodes_tries c.args.disk.now c.loop-number.disk c.free_node.new.disk c.args.space.now c.loop-number.space c.free_node.new.space _ (omega (arith, c.loop-number-test.true)) (omega (arith, c.loop-number-test.true)) c.loop-number.invariant.follows c.in-Err.ensures.follows
 
 pub loop-number-preserved : goal.loop-number-preserved
 loop-number-preserved g c =
@@ -26,7 +27,7 @@ loop-number-preserved g c =
     record {
       frees = subst (λ (l : ℕ). FreesTo g.D.Disk c.args.root.now (GivesNodes from) (leaf_pointers.count * from) from l (n + 1) c.args.disk.now c.free_node.new.disk c.args.space.now c.free_node.new.space (Ok tt)) up
           (nodes_on g.D.Disk c.args.root.now from n c.args.disk.now c.loop-number.disk c.free_node.new.disk c.args.space.now c.loop-number.space c.free_node.new.space _ (omega (arith, c.loop-number.auto.number)) (omega (arith, c.loop-number-test.true)) c.loop-number.invariant.frees c.in-Ok.ensures.frees);
-      follows = follows_on g.D.Disk (root_top c.args.at.0 c.args.root.now) _ _ 259 129 _ _ c.args.disk.now c.loop-number.disk c.free_node.new.disk c.args.space.now c.loop-number.space c.free_node.new.space _ (omega (arith, c.loop-number.auto.number)) (omega (arith, c.loop-number.auto.number)) c.loop-number.invariant.follows c.in-Ok.ensures.follows;
+      follows = follows_on g.D.Disk (root_top c.args.at.0 c.args.root.now) _ _ free_node_calls free_node_tries _ _ c.args.disk.now c.loop-number.disk c.free_node.new.disk c.args.space.now c.loop-number.space c.free_node.new.space _ (omega (arith, c.loop-number.auto.number)) (omega (arith, c.loop-number.auto.number)) c.loop-number.invariant.follows c.in-Ok.ensures.follows;
     }
 
 pub returns-clause-frees : goal.returns-clause-frees

@@ -18,7 +18,7 @@ returns-in-Err-clause-refused g c = read_troubled g.D.Disk (root_top c.args.at.0
 
 pub returns-in-Err-trim-clause-shrunk : goal.returns-in-Err-trim-clause-shrunk
 returns-in-Err-trim-clause-shrunk g c = λ v less.
-    let z = cut_of c.in-Ok.ensures.reads v less c.in-Ok.ensures.read (c.in-Ok.ensures.end v.store.carries.tells) c.trim.ensures.node (c.encode-content.ensures.accepted (next_root v.has c.requires.allowed c.cut_root-next.ensures)).good c.cut_root-next.ensures c.first_gone.ensures in
+    let z = cut_of c.in-Ok.ensures.reads v less c.in-Ok.ensures.read (c.in-Ok.ensures.end v.store.carries.tells) (c.encode-content.ensures.accepted (next_root v.has c.requires.allowed c.in-Ok.ensures.read.cuts_root)).good in
     (becomes_on c.in-Ok.ensures.reads v (record { done = tt; images = trim_images z c.trim.new.disk c.in-Err-trim.ensures.images }), tt, ap is_damage c.in-Err-trim.ensures.tried)
 
 pub returns-in-Err-trim-clause-refused : goal.returns-in-Err-trim-clause-refused
@@ -26,7 +26,7 @@ returns-in-Err-trim-clause-refused g c = stop_troubled g.D.Disk (root_top c.args
 
 pub returns-in-Err-write_through-clause-shrunk : goal.returns-in-Err-write_through-clause-shrunk
 returns-in-Err-write_through-clause-shrunk g c = λ v less.
-    let z = cut_of c.in-Ok.ensures.reads v less c.in-Ok.ensures.read (c.in-Ok.ensures.end v.store.carries.tells) c.trim.ensures.node (c.encode-content.ensures.accepted (next_root v.has c.requires.allowed c.cut_root-next.ensures)).good c.cut_root-next.ensures c.first_gone.ensures in
+    let z = cut_of c.in-Ok.ensures.reads v less c.in-Ok.ensures.read (c.in-Ok.ensures.end v.store.carries.tells) (c.encode-content.ensures.accepted (next_root v.has c.requires.allowed c.in-Ok.ensures.read.cuts_root)).good in
     let settled = c.in-Ok-trim.ensures.settled (tells_after g.D.Disk c.args.disk.now c.read_end.new.disk c.in-Ok.ensures.reads v.store.carries.tells) in
     let spelt = c.encode-content.ensures.spelled in (
       becomes_on c.in-Ok.ensures.reads v (record {
@@ -44,7 +44,7 @@ returns-in-Err-write_through-clause-untried g c = λ same.
 
 pub returns-clause-shrunk : goal.returns-clause-shrunk
 returns-clause-shrunk g c = λ v less.
-    let z = cut_of c.in-Ok.ensures.reads v less c.in-Ok.ensures.read (c.in-Ok.ensures.end v.store.carries.tells) c.trim.ensures.node (c.encode-content.ensures.accepted (next_root v.has c.requires.allowed c.cut_root-next.ensures)).good c.cut_root-next.ensures c.first_gone.ensures in
+    let z = cut_of c.in-Ok.ensures.reads v less c.in-Ok.ensures.read (c.in-Ok.ensures.end v.store.carries.tells) (c.encode-content.ensures.accepted (next_root v.has c.requires.allowed c.in-Ok.ensures.read.cuts_root)).good in
     let settled = c.in-Ok-trim.ensures.settled (tells_after g.D.Disk c.args.disk.now c.read_end.new.disk c.in-Ok.ensures.reads v.store.carries.tells) in
     let spelt = c.encode-content.ensures.spelled in
     let done = c.in-Ok-write_through.ensures.done settled in

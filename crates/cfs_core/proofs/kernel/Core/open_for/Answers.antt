@@ -12,7 +12,8 @@ use Rattle.std.proofs.lemmas.Bool.{cases_Bool}
 use Rattle.cfs_core.specs.Opening.{Begins, reply_to_fault}
 use Rattle.cfs_core.proofs.Answering.{memory, reads_none, tries_refusal, tries_so}
 use Rattle.cfs_core.proofs.Granted.{drawn_push, not_drawn}
-use Rattle.cfs_core.proofs.Openings.{begun_ready, fault_told, none_told, open_gone, told_plain, tries_bare, tries_not, tries_open}
+use Rattle.cfs_core.proofs.MayOpen.{begun_ready, fault_told, none_told, open_gone, told_plain}
+use Rattle.cfs_core.proofs.Openings.{tries_bare, tries_not, tries_open}
 use Rattle.cfs_core.proofs.Joined.{ok_is, tries_since, tries_unfinished}
 use Rattle.cfs_core.proofs.Readied.{all_push}
 use Rattle.cfs_core.proofs.Serving.{there_is}

@@ -1,5 +1,6 @@
 use Rattle.std.proofs.Common.{◌≡◌, ◌≤◌, ℕ, Err, false, refl, sym, ◌∙◌, ap, subst, arith, nat_lt}
 use Rattle.cfs_core.proofs.Words.{AFile, lt-ltb, nat_tests, SetSize, Through}
+use Rattle.ufs_model.specs.Limits.{most_bytes}
 use Rattle.ufs_model.specs.declared.asked.Reply.TheVariants as replies
 use Rattle.ufs_model.specs.declared.asked.Request.TheVariants as asks
 use Rattle.cfs_core.specs.Calls.{Tries}
@@ -10,7 +11,7 @@ use Rattle.cfs_core.specs.Kernel.{Kernel}
 use Rattle.cfs_core.proofs.After.{tries_where}
 use Rattle.cfs_core.proofs.Altered.{file_alters}
 use Rattle.cfs_core.proofs.Answering.{tries_refusal}
-use Rattle.cfs_core.proofs.Filed.{resize_changes}
+use Rattle.cfs_core.proofs.FileChange.{resize_changes}
 use Rattle.cfs_core.proofs.Fitting.{has_grant}
 use Rattle.cfs_core.proofs.Joined.{tries_unfinished}
 use Rattle.cfs_core.proofs.Reached.{of_file, resize_goes, resize_range}
@@ -19,12 +20,12 @@ use Rattle.cfs_core.proofs.Refilled.{tries_redrafted}
 use Rattle.cfs_core.proofs.Views.{FindsGrant}
 use Rattle.cfs_core.proofs.kernel.Core.resize_draft.Goals as goal
 
-within : (size : ℕ) → size ≤ 7864320 → nat_lt 7864320 size ≡ false
+within : (size : ℕ) → size ≤ most_bytes → nat_lt most_bytes size ≡ false
 within size less = grind (arith, nat_tests)
 
 pub returns-then-size-gt-MOST_BYTES : goal.returns-then-size-gt-MOST_BYTES
 returns-then-size-gt-MOST_BYTES g c = tries_refusal g.D.Disk g.met.D.Disk.left_sized g.met.D.Disk.sized c.args.self.now c.args.who (asks.Resize (Through c.args.grant) c.args.size) replies.Range tt
-    (λ s serves. resize_range g.D.Disk c.args.who c.args.grant (λ s. c.table_follows_the_model.ensures.found s c.args.who c.args.grant) c.args.self.now c.requires s serves c.args.size (lt-ltb 7864320 c.args.size c.if-size-gt-MOST_BYTES.true))
+    (λ s serves. resize_range g.D.Disk c.args.who c.args.grant (λ s. c.table_follows_the_model.ensures.found s c.args.who c.args.grant) c.args.self.now c.requires s serves c.args.size (lt-ltb most_bytes c.args.size c.if-size-gt-MOST_BYTES.true))
 
 pub resize-ended-requires-clause-has : goal.resize-ended-requires-clause-has
 resize-ended-requires-clause-has g c = record { drafting = c.requires.drafting; has = ap (λ x. drafting_at x.handles c.args.grant.draw) c.self.view_is ∙ c.requires.has; within = omega arith }

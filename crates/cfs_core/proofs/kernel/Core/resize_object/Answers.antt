@@ -1,5 +1,6 @@
 use Rattle.std.proofs.Common.{◌≡◌, ◌<◌, ◌≤◌, ℕ, Err, true, false, refl, sym, ◌∙◌, ap, subst, arith, nat_lt}
 use Rattle.cfs_core.proofs.Words.{nat_tests, SetSize}
+use Rattle.ufs_model.specs.Limits.{most_bytes}
 use Rattle.ufs_model.specs.declared.asked.Reply.TheVariants as replies
 use Rattle.ufs_model.specs.declared.asked.Request.TheVariants as asks
 use Rattle.ufs_model.specs.declared.object.Object.TheVariants as objects
@@ -9,16 +10,17 @@ use Rattle.cfs_core.specs.Looks.{ReachesAll}
 use Rattle.cfs_core.specs.Finished.{since}
 use Rattle.cfs_core.specs.StandsFor.{ServesIs}
 use Rattle.cfs_core.proofs.Answering.{reads_none, tries_refusal, tries_want}
-use Rattle.cfs_core.proofs.Filed.{resize_changes, tries_filed}
+use Rattle.cfs_core.proofs.FileChange.{resize_changes}
+use Rattle.cfs_core.proofs.Filed.{tries_filed}
 use Rattle.cfs_core.proofs.Joined.{left_none, tries_unfinished}
 use Rattle.cfs_core.proofs.Refusing.{resize_goes, resize_range}
 use Rattle.leaf_changes.specs.Tops.{disk_top}
 use Rattle.cfs_core.proofs.kernel.Core.resize_object.Goals as goal
 
-above : (size : ℕ) → 7864320 < size → nat_lt 7864320 size ≡ true
+above : (size : ℕ) → most_bytes < size → nat_lt most_bytes size ≡ true
 above size more = grind (arith, nat_tests)
 
-within : (size : ℕ) → size ≤ 7864320 → nat_lt 7864320 size ≡ false
+within : (size : ℕ) → size ≤ most_bytes → nat_lt most_bytes size ≡ false
 within size less = grind (arith, nat_tests)
 
 pub returns-in-Err : goal.returns-in-Err
@@ -57,7 +59,7 @@ returns g c =
     let d1 = c.finish.new.disk in
     let new : Kernel _ = record k { disk = c.resize-ended.new.disk; space = c.resize-ended.new.space } in
     let changes = c.resize-ended.ensures.changes in
-    let less : c.args.size ≤ 7864320 = omega (arith, c.if-size-gt-MOST_BYTES.false) in
+    let less : c.args.size ≤ most_bytes = omega (arith, c.if-size-gt-MOST_BYTES.false) in
     let done = tries_filed G g.met.D.Disk.left_sized g.met.D.Disk.sized k 0 k.disk (reads_none G 0 k.disk) d1 c.finish.new.space c.in-Ok-finish.tried c.in-Ok-finish.ensures 0 d1 (reads_none G 0 d1) c.in-Ok.there.0 request c.args.who reach
     c.resize-ended.new.disk c.resize-ended.new.space c.in-Ok.there.1 (SetSize c.args.size) (resize_changes c.args.to c.args.size) c.resize-ended.result
     (disk_top G c.in-Ok.there.0.block d1) refl changes.ends (λ told tells. changes)

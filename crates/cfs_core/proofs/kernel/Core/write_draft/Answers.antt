@@ -10,7 +10,7 @@ use Rattle.cfs_core.proofs.After.{tries_where}
 use Rattle.cfs_core.proofs.Altered.{file_alters}
 use Rattle.cfs_core.proofs.Answering.{tries_refusal}
 use Rattle.cfs_core.proofs.Calm.{range_parts}
-use Rattle.cfs_core.proofs.Filed.{write_changes}
+use Rattle.cfs_core.proofs.FileChange.{write_changes}
 use Rattle.cfs_core.proofs.Fitting.{drafted_as, has_grant}
 use Rattle.cfs_core.proofs.Joined.{tries_unfinished}
 use Rattle.cfs_core.proofs.Reached.{of_file, write_goes, write_range}

@@ -15,7 +15,8 @@ use Rattle.cfs_core.specs.StandsFor.{ServesIs}
 use Rattle.cfs_core.proofs.Answering.{tries_failed, tries_refused, tries_want}
 use Rattle.cfs_core.proofs.Views.{knows_that}
 use Rattle.cfs_core.proofs.Calm.{range_parts}
-use Rattle.cfs_core.proofs.Filed.{root_there, tries_filed, tries_unread, write_changes}
+use Rattle.cfs_core.proofs.FileChange.{write_changes}
+use Rattle.cfs_core.proofs.Filed.{root_there, tries_filed, tries_unread}
 use Rattle.cfs_core.proofs.Joined.{left_none, ok_is, tries_cut}
 use Rattle.cfs_core.proofs.Refusing.{write_goes, write_range}
 use Rattle.leaf_changes.proofs.Tops.{far_block}
