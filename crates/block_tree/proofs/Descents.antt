@@ -200,18 +200,6 @@ way_trouble_after g at root old mid new n (trouble.Damaged damage) reads (FarTop
 way_trouble_after g at root old mid new n (trouble.Damaged damage) reads (FarBelow code why) =
     FarBelow code (λ tells. let far = why (tells_on g old mid new n reads tells) in (far.0, subst (λ (i : Image). g.blocks old ≤ get_or (pointers_of leaf_pointers (block_at i damage.block)) far.0 0) reads.content (omega (arith, reads.same.size, far.1))))
 
-pub reads_none : {D : Type 0} (g : Ghosts D) (n : ℕ) (d : D) → OnlyReads g n d d
-reads_none g n d = record {
-  content = refl;
-  told = λ b t. t;
-  images = record { later = omega arith; since = λ t c le h. inl h; now = λ c h. inl h };
-  keeps = λ at c le was. was;
-  same = record { size = refl; honesty = refl; telling = refl };
-  tries = refl;
-  faults = omega arith;
-  calls = omega arith;
-}
-
 -- the last pointer is below a size of which all are
 pub last_below : (size : ℕ) (root : Root) (way : Way) → IsWayWithin size way → 0 < size → way.read ≡ node_levels → pointer_on root way node_levels < size
 last_below size root way within some whole =

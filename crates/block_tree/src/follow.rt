@@ -19,7 +19,9 @@ pub struct Pointer {
     pub block: u32,
 }
 
-/// Reads the block to which a pointer leads. Makes at most 1 device call.
+/// Reads the block to which a pointer leads, by at most one device call. `BadPointer` where the pointer leads past the
+/// disk: it names that block, and the node that has the pointer, none where the root has it. `Disk` where the read
+/// fails. After an `Err` `into` is not told of, and may hold anything.
 pub fn follow_pointer<D: Disk>(
     disk: &mut D,
     pointer: Pointer,

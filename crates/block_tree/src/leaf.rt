@@ -52,7 +52,9 @@ fn pointer_to<D: Disk>(disk: &mut D, root: &Root, leaf: u32) -> Result<Pointer, 
     pointer_on(disk, top, &path[1..])
 }
 
-/// The block of a leaf, 0 where the leaf is absent. Makes at most 1 device call.
+/// The block of a leaf, 0 where the leaf is absent. Makes at most one device call for each level of nodes. `BadPointer`
+/// where the pointer to a node on the leaf's path leads past the disk: it names that block, and the node that has the
+/// pointer, none where the root has it. The pointer to the leaf is not followed. `Disk` where a read fails.
 pub fn leaf_at<D: Disk>(disk: &mut D, root: &Root, leaf: u32) -> Result<u32, TreeFault>
     requires { leaf < leaf_limit }
     ensures leaf { Tells D.Disk disk.old → IfOk result (λ n.
@@ -67,7 +69,10 @@ pub fn leaf_at<D: Disk>(disk: &mut D, root: &Root, leaf: u32) -> Result<u32, Tre
     Ok(pointer.block)
 }
 
-/// Reads a leaf, which is fill bytes where it is absent. Makes at most 2 device calls.
+/// Reads a leaf, which is fill bytes where it is absent. Makes at most one device call for each level of nodes, and one
+/// for the leaf. `BadPointer` where a pointer on its path, to a node or to the leaf, leads past the disk: it names that
+/// block, and the node that has the pointer, none where the root has it. `Disk` where a read fails. After an `Err`
+/// `into` is not told of, and may hold anything.
 pub fn read_leaf<D: Disk>(
     disk: &mut D,
     root: &Root,

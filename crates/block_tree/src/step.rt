@@ -173,8 +173,10 @@ fn step_below<D: Disk>(
     step_in(disk, pointers, holder, height, width, second as u32 * width)
 }
 
-/// The first held leaf not below the given one, and whether another follows. Makes at most 2 device calls. Of a tree
-/// with a node that leads to no leaf it may tell of fewer leaves than are held.
+/// The first held leaf not below the given one, and whether another follows; of a tree with a node that leads to no
+/// leaf it may tell of fewer than are held. Makes at most 2 device calls for one level of nodes, and with each level
+/// more twice as many and 2. `BadPointer` where the pointer to a node above a leaf from there on leads past the disk:
+/// it names that block, and the node that has the pointer, none where the root has it. `Disk` where a read fails.
 pub fn step_held<D: Disk>(
     disk: &mut D,
     root: &Root,

@@ -1,5 +1,6 @@
 //! A walk over the held leaves of a tree.
-ghost use Rattle.std.specs.Prelude.{◌≡◌, ◌≢◌, ℕ, ◌+◌, ◌/◌, ◌<◌, ◌≤◌, [], ◌∷◌, IfOk, IfErr, OnOk, IfSome, None, slice_index};
+ghost use Rattle.std.specs.Prelude.{◌≡◌, ◌≢◌, ℕ, ◌+◌, ◌/◌, ◌<◌, ◌≤◌, [], ◌∷◌, IfOk, IfErr, OnOk, IfSome, None};
+ghost use Rattle.std.specs.Prelude.{slice_index};
 ghost use Rattle.cfs_base.specs.Run.{Tells};
 ghost use Rattle.block_tree.specs.Pointers.{leaf_limit, leaf_pointers, node_pointers};
 ghost use Rattle.cfs_base.specs.Calls.{OnlyReads};
@@ -61,8 +62,9 @@ fn held_below<D: Disk>(disk: &mut D, block: u32, from: u32) -> Result<Option<Hel
     Ok(held_in_node(&node, from))
 }
 
-/// The first held leaf not below the given one. Makes at most 2 device calls where each node that is there leads to a
-/// leaf.
+/// The first held leaf not below the given one. Makes at most one device call for each pointer of the root, and at most
+/// 2 where each node that is there leads to a leaf. `BadPointer` where, before a held leaf is found, a pointer of the
+/// root from the given leaf's on leads past the disk: it names that block, and no holder. `Disk` where a read fails.
 pub fn walk_held<D: Disk>(
     disk: &mut D,
     root: &Root,

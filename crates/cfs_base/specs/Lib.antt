@@ -2,6 +2,7 @@ pub mod Disk
 pub mod Outside
 pub mod Run
 pub mod Calls
+pub mod Went
 pub mod Refusals
 pub mod Codes
 pub mod Log

@@ -1,5 +1,6 @@
 -- How a call ends that only reads: a refusal, what was asked for, or the failure of a device call.
 use Rattle.std.proofs.Common.{◌≡◌, inl, inr, ℕ, [], length, Bool, true, false, Option, Some, None, Result, Ok, Err, IsTrue, refl, sym, ◌∙◌, ap, subst, arith, IfErr, IfOk, List}
+use Rattle.cfs_base.proofs.Went.{reads_none}
 use Rattle.cfs_core.proofs.Words.{AFile, AnIndex, answer_legal, creates, Either, Event, Ghosts, Image, has_met_damage, IsPlainReply, Kind, need_of, next, Object, OnlyReads, outcome_legal, outcome_plain, Puid, refusal_of, Refused, refused_answer, refused_plain, Reply, Request, State, Wanted, MapEntry, HasStopped}
 use Rattle.cfs_base.specs.declared.kind.Kind.TheVariants as kinds
 use Rattle.cfs_base.specs.declared.refusal.Refused.TheVariants as refusals
@@ -9,7 +10,7 @@ use Rattle.std.specs.Prelude.{if◌then◌else◌, not, ◌&&◌, ◌==◌}
 use Rattle.cyl_alloc.specs.Left.{LeftCommit, block_shown}
 use Rattle.intentions.specs.Left.{coming}
 use Rattle.puid_space.specs.Directory.{has_root_in}
-use Rattle.cfs_core.specs.Calls.{Answers, ByOutcome, ByRefusal, EndsSo, IsCause, IsFinished, IsOwed, MakesEvent, Owes, Tries, TriesWith, Went, is_full_reply}
+use Rattle.cfs_core.specs.Calls.{Answers, ByOutcome, ByRefusal, EndsSo, IsCause, IsFinished, IsOwed, MakesEvent, Owes, Tries, TriesWith, RequestWent, is_full_reply}
 use Rattle.cfs_core.specs.Commits.{commits}
 use Rattle.cfs_core.specs.Kernel.{Kernel}
 use Rattle.cfs_core.specs.Looks.{IsCalm, IsCalmCause, KnowsObject, ReachesAll, IsReadCause}
@@ -32,18 +33,6 @@ owes seed s who request image free (replies.Disk doubt) plain owed = tt
 owes seed s who request image free (replies.Damaged damage moment) plain owed = absurd plain
 owes seed s who request image free (replies.Stopped moment) plain owed = absurd plain
 owes seed s who request image free reply plain owed = owed
-
-pub reads_none : {D : Type 0} (g : Ghosts D) (n : ℕ) (d : D) → OnlyReads g n d d
-reads_none g n d = record {
-  content = refl;
-  told = λ n h. h;
-  images = record { later = omega arith; since = λ t c le h. inl h; now = λ c h. inl h };
-  keeps = λ t c le h. h;
-  same = record { size = refl; honesty = refl; telling = refl };
-  tries = refl;
-  faults = omega arith;
-  calls = omega arith;
-}
 
 -- a reply that tells of no disk is never Full
 pub plain_unfull : (reply : Reply) → IsPlainReply reply → is_full_reply reply ≡ false
@@ -137,7 +126,7 @@ module _ {D : Type 0} {w : Option LeftCommit} (g : Ghosts D) (left_sized : (d : 
       → IfOk result IsPlainReply → IfErr result (IsCause g old new (Some request)) → TriesWith g w old new who request result
   tries_so who request result ends plain cause = record {
     ends = ends;
-    went = subst (λ (k : Kernel D). Went g old k request result) (sym same) (went_so g old new.disk old.space old.handles reads.same.size reads.faults reads.images.later request result plain (subst (λ (k : Kernel D). IfErr result (IsCause g old k (Some request))) same cause));
+    went = subst (λ (k : Kernel D). RequestWent g old k request result) (sym same) (went_so g old new.disk old.space old.handles reads.same.size reads.faults reads.images.later request result plain (subst (λ (k : Kernel D). IfErr result (IsCause g old k (Some request))) same cause));
   }
 
   -- memory is wanted

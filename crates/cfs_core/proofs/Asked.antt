@@ -1,5 +1,6 @@
 -- A request that was asked: of a core that stopped, answered, or refused by what lies below.
 use Rattle.std.proofs.Common.{◌≡◌, inl, inr, ⊎_elim, ℕ, ◌-◌, ◌≤◌, List, [], length, true, false, Option, Some, None, Ok, Err, IsTrue, refl, sym, ◌∙◌, ap, subst, arith, sum, eq-eqb}
+use Rattle.cfs_base.proofs.Went.{reads_none}
 use Rattle.cfs_core.proofs.Words.{After, call, CutInDoubt, Event, Ghosts, Graph, Image, InDoubt, is_carried_out, IsPlainReply, Kept, Late, Listing, next, Puid, refusal_of, Refused, Reply, Request, Rescue, rescues_of, State, stopped_at, wider}
 use Rattle.cfs_base.specs.declared.refusal.Refused.TheVariants as refusals
 use Rattle.ufs_model.specs.declared.asked.Event.TheVariants as events
@@ -14,7 +15,6 @@ use Rattle.cfs_core.specs.Damage.{IsDamageTold, IsMet}
 use Rattle.cfs_core.specs.Kernel.{Kernel}
 use Rattle.cfs_core.specs.Rescues.{AreRescued, ended_by}
 use Rattle.cfs_core.specs.StandsFor.{IsFront, ServesIs, Stands, end_in, free_to_come}
-use Rattle.cfs_core.proofs.Answering.{reads_none}
 use Rattle.cfs_core.proofs.Collected.{collection_asked, collection_ready, rescued_after, same_rescued}
 use Rattle.cfs_core.proofs.Lefts.{adds_none, adds_one}
 use Rattle.cfs_core.proofs.Serving.{fewer_lost, fits, free_called, honest, pending, running, serves_from, stands_from, stored}

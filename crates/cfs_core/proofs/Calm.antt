@@ -1,5 +1,6 @@
 -- Calls that only read a file, as the core has them.
 use Rattle.std.proofs.Common.{◌≡◌, ◌≢◌, ℕ, ◌+◌, ◌≤◌, Bool, true, false, Err, refl, sym, ◌∙◌, subst, arith}
+use Rattle.cfs_base.proofs.Went.{reads_none}
 use Rattle.cfs_core.proofs.Words.{Ghosts, had_tried, HasStopped, Image, Index, has_met_damage, is_range, IsReadRefusal, nat_tests, Object, OnlyReads, reads_then, Refused, refused_by, stopped_after_reads, Trouble, trouble_had_tried}
 use Rattle.cfs_base.specs.declared.refusal.Refused.TheVariants as refusals
 use Rattle.cfs_base.specs.declared.refusal.Trouble.TheVariants as trouble
@@ -11,7 +12,6 @@ use Rattle.normal_files.specs.Standing.{IsRootAt}
 use Rattle.cfs_core.specs.Looks.{IsCalm, IsCalmCause, KnowsObject}
 use Rattle.cfs_base.proofs.Calls.{tells_on}
 use Rattle.intentions.proofs.Shown.{shown_reads, shown_tells}
-use Rattle.cfs_core.proofs.Answering.{reads_none}
 use Rattle.cfs_core.proofs.Rewritten.{sound_told}
 use Rattle.cfs_core.proofs.Damages.{outside_as, outside_file, outside_slot}
 use Rattle.index_ops.specs.Causes.{IsSlotTrouble, NoRoot}

@@ -9,7 +9,7 @@ use Rattle.cfs_base.specs.declared.refusal.Refused.TheVariants as refusals
 use Rattle.ufs_model.specs.declared.asked.Event.TheVariants as events
 use Rattle.ufs_model.specs.declared.asked.Reply.TheVariants as replies
 use Rattle.ufs_model.specs.declared.object.Object.TheVariants as objects
-use Rattle.cfs_core.specs.Calls.{Answers, ByWant, EndsSo, IsInDoubt, IsShortOfBlocks, IsWant, Tries, Undone, Went, done_or, leaves_all}
+use Rattle.cfs_core.specs.Calls.{Answers, ByWant, EndsSo, IsInDoubt, IsShortOfBlocks, IsWant, Tries, Undone, RequestWent, done_or, leaves_all}
 use Rattle.cfs_core.specs.Damage.{IsDamageTold}
 use Rattle.file_ops.specs.Limits.{drafted_calls}
 use Rattle.file_ops.specs.Changes.{ChangesFile, ChangesSo, ClaimsFor, EndsChange, claims_beside, LeavesFileCommit}
@@ -228,7 +228,7 @@ module _ {D : Type 0} (g : Ghosts D) (left_sized : (d : D) (t : ℕ) (c : Image)
     ends_joined s serves none goes is = ends g n k d0 new first request k.space.left s who (since tried result)
         (ends_since g before d1 space1 tried fin left_sized sized new s who request (serves_before s serves) none goes result (λ some. decides) (λ some. never) size is)
 
-    went_joined : Went g mid new request result → Went g k new request (since tried result)
+    went_joined : RequestWent g mid new request result → RequestWent g k new request (since tried result)
     went_joined went = went_then g n k d0 new first request (since tried result) (went_since g before d1 space1 tried fin new request result went)
 
   -- the root couldn't be read again
@@ -256,7 +256,7 @@ module _ {D : Type 0} (g : Ghosts D) (left_sized : (d : D) (t : ℕ) (c : Image)
     wants need want = let why = rw want at end.refused in let kept = ((rw want at end.untried) refl).0 in (is.delete, why.0 ∙ ap (λ (x : Kept). sum x.free) kept, why.1)
 
     -- where nothing was left the call only read before
-    went_bare : k.space.left ≡ None → ((size : ℕ) → top.IsFar size → (disk_top g id.block k.disk).IsFar size) → Went g k changed_to request (done_or result)
+    went_bare : k.space.left ≡ None → ((size : ℕ) → top.IsFar size → (disk_top g id.block k.disk).IsFar size) → RequestWent g k changed_to request (done_or result)
     went_bare nothing far =
         let same = fin.none nothing in
         let all = reads_then g k.disk d0 d2 n m (n + m) first (subst (λ (x : D). OnlyReads g m x d2) same.0 again) (omega arith) in
@@ -266,7 +266,7 @@ module _ {D : Type 0} (g : Ghosts D) (left_sized : (d : D) (t : ℕ) (c : Image)
         (λ code block past. far_on_disk g k changed_to (Some request) id.block (inl reaches.1) damage (end.calls.same.size ∙ all.same.size) code block (far (g.blocks k.disk) (subst top.IsFar all.same.size past))) kind change is.wants (λ set. inr (is.sets set, refl)) (rw met at end.refused))
         (λ need want. subst (λ (x : Kept). IsWant (Some request) (sum x.free) need) same.1 (wants need want))
 
-    went_mid : ((size : ℕ) → top.IsFar size → (disk_top g id.block d1).IsFar size) → Went g mid changed_to request (done_or result)
+    went_mid : ((size : ℕ) → top.IsFar size → (disk_top g id.block d1).IsFar size) → RequestWent g mid changed_to request (done_or result)
     went_mid far = went_done g mid d space k.handles (end.calls.same.size ∙ again.same.size) (omega (arith, again.faults, end.calls.faults)) (omega (arith, again.images.later, end.calls.later)) request result
         (λ b was. stopped_after_reads g d1 d2 d m b again (rw was at end.refused))
         (λ damage met. told_of_file g read changed_to (Some request) id.block (inl reaches.1) damage end.calls.same.size top at (IsDamageTold g mid changed_to (Some request) damage) (told_then g mid changed_to m d2 (Some request) damage again)
@@ -293,10 +293,10 @@ module _ {D : Type 0} (g : Ghosts D) (left_sized : (d : D) (t : ℕ) (c : Image)
         never : done_or result ≢ Err refusals.Memory
         never = done_never result (λ wanted. special (rw wanted at end.refused) wanted)
 
-        by : (w : Option LeftCommit) → k.space.left ≡ w → Went g k changed_to request (since tried (done_or result))
+        by : (w : Option LeftCommit) → k.space.left ≡ w → RequestWent g k changed_to request (since tried (done_or result))
         by None nothing =
             let bare : tried ≡ false = fin.told ∙ ap is_some nothing in
-            subst (λ (b : Bool). Went g k changed_to request (since b (done_or result))) (sym bare) (subst (Went g k changed_to request) (sym (since_none (done_or result))) (went_bare nothing (far_bare bare)))
+            subst (λ (b : Bool). RequestWent g k changed_to request (since b (done_or result))) (sym bare) (subst (RequestWent g k changed_to request) (sym (since_none (done_or result))) (went_bare nothing (far_bare bare)))
         by (Some l) left = went_joined changed_to (done_or result) size (done_decides result) never (went_mid (far_mid (fin.told ∙ ap is_some left)))
 
 -- the root that is there: where nothing was left it is that which was read

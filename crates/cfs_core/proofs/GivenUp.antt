@@ -1,6 +1,7 @@
 -- How a draft is given up while a session leaves.
 use Rattle.std.proofs.Common.{◌≡◌, ◌≢◌, ◌-◌, ◌≤◌, Bool, true, false, Some, None, Result, Ok, Err, refl, sym, ◌∙◌, ap, subst, arith}
-use Rattle.cfs_core.proofs.Words.{Drafting, Ghosts, HasFailed, Holds, is_damage, IsDraftTrouble, Kept, Leaves, nothing_made, refused_by, then, Trouble}
+use Rattle.cfs_base.proofs.Went.{makes_none}
+use Rattle.cfs_core.proofs.Words.{Drafting, Ghosts, HasFailed, Holds, is_damage, IsDraftTrouble, Kept, Leaves, refused_by, then, Trouble}
 use Rattle.cfs_base.specs.declared.refusal.Trouble.TheVariants as troubles
 use Rattle.cfs_base.specs.declared.refusal.Damage.{Damage}
 use Rattle.special_files.specs.Committing.{AbortCall, AbortEnds, draft_top}
@@ -63,7 +64,7 @@ module _ {D : Type 0} (g : Ghosts D) (was : Drafting) (k : Kernel D) (d1 : D) (s
   no_stop stop is = let no : None ≡ Some stop = sym runs ∙ is in cc
 
   size : g.blocks d ≡ g.blocks k.disk
-  size = call.calls.same.size ∙ fin.calls.same.size
+  size = call.calls.same.size ∙ fin.ends.calls.same.size
 
   module _ (v : DraftSeen g k.disk was) (now : v.space ≡ k.space) where
     store : StoreIs g v.graph v.ds k.disk k.space
@@ -80,8 +81,8 @@ module _ {D : Type 0} (g : Ghosts D) (was : Drafting) (k : Kernel D) (d1 : D) (s
   given_up ok = record {
     same = refl;
     size = size;
-    faults = omega (arith, fin.calls.faults, call.calls.faults);
-    later = omega (arith, fin.calls.later, call.calls.later);
+    faults = omega (arith, fin.ends.calls.faults, call.calls.faults);
+    later = omega (arith, fin.ends.calls.later, call.calls.later);
     idle = λ stop is. no_stop stop is;
     left = λ none still. call.left ∙ fin.done;
     ends = λ v now none. record {
@@ -102,19 +103,19 @@ module _ {D : Type 0} (g : Ghosts D) (was : Drafting) (k : Kernel D) (d1 : D) (s
 
   -- it stops
   pub not_given_up : (e : Trouble) → result ≡ Err e → GivesUp g was k (record k { disk = d; space = space; stop = stopped_by (reply_to (refused_by e) (g.moment d)) k.stop })
-  not_given_up e is = stops_so g was k d space size (omega (arith, fin.calls.faults, call.calls.faults)) (omega (arith, fin.calls.later, call.calls.later)) runs leaves e (rw is at call.tried) (at e (rw is at call.refused)) (met e (rw is at call.refused)) (λ v now. rw is at (aborts (then_view v now)).sound)
+  not_given_up e is = stops_so g was k d space size (omega (arith, fin.ends.calls.faults, call.calls.faults)) (omega (arith, fin.ends.calls.later, call.calls.later)) runs leaves e (rw is at call.tried) (at e (rw is at call.refused)) (met e (rw is at call.refused)) (λ v now. rw is at (aborts (then_view v now)).sound)
     where
       at : (t : Trouble) → IsDraftTrouble g (draft_top was) d1 d space t → (b : Bool) → t ≡ troubles.Disk b → HasFailed g k.disk d
-      at (troubles.Disk x) is b same = failed_since g k.disk d1 d fin.calls.later fin.calls.faults is.failed
+      at (troubles.Disk x) is b same = failed_since g k.disk d1 d fin.ends.calls.later fin.ends.calls.faults is.failed
       at (troubles.Damaged damage) is b same = cc
 
       met : (t : Trouble) → IsDraftTrouble g (draft_top was) d1 d space t → (damage : Damage) → t ≡ troubles.Damaged damage → MeetsDamage g (draft_top was) k (record k { disk = d; space = space }) damage
       met (troubles.Disk x) is damage same = cc
-      met (troubles.Damaged damage) is other same = let one : damage ≡ other = cc in record { mid = d1; calls = fin.calls; is = subst (IsDraftDamage g (draft_top was) d1 d space) one is }
+      met (troubles.Damaged damage) is other same = let one : damage ≡ other = cc in record { mid = d1; calls = fin.ends.calls; is = subst (IsDraftDamage g (draft_top was) d1 d space) one is }
 
 -- It couldn't be carried out: the draft is gone, and the core stops, also where nothing was tried.
 pub not_finished : {D : Type 0} (g : Ghosts D) (was : Drafting) (k : Kernel D) (d : D) (space : Kept) (why : Trouble) (fin : FinishesLeft g k.disk d k.space space (Err why)) → k.stop ≡ None → GivesUp g was k (record k { disk = d; space = space; stop = stopped_by (reply_to (refused_by (trouble_after_try why)) (g.moment d)) k.stop })
-not_finished g was k d space why fin runs = stops_so g was k d space fin.calls.same.size fin.calls.faults fin.calls.later runs (λ v now. fin.goes.leaves v.graph (going_in g v.graph v.ds k.disk k.space k.space.left (store v now))) (trouble_after_try why) (never why) (at why fin.ends.refused) (met why fin.ends.refused)
+not_finished g was k d space why fin runs = stops_so g was k d space fin.ends.calls.same.size fin.ends.calls.faults fin.ends.calls.later runs (λ v now. fin.goes.leaves v.graph (going_in g v.graph v.ds k.disk k.space k.space.left (store v now))) (trouble_after_try why) (never why) (at why fin.ends.refused) (met why fin.ends.refused)
     (λ v now. sound why (fin.goes.sound v.graph (going_in g v.graph v.ds k.disk k.space k.space.left (store v now))))
   where
     store : (v : DraftSeen g k.disk was) → v.space ≡ k.space → StoreIs g v.graph v.ds k.disk k.space
@@ -130,7 +131,7 @@ not_finished g was k d space why fin runs = stops_so g was k d space fin.calls.s
 
     met : (t : Trouble) → IsLeftTrouble g k.disk d t → (damage : Damage) → trouble_after_try t ≡ troubles.Damaged damage → MeetsDamage g (draft_top was) k (record k { disk = d; space = space }) damage
     met (troubles.Disk x) is damage same = cc
-    met (troubles.Damaged damage) is other same = let one : damage ≡ other = cc in record { mid = k.disk; calls = nothing_made g k.disk _ _; is = subst (IsDraftDamage g (draft_top was) k.disk d space) one (NoMap is.0 is.1 is.2 is.3) }
+    met (troubles.Damaged damage) is other same = let one : damage ≡ other = cc in record { mid = k.disk; calls = makes_none g k.disk _ _; is = subst (IsDraftDamage g (draft_top was) k.disk d space) one (NoMap is.0 is.1 is.2 is.3) }
 
     sound : (t : Trouble) → is_damage t ≡ false → is_damage (trouble_after_try t) ≡ false
     sound (troubles.Disk x) is = refl

@@ -1,5 +1,6 @@
 -- What is asked of an index through a grant with a draft, whatever is left of a commit.
 use Rattle.std.proofs.Common.{◌≡◌, inl, inr, ℕ, ◌/◌, ◌==◌, ◌||◌, length, Bool, true, false, is_none, not, Option, Some, None, Result, Ok, Err, IsTrue, refl, sym, ◌∙◌, ap, subst, nat_le, nat_lt, arith, IfOk}
+use Rattle.cfs_base.proofs.Went.{reads_none}
 use Rattle.cfs_core.proofs.Words.{AnIndex, Draft, draft_of, Drafting, FileKind, Ghosts, Image, Index, index_to_leaves, is_draft_of, is_id, is_reading, is_there, nat_tests, Object, object_at, Puid, refusal_of, Refused, Reply, Request, slot_of, State, Through, Tuid}
 use Rattle.special_files.specs.Fills.{is_empty_already}
 use Rattle.cyl_alloc.specs.Left.{LeftCommit}
@@ -12,7 +13,7 @@ use Rattle.cfs_core.specs.Drafts.{IsDrafted, LooksInDraft}
 use Rattle.cfs_core.specs.Kernel.{Kernel}
 use Rattle.cfs_core.specs.Looks.{counted}
 use Rattle.cfs_core.specs.StandsFor.{ServesIs, ServesWith}
-use Rattle.cfs_core.proofs.Answering.{reads_none, refused, seen as told, tries_so}
+use Rattle.cfs_core.proofs.Answering.{refused, seen as told, tries_so}
 use Rattle.cfs_core.proofs.Views.{IsHeld, draft_seen, so, FindsGrant, the_one}
 use Rattle.cfs_core.proofs.Fitting.{fit_there, held, tries_unseen}
 use Rattle.cfs_core.proofs.Reached.{had, writes_by}

@@ -11,12 +11,13 @@ use Rattle.cfs_base.proofs.Calls.{stopped_after_try}
 use Rattle.std.specs.Prelude.{is_some, ◌⊎◌, ◌≤◌}
 use Rattle.cyl_alloc.specs.Left.{LeftCommit}
 use Rattle.finisher.proofs.Finished.{finished_content, finished_store}
+use Rattle.cfs_base.specs.Went.{KnowsTries}
 use Rattle.finisher.specs.Going.{IsLeftTrouble, calls_left, tries_left}
 use Rattle.survival.specs.Call.{ReadsIn}
 use Rattle.ufs_model.specs.declared.asked.Event.TheVariants as events
 use Rattle.ufs_model.specs.declared.asked.Reply.TheVariants as replies
 use Rattle.cfs_core.specs.Drafts.{TriesWhere}
-use Rattle.cfs_core.specs.Calls.{AddsNoStray, Answers, EndsSo, IsCauseOf, IsWant, MayBeRead, Owes, Tries, TriesOn, TriesOnWith, TriesWith, Undone, Went, done_or, leaves_all}
+use Rattle.cfs_core.specs.Calls.{AddsNoStray, Answers, EndsSo, IsCauseOf, IsWant, MayBeRead, Owes, Tries, TriesOn, TriesOnWith, TriesWith, Undone, RequestWent, done_or, leaves_all}
 use Rattle.cfs_core.specs.Claimed.{TakesForRequest}
 use Rattle.cfs_core.specs.Damage.{After, IsDamageTold, IsMet, NoEntry}
 use Rattle.cfs_core.specs.Finished.{FinishesLeft, refused_since, since}
@@ -80,7 +81,7 @@ module _ {D : Type 0} (g : Ghosts D) (old : Kernel D) (d : D) (space : Kept) (tr
   module _ (left_sized : (d : D) (t : ℕ) (c : Image) → g.left_since d t c → length c ≡ g.blocks d) (sized : (d : D) → IsTrue (g.honest d) → length (g.content d) ≡ g.blocks d)
       (new : Kernel D) (s : State) (who : ℕ) (request : Request) (serves : ServesIs g old s) (none : old.stop ≡ None) (goes : refusal_of s who request ≡ None) where
     wide : length (g.content old.disk) ≡ g.blocks d
-    wide = sized old.disk (honest g old s serves) ∙ sym fin.calls.same.size
+    wide = sized old.disk (honest g old s serves) ∙ sym fin.ends.calls.same.size
 
     early : (e : Event) → Leaves g old.disk d (λ c. ReadsIn c (Early old.words.seed s e) ⊎ ReadsIn c (Late old.words.seed s e))
     early e = wider g old.disk d _ _ (keeps g left_sized old.words.seed s old.disk d (fits g old s serves (g.blocks d) wide) (leaves_now s serves)).crashes
@@ -156,34 +157,34 @@ module _ {D : Type 0} (g : Ghosts D) (old : Kernel D) (d : D) (space : Kept) (tr
         disk = d;
         space = space;
         most = calls_left old.space.left;
-        calls = fin.calls;
+        calls = fin.ends.calls;
         none = λ nothing. let no : IsSome {T = LeftCommit} None = subst (λ (w : Option LeftCommit). IsSome w) nothing some in cc;
         is = subst (λ (k : Kept). Is (record old { disk = d; space = k })) same.1 (subst (λ (x : D). Is (record old { disk = x; space = met.space })) same.0 met.is);
       }
 
   cause_after : (new : Kernel D) (request : Request) (e : Refused) → IsSome old.space.left → IsCauseOf g mid new request e → IsCauseOf g old new request (refused_since true e)
   cause_after new request (refusals.Full need) some is = met_after (λ k. IsWant (Some request) (sum k.space.free) need) some is
-  cause_after new request (refusals.Disk was) some is = stopped_after_try g old.disk d new.disk (calls_left old.space.left) (tries_left old.space.left) was fin.calls (fin.ends.tried some) is
+  cause_after new request (refusals.Disk was) some is = stopped_after_try g old.disk d new.disk (calls_left old.space.left) (tries_left old.space.left) was fin.ends.calls (subst (λ (b : Bool). KnowsTries g 1 old.disk d old.space space (Some b)) some fin.ends.knows) is
   cause_after new request (refusals.Damaged damage) some is = met_after (λ k. IsDamageTold g k new (Some request) damage) some is
   cause_after new request refusals.Memory some is = tt
 
-  went_after : (new : Kernel D) (request : Request) (r : Result Reply Refused) → IsSome old.space.left → Went g mid new request r → Went g old new request (since true r)
-  went_after new request (Ok reply) some went = went_as g old.disk d old new request (Ok reply) fin.calls.same.size fin.calls.faults fin.calls.later went.plain tt went refl
-  went_after new request (Err e) some went = went_as g old.disk d old new request (Err (refused_since true e)) fin.calls.same.size fin.calls.faults fin.calls.later tt (cause_after new request e some went.cause) went refl
+  went_after : (new : Kernel D) (request : Request) (r : Result Reply Refused) → IsSome old.space.left → RequestWent g mid new request r → RequestWent g old new request (since true r)
+  went_after new request (Ok reply) some went = went_as g old.disk d old new request (Ok reply) fin.ends.calls.same.size fin.ends.calls.faults fin.ends.calls.later went.plain tt went refl
+  went_after new request (Err e) some went = went_as g old.disk d old new request (Err (refused_since true e)) fin.ends.calls.same.size fin.ends.calls.faults fin.ends.calls.later tt (cause_after new request e some went.cause) went refl
 
-  pub went_since : (new : Kernel D) (request : Request) (r : Result Reply Refused) → Went g mid new request r → Went g old new request (since tried r)
+  pub went_since : (new : Kernel D) (request : Request) (r : Result Reply Refused) → RequestWent g mid new request r → RequestWent g old new request (since tried r)
   went_since new request r went = at old.space.left refl
     where
-      at : (w : Option LeftCommit) → old.space.left ≡ w → Went g old new request (since tried r)
+      at : (w : Option LeftCommit) → old.space.left ≡ w → RequestWent g old new request (since tried r)
       at None nothing =
           let same = fin.none nothing in
-          subst (λ (b : Bool). Went g old new request (since b r)) (sym (fin.told ∙ ap is_some nothing))
-          (subst (Went g old new request) (sym (since_none r))
-          (subst (λ (k : Kept). Went g (record old { space = k }) new request r) same.1
-          (subst (λ (x : D). Went g (record old { disk = x; space = space }) new request r) same.0 went)))
+          subst (λ (b : Bool). RequestWent g old new request (since b r)) (sym (fin.told ∙ ap is_some nothing))
+          (subst (RequestWent g old new request) (sym (since_none r))
+          (subst (λ (k : Kept). RequestWent g (record old { space = k }) new request r) same.1
+          (subst (λ (x : D). RequestWent g (record old { disk = x; space = space }) new request r) same.0 went)))
       at (Some l) left =
           let some : IsSome old.space.left = subst (λ (w : Option LeftCommit). IsSome w) (sym left) refl in
-          subst (λ (b : Bool). Went g old new request (since b r)) (sym (fin.told ∙ ap is_some left)) (went_after new request r some went)
+          subst (λ (b : Bool). RequestWent g old new request (since b r)) (sym (fin.told ∙ ap is_some left)) (went_after new request r some went)
 
   -- ---- a request on a slot, and any other
 
@@ -224,13 +225,13 @@ module _ {D : Type 0} (g : Ghosts D) (left_sized : (d : D) (t : ℕ) (c : Image)
       at : (t : Trouble) → t ≡ why → EndsSo g old.space.left old cut s who request (Err (refused_by t))
       at (troubles.Disk false) is =
           let two = fin.ends.untried (sym is) in
-          disk_failed g left_sized sized 1 old cut two.0 (ap (λ (k : Kept). record old { disk = d; space = k }) two.1) s who serves none request
+          disk_failed g left_sized sized 1 old cut two.1 (ap (λ (k : Kept). record old { disk = d; space = k }) two.0) s who serves none request
       at (troubles.Disk true) is = record {
         allowed = goes;
         drawn = refl;
         named = refl;
         grants = refl;
-        leaves = wider g old.disk d _ _ graph_leaves (λ c holds. record { graph = s.graph; may = Undone; fits = fits g old s serves (g.blocks d) (sized old.disk (honest g old s serves) ∙ sym fin.calls.same.size); holds = holds });
+        leaves = wider g old.disk d _ _ graph_leaves (λ c holds. record { graph = s.graph; may = Undone; fits = fits g old s serves (g.blocks d) (sized old.disk (honest g old s serves) ∙ sym fin.ends.calls.same.size); holds = holds });
       }
       at (troubles.Damaged damage) is = let no : true ≡ false = rw (← is) at (fin.goes.sound s.graph (going_in g s.graph (drafts_of_handles old.handles s.grants) old.disk old.space old.space.left serves.store)) in cc
 
@@ -238,13 +239,13 @@ module _ {D : Type 0} (g : Ghosts D) (left_sized : (d : D) (t : ℕ) (c : Image)
   cause_cut (troubles.Disk tried) is = is
   cause_cut (troubles.Damaged damage) is = now_met g old (λ k. IsDamageTold g k cut (Some request) damage) (After (NoEntry is.0 is.1 is.3))
 
-  pub went_unfinished : Went g old cut request (Err (refused_by why))
+  pub went_unfinished : RequestWent g old cut request (Err (refused_by why))
   went_unfinished = record {
     plain = tt;
     cause = cause_cut why fin.ends.refused;
-    size = fin.calls.same.size;
-    faults = fin.calls.faults;
-    later = fin.calls.later;
+    size = fin.ends.calls.same.size;
+    faults = fin.ends.calls.faults;
+    later = fin.ends.calls.later;
     stop = refl;
     collections = refl;
     seed = refl;

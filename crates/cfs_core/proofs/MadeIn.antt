@@ -1,5 +1,6 @@
 -- An object made in a draft of an index: it is in the graph at once, and its identifier in a slot of the draft.
 use Rattle.std.proofs.Common.{◌≡◌, ◌≢◌, ◌⊎◌, inl, inr, ℕ, zero, suc, ◌+◌, ◌/◌, ◌<◌, ◌≤◌, List, [], ◌∷◌, length, get_or, Bool, true, false, ◌||◌, ◌==◌, Option, Some, None, Result, Ok, Err, IsTrue, refl, sym, ◌∙◌, ap, subst, arith, sum, option_to_list, map, ⊎_elim, IfErr}
+use Rattle.cfs_base.proofs.Went.{reads_none}
 use Rattle.cfs_core.proofs.Words.{blocks_of, blocks_taken, cases_lt, changed_draft, changed_object, ChangesOnly, created, Draft, Drafting, edge_stays, Fill, fresh_of, Ghosts, Graph, has_block-still, held_levels, Holds, Image, Index, insert_entry, IsLeastFree, IsOfThese, Kept, word, true≢false, Drafts, with_opened, draft_blocks_if, taken_more, taken_with, differs}
 use Rattle.cfs_core.proofs.Words.{Kind, kinds_in-insert_entry, kinds_of, list_all, MapEntry, missing, named, need_of, numbers_rise, Object, object_kind, of_draft, of_owner, Opened, opened_as, or_cases, owner_of, Puid, puid_cmp, put, put_draft-at, Refused, Reply, Request, seen, seen_draft, State, sum_is, wider, target, Through, Tuid, with_draft, with_object, written_anew}
 use Rattle.cfs_base.specs.declared.refusal.Refused.TheVariants as refusals
@@ -30,7 +31,7 @@ use Rattle.cfs_core.specs.Makes.{IsMaking, NamesMade}
 use Rattle.cfs_core.specs.Damage.{IsDamageTold}
 use Rattle.cfs_core.specs.StandsFor.{CoreServes, drafts_of_handles, free_to_come, sweeps_now}
 use Rattle.cfs_core.proofs.Altered.{all_rise, bare_with, fresh_few, need_by, not_beside, set_rises, still_special, unchanged}
-use Rattle.cfs_core.proofs.Answering.{disk_failed, full_still, reads_none}
+use Rattle.cfs_core.proofs.Answering.{disk_failed, full_still}
 use Rattle.cfs_core.proofs.Committed.{IsOutcome, LeavesThese, did_with, doubtful, uncut}
 use Rattle.cfs_core.proofs.Damages.{told_of_draft, told_of_making}
 use Rattle.cfs_core.proofs.Placed.{if_astray, one_block, root_is}

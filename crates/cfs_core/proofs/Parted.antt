@@ -86,9 +86,9 @@ module _ {D : Type 0} (g : Ghosts D) (left_sized : (d : D) (t : ℕ) (c : Image)
   fits_cut : (s : State) → ServesIs g old s → FitsDisk (g.blocks d) s.graph
   fits_cut s serves = fits g old s serves (g.blocks d) (sized old.disk (honest g old s serves) ∙ sym calls.same.size)
 
-  event_cut : (t : Trouble) → Goes g old.disk d old.space old.space (Err t) → PartEnds g old.disk d (Err t) → (s : State) → ServesIs g old s → IsTidyResult g old (halted t) s (Err (told t))
+  event_cut : (t : Trouble) → Goes g old.disk d old.space old.space (Err t) → PartEnds g 4 3 old.disk d old.space old.space (Err t) → (s : State) → ServesIs g old s → IsTidyResult g old (halted t) s (Err (told t))
   event_cut (troubles.Disk false) goes ends s serves =
-      let reads = ends.unless_tried refl in
+      let reads = (ends.untried refl).1 in
       record {
         stands = stands_from g (halted (troubles.Disk false)) s none (serves_on g 1 old (halted (troubles.Disk false)) reads refl s serves);
         keeps = keeps g left_sized old.words.seed s old.disk d (fits_cut s serves) (wider g old.disk d _ _ reads.images (λ c no. absurd no));
@@ -113,8 +113,8 @@ module _ {D : Type 0} (g : Ghosts D) (left_sized : (d : D) (t : ℕ) (c : Image)
   cause_cut (troubles.Disk true) is = (is, refl)
   cause_cut (troubles.Damaged damage) is = (After (NoEntry is.0 is.1 is.3), refl)
 
-  still_cut : (t : Trouble) → PartEnds g old.disk d (Err t) → LeavesAll g old (halted t) (told t)
-  still_cut (troubles.Disk false) ends = (refl, ends.unless_tried refl)
+  still_cut : (t : Trouble) → PartEnds g 4 3 old.disk d old.space old.space (Err t) → LeavesAll g old (halted t) (told t)
+  still_cut (troubles.Disk false) ends = (refl, (ends.untried refl).1)
   still_cut (troubles.Disk true) ends = tt
   still_cut (troubles.Damaged damage) ends = tt
 
@@ -124,7 +124,7 @@ module _ {D : Type 0} (g : Ghosts D) (left_sized : (d : D) (t : ℕ) (c : Image)
   sound_cut (troubles.Damaged damage) goes s serves =
       let no : true ≡ false = goes.sound s.graph (going_in g s.graph (drafts_of_handles old.handles s.grants) old.disk old.space old.space.left serves.store) in cc
 
-  pub tidies_cut : (t : Trouble) → Goes g old.disk d old.space old.space (Err t) → PartEnds g old.disk d (Err t) → IsSome old.space.left → TidiesVolume g old (halted t) (Err (told t))
+  pub tidies_cut : (t : Trouble) → Goes g old.disk d old.space old.space (Err t) → PartEnds g 4 3 old.disk d old.space old.space (Err t) → IsSome old.space.left → TidiesVolume g old (halted t) (Err (told t))
   tidies_cut t goes ends some = record {
     event = λ s stands. event_cut t goes ends s (serves_from g old s none stands);
     stopped = λ stop is. cc;

@@ -1,5 +1,6 @@
 -- What the store says of a slot that is filled or emptied, as the core has it.
 use Rattle.std.proofs.Common.{◌≡◌, inl, ℕ, ◌+◌, ◌*◌, ◌<◌, ◌≤◌, length, true, false, Option, None, Some, Result, Ok, Err, IsTrue, refl, sym, ◌∙◌, ap, subst, arith, sum, ◌⊎◌, inr, [], ◌∷◌, is_none, ◌/◌, set, IsSome}
+use Rattle.cfs_base.proofs.Went.{reads_none}
 use Rattle.cfs_core.proofs.Words.{creates, Ghosts, Image, Index, index_with, IsSpeakable, Kept, Need, OnlyReads, outcome_of, Puid, PutsSlot, Ref, refusal_of, Refused, Request, State, with_object, Object, Holds, slot_of, target, object_at-with_object, same_puid_itself, need_of, Direct, Through}
 use Rattle.cfs_base.specs.declared.refusal.Refused.TheVariants as refusals
 use Rattle.ufs_model.specs.declared.asked.Event.TheVariants as events
@@ -15,7 +16,7 @@ use Rattle.cfs_core.specs.Damage.{bytes_wanted}
 use Rattle.cfs_core.specs.Kernel.{Kernel}
 use Rattle.cfs_core.specs.StandsFor.{CoreServes, drafts_of_handles}
 use Rattle.cfs_core.specs.Ways.{Reaches}
-use Rattle.cfs_core.proofs.Answering.{disk_failed, full_still, memory, reads_none}
+use Rattle.cfs_core.proofs.Answering.{disk_failed, full_still, memory}
 use Rattle.cfs_core.proofs.Changed.{object_did, object_in_doubt}
 use Rattle.cfs_core.proofs.Committed.{LeavesThese, uncut}
 use Rattle.cfs_core.proofs.Grown.{added_by, filled_blocks}

@@ -1,6 +1,7 @@
 -- What is asked of a file through a grant with a draft, whatever is left of a commit.
 use Rattle.std.proofs.Common.{◌≡◌, inl, inr, ℕ, List, length, Bool, true, false, Option, Some, None, Result, Ok, Err, IsTrue, refl, sym, ◌∙◌, ap, subst, nat_lt, IfErr, IfOk}
 use Rattle.std.specs.Prelude.{find, option_and_then}
+use Rattle.cfs_base.proofs.Went.{reads_none}
 use Rattle.cfs_core.proofs.Words.{Draft, draft_of, Drafting, File, file_to_leaves, Ghosts, Grant, grant_of, HasDraft, here, Image, has_met_damage, is_draft_of, is_range, is_reading, IsPlainReply, Object, object_at, OnlyReads, opened_as, refusal_of, Refused, Reply, State, the_draft, Through, Tuid, AFile}
 use Rattle.special_files.specs.Refusal.{top_of}
 use Rattle.cyl_alloc.specs.Left.{LeftCommit}
@@ -15,7 +16,7 @@ use Rattle.cfs_core.specs.Kernel.{Kernel, Handle}
 use Rattle.cfs_core.specs.Looks.{IsDraftCause, content_reply, measured}
 use Rattle.cfs_core.specs.Handles.{drafting_at, is_drawn}
 use Rattle.cfs_core.specs.StandsFor.{HasDraftOf, ServesIs, ServesWith, drafts_of_handles}
-use Rattle.cfs_core.proofs.Answering.{reads_none, seen as told, tries_so}
+use Rattle.cfs_core.proofs.Answering.{seen as told, tries_so}
 use Rattle.cfs_core.proofs.Fitting.{fit_there, held, tries_unseen}
 use Rattle.cfs_core.proofs.Drafted.{drawn, has_draft, place_of, written}
 use Rattle.cfs_core.proofs.Views.{FindsGrant, IsHeld, draft_seen, find_drawn, open_in, so, the_one}

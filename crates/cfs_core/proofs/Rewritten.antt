@@ -1,12 +1,12 @@
 -- A draft that is written or resized, as the core asks for it.
 use Rattle.std.proofs.Common.{◌≡◌, ℕ, ◌+◌, ◌-◌, ◌/◌, ◌≤◌, Bool, true, false, [], None, Some, Ok, Err, refl, subst, arith, IfErr, OnOk, Result}
+use Rattle.cfs_base.proofs.Went.{makes_within}
 use Rattle.cfs_core.proofs.Words.{Change, Drafting, EndsCall, Ghosts, Graph, HasStopped, is_damage, has_met_damage, is_full_refusal, Kept, OnlyReads, reads_within, Refused, refused_by, Resizes, Trouble}
 use Rattle.cfs_base.specs.declared.refusal.Trouble.TheVariants as troubles
 use Rattle.cfs_base.specs.declared.refusal.Refused.TheVariants as refusals
 use Rattle.cfs_core.specs.Drafts.{AltersDraft, ChangesDraft, KnowsDraft, StaysOf}
 use Rattle.special_files.specs.Puts.{StaysBut}
 use Rattle.cfs_core.specs.Looks.{IsDraftCause}
-use Rattle.cfs_core.proofs.Went.{fewer_calls}
 use Rattle.special_files.specs.Limits.{resize_calls, resize_tries}
 use Rattle.special_files.specs.View.{GoesHolding}
 use Rattle.leaf_changes.specs.Tops.{Top}
@@ -46,9 +46,9 @@ changes_so g change {n = n} {t = t} {k = k} old new before after was now r few f
   spared = spared;
   refused = ends.refused;
   stays = stays;
-  cylinders = ends.cylinders;
-  left = ends.left;
-  calls = fewer_calls g n t resize_calls resize_tries old new few fewer ends.calls;
+  cylinders = ends.moves.cylinders;
+  left = ends.moves.left;
+  calls = makes_within g old new n t resize_calls resize_tries few fewer ends.calls;
 }
 
 -- ---- where it is, its shadow root and what it makes are left

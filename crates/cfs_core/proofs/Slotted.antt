@@ -3,6 +3,7 @@ use Rattle.std.proofs.Common.{◌≡◌, ◌⊎◌, inl, inr, ℕ, ◌+◌, ◌*
 use Rattle.std.proofs.lemmas.List.{get_or-set_same}
 use Rattle.std.proofs.lemmas.Option.{unwrap_or-slice_get}
 use Rattle.ufs_model.specs.State.{the_index}
+use Rattle.cfs_base.proofs.Went.{reads_none}
 use Rattle.cfs_core.proofs.Words.{cases_lt, changed_draft, Draft, DraftBecomes, Drafting, Fill, Ghosts, HasDraft, index_to_leaves, is_full_refusal, Kept, Object, OnlyReads, opened_as, Puid, Refused, slot_of, the_draft, true≢false}
 use Rattle.cfs_base.specs.declared.refusal.Refused.TheVariants as refusals
 use Rattle.ufs_model.specs.declared.object.Object.TheVariants as objects
@@ -15,7 +16,6 @@ use Rattle.special_files.specs.View.{DraftView}
 use Rattle.cfs_core.specs.Claimed.{claims_in_draft}
 use Rattle.cfs_core.specs.Drafts.{AltersDraft, IsAltered, KnowsDraft}
 use Rattle.cfs_core.proofs.Altered.{none_needed}
-use Rattle.cfs_core.proofs.Answering.{reads_none}
 use Rattle.cfs_core.proofs.Claimed.{claims_all}
 use Rattle.intentions.proofs.Changes.{all_ok}
 use Rattle.cfs_core.proofs.Rewritten.{goes_on}

@@ -1,5 +1,6 @@
 -- The steps of the collector, of a core.
 use Rattle.std.proofs.Common.{◌≡◌, inl, ℕ, ◌+◌, ◌-◌, ◌*◌, ◌/◌, ◌^◌, ◌<◌, ◌≤◌, cond, ◌||◌, List, [], ◌∷◌, length, true, false, Result, Ok, Err, Option, Some, None, IsTrue, refl, sym, ◌∙◌, ap, subst, arith, IfSome, map}
+use Rattle.cfs_base.proofs.Went.{reads_none}
 use Rattle.cfs_core.proofs.Words.{Accounts, Collecting, count_after, done, Event, FitsDisk, Ghosts, Grant, had_tried, Holds, Image, IsCollecting, keeps, Kept, list_all, Listing, loose, most_steps, next, Puid, Refused, State, steps_left, stopped_at, volume_of, wider, no_drafts}
 use Rattle.cfs_base.specs.declared.refusal.Refused.TheVariants as refusals
 use Rattle.collector_steps.specs.Collecting as Keeps
@@ -17,7 +18,6 @@ use Rattle.cfs_core.specs.Collect.{CollectsStep, EndsUnmade, HappensOrRests, Has
 use Rattle.cfs_core.specs.Kernel.{AreCollections, IsSizedKernel, Kernel, Handle, is_ready, marks_in, collection_runs, sweeps_in}
 use Rattle.cfs_core.specs.Room.{MayLose, lost_blocks}
 use Rattle.cfs_core.specs.StandsFor.{AreDraftsOf, HasCollection, HasCollector, CoreServes, StandsFor, bare, drafts_of_handles, end_in}
-use Rattle.cfs_core.proofs.Answering.{reads_none}
 use Rattle.cfs_core.specs.Rescues.{AreRescued}
 use Rattle.cfs_core.proofs.Collected.{collection_ready}
 use Rattle.cfs_core.proofs.Lefts.{goes_begun, goes_ended}

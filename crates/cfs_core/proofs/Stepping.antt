@@ -1,5 +1,6 @@
 -- A step of a collection that runs, on any disk.
 use Rattle.std.proofs.Common.{IsTrue, ◌≡◌, inr, ℕ, ◌*◌, ◌/◌, ◌<◌, ◌≤◌, List, [], ◌∷◌, length, Bool, true, false, ◌||◌, cond, Result, Option, Some, None, Ok, Err, refl, sym, ◌∙◌, ap, subst, arith, ◌==◌, slice_get}
+use Rattle.cfs_base.proofs.Went.{makes_within, reads_none}
 use Rattle.cfs_core.proofs.Words.{blocks_taken, Collecting, Collects, count_after, cylinder_of, Ghosts, Graph, graph_blocks, had_tried, has_root_in, HasSwept, events_left, steps_left, IsAsBefore, IsDamaged, Drafts}
 use Rattle.cfs_core.proofs.Words.{IsMapTrouble, IsPhaseOf, IsScanTrouble, IsState, Kept, kept_by, Kind, kinds_of, Listing, MakesAtMost, MayVanish, next, next_phase, OnlyReads}
 use Rattle.cfs_core.proofs.Words.{or_right, Pass, Phase, Puid, reads_make, reads_within, Refused, refused_by, room, State, Trouble, trouble_had_tried, volume_of}
@@ -19,12 +20,10 @@ use Rattle.cfs_core.specs.Kernel.{Kernel, Handle, marks_in, collection_runs, swe
 use Rattle.cfs_core.specs.Left.{LeavesFewer, RunsBy}
 use Rattle.cfs_core.specs.Handles.{root_at}
 use Rattle.cfs_core.specs.StandsFor.{CoreServes, drafts_of_handles}
-use Rattle.cfs_core.proofs.Answering.{reads_none}
 use Rattle.cfs_core.proofs.Collected.{as_before}
 use Rattle.cfs_core.proofs.Lefts.{events_swept, goes_within}
 use Rattle.cfs_core.proofs.Serving.{running}
 use Rattle.cfs_core.proofs.Swept.{frees_strays}
-use Rattle.cfs_core.proofs.Went.{fewer_calls}
 use Rattle.cfs_core.proofs.StepMoves.{condemned, condemns, gone, in_sweep, read_on, served, stayed, sweeps_still, swept_one}
 
 -- ---- any step, on any disk
@@ -43,7 +42,7 @@ no_want (trouble.Disk tried) = refl
 no_want (trouble.Damaged damage) = refl
 
 pub read_calls : {D : Type 0} (g : Ghosts D) (old new : D) (n : ℕ) → OnlyReads g n old new → n ≤ 4 → MakesAtMost g 4 1 old new
-read_calls g old new n reads few = fewer_calls g n 0 4 1 old new few (omega arith) (reads_make g old new n reads)
+read_calls g old new n reads few = makes_within g old new n 0 4 1 few (omega arith) (reads_make g old new n reads)
 
 -- so it failed before any was tried, if memory isn't wanted
 calm_is : (e : Refused) → is_starved e ≡ false → is_calm_refusal e ≡ true → e ≡ refusals.Disk false
@@ -172,7 +171,7 @@ module _ {D : Type 0} (g : Ghosts D) (old : D) (space : Kept) (directory : Listi
 
       swept_step : (r : Result (Unit {0}) Trouble) → collection_runs (Some l) ≡ true → ((core : Kernel D) → IsMadeOrNot g (before core) (with_parts core new after directory l) (told_as r)) → StepsSo g old new space after directory directory handles k l (told_as r)
       swept_step r runs ends = record {
-        tries = λ core here. record { ends = ends core; calls = fewer_calls g 2 1 4 1 old new (omega arith) (omega arith) is.sweep.calls; left = is.sweep.left; same = refl };
+        tries = λ core here. record { ends = ends core; calls = makes_within g old new 2 1 4 1 (omega arith) (omega arith) is.sweep.calls; left = is.sweep.left; same = refl };
         size = is.sweep.calls.same.size;
         runs = runs;
         volume = volume;

@@ -1,32 +1,21 @@
 -- What a call did, however it ended: of one that draws no word, and of one after reads.
 use Rattle.std.proofs.Common.{◌≡◌, ℕ, ◌≤◌, Bool, Result, Ok, Err, Option, Some, None, refl, sym, ◌∙◌, ap, subst, ◌+◌, arith, IfErr, IfOk, List, sum}
-use Rattle.cfs_core.proofs.Words.{Ghosts, HasStopped, IsPlainReply, Kept, MakesAtMost, nothing_made, OnlyReads, reads_make, Refused, Reply, Request, stopped_after_reads}
+use Rattle.cfs_base.proofs.Went.{makes_none}
+use Rattle.cfs_core.proofs.Words.{Ghosts, HasStopped, IsPlainReply, Kept, OnlyReads, reads_make, Refused, Reply, Request, stopped_after_reads}
 use Rattle.cfs_base.proofs.Calls.{makes_then}
 use Rattle.cyl_alloc.specs.Left.{LeftCommit}
 use Rattle.finisher.specs.Going.{tries_left}
 use Rattle.cfs_base.specs.declared.refusal.Refused.TheVariants as refusals
 use Rattle.cfs_base.specs.declared.refusal.Damage.{Damage}
 use Rattle.cfs_base.specs.declared.refusal.Need.{Need}
-use Rattle.cfs_core.specs.Calls.{IsCause, IsCauseOf, IsWant, Went, done_or}
+use Rattle.cfs_core.specs.Calls.{IsCause, IsCauseOf, IsWant, RequestWent, done_or}
 use Rattle.cfs_core.specs.Damage.{IsDamageTold, IsMet}
 use Rattle.cfs_core.specs.Kernel.{Kernel, Handle}
 use Rattle.cfs_core.proofs.Damages.{told_then}
 
--- no more calls than more
-pub fewer_calls : {D : Type 0} (g : Ghosts D) (n t m u : ℕ) (old new : D) → n ≤ m → t ≤ u → MakesAtMost g n t old new → MakesAtMost g m u old new
-fewer_calls g n t m u old new less fewer calls = record {
-  later = calls.later;
-  keeps = calls.keeps;
-  same = calls.same;
-  faults = calls.faults;
-  calls = omega (arith, calls.calls, less);
-  tries = omega (arith, calls.tries, fewer);
-  no_fewer = calls.no_fewer;
-}
-
 -- a call that carried out nothing first
 pub now_met : {D : Type 0} (g : Ghosts D) (old : Kernel D) (Is : Kernel D → Type 0) → Is old → IsMet g old Is
-now_met g old Is is = record { disk = old.disk; space = old.space; most = 0; calls = nothing_made g old.disk 0 _; none = λ nothing. (refl, refl); is = is }
+now_met g old Is is = record { disk = old.disk; space = old.space; most = 0; calls = makes_none g old.disk 0 _; none = λ nothing. (refl, refl); is = is }
 
 pub cause_met : {D : Type 0} (g : Ghosts D) (old new : Kernel D) (request : Request) (e : Refused) → IsCause g old new (Some request) e → IsCauseOf g old new request e
 cause_met g old new request (refusals.Full need) is = now_met g old (λ k. IsWant (Some request) (sum k.space.free) need) is
@@ -50,7 +39,7 @@ module _ {D : Type 0} (g : Ghosts D) (k : Kernel D) (d : D) (space : Kept) (hand
   abbrev after_it : Kernel D
   after_it = record k { disk = d; space = space; handles = handles }
 
-  pub went_so : (result : Result Reply Refused) → IfOk result IsPlainReply → IfErr result (IsCause g k after_it (Some request)) → Went g k (record k { disk = d; space = space; handles = handles }) request result
+  pub went_so : (result : Result Reply Refused) → IfOk result IsPlainReply → IfErr result (IsCause g k after_it (Some request)) → RequestWent g k (record k { disk = d; space = space; handles = handles }) request result
   went_so result plain cause = record {
     plain = plain;
     cause = causes_met g k after_it request result cause;
@@ -65,13 +54,13 @@ module _ {D : Type 0} (g : Ghosts D) (k : Kernel D) (d : D) (space : Kept) (hand
   }
 
   pub went_done : (result : Result (Unit {0}) Refused) → ((tried : Bool) → result ≡ Err (refusals.Disk tried) → HasStopped g tried k.disk d) → ((damage : Damage) → result ≡ Err (refusals.Damaged damage) → IsDamageTold g k after_it (Some request) damage)
-      → ((need : Need) → result ≡ Err (refusals.Full need) → IsWant (Some request) (sum k.space.free) need) → Went g k (record k { disk = d; space = space; handles = handles }) request (done_or result)
+      → ((need : Need) → result ≡ Err (refusals.Full need) → IsWant (Some request) (sum k.space.free) need) → RequestWent g k (record k { disk = d; space = space; handles = handles }) request (done_or result)
   went_done (Ok u) stopped met wants = went_so (done_or (Ok u)) tt tt
   went_done (Err e) stopped met wants = went_so (Err e) tt (cause_of g k after_it (Some request) e (λ tried is. stopped tried (ap (λ x. Err x) is)) (λ damage is. met damage (ap (λ x. Err x) is)) (λ need is. wants need (ap (λ x. Err x) is)))
 
 -- a call after others, from this disk on: whatever it tells now, with its cause
 pub went_as : {D : Type 0} (g : Ghosts D) (a b : D) (old new : Kernel D) (request : Request) {r : Result Reply Refused} (told : Result Reply Refused) → g.blocks b ≡ g.blocks a → g.faults a ≤ g.faults b → g.moment a ≤ g.moment b → IfOk told IsPlainReply → IfErr told (IsCauseOf g old new request)
-    → {space : Kept} → Went g (record old { disk = b; space = space }) new request r → a ≡ old.disk → Went g old new request told
+    → {space : Kept} → RequestWent g (record old { disk = b; space = space }) new request r → a ≡ old.disk → RequestWent g old new request told
 went_as g a b old new request told size faults later plain cause is from = record {
   plain = plain;
   cause = cause;
@@ -121,7 +110,7 @@ module _ {D : Type 0} (g : Ghosts D) (n : ℕ) (old : Kernel D) (d : D) (new : K
   cause_of_then request (Err (refusals.Damaged damage)) is = met_then (λ k. IsDamageTold g k new (Some request) damage) (told_then g old new n d (Some request) damage reads) is
   cause_of_then request (Err refusals.Memory) is = tt
 
-  pub went_then : (request : Request) (result : Result Reply Refused) → Went g read new request result → Went g old new request result
+  pub went_then : (request : Request) (result : Result Reply Refused) → RequestWent g read new request result → RequestWent g old new request result
   went_then request result is = record {
     plain = is.plain;
     cause = cause_of_then request result is.cause;

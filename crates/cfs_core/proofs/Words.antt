@@ -64,7 +64,6 @@ pub use Rattle.puid_space.specs.Directory.{Listing, has_root_in, kept_by, direct
 pub use Rattle.puid_space.specs.Draw.{Draws}
 pub use Rattle.puid_space.specs.Kinds.{object_kind, kinds_of}
 pub use Rattle.special_files.proofs.Begun.{begun_fresh, store_reads}
-pub use Rattle.special_files.proofs.CommitDraft.{nothing_made}
 pub use Rattle.special_files.proofs.Levels.{length-none}
 pub use Rattle.special_files.proofs.PutStore.{the_draft}
 pub use Rattle.special_files.specs.Becomes.{DraftBecomes}
@@ -103,8 +102,9 @@ pub use Rattle.ufs_model.proofs.Rising.{above, all_numbers, filter-rises, here, 
 pub use Rattle.ufs_model.proofs.RootBlocks.{has_block-still}
 pub use Rattle.ufs_model.proofs.Tests.{all_filter}
 pub use Rattle.ufs_model.proofs.Vanishing.{kept_stays, may_vanish_test, open_kept}
+pub use Rattle.ufs_model.proofs.WellGrants.{closed_keeps, granted_keeps}
 pub use Rattle.ufs_model.proofs.WellGraphs.{closed_graph, object_whole, still_there}
-pub use Rattle.ufs_model.proofs.WellStates.{closed_keeps, grant_found, granted_keeps, open_there, put_draft-at, put_object-at, seen_draft, seen_object}
+pub use Rattle.ufs_model.proofs.WellStates.{grant_found, open_there, put_draft-at, put_object-at, seen_draft, seen_object}
 pub use Rattle.ufs_model.specs.Graph.{Graph, IsGraph, blocks_differ, graph_pairs, has_block, ids_of, is_free_root, is_root_index, is_there, object_at, referred, with_object, without}
 pub use Rattle.ufs_model.specs.Identifier.{is_among, puid_cmp, rises, same_puid, same_tuid}
 pub use Rattle.ufs_model.specs.Need.{change_need, is_normal, need_of, one_if, takes_draft}

@@ -187,7 +187,7 @@ IsCauseOf g old new request refusals.Memory = Unit {0}
 
 -- What a call did, however it ended, on any disk: a refusal has its cause, and only so many words were drawn as the
 -- request draws.
-pub record Went {D : Type 0} (g : Ghosts D) (old new : Kernel D) (request : Request)
+pub record RequestWent {D : Type 0} (g : Ghosts D) (old new : Kernel D) (request : Request)
     (result : Result Reply Refused) : Type 0 where
   pub plain : IfOk result IsPlainReply
   pub cause : IfErr result (IsCauseOf g old new request)
@@ -204,7 +204,7 @@ pub record Went {D : Type 0} (g : Ghosts D) (old new : Kernel D) (request : Requ
 pub record TriesWith {D : Type 0} (g : Ghosts D) (commit : Option LeftCommit) (old new : Kernel D) (who : ℕ)
     (request : Request) (result : Result Reply Refused) : Type 0 where
   pub ends : (s : State) → ServesWith g old s commit → old.stop ≡ None → EndsSo g commit old new s who request result
-  pub went : Went g old new request result
+  pub went : RequestWent g old new request result
 
 abbrev pub Tries : {D : Type 0} → Ghosts D → Kernel D → Kernel D → ℕ → Request → Result Reply Refused → Type 0
 Tries g old new who request result = TriesWith g old.space.left old new who request result
@@ -215,7 +215,7 @@ pub record TriesOnWith {D : Type 0} (g : Ghosts D) (commit : Option LeftCommit) 
   pub ends : (s : State) (who : ℕ) (i : Index) → ServesWith g old s commit → old.stop ≡ None
       → Reaches s who request index (objects.Index i) → (drafts_of_handles old.handles s.grants) index ≡ None
       → slot < length i.slots → refusal_of s who request ≡ None → EndsSo g commit old new s who request result
-  pub went : has_root_in old.directory.named index.block ≡ true → Went g old new request result
+  pub went : has_root_in old.directory.named index.block ≡ true → RequestWent g old new request result
 
 abbrev pub TriesOn : {D : Type 0} → Ghosts D → Kernel D → Kernel D → Puid → ℕ → Request → Result Reply Refused → Type 0
 TriesOn g old new index slot request result = TriesOnWith g old.space.left old new index slot request result

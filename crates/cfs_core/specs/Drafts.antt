@@ -49,7 +49,7 @@ use Rattle.std.specs.Option.{option_map_or}
 use Rattle.ufs_model.specs.WellFormed.{IsSpeakable}
 use Rattle.cfs_core.specs.Kernel.{Kernel, Handle, grants_in}
 use Rattle.cfs_core.specs.Ways.{unfit_of}
-use Rattle.cfs_core.specs.Calls.{EndsSo, Went, looked}
+use Rattle.cfs_core.specs.Calls.{EndsSo, RequestWent, looked}
 use Rattle.cfs_core.specs.Looks.{IsDraftCause}
 use Rattle.cfs_core.specs.Handles.{drafting_at}
 use Rattle.cfs_core.specs.Claimed.{ClaimsInOrder, claims_for, claims_in_draft, commits_alone}
@@ -159,7 +159,7 @@ pub record TriesWhere {D : Type 0} (g : Ghosts D) (commit : Option LeftCommit) (
     (request : Request) (may : State → Type 0) (result : Result Reply Refused) : Type 0 where
   pub ends : (s : State) → ServesWith g old s commit → old.stop ≡ None → may s
       → EndsSo g commit old new s who request result
-  pub went : Went g old new request result
+  pub went : RequestWent g old new request result
 
 -- to make such a change through a grant
 abbrev pub TriesThroughWith : {D : Type 0} → Ghosts D → Option LeftCommit → (old new : Kernel D) → ℕ → Tuid → Change

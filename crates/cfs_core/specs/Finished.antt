@@ -1,6 +1,5 @@
 -- What was left of a commit is carried out before a change.
-use Rattle.std.specs.Prelude.{◌≡◌, true, false, IfOk, OnOk, Bool, is_some, length, None, Result, Ok, Err}
-use Rattle.cfs_base.specs.Calls.{MakesAtMost}
+use Rattle.std.specs.Prelude.{◌≡◌, true, false, IfOk, OnOk, Bool, is_some, None, Result, Ok, Err}
 use Rattle.cfs_base.specs.Refusals.{after_try}
 use Rattle.cfs_base.specs.declared.disk.Disk.{Ghosts}
 use Rattle.cfs_base.specs.declared.refusal.Refused.{Refused}
@@ -12,13 +11,11 @@ use Rattle.finisher.specs.Going.{Ends, Goes, calls_left, tries_left, unit_of}
 pub record FinishesLeft {D : Type 0} (g : Ghosts D) (old new : D) (before after : Kept)
     (result : Result Bool Trouble) : Type 0 where
   pub goes : Goes g old new before after (unit_of result)
-  pub ends : Ends g old new before after (unit_of result)
+  pub ends : Ends g (calls_left before.left) (tries_left before.left) old new before after (unit_of result)
   pub done : OnOk result (after.left ≡ None)
   pub told : IfOk result (λ some. some ≡ is_some before.left)
   -- where nothing was left nothing is done
   pub none : before.left ≡ None → (new ≡ old) × (after ≡ before)
-  pub cylinders : length after.free ≡ length before.free
-  pub calls : MakesAtMost g (calls_left before.left) (tries_left before.left) old new
 
 -- ---- a change after it
 

@@ -90,8 +90,8 @@ fn first_draft<D: Disk>(
 }
 
 impl<D: Disk> Core<D> {
-    /// Opens an object: a special file or an index for writing with a draft, of which all memory is taken before what was
-    /// left of a commit is carried out, and its shadow root is taken.
+    /// Opens an object: a special file or an index for writing with a draft, of which all memory is taken before what
+    /// was left of a commit is carried out, and its shadow root is taken.
     pub(crate) fn open_for(
         &mut self,
         alloc: Global,

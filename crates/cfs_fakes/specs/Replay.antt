@@ -59,11 +59,12 @@ abbrev pub chosen : ℕ → List ℕ → List (List ℕ) → List ℕ
 chosen k base [] = base
 chosen k base (block ∷ older) = if nat_lt (length older) k then block else chosen k base older
 
--- A choice k of such writes, the newest first: 0 is the content at the last barrier, 1 to their number the k-th of them,
--- and any above the last.
+-- A choice k of such writes, the newest first: 0 is the content at the last barrier, 1 to their number the k-th of
+-- them, and any above the last.
 pub record AreChoices (writes : List (List ℕ)) : Type 0 where
   pub none : (base : List ℕ) → chosen 0 base writes ≡ base
-  pub one : (k : ℕ) (base : List ℕ) → 0 < k → k ≤ length writes → chosen k base writes ≡ get_or writes (length writes - k) []
+  pub one : (k : ℕ) (base : List ℕ) → 0 < k → k ≤ length writes
+      → chosen k base writes ≡ get_or writes (length writes - k) []
   pub last : (k : ℕ) (base : List ℕ) → length writes ≤ k → chosen k base writes ≡ chosen (length writes) base writes
 
 -- the image in which each block holds its choice

@@ -1,6 +1,6 @@
 -- Runs of writes, every image of which has one property: one lemma for each call.
-use Rattle.std.proofs.Common.{◌≡◌, ◌⊎◌, inl, inr, ⊎_elim, ℕ, ◌+◌, ◌<◌, IsTrue, List, [], length, set, Some, refl, sym, ◌∙◌, ap, subst, arith, get_or-set_same, get_or-set_other}
-use Rattle.cfs_recover.proofs.Words.{AreAllCopies, AreCopied, AreCopiesOf, AreWritten, Copied, CopiesRoots, Ghosts, Graph, Holds, Image, IsCopyOf, IsSameDisk, IsSettled, IsUntouched, RunKeeps, Leads, Leaves, MakesAtMost, Written, block_at, cases_eq, cases_lt, left_now, on, root_spelling, same_Some, slice_get, slice_get_within, source, then, wider}
+use Rattle.std.proofs.Common.{◌≡◌, ◌⊎◌, inl, inr, ⊎_elim, ℕ, ◌+◌, ◌<◌, IsTrue, List, [], length, set, Some, sym, ◌∙◌, ap, subst, arith, get_or-set_same, get_or-set_other}
+use Rattle.cfs_recover.proofs.Words.{AreAllCopies, AreCopied, AreCopiesOf, AreWritten, Copied, CopiesRoots, Ghosts, Graph, Holds, Image, IsCopyOf, IsSameDisk, IsSettled, IsUntouched, RunKeeps, Leads, Leaves, Written, block_at, cases_eq, cases_lt, left_now, on, root_spelling, same_Some, slice_get, slice_get_within, source, then, wider}
 use Rattle.cfs_recover.proofs.Tidyings.{copied_content, copies_write}
 
 module _ {D : Type 0} (g : Ghosts D) (P : Image → Type 0) where
@@ -91,6 +91,3 @@ keeps_lead g P start now run = record { content = run.content; leaves = run.leav
 -- more room for what is left
 pub leads_as : {D : Type 0} (g : Ghosts D) (P Q : Image → Type 0) (start now : D) → ((c : Image) → P c → Q c) → Leads g P start now → Leads g Q start now
 leads_as g P Q start now more run = record { content = more (g.content now) run.content; leaves = wider g start now P Q run.leaves more }
-
-pub makes_none : {D : Type 0} (g : Ghosts D) (d : D) (n t : ℕ) → MakesAtMost g n t d d
-makes_none g d n t = record { later = omega arith; keeps = λ at c le was. was; same = record { size = refl; honesty = refl; telling = refl }; faults = omega arith; calls = omega arith; tries = omega arith; no_fewer = omega arith }

@@ -32,7 +32,8 @@ use Rattle.cfs_audit.specs.Verdict.{IsLegal}
 use Rattle.cfs_serve.specs.Audit.{Finds, Judges}
 use Rattle.cfs_serve.specs.Calls.{AreExact}
 use Rattle.cfs_serve.specs.Ending.{EndsService, IsWanting, cause_of, damage_in, not_begun}
-use Rattle.cfs_serve.specs.Events.{BreaksOff, begins_in, events_of_session, finishes_in, is_calm, is_no_step, tells_damage}
+use Rattle.cfs_serve.specs.Events.{BreaksOff, begins_in, events_of_session, finishes_in, is_calm, is_no_step}
+use Rattle.cfs_serve.specs.Events.{tells_damage}
 use Rattle.cfs_serve.specs.Events.{wants_memory}
 use Rattle.cfs_serve.specs.Ground.{Ground}
 use Rattle.cfs_serve.specs.Played.{CountsSessions, HasNone, TellsLast, IsStopTold, counts_of, free_once_tidy}

@@ -40,7 +40,8 @@ impl<A: Server, J: Charter<A>, K: Sink> Model for Hall<A, J, K> {
     ghost use Rattle.cfs_core.specs.declared.collecting.CollectFault.TheVariants as faults;
     ghost use Rattle.std.specs.List.{sum_by};
     ghost use Rattle.cfs_serve.specs.Events.{finishes_in};
-    ghost use Rattle.cfs_serve.specs.Hall.{Hearing, AreHeard, HasNoCollector, HasTurns, parts_now, turns_left, turns_now};
+    ghost use Rattle.cfs_serve.specs.Hall.{Hearing, AreHeard, HasNoCollector, HasTurns, parts_now, turns_left};
+    ghost use Rattle.cfs_serve.specs.Hall.{turns_now};
     ghost use Rattle.cfs_serve.specs.Ending.{IsWanting, TellsStop};
     ghost use Rattle.cfs_serve.specs.Journal.{CountsFaults, first_fault};
 

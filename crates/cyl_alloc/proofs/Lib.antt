@@ -7,3 +7,4 @@ pub mod Finds
 pub mod Lefts
 mod Words
 pub mod Given
+pub mod Takes

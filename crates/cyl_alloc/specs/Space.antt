@@ -1,6 +1,6 @@
 -- How many blocks of each cylinder are Free, and what the maps of a volume say of it.
-use Rattle.std.specs.Prelude.{◌≡◌, ◌≢◌, ℕ, ◌+◌, ◌-◌, ◌*◌, ◌/◌, ◌<◌, min, true, false, List, length, get_or, set, Some}
-use Rattle.std.specs.Prelude.{None, Option, IsSome}
+use Rattle.std.specs.Prelude.{◌≡◌, ◌≢◌, ℕ, ◌+◌, ◌-◌, ◌*◌, ◌/◌, ◌<◌, ◌≤◌, min, true, false, List, length, get_or, set}
+use Rattle.std.specs.Prelude.{sum, None, Option, Some, IsSome}
 use Rattle.cfs_base.specs.Disk.{Image}
 use Rattle.cfs_base.specs.declared.kind.Place.{Place}
 use Rattle.cyl_map.specs.declared.state.BlockState.{BlockState}
@@ -31,6 +31,12 @@ after_taking kept n = with_count kept n (count_at kept n - 1)
 -- so many blocks more, as far as a cylinder has them
 abbrev pub after_giving : Kept → ℕ → ℕ → Kept
 after_giving kept n count = with_count kept n (min 64 (count_at kept n + count))
+
+-- so many blocks were taken at most, of as many cylinders; and what is left of a commit stays
+pub record TakesAtMost (most : ℕ) (before after : Kept) : Type 0 where
+  pub cylinders : length after.free ≡ length before.free
+  pub left : after.left ≡ before.left
+  pub takes : sum before.free ≤ sum after.free + most
 
 -- ---- the maps of an image
 

@@ -114,7 +114,7 @@ refused_change {g = g} {at} {floor} {n} {t} {change} {d0} {d1} {d2} {k0} {k1} {k
   ends = record {
     refused = from_refusal g at floor change d0 d2 k2 floor e (omega arith) (refusal_after_reads g (disk_top g at d0) d0 d1 d2 k2 floor 1 e (reads x) (refusal_as g _ (disk_top g at d0) refl d1 d2 k2 (far x (g.blocks d2)) floor e x.ends.refused));
     untried = by e (reads x) x.ends.refused x.ends.untried x.spared;
-    cylinders = x.ends.cylinders;
+    cylinders = x.ends.moves.cylinders;
     left = tt;
     bit = tt;
     calls = makes_within g d0 d2 drafted_calls resize_tries change_calls change_tries (omega arith) (omega arith) (made x);
@@ -205,7 +205,7 @@ module _ {D : Type 0} {g : Ghosts D} {at floor n t : ℕ} {change : Change} {d0 
     ends = record {
       refused = if_err r (λ e is. is.0) whys;
       untried = if_err r (λ e is. is.1) whys;
-      cylinders = call.cylinders ∙ x.ends.cylinders;
+      cylinders = call.cylinders ∙ x.ends.moves.cylinders;
       left = subst (λ (b : ℕ). OnOk r ((l : LeftCommit) × IsNoted b k3.left l)) x.stays.at call.left;
       bit = on_ok r (λ bit. record { tried = λ some. then_tried g d0 d2 d3 drafted_calls resize_tries (made x) (bit.tried some); settled = λ some tells. bit.settled some (on tells) }) call.bit;
       calls = makes_then g d0 d2 d3 drafted_calls commit_calls change_calls resize_tries commit_tries change_tries (made x) call.calls (omega arith) (omega arith);

@@ -18,7 +18,7 @@ pub use Rattle.cyl_alloc.proofs.Counted.{sum_is}
 pub use Rattle.cyl_alloc.specs.Space.{Kept}
 pub use Rattle.cyl_map.specs.declared.entry.MapEntry.{MapEntry}
 pub use Rattle.leaf_changes.proofs.Given.{file_to_leaves}
-pub use Rattle.normal_files.proofs.Come.{makes_within, reads_none}
+pub use Rattle.cfs_base.proofs.Went.{makes_within, reads_none}
 pub use Rattle.normal_files.specs.WriteRefusal.{TellsNeed, is_untried}
 pub use Rattle.special_files.proofs.Begun.{begun_fresh}
 pub use Rattle.special_files.proofs.Levels.{length-none}

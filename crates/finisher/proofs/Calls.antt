@@ -1,14 +1,16 @@
 -- Calls that carry on a commit: one after another, noted, after reads, and on any disk.
-use Rattle.std.proofs.Common.{◌≡◌, inl, ℕ, Bool, true, false, List, Ok, Err, Option, Some, None, refl, sym, ◌∙◌, ap, subst}
+use Rattle.std.proofs.Common.{◌≡◌, inl, ℕ, ◌+◌, ◌≤◌, Bool, true, false, length, List, Ok, Err, Option, Some, None, refl, sym, ◌∙◌, ap, subst}
 use Rattle.std.specs.Prelude.{IfErr, Result}
 use Rattle.std.proofs.Common.{cond}
 use Rattle.intentions.proofs.Reading.{going_reads, store_reads}
-use Rattle.finisher.specs.Going.{Goes, GoesFrom, IsLeftTrouble, PartEnds}
+use Rattle.finisher.specs.Going.{Ends, Goes, GoesFrom, IsLeftTrouble, PartEnds}
 use Rattle.std.specs.Prelude.{is_some}
-use Rattle.cfs_base.proofs.Calls.{reads_make, stopped_after_reads, tells_on, then_tried}
+use Rattle.cfs_base.proofs.Calls.{makes_then, reads_make, stopped_after_reads, stopped_after_try, tells_on, then_tried}
+use Rattle.cfs_base.proofs.Went.{makes_none, reads_none, went_as, went_then}
+use Rattle.cfs_base.specs.Went.{KnowsTries, Went}
 use Rattle.cfs_base.specs.Calls.{MakesAtMost, OnlyReads}
 use Rattle.cfs_base.specs.Disk.{Nothing}
-use Rattle.cfs_base.specs.Refusals.{trouble_had_tried}
+use Rattle.cfs_base.specs.Refusals.{trouble_after_try, trouble_had_tried}
 use Rattle.cyl_alloc.specs.Left.{after_next, after_part}
 use Rattle.std.specs.Prelude.{◌<◌, ◌≤◌}
 use Rattle.std.proofs.Common.{arith}
@@ -113,8 +115,8 @@ goes_passed g d0 d1 k0 k1 w0 w1 (Err k) e is goes = subst (λ (x : Trouble). Goe
 -- ---- on any disk
 
 -- a part that changes one entry is made
-pub entry_ends : {D A : Type 0} (g : Ghosts D) (d0 d1 : D) (n : ℕ) {f : MapEntry → MapEntry} (x : A) → ChangesEntry g n f d0 d1 (Ok x) → PartEnds g d0 d1 (Ok tt)
-entry_ends g d0 d1 n x change = record { tells = λ tells. still_tells g tells change.told change.calls.same; tried = change.tried; refused = tt; unless_tried = tt }
+pub entry_ends : {D A : Type 0} (g : Ghosts D) (d0 d1 : D) (k0 k1 : Kept) (n : ℕ) {f : MapEntry → MapEntry} (x : A) → length k1.free ≡ length k0.free → ChangesEntry g n f d0 d1 (Ok x) → PartEnds g 2 1 d0 d1 k0 k1 (Ok tt)
+entry_ends g d0 d1 k0 k1 n x cylinders change = record { told = change.told; knows = change.tried; refused = tt; untried = tt; moves = cylinders; calls = change.calls }
 
 -- a part that begins with a read
 module _ {D : Type 0} (g : Ghosts D) (d0 d1 d2 : D) (n : ℕ) (only : OnlyReads g n d0 d1) where
@@ -131,9 +133,76 @@ module _ {D : Type 0} (g : Ghosts D) (d0 d1 d2 : D) (n : ℕ) (only : OnlyReads 
   reads_left (trouble.Disk tried) is = stopped_after_reads g d0 d1 d2 n tried only is
   reads_left (trouble.Damaged damage) is = (is.0, is.1, is.2, λ tells. is.3 (tells_on g d0 d1 d2 n only tells))
 
-  pub reads_end : (m t : ℕ) (result : Result (Unit {0}) Trouble) → PartEnds g d1 d2 result → MakesAtMost g m t d1 d2 → IfErr result (λ e. e ≡ trouble.Disk true) → PartEnds g d0 d2 result
-  reads_end m t (Ok u) ends calls told = record { tells = λ tells. ends.tells (tells_on g d0 d1 d2 n only tells); tried = then_tried g d0 d1 d2 n 0 (reads_make g d0 d1 n only) ends.tried; refused = tt; unless_tried = tt }
-  reads_end m t (Err e) ends calls told = record { tells = λ tells. tt; tried = tt; refused = reads_left e ends.refused; unless_tried = λ un. (let no : true ≡ false = sym (ap trouble_had_tried told) ∙ un in cc) }
+  pub reads_end : (m t most : ℕ) (k : Kept) (result : Result (Unit {0}) Trouble) → PartEnds g m t d1 d2 k k result → IfErr result (λ e. e ≡ trouble.Disk true) → n + m ≤ most → PartEnds g most t d0 d2 k k result
+  reads_end m t most k (Ok u) ends told few = record {
+    told = λ b was. ends.told b (only.told b was);
+    knows = then_tried g d0 d1 d2 n 0 (reads_make g d0 d1 n only) ends.knows;
+    refused = tt;
+    untried = tt;
+    moves = refl;
+    calls = makes_then g d0 d1 d2 n m most 0 t t (reads_make g d0 d1 n only) ends.calls few (omega arith);
+  }
+  reads_end m t most k (Err e) ends told few = record {
+    told = tt;
+    knows = tt;
+    refused = reads_left e ends.refused;
+    untried = λ un. (let no : true ≡ false = sym (ap trouble_had_tried told) ∙ un in cc);
+    moves = refl;
+    calls = makes_then g d0 d1 d2 n m most 0 t t (reads_make g d0 d1 n only) ends.calls few (omega arith);
+  }
+
+-- ---- parts, one after another
+
+-- So many parts were made, or none, and none was refused.
+pub record HasMade {D : Type 0} (g : Ghosts D) (tried : Bool) (old new : D) (before after : Kept) : Type 0 where
+  pub n : ℕ
+  pub t : ℕ
+  pub went : Went {A = Unit {0}} g n t 0 old new before after (length after.free ≡ length before.free) (IsLeftTrouble g old new) (λ e. e ≡ trouble.Disk false) (λ u. Some tried) (Ok tt)
+
+pub made_none : {D : Type 0} (g : Ghosts D) (d : D) (k : Kept) → HasMade g false d d k k
+made_none g d k = record { n = 0; t = 0; went = record { told = λ b was. was; knows = (refl, reads_none g 0 d); refused = tt; untried = tt; moves = refl; calls = makes_none g d 0 0 } }
+
+-- the same with other bounds
+pub counted : {D : Type 0} {g : Ghosts D} {n t m s r : ℕ} {old new : D} {before after : Kept} {Moves : Type 0} {Refuses Untried : Trouble → Type 0} {known : Unit {0} → Option Bool} {result : Result (Unit {0}) Trouble}
+    → MakesAtMost g m s old new → Went g n t r old new before after Moves Refuses Untried known result → Went g m s r old new before after Moves Refuses Untried known result
+counted calls went = record { told = went.told; knows = went.knows; refused = went.refused; untried = went.untried; moves = went.moves; calls = calls }
+
+-- the trouble of a part after others
+abbrev pub since_parts : Bool → Trouble → Trouble
+since_parts tried t = cond tried (trouble_after_try t) t
+
+module _ {D : Type 0} (g : Ghosts D) (d0 d1 d2 : D) (k0 k1 k2 : Kept) where
+  pub made_then : (tried : Bool) → HasMade g tried d0 d1 k0 k1 → PartEnds g 4 3 d1 d2 k1 k2 (Ok tt) → HasMade g true d0 d2 k0 k2
+  made_then tried was ends = record {
+    n = was.n + 4;
+    t = was.t + 3;
+    went = record {
+      told = λ b has. ends.told b (was.went.told b has);
+      knows = then_tried g d0 d1 d2 was.n was.t was.went.calls ends.knows;
+      refused = tt;
+      untried = tt;
+      moves = ends.moves ∙ was.went.moves;
+      calls = makes_then g d0 d1 d2 was.n 4 (was.n + 4) was.t 3 (was.t + 3) was.went.calls ends.calls (omega arith) (omega arith);
+    };
+  }
+
+  pub made_err : (n t : ℕ) (tried : Bool) (e : Trouble) → HasMade g tried d0 d1 k0 k1 → PartEnds g 4 3 d1 d2 k1 k2 (Err e) → MakesAtMost g n t d0 d2 → Ends g n t d0 d2 k0 k2 (Err (since_parts tried e))
+  made_err n t tried e was ends calls = counted calls (went_then (since_parts tried) (λ first then. then ∙ first) (refused tried was e) (untried tried e) tt was.went ends)
+    where
+      refused : (b : Bool) → HasMade g b d0 d1 k0 k1 → (x : Trouble) → IsLeftTrouble g d1 d2 x → IsLeftTrouble g d0 d2 (since_parts b x)
+      refused true made (trouble.Disk did) is = stopped_after_try g d0 d1 d2 made.n made.t did made.went.calls made.went.knows is
+      refused false made (trouble.Disk did) is = stopped_after_reads g d0 d1 d2 0 did made.went.knows.1 is
+      refused true made (trouble.Damaged damage) is = (is.0, is.1, is.2, λ tells. is.3 (still_tells g tells made.went.told made.went.calls.same))
+      refused false made (trouble.Damaged damage) is = (is.0, is.1, is.2, λ tells. is.3 (still_tells g tells made.went.told made.went.calls.same))
+
+      untried : (b : Bool) (x : Trouble) → since_parts b x ≡ trouble.Disk false → (Some b ≡ Some false) × (trouble_had_tried x ≡ false)
+      untried true (trouble.Disk did) is = cc
+      untried true (trouble.Damaged damage) is = cc
+      untried false x is = (refl, ap trouble_had_tried is)
+
+-- nothing is left then
+pub made_all : {D : Type 0} (g : Ghosts D) (d0 d1 : D) (k0 k1 : Kept) (n t : ℕ) (tried : Bool) → HasMade g tried d0 d1 k0 k1 → tried ≡ is_some k0.left → MakesAtMost g n t d0 d1 → Ends g n t d0 d1 k0 k1 (Ok tt)
+made_all g d0 d1 k0 k1 n t tried was is calls = counted calls (went_as was.n was.t 1 (λ m. m) (λ e r. r) (λ e u. u) (λ u knows. subst (λ (b : Bool). KnowsTries g 0 d0 d1 k0 k1 (Some b)) is knows) was.went (omega arith) (omega arith) (omega arith))
 
 -- what holds where the disk tells its content holds wherever the store has its objects
 pub goes_told : {D : Type 0} (g : Ghosts D) (d0 d1 : D) (k0 k1 : Kept) (w0 w1 : Option LeftCommit) (r : Result (Unit {0}) Trouble) → (Tells g d0 → GoesFrom g d0 d1 k0 k1 w0 w1 r) → GoesFrom g d0 d1 k0 k1 w0 w1 r

@@ -1,11 +1,12 @@
 -- A commit that is past its bit is carried on.
-use Rattle.std.specs.Prelude.{◌≡◌, ℕ, ◌+◌, ◌*◌, ◌<◌, false, if◌then◌else◌, length, Option, Some, None}
-use Rattle.std.specs.Prelude.{IfErr, IsSome, OnOk, Ok, Err, Result}
+use Rattle.std.specs.Prelude.{◌≡◌, ℕ, ◌+◌, ◌*◌, ◌<◌, true, false, if◌then◌else◌, is_some, length, Option, Some, None}
+use Rattle.std.specs.Prelude.{IfErr, OnOk, Ok, Err, Result}
 use Rattle.block_tree.specs.Reads.{is_damage}
-use Rattle.cfs_base.specs.Calls.{HasStopped, HasTried, OnlyReads}
+use Rattle.cfs_base.specs.Calls.{HasStopped}
 use Rattle.cfs_base.specs.Codes.{no_entry}
 use Rattle.cfs_base.specs.Refusals.{trouble_had_tried}
 use Rattle.cfs_base.specs.Run.{Leaves, Tells}
+use Rattle.cfs_base.specs.Went.{Went}
 use Rattle.cfs_base.specs.declared.disk.Disk.{Ghosts}
 use Rattle.cfs_base.specs.declared.refusal.Trouble.{Trouble}
 use Rattle.cfs_base.specs.declared.refusal.Trouble.TheVariants as trouble
@@ -45,21 +46,19 @@ IsLeftTrouble g old new (trouble.Disk tried) = HasStopped g tried old new
 IsLeftTrouble g old new (trouble.Damaged damage) = (damage.code ≡ no_entry) × (damage.block ≡ map_of damage.block)
     × (damage.block < g.blocks new) × (Tells g old → IsBadMap (g.content new) damage.block)
 
--- one part, and why it isn't made
-pub record PartEnds {D : Type 0} (g : Ghosts D) (old new : D) (result : Result (Unit {0}) Trouble) : Type 0 where
-  pub tells : Tells g old → OnOk result (Tells g new)
-  pub tried : OnOk result (HasTried g old new)
-  pub refused : IfErr result (IsLeftTrouble g old new)
-  pub unless_tried : IfErr result (λ t. trouble_had_tried t ≡ false → OnlyReads g 1 old new)
+-- One part, with at most n device calls, t of them writes and barriers: done, a write was tried.
+abbrev pub PartEnds : {D : Type 0} → Ghosts D → (n t : ℕ) → D → D → (before after : Kept)
+    → Result (Unit {0}) Trouble → Type 0
+PartEnds g n t old new before after result =
+    Went g n t 1 old new before after (length after.free ≡ length before.free) (IsLeftTrouble g old new)
+    (λ e. trouble_had_tried e ≡ false) (λ u. Some true) result
 
--- all parts that were left
-pub record Ends {D : Type 0} (g : Ghosts D) (old new : D) (before after : Kept)
-    (result : Result (Unit {0}) Trouble) : Type 0 where
-  pub tells : Tells g old → OnOk result (Tells g new)
-  pub tried : IsSome before.left → OnOk result (HasTried g old new)
-  pub refused : IfErr result (IsLeftTrouble g old new)
-  -- where a device call failed before the first try, only reads were made
-  pub untried : IfErr result (λ t. t ≡ trouble.Disk false → OnlyReads g 1 old new × (after ≡ before))
+-- All parts that were left: done, a write was tried where some were.
+abbrev pub Ends : {D : Type 0} → Ghosts D → (n t : ℕ) → D → D → (before after : Kept) → Result (Unit {0}) Trouble
+    → Type 0
+Ends g n t old new before after result =
+    Went g n t 1 old new before after (length after.free ≡ length before.free) (IsLeftTrouble g old new)
+    (λ e. e ≡ trouble.Disk false) (λ u. Some (is_some before.left)) result
 
 -- ---- device calls
 

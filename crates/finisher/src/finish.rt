@@ -27,7 +27,8 @@ pub fn step<D: Disk>(disk: &mut D, space: &mut Space) -> Result<bool, Trouble>
     ensures kept { IsErr result → space.new ≡ space.old }
     ensures none { space.old.left ≡ None → (disk.new ≡ disk.old) × (space.new ≡ space.old) }
     ensures cylinders { length space.new.free ≡ length space.old.free }
-    ensures ends { IsSome space.old.left → spec.PartEnds D.Disk disk.old disk.new (spec.unit_of result) }
+    ensures ends { IsSome space.old.left
+        → spec.PartEnds D.Disk 4 3 disk.old disk.new space.old space.new (spec.unit_of result) }
     ensures of_part { (l : left.LeftCommit) → space.old.left ≡ Some l
         → MakesAtMost D.Disk (spec.part_calls (left.next_part_of l))
         (spec.part_tries (left.next_part_of l)) disk.old disk.new }
@@ -60,11 +61,9 @@ fn advance<D: Disk>(disk: &mut D, space: &mut Space) -> Result<(), Trouble>
     ensures goes { spec.Goes D.Disk disk.old disk.new space.old space.new result }
     ensures settled { space.new.left ≡ None → Tells D.Disk disk.old → OnOk result (IsSettled D.Disk disk.new) }
     ensures kept { IsErr result → space.new ≡ space.old }
-    ensures cylinders { length space.new.free ≡ length space.old.free }
-    ensures ends { spec.PartEnds D.Disk disk.old disk.new result }
+    ensures ends { spec.PartEnds D.Disk 4 3 disk.old disk.new space.old space.new result }
     ensures fewer { OnOk result (left.parts_left space.new.left < left.parts_left space.old.left) }
     ensures spends { OnOk result (runs.Spends D.Disk disk.old disk.new space.old.left space.new.left) }
-    ensures calls { MakesAtMost D.Disk 4 3 disk.old disk.new }
 {
     let next = space.next_flips();
     if !next.is_empty() {
@@ -86,10 +85,8 @@ pub fn finish_all<D: Disk>(disk: &mut D, space: &mut Space) -> Result<(), Troubl
     // Where something was left, nothing waits then.
     ensures settled { IsSome space.old.left → Tells D.Disk disk.old → OnOk result (IsSettled D.Disk disk.new) }
     ensures none { space.old.left ≡ None → (disk.new ≡ disk.old) × (space.new ≡ space.old) }
-    ensures cylinders { length space.new.free ≡ length space.old.free }
-    ensures ends { spec.Ends D.Disk disk.old disk.new space.old space.new result }
-    ensures calls { MakesAtMost D.Disk (spec.calls_left space.old.left) (spec.tries_left space.old.left) disk.old
-        disk.new }
+    ensures ends { spec.Ends D.Disk (spec.calls_left space.old.left) (spec.tries_left space.old.left) disk.old disk.new
+        space.old space.new result }
     ensures by_map { MakesAtMost D.Disk (runs.calls_by_map space.old.left) (runs.tries_by_map space.old.left) disk.old
         disk.new }
     // Where the blocks lie in one cylinder, the copy, one read and one write of its map, and the bit.

@@ -1,7 +1,7 @@
 //! One part of a commit that is past its bit.
 ghost use Rattle.std.specs.Prelude.{◌≡◌, ◌==◌, ◌*◌, ◌<◌, ℕ, true, false, length, List, [], ◌∷◌, Option, Some, None};
 ghost use Rattle.std.specs.Prelude.{IfErr, IsErr, OnOk};
-ghost use Rattle.cfs_base.specs.Calls.{HasStopped, MakesAtMost, OnlyReads};
+ghost use Rattle.cfs_base.specs.Calls.{HasStopped, OnlyReads};
 ghost use Rattle.cfs_base.specs.Disk.{Image, block_at};
 ghost use Rattle.cfs_base.specs.Run.{IsSettled, Tells};
 ghost use Rattle.cfs_base.specs.declared.refusal.Trouble.TheVariants as troubles;
@@ -59,10 +59,8 @@ fn flip<D: Disk>(
         → is_shadow ≡ (block.0 == l.shadow) → spec.GoesFrom D.Disk disk.old disk.new space.old space.new (Some l)
         (Some (record l { rest = ns })) result }
     ensures kept { IsErr result → space.new ≡ space.old }
-    ensures cylinders { length space.new.free ≡ length space.old.free }
     ensures left { space.new.left ≡ space.old.left }
-    ensures ends { spec.PartEnds D.Disk disk.old disk.new result }
-    ensures calls { MakesAtMost D.Disk 2 1 disk.old disk.new }
+    ensures ends { spec.PartEnds D.Disk 2 1 disk.old disk.new space.old space.new result }
 {
     let how = how_to(is_shadow);
     match change_entry(disk, space.known(), block, how) {
@@ -80,9 +78,8 @@ fn copy<D: Disk>(disk: &mut D, root: BlockNo, content: &Block) -> Result<(), Tro
     ensures goes { (l : left.LeftCommit) (space : Kept) → l.copied ≡ false → l.root ≡ root.0
         → block_at (D.content disk.old) l.shadow ≡ content.now
         → spec.GoesFrom D.Disk disk.old disk.new space space (Some l) (Some (record l { copied = true })) result }
-    ensures ends { spec.PartEnds D.Disk disk.old disk.new result }
+    ensures ends { (space : Kept) → spec.PartEnds D.Disk 2 2 disk.old disk.new space space result }
     ensures told { IfErr result (λ t. t ≡ troubles.Disk true) }
-    ensures calls { MakesAtMost D.Disk 2 2 disk.old disk.new }
 {
     copy_root(disk, root, content)
 }
@@ -106,8 +103,7 @@ fn copy_read<D: Disk>(disk: &mut D, root: BlockNo, shadow: BlockNo) -> Result<()
     requires shadow_on_disk { shadow.0 < D.blocks disk.old }
     ensures goes { (l : left.LeftCommit) (space : Kept) → l.copied ≡ false → l.root ≡ root.0 → l.shadow ≡ shadow.0
         → spec.GoesFrom D.Disk disk.old disk.new space space (Some l) (Some (record l { copied = true })) result }
-    ensures ends { spec.PartEnds D.Disk disk.old disk.new result }
-    ensures calls { MakesAtMost D.Disk 3 2 disk.old disk.new }
+    ensures ends { (space : Kept) → spec.PartEnds D.Disk 3 2 disk.old disk.new space space result }
 {
     let mut content = Block::zero();
     match read_shadow(disk, shadow, &mut content) {
@@ -123,8 +119,7 @@ fn clear<D: Disk>(disk: &mut D, space: &mut Space, root: BlockNo) -> Result<(), 
         → spec.GoesFrom D.Disk disk.old disk.new space.old space.new (Some l) None result }
     ensures settled { Tells D.Disk disk.old → OnOk result (IsSettled D.Disk disk.new) }
     ensures kept { space.new ≡ space.old }
-    ensures ends { spec.PartEnds D.Disk disk.old disk.new result }
-    ensures calls { MakesAtMost D.Disk 4 3 disk.old disk.new }
+    ensures ends { spec.PartEnds D.Disk 4 3 disk.old disk.new space.old space.new result }
 {
     clear_bit(disk, space.known(), root)
 }
@@ -144,10 +139,9 @@ pub(crate) fn make<D: Disk>(
         → Tells D.Disk disk.old
         → OnOk result (IsSettled D.Disk disk.new) }
     ensures kept { IsErr result → space.new ≡ space.old }
-    ensures cylinders { length space.new.free ≡ length space.old.free }
     ensures left { space.new.left ≡ space.old.left }
-    ensures ends { spec.PartEnds D.Disk disk.old disk.new result }
-    ensures calls { MakesAtMost D.Disk (spec.part_calls part) (spec.part_tries part) disk.old disk.new }
+    ensures ends { spec.PartEnds D.Disk (spec.part_calls part) (spec.part_tries part) disk.old disk.new space.old
+        space.new result }
 {
     match part {
         Part::Copy { root, shadow } => copy_read(disk, root, shadow),

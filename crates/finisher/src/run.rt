@@ -1,6 +1,5 @@
 //! The blocks of a commit that lie in one map, one after another: their entries are changed by one write of it.
 ghost use Rattle.std.specs.Prelude.{◌≡◌, ◌*◌, ◌<◌, length, IsErr, OnOk};
-ghost use Rattle.cfs_base.specs.Calls.{MakesAtMost};
 ghost use Rattle.cyl_alloc.specs.Left as left;
 ghost use Rattle.intentions.specs.Runs.{IsFirst};
 ghost use Rattle.finisher.specs.Going as spec;
@@ -18,9 +17,7 @@ pub(crate) fn flip_run<D: Disk>(disk: &mut D, space: &mut Space, first: u32) -> 
     ensures goes { spec.Goes D.Disk disk.old disk.new space.old space.new result }
     ensures run { OnOk result (runs.AfterRun space.old.left space.new.left) }
     ensures kept { IsErr result → space.new ≡ space.old }
-    ensures cylinders { length space.new.free ≡ length space.old.free }
-    ensures ends { spec.PartEnds D.Disk disk.old disk.new result }
-    ensures calls { MakesAtMost D.Disk 2 1 disk.old disk.new }
+    ensures ends { spec.PartEnds D.Disk 2 1 disk.old disk.new space.old space.new result }
 {
     let mut map = Block::zero();
     match space.known().load_map(disk, first, &mut map) {

@@ -1,12 +1,11 @@
 -- The draft of an index changed: a slot put, and an object made.
-use Rattle.index_drafts.proofs.Words.{◌≡◌, ◌⊎◌, inl, inr, ℕ, ◌+◌, ◌/◌, ◌≤◌, ◌||◌, Bool, true, false, cond, Option, Some, None, Ok, Err, refl, sym, ◌∙◌, ap, subst, arith, sum, AreCounts, ChangesOnly, Drafting, EndsCall, Ghosts, GoesHolding, Graph, Holds, IfErr, IfOk, Image, IsClaimed, IsLeastFree, IsDraftRefusal, Kept, Leaves, MapEntry, Object, OnlyReads, Puid, Refused, Result, StaysBut, StoreHas, Swap, DraftView, bare_object, block_there, both_ways, changes_then, changes_wider, ends_wider, false_from_ne_true, has_block, is_full_refusal, is_some, draft_takes, puid_at, object_at, object_at-with_object, of_draft, of_owner, or_left, or_right, same_puid, same_puid_is, stays_itself, then, with_object, ends_as, ends_err, IsOpenMap, ⊎_elim, makes_more, makes_then, reads_make, reads_within, reads_then, refusal_after_reads, under_floor, HasTried, after_try, ends_then_err, ends_then_ok, still_room, still_sound, not_untried, Drafts}
+use Rattle.index_drafts.proofs.Words.{◌≡◌, ◌⊎◌, inl, inr, ℕ, ◌+◌, ◌/◌, ◌≤◌, ◌||◌, Bool, true, false, cond, Option, Some, None, Ok, Err, refl, sym, ◌∙◌, ap, subst, arith, sum, AreCounts, ChangesOnly, Drafting, EndsCall, Ghosts, GoesHolding, Graph, Holds, IfErr, IfOk, Image, IsClaimed, IsLeastFree, IsDraftRefusal, Kept, Leaves, MapEntry, Object, OnlyReads, Puid, Refused, Result, StaysBut, StoreHas, Swap, DraftView, bare_object, block_there, both_ways, changes_then, changes_wider, ends_wider, false_from_ne_true, has_block, is_full_refusal, is_some, draft_takes, puid_at, object_at, object_at-with_object, of_draft, of_owner, or_left, or_right, same_puid, same_puid_is, stays_itself, then, with_object, ends_as, ends_err, IsOpenMap, ⊎_elim, makes_more, reads_make, reads_within, reads_then, under_floor, HasTried, after_try, still_ends, ends_since, ends_then, still_room, still_sound, not_untried, Drafts}
 use Rattle.block_tree.specs.declared.root.Root as roots
 use Rattle.cfs_base.specs.Run.{Tells}
 use Rattle.cfs_base.specs.declared.refusal.Refused.TheVariants as refusals
 use Rattle.index_drafts.specs.Creates.{CreateCall, CreateEnds, MakesAlone, new_root_entry}
 use Rattle.index_drafts.specs.Puts.{IndexView, IsFullBelow, PutsInDraft}
-use Rattle.special_files.proofs.Endings.{ends_at}
-use Rattle.special_files.proofs.Refusals.{if_err, on_ok, refusal_as}
+use Rattle.special_files.proofs.Refusals.{if_err, refusal_as}
 use Rattle.special_files.proofs.View.{read_leaves, view_reads}
 use Rattle.special_files.specs.Creates.{IsBare}
 use Rattle.special_files.specs.Fills.{FillCall, FillsDraft, FillsIfIndex}
@@ -127,35 +126,32 @@ module _ {D : Type 0} {g : Ghosts D} {d0 d1 : D} {k0 : Kept} (slot floor : ℕ) 
   }
 
   -- where a block was found: what came of the rest
-  after_reads : {d3 : D} {k3 : Kept} {now : Drafting} → StaysBut was now → (r : Result Puid Refused) → EndsCall g (top_of was) floor 12 7 (1 + draft_takes was (slot / 64)) d1 d3 k0 k3 r → IfErr r (λ e. is_full_refusal e ≡ false)
+  after_reads : {n t k : ℕ} {d3 : D} {k3 : Kept} {now : Drafting} {r : Result Puid Refused} → StaysBut was now → EndsCall g (top_of was) 0 n t k d1 d3 k0 k3 r → n ≤ 12 → t ≤ 7 → k ≤ 1 + draft_takes was (slot / 64) → IfErr r (λ e. is_full_refusal e ≡ false)
       → IfErr r (λ e. e ≡ refusals.Disk false → (now ≡ was) × (k3 ≡ k0) × OnlyReads g 4 d1 d3) → CreateCall g slot floor d0 d3 k0 k3 was now r
-  after_reads {d3} {k3} {now} stays r ends spare untried = record {
-    stays = stays;
-    full = has_room (1 + draft_takes was (slot / 64)) floor d0 d3 k0 k3 was now r room spare;
-    told = on_ok r (λ told b is. told b (reads.told b is)) ends.told;
-    refused = if_err r (λ e why. inl (refusal_after_reads g (top_of was) d0 d1 d3 k3 floor 1 e reads why)) ends.refused;
-    untried = if_err r (λ e all same. let three = all same in (three.0, three.1, reads_then g d0 d1 d3 1 4 5 reads three.2 (omega arith))) untried;
-    cylinders = ends.cylinders;
-    left = ends.left;
-    takes = ends.takes;
-    calls = makes_then g d0 d1 d3 1 12 13 0 7 7 (reads_make g d0 d1 1 reads) ends.calls (omega arith) (omega arith);
-  }
+  after_reads {d3 = d3} {k3} {now} {r} stays ends le lt lk spare untried =
+      let all = ends_wider floor 13 7 (1 + draft_takes was (slot / 64)) (ends_since reads 13 ends (omega (arith, le))) (omega arith) lt (omega (arith, ends.moves.takes, lk)) in
+      record {
+        stays = stays;
+        full = has_room (1 + draft_takes was (slot / 64)) floor d0 d3 k0 k3 was now r room spare;
+        told = all.told;
+        refused = if_err r (λ e why. inl why) all.refused;
+        untried = if_err r (λ e all same. let three = all same in (three.0, three.1, reads_then g d0 d1 d3 1 4 5 reads three.2 (omega arith))) untried;
+        cylinders = all.moves.cylinders;
+        left = all.moves.left;
+        takes = all.moves.takes;
+        calls = all.calls;
+      }
 
   module _ {d2 : D} {k2 : Kept} where
-    at_top : (r : Result (Unit {0}) Refused) → EndsCall g (still_top was.at) 0 4 3 1 d1 d2 k0 k2 r → EndsCall g (top_of was) 0 4 3 1 d1 d2 k0 k2 r
-    at_top r = ends_at {at = still_top was.at} {now = top_of was} refl (λ far. absurd far)
-
     -- the object isn't made
     pub make_stops : (e : Refused) → EndsCall {A = Unit {0}} g (still_top was.at) 0 4 3 1 d1 d2 k0 k2 (Err e) → is_full_refusal e ≡ false → CreateCall g slot floor d0 d2 k0 k2 was was (Err e)
-    make_stops e ends spare = after_reads (stays_itself was) (Err e)
-        (ends_wider floor 12 7 (1 + draft_takes was (slot / 64)) (ends_err {A = Unit {0}} {B = Puid} g (top_of was) 0 4 3 1 d1 d2 k0 k2 e (at_top (Err e) ends)) (omega arith) (omega arith) (omega (arith, ends.takes))) spare (λ same. let two = ends.untried same in (refl, two.0, two.1))
+    make_stops e ends spare = after_reads (stays_itself was) (ends_err (still_ends was ends)) (omega arith) (omega arith) (omega arith) spare (λ same. let two = ends.untried same in (refl, two.0, two.1))
 
     -- it is, and the slot is refused or put
     pub fill_ends : {d3 : D} {k3 : Kept} {now : Drafting} {id : Puid} → EndsCall g (still_top was.at) 0 4 3 1 d1 d2 k0 k2 (Ok (tt {0})) → HasTried g d1 d2 → (r : Result (Option Swap) Refused) → FillCall g slot (Some id) d2 d3 k2 k3 was now r → CreateCall g slot floor d0 d3 k0 k3 was now (filled_with id r)
-    fill_ends {d3} {k3} {now} {id} made tried (Ok put) fills =
-        let both = ends_then_ok {A = Unit {0}} {B = Option Swap} g (top_of was) 0 d1 d2 d3 k0 k2 k3 tt put 4 3 1 8 4 (draft_takes was (slot / 64)) (at_top (Ok tt) made) fills.ends 12 7 (1 + draft_takes was (slot / 64)) (omega arith) (omega arith) (omega arith) in
-        after_reads fills.stays (Ok id) (ends_wider floor 12 7 (1 + draft_takes was (slot / 64)) (ends_as id both) (omega arith) (omega arith) both.takes) tt tt
-    fill_ends {d3} {k3} {now} {id} made tried (Err e) fills =
-        let both = ends_then_err {A = Unit {0}} {B = Puid} g (top_of was) 0 d1 d2 d3 k0 k2 k3 tt e 4 3 1 8 4 (draft_takes was (slot / 64)) (at_top (Ok tt) made) tried
-        (ends_err {A = Option Swap} {B = Puid} g (top_of was) 0 8 4 (draft_takes was (slot / 64)) d2 d3 k2 k3 e fills.ends) 12 7 (1 + draft_takes was (slot / 64)) (omega arith) (omega arith) (omega arith) in
-        after_reads fills.stays (Err (after_try e)) (ends_wider floor 12 7 (1 + draft_takes was (slot / 64)) both (omega arith) (omega arith) both.takes) (still_room true e (fills.room (omega (arith, made.takes, room)))) (λ same. absurd (not_untried e same))
+    fill_ends {id = id} made tried (Ok put) fills =
+        let both = ends_then 12 7 (1 + draft_takes was (slot / 64)) (still_ends was made) (ends_as id fills.ends) tt (omega arith) (omega arith) (omega arith) in
+        after_reads fills.stays both (omega arith) (omega arith) (omega arith) tt tt
+    fill_ends made tried (Err e) fills =
+        let both = ends_then 12 7 (1 + draft_takes was (slot / 64)) (still_ends was made) (ends_err {B = Puid} fills.ends) tried (omega arith) (omega arith) (omega arith) in
+        after_reads fills.stays both (omega arith) (omega arith) (omega arith) (still_room true e (fills.room (omega (arith, made.moves.takes, room)))) (λ same. absurd (not_untried e same))

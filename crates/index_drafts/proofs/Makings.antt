@@ -1,8 +1,9 @@
 -- The calls in which an object is made, one after another.
 use Rattle.leaf_changes.specs.Tops.{Top}
-use Rattle.index_drafts.proofs.Words.{◌≡◌, inl, inr, ℕ, ◌<◌, IsTrue, List, length, set, true, false, Ok, Err, refl, sym, ◌∙◌, ap, subst, arith, Accounts, AreCounts, BlockNo, ChangesOnly, EndsCall, Enters, EntryWritten, Frames, Ghosts, GoesHolding, Graph, HasImage, HasStopped, HasTried, Holds, IfErr, Image, IsClaimed, IsErrAnd, IsLeastFree, IsLoose, IsDraftRefusal, IsSettled, Kept, Leaves, MakesAtMost, OnErr, Refused, Result, StoreHas, Trouble, WritesDraftBlock, after_try, as_refused, bare_object, both_ways, cases_lt, carries_settled, counts_content, ends_then_err, ends_then_ok, framed_carries, framed_holds, frames_begin, frames_content, free_is, has_met_damage, left_now, length-with_entry, loose_stays, map_in_image, map_of, map_with, puid_at, not_map, of_owner, refused_by, rises-with_object, root_spelling, then, tried_then, wider, with_entry, with_object, write_ends, written_framed, Drafts}
+use Rattle.index_drafts.proofs.Words.{◌≡◌, inl, inr, ℕ, ◌<◌, IsTrue, List, length, set, true, false, Ok, Err, refl, sym, ◌∙◌, ap, subst, arith, Accounts, AreCounts, BlockNo, ChangesOnly, EndsCall, Enters, EntryWritten, Frames, Ghosts, GoesHolding, Graph, HasImage, HasStopped, HasTried, Holds, IfErr, Image, IsClaimed, IsErrAnd, IsLeastFree, IsLoose, IsDraftRefusal, IsSettled, Kept, Leaves, MakesAtMost, OnErr, Refused, Result, StoreHas, Trouble, WritesDraftBlock, after_try, as_refused, bare_object, both_ways, cases_lt, carries_settled, counts_content, ends_then, framed_carries, framed_holds, frames_begin, frames_content, free_is, has_met_damage, left_now, length-with_entry, loose_stays, map_in_image, map_of, map_with, puid_at, not_map, of_owner, refused_by, rises-with_object, root_spelling, then, tried_then, wider, with_entry, with_object, then_written, written_framed, Drafts}
 use Rattle.block_tree.specs.declared.root.Root as roots
 use Rattle.cfs_base.specs.declared.refusal.Refused.TheVariants as refusals
+use Rattle.cyl_alloc.proofs.Takes.{takes_none}
 use Rattle.cfs_base.specs.declared.refusal.Trouble.TheVariants as troubles
 use Rattle.index_drafts.specs.Creates.{MakesAlone, new_root_entry}
 use Rattle.special_files.specs.Creates.{IsBare, Spells}
@@ -104,31 +105,29 @@ module _ {D : Type 0} {g : Ghosts D} {graph : Graph} {ds : Drafts} {d0 : D} {k0 
 -- a barrier
 pub barrier_ends : {D : Type 0} {g : Ghosts D} {at : Top} {d e : D} {k : Kept} (r : Result (Unit {0}) Trouble) → ((n : ℕ) → IsTrue (g.told d n) → IsTrue (g.told e n)) → IfErr r (λ t. t ≡ troubles.Disk true) → OnErr r (HasStopped g true d e) → MakesAtMost g 1 1 d e
     → EndsCall g at 0 1 1 0 d e k k (as_refused r)
-barrier_ends (Ok u) told is stopped calls = record { told = told; refused = tt; untried = tt; cylinders = refl; left = refl; takes = omega arith; calls = calls }
+barrier_ends {k = k} (Ok u) told is stopped calls = record { told = told; knows = tt; refused = tt; untried = tt; moves = takes_none k 0; calls = calls }
 barrier_ends {g = g} {at} {d} {e} {k} (Err t) told is stopped calls = record {
   told = tt;
+  knows = tt;
   refused = subst (λ (x : Trouble). IsDraftRefusal g at 0 d e k (refused_by x)) (sym is) stopped;
   untried = λ same. (let no : refusals.Disk true ≡ refusals.Disk false = sym (ap refused_by is) ∙ same in cc);
-  cylinders = refl;
-  left = refl;
-  takes = omega arith;
+  moves = takes_none k 0;
   calls = calls;
 }
 
 module _ {D : Type 0} {g : Ghosts D} {at : Top} {d0 d1 d2 : D} {k0 k1 : Kept} {block : BlockNo} (claims : EndsCall g at 0 2 1 1 d0 d1 k0 k1 (Ok block)) (tried : HasTried g d0 d1) {c : ℕ} {content : List ℕ} where
   -- the write failed
   pub write_stops : (e : Refused) → WritesDraftBlock g c content d1 d2 (Err e) → EndsCall {A = Unit {0}} g at 0 4 3 1 d0 d2 k0 k1 (Err e)
-  write_stops e is = subst (λ (x : Refused). EndsCall {A = Unit {0}} g at 0 4 3 1 d0 d2 k0 k1 (Err x)) (ap after_try is.refused ∙ sym is.refused)
-      (ends_then_err {A = BlockNo} {B = Unit {0}} g at 0 d0 d1 d2 k0 k1 k1 block e 2 1 1 1 1 0 claims tried (write_ends g at 0 d1 d2 k1 c content (Err e) is) 4 3 1 (omega arith) (omega arith) (omega arith))
+  write_stops e is = then_written 4 3 claims tried is (omega arith) (omega arith)
 
   module _ (writes : WritesDraftBlock g c content d1 d2 (Ok (tt {0}))) where
     both : EndsCall {A = Unit {0}} g at 0 3 2 1 d0 d2 k0 k1 (Ok tt)
-    both = ends_then_ok {A = BlockNo} {B = Unit {0}} g at 0 d0 d1 d2 k0 k1 k1 block tt 2 1 1 1 1 0 claims (write_ends g at 0 d1 d2 k1 c content (Ok tt) writes) 3 2 1 (omega arith) (omega arith) (omega arith)
+    both = then_written 3 2 claims tried writes (omega arith) (omega arith)
 
     -- the barrier failed
     pub barrier_stops : {d3 : D} (t : Trouble) → t ≡ troubles.Disk true → EndsCall {A = Unit {0}} g at 0 1 1 0 d2 d3 k1 k1 (Err (refused_by t)) → EndsCall {A = Unit {0}} g at 0 4 3 1 d0 d3 k0 k1 (Err (refused_by t))
     barrier_stops {d3} t is ended = subst (λ (x : Refused). EndsCall {A = Unit {0}} g at 0 4 3 1 d0 d3 k0 k1 (Err x)) (ap (λ (x : Trouble). after_try (refused_by x)) is ∙ sym (ap refused_by is))
-        (ends_then_err {A = Unit {0}} {B = Unit {0}} g at 0 d0 d2 d3 k0 k1 k1 tt (refused_by t) 3 2 1 1 1 0 both (tried_then g d0 d1 d2 1 1 tried writes.calls) ended 4 3 1 (omega arith) (omega arith) (omega arith))
+        (ends_then 4 3 1 both ended (tried_then g d0 d1 d2 1 1 tried writes.calls) (omega arith) (omega arith) (omega arith))
 
     pub all_ends : {d3 : D} → EndsCall {A = Unit {0}} g at 0 1 1 0 d2 d3 k1 k1 (Ok tt) → EndsCall {A = Unit {0}} g at 0 4 3 1 d0 d3 k0 k1 (Ok tt)
-    all_ends {d3} ended = ends_then_ok {A = Unit {0}} {B = Unit {0}} g at 0 d0 d2 d3 k0 k1 k1 tt tt 3 2 1 1 1 0 both ended 4 3 1 (omega arith) (omega arith) (omega arith)
+    all_ends ended = ends_then 4 3 1 both ended tt (omega arith) (omega arith) (omega arith)

@@ -28,12 +28,12 @@ pub use Rattle.intentions.specs.Store.{StoreHas}
 pub use Rattle.leaf_changes.proofs.Given.{index_to_leaves}
 pub use Rattle.special_files.proofs.Amid.{framed_carries, framed_holds, written_framed}
 pub use Rattle.special_files.proofs.CommitDone.{makes_more}
-pub use Rattle.special_files.proofs.Endings.{ends_err, ends_then_err, ends_then_ok, ends_wider, enters_ends, not_untried, stays_itself, still_room, still_sound, under_floor, write_ends}
+pub use Rattle.special_files.proofs.Endings.{ends_as, ends_err, ends_then, ends_wider, enters_ends, not_untried, stays_itself, still_ends, still_room, still_sound, then_written, under_floor}
 pub use Rattle.special_files.proofs.Made.{bare_has, bare_unmeant}
 pub use Rattle.special_files.proofs.Meant.{free_is}
 pub use Rattle.special_files.proofs.PutCall.{find_sound}
 pub use Rattle.special_files.proofs.Refusals.{refusal_after_reads}
-pub use Rattle.special_files.proofs.WriteLeaf.{ends_as}
+pub use Rattle.special_files.proofs.WriteLeaf.{ends_since}
 pub use Rattle.special_files.specs.Calls.{WritesDraftBlock}
 pub use Rattle.special_files.specs.Committing.{CommitEnds, IsEntered, as_refused, puid_at}
 pub use Rattle.special_files.specs.Drafting.{Drafting, draft_takes}

@@ -100,10 +100,10 @@ rewrites g n f was old read new result is =
 -- the same of a commit bit, which is put between two barriers
 pub rewrites_bit : {D : Type 0} (g : Ghosts D) (n : ℕ) (f : MapEntry → MapEntry) (was : MapEntry) (map : List MapEntry) (old read new : D) (result : Result (Unit {0}) Trouble) → OnlyReads g 1 old read
     → (Tells g old → entry_in (g.content old) n ≡ Some was) → (Tells g old → IsMapOf (g.content old) n map) → (Tells g old → IsGoodMap (g.content old) n)
-    → (IsMapOf (g.content read) n map → OnOk result (g.content new ≡ with_entry (g.content read) n (f was))) → (Tells g read → OnOk result (IsSettled g new))
+    → (IsMapOf (g.content read) n map → OnOk result (g.content new ≡ with_entry (g.content read) n (f was))) → OnOk result ((k : ℕ) → IsTrue (g.told read k) → IsTrue (g.told new k)) → (Tells g read → OnOk result (IsSettled g new))
     → (Tells g read → IsMapOf (g.content read) n map → Leaves g read new (λ c. c ≡ with_entry (g.content read) n (f was)))
     → IfErr result (λ t. t ≡ trouble.Disk true) → OnErr result (HasStopped g true read new) → HasTried g read new → MakesAtMost g 3 3 read new → ChangesBit g n f old new result
-rewrites_bit g n f was map old read new result reads here is_map whole written settled images by stopped made calls =
+rewrites_bit g n f was map old read new result reads here is_map whole written told settled images by stopped made calls =
     let one = λ (tells : Tells g old) (e : MapEntry) (at : entry_in (g.content old) n ≡ Some e). ap f (same_Some _ _ (sym (here tells) ∙ at)) in
     let on = λ (tells : Tells g old). tells_on g old read new 1 reads tells in
     let spelled = λ (tells : Tells g old). subst (λ (i : Image). IsMapOf i n map) (sym reads.content) (is_map tells) in
@@ -116,6 +116,7 @@ rewrites_bit g n f was map old read new result reads here is_map whole written s
     (subst (λ (i : Image). Leaves g read new (λ c. c ≡ with_entry i n (f was))) reads.content (images (on tells) (spelled tells))) (λ c p. p)) in
     record {
       put = put;
+      told = on_ok result told (λ on k was. on k (reads.told k was));
       settled = settled_new;
       tried = all_ok result (omega (arith, made, reads.tries));
       images = left;

@@ -49,6 +49,7 @@ pub record ChangesBit {D A : Type 0} (g : Ghosts D) (n : ℕ) (f : MapEntry → 
     (old new : D) (result : Result A Trouble) : Type 0 where
   pub put : OnOk result (Tells g old → (e : MapEntry) → entry_in (g.content old) n ≡ Some e
       → g.content new ≡ with_entry (g.content old) n (f e))
+  pub told : OnOk result ((k : ℕ) → IsTrue (g.told old k) → IsTrue (g.told new k))
   -- done, a crash leaves the content alone
   pub settled : OnOk result (Tells g old → IsSettled g new)
   pub tried : OnOk result (HasTried g old new)

@@ -55,6 +55,7 @@ fn put_between<D: Disk>(
     requires spells { SpellsMap map.old }
     ensures written { IsMapOf (D.content disk.old) block.0 (entries_of map.old) →
         OnOk result (D.content disk.new ≡ with_entry (D.content disk.old) block.0 entry) }
+    ensures told { OnOk result ((n : ℕ) → IsTrue (D.told disk.old n) → IsTrue (D.told disk.new n)) }
     ensures settled { Tells D.Disk disk.old → OnOk result (IsSettled D.Disk disk.new) }
     ensures images { Tells D.Disk disk.old → IsMapOf (D.content disk.old) block.0 (entries_of map.old)
         → Leaves D.Disk disk.old disk.new (λ c. c ≡ with_entry (D.content disk.old) block.0 entry) }
@@ -115,6 +116,7 @@ pub fn clear_bit<D: Disk>(disk: &mut D, known: &mut KnownMaps, root: BlockNo) ->
 pub fn copy_root<D: Disk>(disk: &mut D, root: BlockNo, content: &Block) -> Result<(), Trouble>
     requires { root.0 < D.blocks disk.old }
     ensures copied { OnOk result (D.content disk.new ≡ set (D.content disk.old) root.0 content.now) }
+    ensures told { OnOk result ((n : ℕ) → IsTrue (D.told disk.old n) → IsTrue (D.told disk.new n)) }
     ensures images { Leaves D.Disk disk.old disk.new (Written (left_now D.Disk disk.old) root.0 content.now) }
     ensures settled { Tells D.Disk disk.old → OnOk result (IsSettled D.Disk disk.new) }
     // Where the bit is set and nothing waits, all that a crash leaves has the object.

@@ -8,6 +8,7 @@ pub mod Reaches
 pub mod Steps
 pub mod Condemned
 pub mod Changed
+pub mod UnreadSteps
 pub mod Paces
 pub mod Replaced
 pub mod Puts

@@ -1,14 +1,15 @@
 -- Each scan raises the number of leaves read, no other step lowers it, and it is at most the number of blocks.
-use Rattle.std.proofs.Common.{◌≡◌, ◌⊎◌, inl, inr, ℕ, ◌+◌, ◌<◌, ◌≤◌, ◌==◌, List, [], ◌∷◌, ◌++◌, ◌-◌, ◌^◌, length, length-append, count_by, refl, sym, ◌∙◌, ap, subst, arith, Bool, true, false, cond, Option, Some, None}
-use Rattle.marking.proofs.Words.{AreOnce, Colours, Graph, Grey, Index, IsDraftIndex, IsGrey, IsPaced, Kind, Object, Puid, Rescue, State, all_shaded, blocks_of, count_after, added_with, cursor_of, draft_at, draft_step, draft_over, ended_from, eqb-true, first_grey, has_number, ids_of, if_held, is_among, is_at, is_index, is_live, is_some, is_there, is_there-ids, kind_among, lookup, moved, moved_at, moved_first, nat_le, nat_lt, nat_tests, next_held, none_marked, object_at, or_cases, own_part, own_step, parents, puid_cmp, read_in, read_of, read_so_far, rescued, same_Some, same_puid, same_puid_is, same_puid_itself, scanned, shaded_as, shaded_in, step_of, sum_by, sum_by-cons, unread, unread_at, unread_of, with_cursor}
+use Rattle.std.proofs.Common.{◌≡◌, ◌⊎◌, inl, inr, ℕ, ◌+◌, ◌<◌, ◌≤◌, List, [], ◌∷◌, ◌++◌, ◌-◌, ◌^◌, length, length-append, count_by, refl, sym, ◌∙◌, ap, subst, arith, Bool, true, false, cond, Option, Some, None}
+use Rattle.marking.proofs.Words.{AreOnce, Colours, Graph, Grey, Index, IsDraftIndex, IsGrey, IsPaced, Kind, Object, Puid, Rescue, State, all_shaded, blocks_of, count_after, added_with, cursor_of, draft_at, draft_step, draft_over, ended_from, first_grey, has_number, ids_of, is_among, is_at, is_index, is_live, is_some, is_there, is_there-ids, kind_among, lookup, moved, moved_at, moved_first, nat_lt, nat_tests, next_held, none_marked, object_at, or_cases, own_part, own_step, parents, puid_cmp, read_in, read_of, read_so_far, rescued, same_Some, same_puid, same_puid_is, same_puid_itself, scanned, shaded_as, shaded_in, step_of, sum_by, sum_by-cons, unread, unread_at, unread_of, with_cursor}
 use Rattle.std.proofs.Common.{◌*◌}
 use Rattle.std.specs.Prelude.{option_map}
-use Rattle.std.proofs.lemmas.Bool.{lt-ltb, ltb-true, cases_Bool}
+use Rattle.std.proofs.lemmas.Bool.{ltb-true}
 use Rattle.ufs_model.specs.declared.object.Object.TheVariants as objects
-use Rattle.marking.proofs.Sums.{IsIn, sum_more, sum_raised, sum_lowered, count_all}
+use Rattle.marking.proofs.Sums.{IsIn, number_in, sum_more, sum_raised, sum_lowered, count_all}
 use Rattle.marking.specs.Pace.{drafted_leaves, reading_at}
 use Rattle.marking.proofs.Shades.{coloured, colour_more}
 use Rattle.marking.proofs.Steps.{find_on, first_is}
+use Rattle.marking.proofs.UnreadSteps.{unread_later, unread_end, unread_past, unread_if_held, draft_lowers, draft_moves, unread_most}
 
 -- ---- what is found is in the list
 
@@ -22,10 +23,6 @@ found_in k o (e ∷ es) h = elim (same_puid k e.0) as (λ t. same_puid k e.0 ≡
   | true ↦ λ is here. inl (λ j. (sym (same_puid_is k e.0 is) j, same_Some e.1 o here j))
   | false ↦ λ is later. inr (found_in k o es later)
 ] refl h
-
-number_in : (n : ℕ) (ns : List ℕ) → has_number n ns ≡ true → IsIn n ns
-number_in n [] h = cc
-number_in n (m ∷ ms) h = elim (or_cases (m == n) (has_number n ms) h) [ inl here ↦ inl (eqb-true m n here) | inr later ↦ inr (number_in n ms later) ]
 
 -- ---- counts of leaves
 
@@ -186,69 +183,7 @@ module _ (marked : ℕ → Bool) (e : Grey) (rest : List Grey) (once : AreOnce (
         | false ↦ λ is. rw (reading_else next id is) (omega arith)
       ] refl
 
--- ---- how much is left of a draft
-
--- it falls as a cursor moves on
-unread_later : (a b : ℕ) → a ≤ b → (has : Bool) (held : List ℕ) → unread_of has (Some b) held ≤ unread_of has (Some a) held
-unread_later a b le has held = elim (cases_Bool (nat_lt b own_part)) [
-  | inl in_draft ↦ let less : nat_lt a own_part ≡ true = lt-ltb a own_part (let low = ltb-true b own_part in_draft in omega (arith, le, low)) in
-      let few = sum_more (λ leaf. cond (nat_le b leaf) 1 0) (λ leaf. cond (nat_le a leaf) 1 0) (λ leaf. grind (arith, nat_tests)) held in
-      rw (in_draft, less) (omega (arith, few))
-  | inr past ↦ rw past (omega arith)
-]
-
-unread_end : (a : ℕ) (has : Bool) (held : List ℕ) → unread_of has None held ≤ unread_of has (Some a) held
-unread_end a has held = omega arith
-
--- in an index's own part it is 0
-pub unread_past : (a b : ℕ) → own_part ≤ b → (has : Bool) (held : List ℕ) → unread_of has (Some b) held ≤ unread_of has (Some a) held
-unread_past a b le has held = let past : nat_lt b own_part ≡ false = grind (arith, nat_tests) in rw past (omega arith)
-
-unread_if_held : (j : Index) (from a b : ℕ) → own_part ≤ b → (has : Bool) (held : List ℕ) → unread_of has (if_held j from b) held ≤ unread_of has (Some a) held
-unread_if_held j from a b le has held = elim (next_held from j) as (λ o. unread_of has (cond (is_some o) (Some b) None) held ≤ unread_of has (Some a) held) [ None ↦ omega arith | Some n ↦ unread_past a b le has held ]
-
--- past a leaf that is held there is less
-unread_passed : (cursor leaf b : ℕ) (held : List ℕ) → cursor < own_part → cursor ≤ leaf → leaf < b → has_number leaf held ≡ true → unread_of true (Some b) held + 1 ≤ unread_of true (Some cursor) held
-unread_passed cursor leaf b held inside on less at = rw (lt-ltb cursor own_part inside) (elim (nat_lt b own_part) as (λ t. cond t (count_by (λ l. nat_le b l) held + 1) 0 + 1 ≤ count_by (λ l. nat_le cursor l) held + 1) [
-  | true ↦
-      let raised = sum_raised (λ l. cond (nat_le b l) 1 0) (λ l. cond (nat_le cursor l) 1 0) (λ l. grind (arith, nat_tests)) leaf (below_passed cursor leaf b on less) held (number_in leaf held at) in
-      omega (arith, raised)
-  | false ↦ omega arith
-])
-  where
-    below_passed : (cursor leaf b : ℕ) → cursor ≤ leaf → leaf < b → cond (nat_le b leaf) 1 0 + 1 ≤ cond (nat_le cursor leaf) 1 0
-    below_passed cursor leaf b on less = grind (arith, nat_tests)
-
-unread_ends : (cursor : ℕ) (held : List ℕ) → cursor < own_part → (o : Option ℕ) → ((b : ℕ) → o ≡ Some b → own_part ≤ b) → unread_of true o held + 1 ≤ unread_of true (Some cursor) held
-unread_ends cursor held inside None past = rw (lt-ltb cursor own_part inside) (omega arith)
-unread_ends cursor held inside (Some b) past = let le = past b refl in let none : nat_lt b own_part ≡ false = grind (arith, nat_tests) in rw (lt-ltb cursor own_part inside, none) (omega arith)
-
-if_held_is : (j : Index) (from to b : ℕ) → if_held j from to ≡ Some b → b ≡ to
-if_held_is j from to b h = elim (next_held from j) as (λ o. cond (is_some o) (Some to) None ≡ Some b → b ≡ to) [ None ↦ λ no. cc | Some n ↦ λ is. sym (same_Some to b is) ] h
-
--- a step in the draft's part leaves less of it
-draft_lowers : (d j : Index) (cursor : ℕ) → cursor < own_part → unread_of true (draft_step d j (next_held cursor d)).1 d.held + 1 ≤ unread_of true (Some cursor) d.held
-draft_lowers d j cursor inside = elim (next_held cursor d) as (λ o. next_held cursor d ≡ o → unread_of true (draft_step d j o).1 d.held + 1 ≤ unread_of true (Some cursor) d.held) [
-  | None ↦ λ none. unread_ends cursor d.held inside (if_held j 0 own_part) (λ b is. omega (arith, if_held_is j 0 own_part b is))
-  | Some leaf ↦ λ next.
-      let here = find_on cursor leaf d.held next in
-      elim (next_held (leaf + 1) d) as (λ o. unread_of true (cond (is_some o) (Some (leaf + 1)) (if_held j 0 own_part)) d.held + 1 ≤ unread_of true (Some cursor) d.held) [
-        | None ↦ unread_ends cursor d.held inside (if_held j 0 own_part) (λ b is. omega (arith, if_held_is j 0 own_part b is))
-        | Some n ↦ unread_passed cursor leaf (leaf + 1) d.held inside here.0 (omega arith) here.1
-      ]
-] refl
-
--- and moves on
-draft_moves : (d j : Index) (cursor : ℕ) → cursor < own_part → (P : Option ℕ → Type 0) → P None → ((b : ℕ) → cursor ≤ b → P (Some b)) → P (draft_step d j (next_held cursor d)).1
-draft_moves d j cursor inside P none some = elim (next_held cursor d) as (λ o. next_held cursor d ≡ o → P (draft_step d j o).1) [
-  | None ↦ λ is. own
-  | Some leaf ↦ λ next.
-      let here = find_on cursor leaf d.held next in
-      elim (next_held (leaf + 1) d) as (λ o. P (cond (is_some o) (Some (leaf + 1)) (if_held j 0 own_part))) [ None ↦ own | Some n ↦ some (leaf + 1) (omega (arith, here.0)) ]
-] refl
-  where
-    own : P (if_held j 0 own_part)
-    own = elim (next_held 0 j) as (λ o. P (cond (is_some o) (Some own_part) None)) [ None ↦ none | Some n ↦ some own_part (omega (arith, inside)) ]
+-- ---- a scan of an index and its draft
 
 -- each scan reads a leaf of an index itself or ends it, or leaves less of a draft
 pub record Scanned (s : State) (c d : Colours) : Type 0 where
@@ -286,10 +221,6 @@ module _ (s : State) (marked : ℕ → Bool) (e : Grey) (rest : List Grey) (once
           (rw is (draft_lowers d i e.cursor inside))
 
 -- shading leaves both
-unread_most : (has : Bool) (k : Option ℕ) (held : List ℕ) → unread_of has k held ≤ unread_of has (Some 0) held
-unread_most has None held = omega arith
-unread_most has (Some b) held = unread_later 0 b (omega arith) has held
-
 keeps_unread : (s : State) (c d : Colours) → Keeps c d → unread s d ≤ unread s c
 keeps_unread s c d keeps = sum_more (unread_at s d) (unread_at s c) each (ids_of s.graph)
   where

@@ -1,11 +1,15 @@
 -- Sums over lists, and over numbers in rising order.
-use Rattle.marking.proofs.Words.{and_parts, cases_eq, has_number, list_all, nat_lt, numbers_rise, sum_by, sum_by-cons, with_number}
+use Rattle.marking.proofs.Words.{and_parts, cases_eq, eqb-true, has_number, list_all, nat_lt, numbers_rise, or_cases, sum_by, sum_by-cons, with_number}
 use Rattle.std.proofs.Common.{◌≡◌, ◌⊎◌, inl, inr, ℕ, ◌+◌, ◌<◌, ◌≤◌, ◌==◌, List, [], ◌∷◌, length, refl, sym, ◌∙◌, ap, subst, arith, true, false, cond}
 use Rattle.ufs_model.proofs.Rising.{here, later, in_cons, above}
 
 abbrev pub IsIn : {X : Type 0} → X → List X → Type 0
 IsIn x [] = ⊥
 IsIn x (y ∷ ys) = (y ≡ x) ⊎ IsIn x ys
+
+pub number_in : (n : ℕ) (ns : List ℕ) → has_number n ns ≡ true → IsIn n ns
+number_in n [] h = cc
+number_in n (m ∷ ms) h = elim (or_cases (m == n) (has_number n ms) h) [ inl here ↦ inl (eqb-true m n here) | inr later ↦ inr (number_in n ms later) ]
 
 module _ {X : Type 0} (f h : X → ℕ) (le : (x : X) → f x ≤ h x) where
   pub sum_more : (xs : List X) → sum_by f xs ≤ sum_by h xs

@@ -12,7 +12,7 @@ use Rattle.normal_files.specs.declared.part.Part.{Part}
 use Rattle.normal_files.proofs.Laid.{rooted_is, tree_of_laid}
 use Rattle.normal_files.proofs.Trees.{near_tree}
 use Rattle.block_tree.specs.Along.{CutsRootPast, IsNearTree}
-use Rattle.normal_files.specs.Frees.{FreesTo, GivesEnd, IsDropTrouble, IsFreeing, IsResizeRefusal, IsShrinkTrouble, TakesNone, NoMap, OfFile}
+use Rattle.normal_files.specs.Frees.{FollowsStart, FreesTo, GivesEnd, HasBegun, IsFreeing, IsResizeRefusal, IsShrinkTrouble, TakesNone, NoMap, OfFile}
 use Rattle.normal_files.specs.declared.cut.End.{End}
 use Rattle.normal_files.proofs.Partly.{no_index}
 use Rattle.normal_files.proofs.Refusals.{tells_after, trouble_after_reads, damage_as}
@@ -246,10 +246,10 @@ pub stop_troubled : {D : Type 0} (g : Ghosts D) (at : Top) (old new : D) (t : Tr
 stop_troubled g at old new (trouble.Disk tried) is = is
 stop_troubled g at old new (trouble.Damaged damage) is = absurd is
 
-pub drop_troubled : {D : Type 0} (g : Ghosts D) (at : Top) (old new : D) (result : Result (Unit {0}) Trouble) → IfErr result (IsDropTrouble g at old new) → IfErr result (IsShrinkTrouble g at old new)
-drop_troubled g at old new (Ok v) is = tt
-drop_troubled g at old new (Err (trouble.Disk tried)) is = is
-drop_troubled g at old new (Err (trouble.Damaged damage)) is = inr is
+pub drop_troubled : {D : Type 0} (g : Ghosts D) (at : Top) (old new : D) {n t : ℕ} {mid : D} {k0 k1 : Kept} (result : Result (Unit {0}) Trouble) → HasBegun g old mid → FollowsStart g at n t mid new k0 k1 result → IfErr result (IsShrinkTrouble g at old new)
+drop_troubled g at old new (Ok v) begun follows = tt
+drop_troubled g at old new (Err (trouble.Disk tried)) begun follows = follows.refused.1 old begun
+drop_troubled g at old new (Err (trouble.Damaged damage)) begun follows = inr (follows.refused.1 old begun)
 
 -- of a call that follows calls that only read
 pub shrink_refused : {D : Type 0} {n : ℕ} (g : Ghosts D) (at : Top) (floor : ℕ) (old mid new : D) → OnlyReads g n old mid → (kept : Kept) (t : Trouble) → IsShrinkTrouble g at mid new t → IsResizeRefusal g at floor old new kept (refused_by t)

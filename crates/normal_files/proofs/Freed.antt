@@ -1,6 +1,6 @@
 -- Blocks given back, one after another.
-use Rattle.normal_files.proofs.Words.{◌≡◌, ◌≢◌, ◌⊎◌, inl, inr, ℕ, ◌+◌, ◌*◌, ◌<◌, ◌≤◌, false, IsTrue, Ok, Err, List, length, set, Some, refl, sym, ◌∙◌, ap, subst, arith, OnOk, Result, both_ways, cases_eq, false_from_ne_true, same_Some, MakesAtMost, OnlyReads, Image, IsSameDisk, Written, block_at, trouble_after_try, Leaves, left_now, Ghosts, Puid, Place, Leaf, Node, Root, ShadowRoot, Trouble, makes_then, tried_then, AreCounts, Kept, unheld_entry, IsEntry, entry_in, is_free_entry, is_free_in, map_of, map_with, with_entry, MapEntry, block_at-with_entry, entry_in-with_entry_other, entry_in-with_entry_same, map_in_image, same_or_not, Graph, Frames, IsTaken, part_at, stands_for, IsPlaced, placed, shadow_entry, stays, tried, wrote, frames_entry, ChangesOnly, IsOpenTo, of_owner, is_taken, changes_entry, changes_then, free_unowned, taken_of, leaf_pointers}
-use Rattle.normal_files.specs.Frees.{Drops, FollowsStart, FreesBlock, HasBegun, IsDropped, IsFreed, IsFreeing, FreedLeaf, FreedNode, IsDropTrouble, NoMap, OfFile}
+use Rattle.normal_files.proofs.Words.{◌≡◌, ◌≢◌, ◌⊎◌, inl, inr, ℕ, ◌+◌, ◌*◌, ◌<◌, ◌≤◌, false, IsTrue, Ok, Err, List, length, set, Some, refl, sym, ◌∙◌, ap, subst, arith, Result, both_ways, cases_eq, false_from_ne_true, same_Some, OnlyReads, Image, IsSameDisk, Written, block_at, trouble_after_try, Leaves, left_now, Ghosts, Puid, Place, Leaf, Node, Root, ShadowRoot, Trouble, makes_then, tried_then, AreCounts, Kept, unheld_entry, IsEntry, entry_in, is_free_entry, is_free_in, map_of, map_with, with_entry, MapEntry, block_at-with_entry, entry_in-with_entry_other, entry_in-with_entry_same, map_in_image, same_or_not, Graph, Frames, IsTaken, part_at, stands_for, IsPlaced, placed, shadow_entry, stays, tried, wrote, frames_entry, ChangesOnly, IsOpenTo, of_owner, is_taken, changes_entry, changes_then, free_unowned, taken_of, leaf_pointers}
+use Rattle.normal_files.specs.Frees.{Drops, FollowsStart, FreesBlock, HasBegun, IsDropped, IsFreed, IsFreeing, FreedLeaf, FreedNode, IsDropTrouble, NoMap, OfFile, StaysCounted}
 use Rattle.normal_files.specs.Laid.{leaf_of, node_of}
 use Rattle.normal_files.proofs.Amid.{taken_open}
 use Rattle.normal_files.proofs.Among.{places_differ}
@@ -9,51 +9,43 @@ use Rattle.cfs_base.specs.declared.refusal.Trouble.TheVariants as trouble
 use Rattle.block_tree.specs.declared.root.Root as roots
 use Rattle.leaf_changes.specs.Tops.{Top}
 use Rattle.normal_files.proofs.Refusals.{damage_as}
-use Rattle.normal_files.proofs.Come.{makes_within}
-use Rattle.std.specs.Prelude.{IfErr}
+use Rattle.cfs_base.proofs.Went.{went_as, went_then}
 
 -- ---- on any disk
 
-pub begun_on : {D : Type 0} (g : Ghosts D) (start mid new : D) (n t : ℕ) → HasBegun g start mid → ((b : ℕ) → IsTrue (g.told mid b) → IsTrue (g.told new b)) → MakesAtMost g n t mid new → HasBegun g start new
-begun_on g start mid new n t begun told makes = record {
+begun_on : {D : Type 0} {g : Ghosts D} {at : Top} {n t : ℕ} {start mid new : D} {k0 k1 : Kept} → HasBegun g start mid → FollowsStart g at n t mid new k0 k1 (Ok tt) → HasBegun g start new
+begun_on {g = g} {n = n} {t = t} {start = start} {mid = mid} {new = new} begun follows = record {
   n = begun.n + n;
   t = begun.t + t;
-  told = λ b was. told b (begun.told b was);
-  makes = makes_then g start mid new begun.n n (begun.n + n) begun.t t (begun.t + t) begun.makes makes (omega arith) (omega arith);
-  tried = tried_then g start mid new n t begun.tried makes;
+  went = record {
+    told = λ b was. follows.told b (begun.went.told b was);
+    knows = tried_then g start mid new n t begun.went.knows follows.calls;
+    refused = tt;
+    untried = tt;
+    moves = tt;
+    calls = makes_then g start mid new begun.n n (begun.n + n) begun.t t (begun.t + t) begun.went.calls follows.calls (omega arith) (omega arith);
+  };
 }
+
+stays_then : {k0 k1 k2 : Kept} → StaysCounted k0 k1 → StaysCounted k1 k2 → StaysCounted k0 k2
+stays_then first then = record { cylinders = then.cylinders ∙ first.cylinders; left = then.left ∙ first.left }
 
 -- two calls, one after the other
 pub follows_on : {D : Type 0} (g : Ghosts D) (at : Top) (n t m s k r : ℕ) {first : Top} (old mid new : D) (k0 k1 k2 : Kept) (result : Result (Unit {0}) Trouble) → n + m ≤ k → t + s ≤ r → FollowsStart g first n t old mid k0 k1 (Ok tt) → FollowsStart g at m s mid new k1 k2 result → FollowsStart g at k r old new k0 k2 result
-follows_on g at n t m s k r old mid new k0 k1 k2 result few fewer one two = record {
-  told = by result two.told;
-  stopped = λ start begun. two.stopped start (begun_on g start old mid n t begun one.told one.calls);
-  tried = two.tried;
-  cylinders = two.cylinders ∙ one.cylinders;
-  left = two.left ∙ one.left;
-  calls = makes_then g old mid new n m k t s r one.calls two.calls few fewer;
-}
+follows_on g at n t m s k r old mid new k0 k1 k2 result few fewer one two = went_as k r k (λ is. is) (λ e why. why) (λ e is. is) (λ x is. is) (both result two) few fewer few
   where
-    by : (x : Result (Unit {0}) Trouble) → OnOk x ((b : ℕ) → IsTrue (g.told mid b) → IsTrue (g.told new b)) → OnOk x ((b : ℕ) → IsTrue (g.told old b) → IsTrue (g.told new b))
-    by (Ok x) told = λ b was. told b (one.told b was)
-    by (Err e) told = tt
+    both : (x : Result (Unit {0}) Trouble) → FollowsStart g at m s mid new k1 k2 x → FollowsStart g at (n + m) (t + s) old new k0 k2 x
+    both (Ok tt) last = went_then (λ (e : Trouble). e) stays_then tt tt refl one last
+    both (Err e) last = went_then (λ (x : Trouble). x) stays_then (λ why. (why.0, λ start begun. why.1 start (begun_on begun one))) (λ none. absurd (last.refused.0 none)) tt one last
 
 -- of another root at the block, which leads past the disk where this one does, with more calls
 pub follows_as : {D : Type 0} (g : Ghosts D) {at now : Top} {n t : ℕ} (most tries : ℕ) (old new : D) (k0 k1 : Kept) (result : Result (Unit {0}) Trouble) → at.block ≡ now.block → ((size : ℕ) → at.IsFar size → now.IsFar size) → n ≤ most → t ≤ tries → FollowsStart g at n t old new k0 k1 result → FollowsStart g now most tries old new k0 k1 result
-follows_as g {at} {now} {n} {t} most tries old new k0 k1 result same on few fewer is = record {
-  told = is.told;
-  stopped = λ start begun. by start result (is.stopped start begun);
-  tried = is.tried;
-  cylinders = is.cylinders;
-  left = is.left;
-  calls = makes_within g old new n t most tries few fewer is.calls;
-}
+follows_as g {at} {now} most tries old new k0 k1 result same on few fewer is = went_as most tries most (λ moves. moves) (λ e why. (why.0, λ start begun. by start e (why.1 start begun))) (λ e none. none) (λ x none. none) is few fewer few
   where
-    by : (start : _) (x : Result (Unit {0}) Trouble) → IfErr x (IsDropTrouble g at start new) → IfErr x (IsDropTrouble g now start new)
-    by start (Ok y) why = tt
-    by start (Err (trouble.Disk tried)) why = why
-    by start (Err (trouble.Damaged damage)) (NoMap code map bad) = NoMap code map bad
-    by start (Err (trouble.Damaged damage)) (OfFile mid tells content size why) = OfFile mid tells content size (damage_as g same mid (on (g.blocks mid)) damage why)
+    by : (start : _) (e : Trouble) → IsDropTrouble g at start new e → IsDropTrouble g now start new e
+    by start (trouble.Disk tried) why = why
+    by start (trouble.Damaged damage) (NoMap code map bad) = NoMap code map bad
+    by start (trouble.Damaged damage) (OfFile mid tells content size why) = OfFile mid tells content size (damage_as g same mid (on (g.blocks mid)) damage why)
 
 pub not_untried : (t : Trouble) → trouble_after_try t ≢ trouble.Disk false
 not_untried (trouble.Disk tried) same = cc

@@ -1,5 +1,5 @@
 -- Blocks given back by calls in a row.
-use Rattle.normal_files.proofs.Words.{◌≡◌, ◌≢◌, inl, inr, ℕ, ◌+◌, ◌-◌, ◌*◌, ◌<◌, ◌≤◌, false, IsTrue, Ok, Err, List, length, get_or, refl, sym, ◌∙◌, ap, subst, arith, ◌==◌, if◌then◌else◌, OnOk, Result, cases_eq, ne_eqb, OnlyReads, Image, trouble_after_try, trouble_had_tried, Tells, Ghosts, Puid, Trouble, reads_make, stopped_after_try, Kept, Graph, tried, not_map, leaves_in, leaf_pointers, node_pointers, leaf_limit, IsNear, leaves_at, is_damage}
+use Rattle.normal_files.proofs.Words.{◌≡◌, ◌≢◌, inl, inr, ℕ, ◌+◌, ◌-◌, ◌*◌, ◌<◌, ◌≤◌, false, IsTrue, Ok, Err, List, length, get_or, refl, sym, ◌∙◌, ap, subst, arith, ◌==◌, if◌then◌else◌, OnOk, Result, cases_eq, ne_eqb, OnlyReads, Image, trouble_after_try, trouble_had_tried, Tells, Ghosts, Puid, Trouble, reads_make, still_tells, stopped_after_try, Kept, Graph, tried, not_map, leaves_in, leaf_pointers, node_pointers, leaf_limit, IsNear, leaves_at, is_damage}
 use Rattle.normal_files.specs.Frees.{Drops, FollowsStart, FreesBlock, FreesTo, GivesEnd, GivesLeaves, GivesNode, GivesNodes, HasBegun, IsDropTrouble, IsFreed, IsFreeing, OfFile}
 use Rattle.normal_files.specs.Cuts.{cut_place, last_node}
 use Rattle.normal_files.specs.Laid.{leaf_of, node_of}
@@ -7,7 +7,7 @@ use Rattle.normal_files.specs.Limits.{free_calls, free_tries}
 use Rattle.normal_files.specs.Refusal.{IsTrouble}
 use Rattle.block_tree.specs.Along.{way_leaves}
 use Rattle.normal_files.specs.declared.cut.End.{End}
-use Rattle.normal_files.proofs.Come.{makes_within}
+use Rattle.cfs_base.proofs.Went.{makes_within}
 use Rattle.normal_files.proofs.Trees.{same_leaves}
 use Rattle.normal_files.proofs.Freed.{follows_on, not_untried, freeing_on, IsNext, any_leaves, any_on, next_leaf, none_leaf, next_node, none_node}
 use Rattle.cfs_base.specs.declared.refusal.Trouble.TheVariants as trouble
@@ -129,21 +129,21 @@ module _ {D : Type 0} (g : Ghosts D) (root : roots.Root) (n : ℕ) (old mid : D)
 
   pub read_follows : (at : Top) (m t most tries : ℕ) (new : D) (k1 : Kept) (result : Result (Unit {0}) Trouble) → m + 1 ≤ most → t ≤ tries → FollowsStart g at m t mid new k0 k1 result → FollowsStart g at most tries old new k0 k1 result
   read_follows at m t most tries new k1 result few fewer follows = follows_on g at 1 0 m t most tries {first = at} old mid new k0 k0 k1 result (omega (arith, few)) (omega (arith, fewer))
-      (record { told = reads.told; stopped = λ start begun. tt; tried = tt; cylinders = refl; left = refl; calls = reads_make g old mid 1 reads }) follows
+      (record { told = reads.told; knows = tt; refused = tt; untried = tt; moves = record { cylinders = refl; left = refl }; calls = reads_make g old mid 1 reads }) follows
 
   pub unread_follows : (at : Top) (most tries : ℕ) (t : Trouble) → 1 ≤ most → IsTrouble g at old mid t → trouble_had_tried t ≡ false → FollowsStart g at most tries old mid k0 k0 (Err (trouble_after_try t))
   unread_follows at most tries t few is untried = record {
     told = tt;
-    stopped = λ start begun. by t is start begun;
-    tried = not_untried t;
-    cylinders = refl;
-    left = refl;
+    knows = tt;
+    refused = (not_untried t, λ start begun. by t is start begun);
+    untried = λ none. absurd (not_untried t none);
+    moves = record { cylinders = refl; left = refl };
     calls = makes_within g old mid 1 0 most tries few (omega arith) (reads_make g old mid 1 reads);
   }
     where
       by : (x : Trouble) → IsTrouble g at old mid x → (start : D) → HasBegun g start old → IsDropTrouble g at start mid (trouble_after_try x)
-      by (trouble.Disk tried) is start begun = stopped_after_try g start old mid begun.n begun.t tried begun.makes begun.tried is
-      by (trouble.Damaged damage) is start begun = OfFile old (λ tells. record { honest = subst IsTrue (sym begun.makes.same.honesty) tells.honest; told = λ b. begun.told b (tells.told b) }) (sym reads.content) (sym reads.same.size) is
+      by (trouble.Disk tried) is start begun = stopped_after_try g start old mid begun.n begun.t tried begun.went.calls begun.went.knows is
+      by (trouble.Damaged damage) is start begun = OfFile old (λ tells. still_tells g tells begun.went.told begun.went.calls.same) (sym reads.content) (sym reads.same.size) is
 
 -- its leaves and the node itself
 pub node_on : {D : Type 0} (g : Ghosts D) (root : roots.Root) (leaves : List ℕ) (n : ℕ) (at : Top) (mid mid2 new : D) (k0 k1 k2 : Kept) (result : Result (Unit {0}) Trouble) → FreesTo g root (GivesLeaves root leaves n 0) (leaf_pointers.count * n + 0) n (leaf_pointers.count * n + leaf_pointers.count) n mid mid2 k0 k1 (Ok tt)

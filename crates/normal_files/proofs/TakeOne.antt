@@ -1,5 +1,5 @@
 -- One leaf more of a part.
-use Rattle.normal_files.proofs.Words.{◌≡◌, ◌≢◌, inl, inr, ℕ, zero, suc, ◌+◌, ◌-◌, ◌*◌, ◌%◌, ◌<◌, ◌≤◌, Bool, true, false, cond, Ok, Err, List, get_or, refl, sym, ap, subst, arith, ◌∙◌, ◌&&◌, ◌==◌, if◌then◌else◌, nat_lt, Result, cases_eq, lt-ltb, ne_eqb, Ghosts, Refused, AreClaimed, Kept, refused_by, trouble_after_try, Node, Trouble, leaf_pointers, pointers_of, IsLoose, Image, Leaves}
+use Rattle.normal_files.proofs.Words.{◌≡◌, ◌≢◌, inl, inr, ℕ, zero, suc, ◌+◌, ◌-◌, ◌*◌, ◌%◌, ◌<◌, ◌≤◌, Bool, true, false, cond, Ok, Err, List, Some, get_or, refl, sym, ap, subst, arith, ◌∙◌, ◌&&◌, ◌==◌, if◌then◌else◌, nat_lt, Result, cases_eq, lt-ltb, ne_eqb, Ghosts, Refused, AreClaimed, Kept, refused_by, trouble_after_try, Node, Trouble, leaf_pointers, pointers_of, IsLoose, Image, Leaves}
 use Rattle.normal_files.specs.Ends.{HasGone, refused_after, Halts}
 use Rattle.normal_files.specs.Laid.{node_of}
 use Rattle.normal_files.specs.Order.{claims_from}
@@ -9,14 +9,14 @@ use Rattle.normal_files.specs.Takes.{IsTakenTo, MayTake, TakesLeaf, fresh_conten
 use Rattle.normal_files.specs.Plans.{Plan}
 use Rattle.normal_files.specs.declared.next.Next.{Next}
 use Rattle.normal_files.specs.declared.part.Part.{Part}
-use Rattle.normal_files.proofs.Ending.{gone_err, gone_within, same_after, gone_as, gone_come, gone_then, halts_come, halts_within, or_true}
+use Rattle.normal_files.proofs.Ending.{gone_err, gone_within, same_after, gone_come, gone_then, or_true}
 use Rattle.normal_files.proofs.LackingTo.{filter_to}
 use Rattle.normal_files.proofs.TakeRun.{leaf_passed, node_whole, node_written}
 use Rattle.normal_files.proofs.Taking.{fresh_leaves, fresh_written, loose}
 use Rattle.normal_files.specs.View.{Way}
 use Rattle.block_tree.specs.Along.{way_leaves, way_node}
 use Rattle.normal_files.proofs.Ways.{way_count}
-use Rattle.normal_files.proofs.Come.{come_wrote, write_stopped}
+use Rattle.normal_files.proofs.Come.{come_wrote, done_as, write_stopped}
 use Rattle.block_tree.specs.declared.root.Root as roots
 use Rattle.cfs_base.specs.declared.refusal.Trouble.TheVariants as trouble
 
@@ -127,7 +127,7 @@ module _ {D : Type 0} {g : Ghosts D} (root : roots.Root) (part : Part) (leaf : �
       let lacks = ap (λ (b : Bool). cond {A = ℕ} b 1 0) absent in
       let takes = takes_sum had next in
       let node = ap (node_takes had) grown in
-      gone_within (gone_as (or_true next.grown ∙ sym grown) (gone_then next.grown true gone step)) (omega (arith, from)) (omega (arith, from)) (omega (arith, one, lacks, takes, node))
+      gone_within (done_as (ap Some (or_true next.grown ∙ sym grown)) (gone_then next.grown true gone step)) (omega (arith, from)) (omega (arith, from)) (omega (arith, one, lacks, takes, node))
 
   pub run_stops : {new : D} {after : Kept} (e : Refused) → leaf < part.leaves.to → Passes g had own leaf next mid new now after (Err e)
       → Halts g (5 * (part.leaves.to - part.leaves.from)) (3 * (part.leaves.to - part.leaves.from)) (part_need root part) start new before after (refused_after next.grown e)
@@ -137,7 +137,7 @@ module _ {D : Type 0} {g : Ghosts D} (root : roots.Root) (part : Part) (leaf : �
       let takes = takes_sum had next in
       let up = lacking_within own part.leaves.from (leaf + 1) part.leaves.to (omega (arith, from)) (omega (arith, to)) in
       let need = node_part root part true (λ yes. omega (arith, from, to)) in
-      halts_within (gone_err next.grown e gone ends) (omega (arith, from, to)) (omega (arith, from, to)) (omega (arith, one, lacks, takes, up, need))
+      gone_within (gone_err next.grown e gone ends) (omega (arith, from, to)) (omega (arith, from, to)) (omega (arith, one, lacks, takes, up, need))
 
   pub run_ends : leaf ≡ part.leaves.to → (next.grown ≡ true → part.leaves.from < leaf)
       → HasGone g (5 * (part.leaves.to - part.leaves.from)) (3 * (part.leaves.to - part.leaves.from)) (part_need root part) next.grown start mid before now
@@ -182,9 +182,9 @@ module _ {D : Type 0} {g : Ghosts D} {r fill offset : ℕ} {bytes : List ℕ} {p
 -- the node is written, or couldn't be
 module _ {D : Type 0} {g : Ghosts D} {n t k : ℕ} (had : ℕ) (next : Next) {start mid : D} {before now : Kept} (is_new : (had == 0 && next.grown) ≡ true) (gone : HasGone g n t k next.grown start mid before now) where
   pub node_gone : {block : ℕ} {v : List ℕ} {new : D} → WritesBlock g 1 block v mid new (Ok tt) → HasGone g (n + 1) (t + 1) k next.grown start new before now
-  node_gone {new = new} writes = let yes = (is_none had next.grown is_new).1 in gone_within (gone_as (or_true next.grown ∙ sym yes) (gone_then next.grown true gone (gone_come (come_wrote writes) now))) (omega arith) (omega arith) (omega arith)
+  node_gone {new = new} writes = let yes = (is_none had next.grown is_new).1 in gone_within (done_as (ap Some (or_true next.grown ∙ sym yes)) (gone_then next.grown true gone (gone_come (come_wrote writes) now))) (omega arith) (omega arith) (omega arith)
 
   pub node_stops : {block : ℕ} {v : List ℕ} {new : D} (e : Trouble) → e ≡ trouble.Disk true → WritesBlock g 1 block v mid new (Err e) → Halts g (n + 1) (t + 1) k start new before now (refused_by (trouble_after_try e))
   node_stops {new = new} e fails writes =
       let yes = (is_none had next.grown is_new).1 in
-      subst (Halts g (n + 1) (t + 1) k start new before now) (ap (λ (b : Bool). refused_after b (refused_by e)) yes ∙ sym (same_after true e)) (halts_within (gone_err next.grown (refused_by e) gone (halts_come (write_stopped writes fails) now)) (omega arith) (omega arith) (omega arith))
+      subst (Halts g (n + 1) (t + 1) k start new before now) (ap (λ (b : Bool). refused_after b (refused_by e)) yes ∙ sym (same_after true e)) (gone_within (gone_err next.grown (refused_by e) gone (gone_come (write_stopped writes fails) now)) (omega arith) (omega arith) (omega arith))

@@ -9,7 +9,7 @@ pub use Rattle.block_tree.specs.Reads.{HasStoppedBy, Far, FarLeaf, IsNear, IsNod
 pub use Rattle.block_tree.specs.Root.{IsGoodRoot, IsRoot, IsRootBlock, root_spelling}
 pub use Rattle.block_tree.specs.Tree.{bytes_in, end_of, leaf_block, pointer, tree_of}
 unfoldable pub use Rattle.block_tree.specs.Tree.{levels_of, path_to}
-pub use Rattle.cfs_base.proofs.Calls.{makes_then, reads_make, reads_then, reads_within, stopped_after_reads, stopped_after_try, tells_on, then_tried, tried_then}
+pub use Rattle.cfs_base.proofs.Calls.{makes_then, reads_make, reads_then, reads_within, stopped_after_reads, stopped_after_try, tells_on, tried_then}
 pub use Rattle.cfs_base.proofs.Runs.{on, still_tells, then, wider}
 pub use Rattle.cfs_base.specs.Calls.{HasTried, MakesAtMost, OnlyReads}
 pub use Rattle.cfs_base.specs.Disk.{AreBlocks, Image, IsSameDisk, Nothing, Written, block_at}
@@ -59,7 +59,7 @@ pub use Rattle.std.proofs.lemmas.Bool.Decides.{nat_tests}
 pub use Rattle.std.proofs.lemmas.List.{ext_get_or, get_or-replicate, get_or_past, length-replicate, take_at}
 pub use Rattle.std.proofs.lemmas.List.Elements.{All-from_get_or, All-replicate, All-set}
 pub use Rattle.std.proofs.lemmas.List.FromFn.{length-map-range_with_len}
-pub use Rattle.std.proofs.lemmas.List.Sums.{length-filter, sum_by-cons}
+pub use Rattle.std.proofs.lemmas.List.Sums.{length-filter}
 pub use Rattle.std.proofs.lemmas.Option.{same_Some}
 pub use Rattle.std.specs.List.{All, range_with_len}
 pub use Rattle.std.specs.Prelude.{IfErr, IfOk, IsSome, OnOk, Result, count_by, filter, if◌then◌else◌, map, max, min, nat_le, nat_lt, not, slice_index, slice_range, sum, ◌&&◌, ◌==◌, ◌||◌}

@@ -1,15 +1,15 @@
 -- How calls end that take blocks, on any disk.
-use Rattle.std.specs.Prelude.{◌≡◌, ℕ, ◌+◌, ◌<◌, ◌≤◌, Bool, true, false, if◌then◌else◌, Ok, Err, Result, length, sum}
-use Rattle.cfs_base.specs.Calls.{HasStopped, MakesAtMost, OnlyReads}
+use Rattle.std.specs.Prelude.{◌≡◌, ℕ, ◌<◌, ◌≤◌, Bool, true, false, if◌then◌else◌, Ok, Err, Result, Some, sum}
+use Rattle.cfs_base.specs.Calls.{HasStopped}
 use Rattle.cfs_base.specs.Codes.{no_entry, other_count}
 use Rattle.cfs_base.specs.Refusals.{after_try}
 use Rattle.cfs_base.specs.Run.{Tells}
+use Rattle.cfs_base.specs.Went.{Went}
 use Rattle.cfs_base.specs.declared.disk.Disk.{Ghosts}
 use Rattle.cfs_base.specs.declared.refusal.Damage.{Damage}
 use Rattle.cfs_base.specs.declared.refusal.Refused.{Refused}
-use Rattle.cyl_alloc.specs.Space.{IsBadMap, IsMiscounted, Kept}
+use Rattle.cyl_alloc.specs.Space.{IsBadMap, IsMiscounted, Kept, TakesAtMost}
 use Rattle.cyl_map.specs.Volume.{map_of}
-use Rattle.normal_files.specs.Steps.{HasCome}
 use Rattle.cfs_base.specs.declared.refusal.Refused.TheVariants as refusals
 
 -- no Free block was found: a map is none, or has none where some were counted
@@ -37,23 +37,19 @@ is_damaged refusals.Memory = false
 abbrev pub refused_after : Bool → Refused → Refused
 refused_after tried e = if tried then after_try e else e
 
--- so many calls were made from `start`, so many blocks taken at most, and none failed
-pub record HasGone {D : Type 0} (g : Ghosts D) (n t k : ℕ) (tried : Bool) (start now : D)
-    (before after : Kept) : Type 0 where
-  pub come : HasCome g n t tried start now
-  pub kept : tried ≡ false → after ≡ before
-  pub cylinders : length after.free ≡ length before.free
-  pub left : after.left ≡ before.left
-  pub takes : sum before.free ≤ sum after.free + k
+-- The same of a run that takes so many blocks at most. Where so many were Free it isn't refused for want of them.
+abbrev pub TakingWent : {D : Type 0} → Ghosts D → (n t k : ℕ) → D → D → Kept → Kept → Result Bool Refused → Type 0
+TakingWent g n t k old new before after result =
+    Went g n t n old new before after (TakesAtMost k before after) (λ e. k ≤ sum before.free → IsStop g old new after e)
+    (λ e. e ≡ refusals.Disk false) Some result
 
--- a call is refused, after so many at most: where so many blocks were Free, for no want of them
-pub record Halts {D : Type 0} (g : Ghosts D) (n t k : ℕ) (old new : D) (before after : Kept)
-    (e : Refused) : Type 0 where
-  pub refused : k ≤ sum before.free → IsStop g old new after e
-  pub untried : e ≡ refusals.Disk false → (after ≡ before) × OnlyReads g n old new
-  pub cylinders : length after.free ≡ length before.free
-  pub left : after.left ≡ before.left
-  pub calls : MakesAtMost g n t old new
+-- it is done
+abbrev pub HasGone : {D : Type 0} → Ghosts D → (n t k : ℕ) → (tried : Bool) → D → D → Kept → Kept → Type 0
+HasGone g n t k tried start now before after = TakingWent g n t k start now before after (Ok tried)
+
+-- or a call is refused
+abbrev pub Halts : {D : Type 0} → Ghosts D → (n t k : ℕ) → D → D → Kept → Kept → Refused → Type 0
+Halts g n t k old new before after e = TakingWent g n t k old new before after (Err e)
 
 -- how a call ends; what it gives tells whether a write was tried
 abbrev pub Finishes : {D A : Type 0} → Ghosts D → (n t k : ℕ) → D → D → Kept → Kept → Result A Refused → (A → Bool)

@@ -1,12 +1,13 @@
 -- Blocks that a file had and that become Free, once its root no longer leads to them.
-use Rattle.std.specs.Prelude.{◌≡◌, ◌≢◌, ◌⊎◌, ℕ, ◌+◌, ◌*◌, ◌%◌, ◌<◌, ◌≤◌, true, false, IsTrue, List, length, Result}
+use Rattle.std.specs.Prelude.{◌≡◌, ◌≢◌, ◌⊎◌, ℕ, ◌+◌, ◌*◌, ◌%◌, ◌<◌, ◌≤◌, true, false, List, None, length, Result}
 use Rattle.std.specs.Prelude.{IfErr, OnOk}
 use Rattle.block_tree.specs.Reads.{IsNear, leaves_at, is_damage}
 use Rattle.block_tree.specs.Pointers.{leaf_pointers, node_pointers}
-use Rattle.cfs_base.specs.Calls.{HasStopped, HasTried, MakesAtMost}
+use Rattle.cfs_base.specs.Calls.{HasStopped}
 use Rattle.cfs_base.specs.Codes.{no_entry}
 use Rattle.cfs_base.specs.Disk.{Image, Written, block_at}
 use Rattle.cfs_base.specs.Run.{Leaves, Tells, left_now}
+use Rattle.cfs_base.specs.Went.{Went}
 use Rattle.cfs_base.specs.declared.disk.Disk.{Ghosts}
 use Rattle.cfs_base.specs.declared.identifier.Puid.{Puid}
 use Rattle.cfs_base.specs.declared.kind.Place.{Place}
@@ -26,6 +27,7 @@ use Rattle.normal_files.specs.Cuts.{last_node}
 use Rattle.normal_files.specs.Laid.{leaf_of, node_of}
 use Rattle.leaf_changes.specs.Tops.{Top}
 use Rattle.normal_files.specs.Refusal.{IsDamage, IsRefusal}
+use Rattle.normal_files.specs.Steps.{HasCome}
 use Rattle.block_tree.specs.Along.{way_leaves}
 use Rattle.block_tree.specs.Way.{CutsPast}
 use Rattle.normal_files.specs.declared.cut.End.{End}
@@ -56,19 +58,24 @@ IsShrinkTrouble g at old new (trouble.Damaged damage) = IsDamage g at old damage
 pub record HasBegun {D : Type 0} (g : Ghosts D) (start now : D) : Type 0 where
   pub n : ℕ
   pub t : ℕ
-  pub told : (b : ℕ) → IsTrue (g.told start b) → IsTrue (g.told now b)
-  pub makes : MakesAtMost g n t start now
-  pub tried : HasTried g start now
+  pub went : HasCome g n t true start now
 
--- at most n device calls are made, t of them writes, after such a start
-pub record FollowsStart {D : Type 0} (g : Ghosts D) (at : Top) (n t : ℕ) (old new : D) (before after : Kept)
-    (result : Result (Unit {0}) Trouble) : Type 0 where
-  pub told : OnOk result ((b : ℕ) → IsTrue (g.told old b) → IsTrue (g.told new b))
-  pub stopped : (start : D) → HasBegun g start old → IfErr result (IsDropTrouble g at start new)
-  pub tried : IfErr result (λ t. t ≢ trouble.Disk false)
+-- as many cylinders, and the same that is left of a commit
+pub record StaysCounted (before after : Kept) : Type 0 where
   pub cylinders : length after.free ≡ length before.free
   pub left : after.left ≡ before.left
-  pub calls : MakesAtMost g n t old new
+
+-- the trouble of a call that follows such a start, in which a write had been tried
+abbrev pub FollowsTrouble : {D : Type 0} → Ghosts D → Top → D → D → Trouble → Type 0
+FollowsTrouble {D = D} g at old new e =
+    (e ≢ trouble.Disk false) × ((start : D) → HasBegun g start old → IsDropTrouble g at start new e)
+
+-- at most n device calls are made, t of them writes, after such a start
+abbrev pub FollowsStart : {D : Type 0} → Ghosts D → Top → (n t : ℕ) → D → D → Kept → Kept → Result (Unit {0}) Trouble
+    → Type 0
+FollowsStart g at n t old new before after result =
+    Went g n t n old new before after (StaysCounted before after) (FollowsTrouble g at old new)
+    (λ e. e ≡ trouble.Disk false) (λ done. None) result
 
 -- one block becomes Free; 0 is none
 pub record FreesBlock {D : Type 0} (g : Ghosts D) (block : ℕ) (old new : D) (before after : Kept)

@@ -1,11 +1,12 @@
 -- A change of a file in place, on its way.
-use Rattle.std.specs.Prelude.{◌≡◌, ℕ, ◌<◌, ◌≤◌, Bool, true, false, if◌then◌else◌, IsTrue, List, Result, Ok, Err, IfErr}
-use Rattle.std.specs.Prelude.{OnOk, set}
+use Rattle.std.specs.Prelude.{◌≡◌, ℕ, ◌<◌, ◌≤◌, Bool, false, if◌then◌else◌, IsTrue, List, Result, Ok, Err, IfErr}
+use Rattle.std.specs.Prelude.{OnOk, Some, set}
 use Rattle.block_tree.specs.Reads.{HasStoppedBy}
-use Rattle.cfs_base.specs.Calls.{HasTried, MakesAtMost, OnlyReads}
+use Rattle.cfs_base.specs.Calls.{HasTried, MakesAtMost}
 use Rattle.cfs_base.specs.Disk.{Image, Written}
 use Rattle.cfs_base.specs.Refusals.{trouble_after_try}
 use Rattle.cfs_base.specs.Run.{Leaves, Tells, left_now}
+use Rattle.cfs_base.specs.Went.{Went}
 use Rattle.cfs_base.specs.declared.disk.Disk.{Ghosts}
 use Rattle.cfs_base.specs.declared.refusal.Trouble.{Trouble}
 use Rattle.cyl_map.specs.Volume.{entry_in}
@@ -34,18 +35,19 @@ pub record WritesBlock {D : Type 0} (g : Ghosts D) (n block : ℕ) (content : Li
 
 -- ---- runs of calls
 
--- so many calls were made at most, and none failed; a write was tried, or all are reads
-pub record HasCome {D : Type 0} (g : Ghosts D) (n t : ℕ) (tried : Bool) (start now : D) : Type 0 where
-  pub told : (b : ℕ) → IsTrue (g.told start b) → IsTrue (g.told now b)
-  pub makes : MakesAtMost g n t start now
-  pub tries : tried ≡ true → HasTried g start now
-  pub reads : tried ≡ false → OnlyReads g n start now
+-- How a run of calls went that takes no block. Done, it tells whether a write was tried; where none was all are reads.
+-- Refused, a device call failed.
+abbrev pub RunWent : {D : Type 0} → Ghosts D → (n t : ℕ) → D → D → Result Bool Trouble → Type 0
+RunWent g n t old new result =
+    Went g n t n old new (tt {0}) (tt {0}) (Unit {0}) (HasStoppedBy g old new) (λ e. e ≡ trouble.Disk false) Some result
 
--- a device call failed, after so many at most: all are reads, or a write was tried
-pub record Stops {D : Type 0} (g : Ghosts D) (n t : ℕ) (old new : D) (e : Trouble) : Type 0 where
-  pub stopped : HasStoppedBy g old new e
-  pub untried : e ≡ trouble.Disk false → OnlyReads g n old new
-  pub calls : MakesAtMost g n t old new
+-- it is done
+abbrev pub HasCome : {D : Type 0} → Ghosts D → (n t : ℕ) → (tried : Bool) → D → D → Type 0
+HasCome g n t tried start now = RunWent g n t start now (Ok tried)
+
+-- or a device call failed
+abbrev pub Stops : {D : Type 0} → Ghosts D → (n t : ℕ) → D → D → Trouble → Type 0
+Stops g n t old new e = RunWent g n t old new (Err e)
 
 -- how a call ends; what it gives tells whether a write was tried
 abbrev pub ComesOrStops : {D A : Type 0} → Ghosts D → (n t : ℕ) → D → D → Result A Trouble → (A → Bool) → Type 0

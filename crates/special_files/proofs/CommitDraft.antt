@@ -8,7 +8,7 @@ use Rattle.vol_owners.proofs.Drafts.{with_same}
 use Rattle.special_files.proofs.PutStore.{store_goes_on}
 use Rattle.block_tree.specs.declared.root.Root as roots
 use Rattle.special_files.proofs.Begun.{own_tree}
-pub use Rattle.special_files.proofs.Endings.{makes_none as nothing_made}
+pub use Rattle.cfs_base.proofs.Went.{makes_none as nothing_made}
 use Rattle.special_files.proofs.commit.CommitRuns.{fails_after}
 use Rattle.special_files.proofs.commit.CommitWhole.{IsInner, tree_inner}
 use Rattle.special_files.proofs.Refusals.{still_as}

@@ -1,9 +1,11 @@
 -- How calls end that are made one after another.
-use Rattle.std.proofs.Common.{◌≡◌, ◌⊎◌, inl, inr, ℕ, zero, suc, ◌+◌, ◌-◌, ◌/◌, ◌≤◌, true, false, IsTrue, Ok, Err, List, [], ◌∷◌, length, get_or, set, refl, sym, ◌∙◌, ap, subst, arith, ◌<◌, Bool, ◌≢◌}
-use Rattle.special_files.proofs.Words.{BlockNo, Claims, Drafting, EndsCall, Enters, GetsDraftNode, Ghosts, Had, HasTried, Image, IsBadMap, IsDraftDamage, IsFindRefusal, IsMiscounted, IsDraftRefusal, IsDraftTrouble, Kept, MakesAtMost, MapEntry, Need, NoMap, Node, OnlyReads, OtherCount, Refused, Result, StaysBut, Tells, Top, Trouble, WritesDraftBlock, after_taking, after_try, had_tried, intended, has_met_damage, is_fresh_node, is_full_refusal, makes_then, miscounted_as, one_unless, reads_within, still_tells, stopped_after_try, sum, sum_by-cons, refusal_after, top_of, trouble_after_try}
+use Rattle.std.proofs.Common.{◌≡◌, ◌⊎◌, inl, inr, ℕ, ◌+◌, ◌≤◌, true, false, IsTrue, Ok, Err, List, refl, sym, ◌∙◌, ap, subst, arith, ◌<◌, Bool, ◌≢◌}
+use Rattle.special_files.proofs.Words.{BlockNo, Claims, Drafting, EndsCall, Enters, GetsDraftNode, Ghosts, Had, HasTried, IfErr, Image, IsBadMap, IsDraftDamage, IsFindRefusal, IsMiscounted, IsDraftRefusal, IsDraftTrouble, Kept, MakesAtMost, MapEntry, Need, NoMap, OnlyReads, OtherCount, Refused, Result, StaysBut, Tells, still_top, Top, Trouble, WritesDraftBlock, after_try, had_tried, has_met_damage, is_fresh_node, is_full_refusal, miscounted_as, one_unless, reads_within, still_tells, stopped_after_try, sum, refusal_after, top_of, trouble_after_try}
+use Rattle.cfs_base.proofs.Went.{makes_none, told_as, went_as, went_then}
 use Rattle.cfs_base.specs.declared.refusal.Refused.TheVariants as refusals
 use Rattle.cfs_base.specs.declared.refusal.Trouble.TheVariants as trouble
-use Rattle.special_files.proofs.Refusals.{damage_since, if_err, refusal_as}
+use Rattle.cyl_alloc.proofs.Takes.{enters_went, takes_none, takes_then, takes_within}
+use Rattle.special_files.proofs.Refusals.{damage_since, refusal_as}
 
 -- ---- after a call that tried something
 
@@ -27,121 +29,74 @@ not_untried (refusals.Disk was) same = cc
 not_untried (refusals.Damaged damage) same = cc
 not_untried refusals.Memory same = cc
 
-module _ {D A B : Type 0} (g : Ghosts D) (at : Top) (floor : ℕ) (d0 d1 d2 : D) (k0 k1 k2 : Kept) where
-  -- done, and then refused or done
-  pub ends_then_err : (x : A) (e : Refused) (n t k m s j : ℕ) → EndsCall g at floor n t k d0 d1 k0 k1 (Ok x) → HasTried g d0 d1 → EndsCall {A = B} g at floor m s j d1 d2 k1 k2 (Err e)
-      → (most tries blocks : ℕ) → n + m ≤ most → t + s ≤ tries → k + j ≤ blocks → EndsCall {A = B} g at floor most tries blocks d0 d2 k0 k2 (Err (after_try e))
-  ends_then_err x e n t k m s j first tried then most tries blocks calls lt lk = record {
-    told = tt;
-    refused = refused_after_try g at floor d0 d1 d2 k2 n t first.calls tried first.told e then.refused;
-    untried = λ same. absurd (not_untried e same);
-    cylinders = then.cylinders ∙ first.cylinders;
-    left = then.left ∙ first.left;
-    takes = omega (arith, first.takes, then.takes, lk);
-    calls = makes_then g d0 d1 d2 n m most t s tries first.calls then.calls calls lt;
-  }
+-- A call that is done, and one after it. Where the second is refused the first had tried something, so the refusal is
+-- told as one after that.
+module _ {D A B : Type 0} {g : Ghosts D} {at : Top} {d0 d1 d2 : D} {k0 k1 k2 : Kept} {x : A} {n t k m s j : ℕ} (most tries blocks : ℕ) where
+  pub ends_then : {result : Result B Refused} → EndsCall g at 0 n t k d0 d1 k0 k1 (Ok x) → EndsCall g at 0 m s j d1 d2 k1 k2 result → IfErr result (λ e. HasTried g d0 d1) → n + m ≤ most → t + s ≤ tries → k + j ≤ blocks
+      → EndsCall g at 0 most tries blocks d0 d2 k0 k2 (told_as after_try result)
+  ends_then {result} first then tried calls lt lk = went_as most tries most (takes_within lk) (λ e why. why) (λ e so. so) (λ y is. is) (by result tried then) calls lt calls
+    where
+      by : (r : Result B Refused) → IfErr r (λ e. HasTried g d0 d1) → EndsCall g at 0 m s j d1 d2 k1 k2 r → EndsCall g at 0 (n + m) (t + s) (k + j) d0 d2 k0 k2 (told_as after_try r)
+      by (Ok y) tried then = went_then after_try (takes_then (omega arith)) tt tt refl first then
+      by (Err e) tried then = went_then after_try (takes_then (omega arith)) (refused_after_try g at 0 d0 d1 d2 k2 n t first.calls tried first.told e) (λ same. absurd (not_untried e same)) tt first then
 
-  pub ends_then_ok : (x : A) (y : B) (n t k m s j : ℕ) → EndsCall g at floor n t k d0 d1 k0 k1 (Ok x) → EndsCall g at floor m s j d1 d2 k1 k2 (Ok y)
-      → (most tries blocks : ℕ) → n + m ≤ most → t + s ≤ tries → k + j ≤ blocks → EndsCall g at floor most tries blocks d0 d2 k0 k2 (Ok y)
-  ends_then_ok x y n t k m s j first then most tries blocks calls lt lk = record {
-    told = λ b was. then.told b (first.told b was);
-    refused = tt;
-    untried = tt;
-    cylinders = then.cylinders ∙ first.cylinders;
-    left = then.left ∙ first.left;
-    takes = omega (arith, first.takes, then.takes, lk);
-    calls = makes_then g d0 d1 d2 n m most t s tries first.calls then.calls calls lt;
-  }
+module _ {D A B : Type 0} {g : Ghosts D} {at : Top} {n t k : ℕ} {d0 d1 : D} {k0 k1 : Kept} where
+  -- a refusal is one of any call
+  pub ends_err : {e : Refused} → EndsCall {A = A} g at 0 n t k d0 d1 k0 k1 (Err e) → EndsCall {A = B} g at 0 n t k d0 d1 k0 k1 (Err e)
+  ends_err is = record { told = tt; knows = tt; refused = is.refused; untried = is.untried; moves = is.moves; calls = is.calls }
 
--- a refusal is one of any call
-pub ends_err : {D A B : Type 0} (g : Ghosts D) (at : Top) (floor n t k : ℕ) (old new : D) (before after : Kept) (e : Refused) → EndsCall {A = A} g at floor n t k old new before after (Err e) → EndsCall {A = B} g at floor n t k old new before after (Err e)
-ends_err g at floor n t k old new before after e is = record { told = tt; refused = is.refused; untried = is.untried; cylinders = is.cylinders; left = is.left; takes = is.takes; calls = is.calls }
+  -- done, with another answer
+  pub ends_as : {x : A} (y : B) → EndsCall g at 0 n t k d0 d1 k0 k1 (Ok x) → EndsCall g at 0 n t k d0 d1 k0 k1 (Ok y)
+  ends_as y is = record { told = is.told; knows = tt; refused = tt; untried = tt; moves = is.moves; calls = is.calls }
+
+-- ---- without a call
+
+pub ends_none : {D A : Type 0} (g : Ghosts D) (at : Top) (floor n t k : ℕ) {d d1 : D} {kept k1 : Kept} (x : A) → d1 ≡ d → k1 ≡ kept → EndsCall g at floor n t k d d1 kept k1 (Ok x)
+ends_none g at floor n t k {d} {kept = kept} x same still = rw (same, still) (record { told = λ b is. is; knows = tt; refused = tt; untried = tt; moves = takes_none kept k; calls = makes_none g d n t })
+
+pub full_ends : {D A : Type 0} (g : Ghosts D) (at : Top) (floor n t k : ℕ) (d : D) (kept : Kept) (need : Need) → need.free ≡ sum kept.free → need.free < need.need + floor → EndsCall {A = A} g at floor n t k d d kept kept (Err (refusals.Full need))
+full_ends g at floor n t k d kept need free less = record { told = tt; knows = tt; refused = (free, less); untried = λ same. cc; moves = takes_none kept k; calls = makes_none g d n t }
 
 -- ---- the least Free block entered
 
-abbrev itself : ℕ → ℕ
-itself n = n
+module _ {D : Type 0} {g : Ghosts D} (at : Top) {old new : D} {before after : Kept} where
+  found_why : (x : Refused) → IsFindRefusal g old new before x → (had_tried x ≡ false → OnlyReads g 1 old new) → after ≡ before → IsDraftRefusal g at 0 old new after x
+  found_why (refusals.Full need) is only same = (is.0 ∙ sym is.2 ∙ ap (λ (k : Kept). sum k.free) (sym same), omega (arith, is.0, is.1))
+  found_why (refusals.Disk tried) is only same = is
+  found_why (refusals.Damaged damage) is only same = by is.why
+    where
+      content : g.content new ≡ g.content old
+      content = (only refl).content
 
-one_less : (xs : List ℕ) (i : ℕ) → sum xs ≤ sum (set xs i (get_or xs i 0 - 1)) + 1
-one_less [] i = omega arith
-one_less (x ∷ xs) zero = omega (arith, sum_by-cons itself x xs, sum_by-cons itself (x - 1) xs)
-one_less (x ∷ xs) (suc i) = omega (arith, sum_by-cons itself x xs, sum_by-cons itself x (set xs i (get_or xs i 0 - 1)), one_less xs i)
+      by : ((damage.code ≡ 2) × (Tells g old → IsBadMap (g.content old) damage.block)) ⊎ ((damage.code ≡ 12) × IsMiscounted (Tells g old) (g.content old) before damage.block) → IsDraftDamage g at old new after damage
+      by (inl (code, bad)) = NoMap code is.block (omega (arith, is.on_disk, (only refl).same.size)) (λ tells. subst (λ (c : Image). IsBadMap c damage.block) (sym content) (bad tells))
+      by (inr (code, other)) = OtherCount code (miscounted_as (λ tells. tells) content same other)
+  found_why refusals.Memory is only same = absurd is
 
-sum_taken : (kept : Kept) (n : ℕ) → sum kept.free ≤ sum (after_taking kept n).free + 1
-sum_taken kept n = one_less kept.free (n / 64)
-
-pub enters_ends : {D : Type 0} (g : Ghosts D) (at : Top) (floor : ℕ) (old new : D) (before after : Kept) (e : MapEntry) (result : Result BlockNo Refused) → Enters g e old new before after result → EndsCall g at floor 2 1 1 old new before after result
-enters_ends g at floor old new before after e (Ok x) is = record {
-  told = is.told;
-  refused = tt;
-  untried = tt;
-  cylinders = is.cylinders;
-  left = is.left;
-  takes = subst (λ (k : Kept). sum before.free ≤ sum k.free + 1) (sym is.taken) (sum_taken before x.0);
-  calls = is.calls;
-}
-enters_ends g at floor old new before after e (Err x) is = record {
-  told = tt;
-  refused = why x is.refused is.unless_tried (is.kept refl);
-  untried = λ same. (is.kept refl, reads_within g old new 1 2 (omega arith) (is.unless_tried (ap had_tried same)));
-  cylinders = is.cylinders;
-  left = is.left;
-  takes = omega (arith, ap (λ (k : Kept). sum k.free) (is.kept refl));
-  calls = is.calls;
-}
-  where
-    why : (x : Refused) → IsFindRefusal g old new before x → (had_tried x ≡ false → OnlyReads g 1 old new) → after ≡ before → IsDraftRefusal g at floor old new after x
-    why (refusals.Full need) is only same = (is.0 ∙ sym is.2 ∙ ap (λ (k : Kept). sum k.free) (sym same), omega (arith, is.0, is.1))
-    why (refusals.Disk tried) is only same = is
-    why (refusals.Damaged damage) is only same = by is.why
-      where
-        content : g.content new ≡ g.content old
-        content = (only refl).content
-
-        by : ((damage.code ≡ 2) × (Tells g old → IsBadMap (g.content old) damage.block)) ⊎ ((damage.code ≡ 12) × IsMiscounted (Tells g old) (g.content old) before damage.block) → IsDraftDamage g at old new after damage
-        by (inl (code, bad)) = NoMap code is.block (omega (arith, is.on_disk, (only refl).same.size)) (λ tells. subst (λ (c : Image). IsBadMap c damage.block) (sym content) (bad tells))
-        by (inr (code, other)) = OtherCount code (miscounted_as (λ tells. tells) content same other)
-    why refusals.Memory is only same = absurd is
-
-pub no_reads : {D : Type 0} (g : Ghosts D) (d : D) (n : ℕ) → OnlyReads g n d d
-no_reads g d n = record {
-  content = refl;
-  told = λ b is. is;
-  images = record { later = omega arith; since = λ t c le h. inl h; now = λ c h. inl h };
-  keeps = λ t c before is. is;
-  same = record { size = refl; honesty = refl; telling = refl };
-  tries = refl;
-  faults = omega arith;
-  calls = omega arith;
-}
-
-pub makes_none : {D : Type 0} (g : Ghosts D) (d : D) (n t : ℕ) → MakesAtMost g n t d d
-makes_none g d n t = record { later = omega arith; keeps = λ at c before was. was; same = record { size = refl; honesty = refl; telling = refl }; faults = omega arith; calls = omega arith; tries = omega arith; no_fewer = omega arith }
+  pub enters_ends : {e : MapEntry} {result : Result BlockNo Refused} → Enters g e old new before after result → EndsCall g at 0 2 1 1 old new before after result
+  enters_ends {result = Ok x} is = let went = enters_went is in record { told = went.told; knows = tt; refused = tt; untried = tt; moves = went.moves; calls = went.calls }
+  enters_ends {result = Err x} is =
+      let went = enters_went is in
+      record { told = tt; knows = tt; refused = found_why x is.refused is.unless_tried (is.kept refl); untried = λ same. (is.kept refl, reads_within g old new 1 2 (omega arith) (is.unless_tried (ap had_tried same))); moves = went.moves; calls = went.calls }
 
 -- the node's block got
-pub gets_ends : {D : Type 0} (g : Ghosts D) (n floor : ℕ) (old new : D) (before after : Kept) (drafting : Drafting) (result : Result BlockNo Refused) → GetsDraftNode g n old new before after drafting result
-    → EndsCall g (top_of drafting) floor 2 1 (one_unless (is_fresh_node drafting n)) old new before after result
-gets_ends g n floor old new before after drafting result (Had fresh same kept is) = subst (EndsCall g (top_of drafting) floor 2 1 (one_unless (is_fresh_node drafting n)) old new before after) (sym is) (record {
-  told = λ b is. subst (λ (d : _). IsTrue (g.told d b)) (sym same) is;
-  refused = tt;
-  untried = tt;
-  cylinders = ap (λ (k : Kept). length k.free) kept;
-  left = ap (λ (k : Kept). k.left) kept;
-  takes = omega (arith, ap (λ (k : Kept). sum k.free) kept);
-  calls = subst (λ (d : _). MakesAtMost g 2 1 old d) (sym same) (makes_none g old 2 1);
-})
-gets_ends g n floor old new before after drafting result (Claims stale enters) =
-    subst (λ (k : ℕ). EndsCall g (top_of drafting) floor 2 1 k old new before after result) (ap one_unless (sym stale)) (enters_ends g (top_of drafting) floor old new before after (intended (Node n) drafting.at) result enters)
+pub gets_ends : {D : Type 0} {g : Ghosts D} {n : ℕ} {old new : D} {before after : Kept} {drafting : Drafting} {result : Result BlockNo Refused} → GetsDraftNode g n old new before after drafting result
+    → EndsCall g (top_of drafting) 0 2 1 (one_unless (is_fresh_node drafting n)) old new before after result
+gets_ends {g = g} {n} {drafting = drafting} (Had fresh same kept is) = rw is (ends_none g (top_of drafting) 0 2 1 (one_unless (is_fresh_node drafting n)) _ same kept)
+gets_ends {g = g} {old = old} {new} {before} {after} {drafting} {result} (Claims stale enters) = subst (λ (k : ℕ). EndsCall g (top_of drafting) 0 2 1 k old new before after result) (ap one_unless (sym stale)) (enters_ends (top_of drafting) enters)
 
 -- ---- a block written
 
-module _ {D : Type 0} (g : Ghosts D) (at : Top) (floor : ℕ) (old new : D) (kept : Kept) (n : ℕ) (block : List ℕ) where
-  pub write_done : WritesDraftBlock g n block old new (Ok (tt {0})) → EndsCall {A = Unit {0}} g at floor 1 1 0 old new kept kept (Ok tt)
-  write_done is = record { told = is.told; refused = tt; untried = tt; cylinders = refl; left = refl; takes = omega arith; calls = is.calls }
+pub write_ends : {D : Type 0} {g : Ghosts D} {n : ℕ} {block : List ℕ} {old new : D} (at : Top) (kept : Kept) {result : Result (Unit {0}) Refused} → WritesDraftBlock g n block old new result → EndsCall g at 0 1 1 0 old new kept kept result
+write_ends at kept {result = Ok x} is = record { told = is.told; knows = tt; refused = tt; untried = tt; moves = takes_none kept 0; calls = is.calls }
+write_ends {g = g} {old = old} {new} at kept {result = Err e} is = record { told = tt; knows = tt; refused = subst (IsDraftRefusal g at 0 old new kept) (sym is.refused) is.stopped; untried = λ same. (let no : refusals.Disk true ≡ refusals.Disk false = sym is.refused ∙ same in cc); moves = takes_none kept 0; calls = is.calls }
 
-  pub write_ends : (result : Result (Unit {0}) Refused) → WritesDraftBlock g n block old new result → EndsCall g at floor 1 1 0 old new kept kept result
-  write_ends (Ok x) is = write_done is
-  write_ends (Err e) is = record { told = tt; refused = subst (IsDraftRefusal g at floor old new kept) (sym is.refused) is.stopped; untried = λ same. (let no : refusals.Disk true ≡ refusals.Disk false = sym is.refused ∙ same in cc); cylinders = refl; left = refl; takes = omega arith; calls = is.calls }
+-- after a call that tried something
+module _ {D A : Type 0} {g : Ghosts D} {at : Top} {d0 d1 d2 : D} {k0 k1 : Kept} {x : A} {n t k c : ℕ} {block : List ℕ} (most tries : ℕ) where
+  pub then_written : {result : Result (Unit {0}) Refused} → EndsCall g at 0 n t k d0 d1 k0 k1 (Ok x) → HasTried g d0 d1 → WritesDraftBlock g c block d1 d2 result → n + 1 ≤ most → t + 1 ≤ tries → EndsCall g at 0 most tries k d0 d2 k0 k1 result
+  then_written {result = Ok u} first tried is calls lt = ends_then most tries k first (write_ends at k1 is) tt calls lt (omega arith)
+  then_written {result = Err e} first tried is calls lt =
+      subst (λ (y : Refused). EndsCall {A = Unit {0}} g at 0 most tries k d0 d2 k0 k1 (Err y)) (ap after_try is.refused ∙ sym is.refused) (ends_then most tries k first (write_ends at k1 is) tried calls lt (omega arith))
 
 -- ---- what stays
 
@@ -158,31 +113,15 @@ under_floor g at floor d0 d1 kept refusals.Memory is = is
 
 -- with a floor, more calls and more blocks; no more can be taken than is there
 pub ends_wider : {D A : Type 0} {g : Ghosts D} {at : Top} {n t k : ℕ} {d0 d1 : D} {k0 k1 : Kept} {r : Result A Refused} (floor most tries blocks : ℕ) → EndsCall g at 0 n t k d0 d1 k0 k1 r → n ≤ most → t ≤ tries → sum k0.free ≤ sum k1.free + blocks → EndsCall g at floor most tries blocks d0 d1 k0 k1 r
-ends_wider {g = g} {at} {n} {t} {d0 = d0} {d1} {k1 = k1} {r} floor most tries blocks is le lt takes = record {
-  told = is.told;
-  refused = if_err r (λ e why. under_floor g at floor d0 d1 k1 e why) is.refused;
-  untried = if_err r (λ e why same. ((why same).0, reads_within g d0 d1 n most le (why same).1)) is.untried;
-  cylinders = is.cylinders;
-  left = is.left;
-  takes = takes;
-  calls = makes_then g d0 d0 d1 0 n most 0 t tries (makes_none g d0 0 0) is.calls (omega (arith, le)) (omega (arith, lt));
-}
+ends_wider {g = g} {at} {d0 = d0} {d1} {k1 = k1} floor most tries blocks is le lt takes = went_as most tries most (λ moves. record { cylinders = moves.cylinders; left = moves.left; takes = takes }) (under_floor g at floor d0 d1 k1) (λ e same. same) (λ x knows. knows) is le lt le
 
 -- of another root at the block, which leads past the disk where this one does
-pub ends_at : {D A : Type 0} {g : Ghosts D} {at now : Top} {floor n t k : ℕ} {d0 d1 : D} {k0 k1 : Kept} {r : Result A Refused} → at.block ≡ now.block → (at.IsFar (g.blocks d1) → now.IsFar (g.blocks d1)) → EndsCall g at floor n t k d0 d1 k0 k1 r → EndsCall g now floor n t k d0 d1 k0 k1 r
-ends_at {g = g} {at} {now} {floor} {d0 = d0} {d1} {k1 = k1} {r} same on is = record {
-  told = is.told;
-  refused = if_err r (λ e why. refusal_as g at now same d0 d1 k1 on floor e why) is.refused;
-  untried = is.untried;
-  cylinders = is.cylinders;
-  left = is.left;
-  takes = is.takes;
-  calls = is.calls;
-}
+pub ends_at : {D A : Type 0} {g : Ghosts D} {at now : Top} {n t k : ℕ} {d0 d1 : D} {k0 k1 : Kept} {r : Result A Refused} → at.block ≡ now.block → (at.IsFar (g.blocks d1) → now.IsFar (g.blocks d1)) → EndsCall g at 0 n t k d0 d1 k0 k1 r → EndsCall g now 0 n t k d0 d1 k0 k1 r
+ends_at {g = g} {at} {now} {n} {t} {d0 = d0} {d1} {k1 = k1} same far is = went_as n t n (λ moves. moves) (refusal_as g at now same d0 d1 k1 far 0) (λ e same. same) (λ x knows. knows) is (omega arith) (omega arith) (omega arith)
 
--- refused before any call
-pub full_ends : {D A : Type 0} (g : Ghosts D) (at : Top) (floor n t k : ℕ) (d : D) (kept : Kept) (need : Need) → need.free ≡ sum kept.free → need.free < need.need + floor → EndsCall {A = A} g at floor n t k d d kept kept (Err (refusals.Full need))
-full_ends g at floor n t k d kept need free less = record { told = tt; refused = (free, less); untried = λ same. cc; cylinders = refl; left = refl; takes = omega arith; calls = makes_none g d n t }
+-- as one of the draft's root, of which no pointer was followed
+pub still_ends : {D A : Type 0} {g : Ghosts D} {d0 d1 : D} {k0 k1 : Kept} (was : Drafting) {n t k : ℕ} {r : Result A Refused} → EndsCall g (still_top was.at) 0 n t k d0 d1 k0 k1 r → EndsCall g (top_of was) 0 n t k d0 d1 k0 k1 r
+still_ends was = ends_at {at = still_top was.at} {now = top_of was} refl (λ far. absurd far)
 
 -- ---- refusals told after others
 

@@ -10,7 +10,7 @@ use Rattle.block_tree.specs.declared.root.Root as roots
 use Rattle.block_tree.specs.Way.{with_node}
 use Rattle.special_files.specs.Calls.{Adds, Adopts}
 use Rattle.special_files.proofs.Amid.{IsAmid, amid_begins, write_leaves, wrote}
-use Rattle.special_files.proofs.Endings.{ends_err, ends_then_err, ends_then_ok, enters_ends, gets_ends, write_ends, stays_itself, still_sound, still_room, claim_real, ends_wider}
+use Rattle.special_files.proofs.Endings.{ends_err, ends_then, enters_ends, gets_ends, write_ends, stays_itself, still_sound, still_room, claim_real, ends_wider, then_written}
 use Rattle.special_files.proofs.Fresh.{node_of_fresh}
 use Rattle.special_files.proofs.Levels.{Tell}
 use Rattle.special_files.proofs.leaf.PutLeaf.{IsReadFor, fresh_below, node_again, put_again}
@@ -27,9 +27,6 @@ use Rattle.std.proofs.lemmas.List.{get_or-set_other}
 -- a flag that is set already
 set_again : (flags : List Bool) (n : ℕ) → get_or flags n false ≡ true → flags ≡ set flags n true
 set_again flags n is = sym (set-get_or flags n false) ∙ ap (set flags n) is
-
-after_tried : (e : Refused) → e ≡ refusals.Disk true → after_try e ≡ e
-after_tried e is = ap after_try is ∙ sym is
 
 -- a Free block is sought in vain only where none is, or a device call failed
 pub find_sound : {D : Type 0} (g : Ghosts D) (d new : D) (kept : Kept) → Tells g d → AreMaps (g.content d) → AreCounts (g.content d) kept → (e : Refused) → IsFindRefusal g d new kept e → has_met_damage e ≡ false
@@ -227,7 +224,7 @@ again_call {g = g} {was} {leaf} {d0} {d1} {result} k0 way x content fresh to saf
   to = on_ok result (λ written. to) writes.written;
   safe = on_ok result (λ written. subst (λ (size : ℕ). IsSafe size was way) (sym writes.calls.same.size) safe) writes.written;
   near = λ far. far;
-  ends = ends_wider 0 6 4 (draft_takes was leaf) (write_ends g (top_of was) 0 d0 d1 k0 x content result writes) (omega arith) (omega arith) (omega arith);
+  ends = ends_wider 0 6 4 (draft_takes was leaf) (write_ends (top_of was) k0 writes) (omega arith) (omega arith) (omega arith);
   tried = on_ok result (λ written. writes.tried) writes.written;
   kept = if_err result (λ e is told. refl) writes.refused;
   room = λ enough. if_err result (λ e is. ap is_full_refusal is) writes.refused;
@@ -239,53 +236,49 @@ takes_is was leaf stale = ap (λ (b : Bool). if b then 0 else 1 + one_unless (is
 module _ {D : Type 0} {g : Ghosts D} (was : Drafting) (leaf : ℕ) {d0 d1 : D} {k0 k1 : Kept} (stale : is_fresh_leaf was leaf ≡ false) (way : Way) where
   pub claim_call : (e : Refused) → Enters g (intended (Leaf leaf) was.at) d0 d1 k0 k1 (Err e) → LeafCall g 6 leaf d0 d1 k0 k1 was was way (Err e)
   claim_call e enters =
-      let first : EndsCall {A = Unit {0}} g (top_of was) 0 2 1 1 d0 d1 k0 k1 (Err e) = ends_err g (top_of was) 0 2 1 1 d0 d1 k0 k1 e (enters_ends g (top_of was) 0 d0 d1 k0 k1 (intended (Leaf leaf) was.at) (Err e) enters) in
-      leaf_refused way (ends_wider 0 6 4 (draft_takes was leaf) first (omega arith) (omega arith) (omega (arith, first.takes, (takes_is was leaf stale)))) (λ enough. (claim_real g d0 d1 k0 e (omega (arith, enough, (takes_is was leaf stale))) enters.refused).0)
+      let first : EndsCall {A = Unit {0}} g (top_of was) 0 2 1 1 d0 d1 k0 k1 (Err e) = ends_err (enters_ends (top_of was) enters) in
+      leaf_refused way (ends_wider 0 6 4 (draft_takes was leaf) first (omega arith) (omega arith) (omega (arith, first.moves.takes, (takes_is was leaf stale)))) (λ enough. (claim_real g d0 d1 k0 e (omega (arith, enough, (takes_is was leaf stale))) enters.refused).0)
 
   module _ (d2 : D) (k2 : Kept) (x : BlockNo) (enters : Enters g (intended (Leaf leaf) was.at) d0 d1 k0 k1 (Ok x)) where
     first : EndsCall g (top_of was) 0 2 1 1 d0 d1 k0 k1 (Ok x)
-    first = enters_ends g (top_of was) 0 d0 d1 k0 k1 (intended (Leaf leaf) was.at) (Ok x) enters
+    first = enters_ends (top_of was) enters
 
     pub node_call : (e t : Refused) → t ≡ after_try e → GetsDraftNode g (leaf / leaf_pointers.count) d1 d2 k1 k2 was (Err e) → LeafCall g 6 leaf d0 d2 k0 k2 was was way (Err t)
     node_call e t is gets = subst (λ (r : Refused). LeafCall g 6 leaf d0 d2 k0 k2 was was way (Err r)) (sym is) (leaf_refused way
-        (ends_then_err g (top_of was) 0 d0 d1 d2 k0 k1 k2 x e 2 1 1 2 1 (one_unless (is_fresh_node was (leaf / leaf_pointers.count))) first enters.made (ends_err g (top_of was) 0 2 1 (one_unless (is_fresh_node was (leaf / leaf_pointers.count))) d1 d2 k1 k2 e (gets_ends g (leaf / leaf_pointers.count) 0 d1 d2 k1 k2 was (Err e) gets)) 6 4 (draft_takes was leaf) (omega arith) (omega arith) (omega (arith, (takes_is was leaf stale))))
+        (ends_then 6 4 (draft_takes was leaf) first (ends_err (gets_ends gets)) enters.made (omega arith) (omega arith) (omega (arith, (takes_is was leaf stale))))
         (λ enough. still_room true e (real gets enough)))
       where
         real : GetsDraftNode g (leaf / leaf_pointers.count) d1 d2 k1 k2 was (Err e) → (draft_takes was leaf) ≤ sum k0.free → is_full_refusal e ≡ false
         real (Had fresh same kept none) enough = cc
-        real (Claims node_stale gets) enough = (claim_real g d1 d2 k1 e (omega (arith, enough, (takes_is was leaf stale), first.takes, ap one_unless node_stale)) gets.refused).0
+        real (Claims node_stale gets) enough = (claim_real g d1 d2 k1 e (omega (arith, enough, (takes_is was leaf stale), first.moves.takes, ap one_unless node_stale)) gets.refused).0
 
     module _ (y : BlockNo) (gets : GetsDraftNode g (leaf / leaf_pointers.count) d1 d2 k1 k2 was (Ok y)) (d3 : D) (content : List ℕ) where
       second : EndsCall g (top_of was) 0 2 1 (one_unless (is_fresh_node was (leaf / leaf_pointers.count))) d1 d2 k1 k2 (Ok y)
-      second = gets_ends g (leaf / leaf_pointers.count) 0 d1 d2 k1 k2 was (Ok y) gets
+      second = gets_ends gets
 
       both : EndsCall g (top_of was) 0 4 2 (draft_takes was leaf) d0 d2 k0 k2 (Ok y)
-      both = ends_then_ok g (top_of was) 0 d0 d1 d2 k0 k1 k2 x y 2 1 1 2 1 (one_unless (is_fresh_node was (leaf / leaf_pointers.count))) first second 4 2 (draft_takes was leaf) (omega arith) (omega arith) (omega (arith, (takes_is was leaf stale)))
+      both = ends_then 4 2 (draft_takes was leaf) first second tt (omega arith) (omega arith) (omega (arith, (takes_is was leaf stale)))
 
       both_tried : HasTried g d0 d2
       both_tried = tried_then g d0 d1 d2 2 1 enters.made second.calls
 
       pub first_call : (e : Refused) → WritesDraftBlock g x.0 content d2 d3 (Err e) → LeafCall g 6 leaf d0 d3 k0 k2 was was way (Err e)
-      first_call e writes = leaf_refused way (subst (λ (r : Refused). EndsCall {A = Unit {0}} g (top_of was) 0 6 4 (draft_takes was leaf) d0 d3 k0 k2 (Err r)) (after_tried e writes.refused)
-          (ends_then_err g (top_of was) 0 d0 d2 d3 k0 k2 k2 y e 4 2 (draft_takes was leaf) 1 1 0 both both_tried (write_ends g (top_of was) 0 d2 d3 k2 x.0 content (Err e) writes) 6 4 (draft_takes was leaf) (omega arith) (omega arith) (omega arith)))
-          (λ enough. ap is_full_refusal writes.refused)
+      first_call e writes = leaf_refused way (then_written 6 4 both both_tried writes (omega arith) (omega arith)) (λ enough. ap is_full_refusal writes.refused)
 
       module _ (wrote_leaf : WritesDraftBlock g x.0 content d2 d3 (Ok (tt {0}))) (d4 : D) (node : List ℕ) where
         three : EndsCall {A = Unit {0}} g (top_of was) 0 5 3 (draft_takes was leaf) d0 d3 k0 k2 (Ok (tt {0}))
-        three = ends_then_ok g (top_of was) 0 d0 d2 d3 k0 k2 k2 y (tt {0}) 4 2 (draft_takes was leaf) 1 1 0 both (write_ends g (top_of was) 0 d2 d3 k2 x.0 content (Ok (tt {0})) wrote_leaf) 5 3 (draft_takes was leaf) (omega arith) (omega arith) (omega arith)
+        three = then_written 5 3 both both_tried wrote_leaf (omega arith) (omega arith)
 
         three_tried : HasTried g d0 d3
         three_tried = tried_then g d0 d2 d3 1 1 both_tried wrote_leaf.calls
 
         pub second_call : (e : Refused) → WritesDraftBlock g y.0 node d3 d4 (Err e) → LeafCall g 6 leaf d0 d4 k0 k2 was was way (Err e)
-        second_call e writes = leaf_refused way (subst (λ (r : Refused). EndsCall {A = Unit {0}} g (top_of was) 0 6 4 (draft_takes was leaf) d0 d4 k0 k2 (Err r)) (after_tried e writes.refused)
-            (ends_then_err g (top_of was) 0 d0 d3 d4 k0 k2 k2 (tt {0}) e 5 3 (draft_takes was leaf) 1 1 0 three three_tried (write_ends g (top_of was) 0 d3 d4 k2 y.0 node (Err e) writes) 6 4 (draft_takes was leaf) (omega arith) (omega arith) (omega arith)))
-            (λ enough. ap is_full_refusal writes.refused)
+        second_call e writes = leaf_refused way (then_written 6 4 three three_tried writes (omega arith) (omega arith)) (λ enough. ap is_full_refusal writes.refused)
 
         pub new_call : (now : Drafting) (next : Way) → IsSafe (g.blocks d0) was way → IsTo leaf way → IsTo leaf next → way_leaves next ≡ set (way_leaves way) (leaf % leaf_pointers.count) x.0 → WritesDraftBlock g y.0 node d3 d4 (Ok (tt {0})) → StaysBut was now → Adds leaf y.0 was now
             → LeafCall g 6 leaf d0 d4 k0 k2 was now next (Ok tt)
         new_call now next safe to next_to put writes stays adds =
-            let four = ends_then_ok g (top_of was) 0 d0 d3 d4 k0 k2 k2 (tt {0}) (tt {0}) 5 3 (draft_takes was leaf) 1 1 0 three (write_ends g (top_of was) 0 d3 d4 k2 y.0 node (Ok tt) writes) 6 4 (draft_takes was leaf) (omega arith) (omega arith) (omega arith) in
+            let four : EndsCall g (top_of was) 0 6 4 (draft_takes was leaf) d0 d4 k0 k2 (Ok tt) = then_written 6 4 three three_tried writes (omega arith) (omega arith) in
             record {
               stays = stays;
               flags = record { leaves = adds.fresh.leaves; nodes = inr adds.fresh.nodes };

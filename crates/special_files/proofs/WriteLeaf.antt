@@ -1,14 +1,17 @@
 -- Bytes written into one leaf of a draft: what was read is laid under them, and they are put.
-use Rattle.std.proofs.Common.{◌≡◌, ℕ, ◌+◌, ◌-◌, ◌*◌, ◌/◌, ◌%◌, ◌<◌, ◌≤◌, List, ◌++◌, length, get_or, take, replicate, slice_range, Err, refl, sym, ◌∙◌, ap, subst, arith, false, Ok}
-use Rattle.special_files.proofs.Words.{AreClaimed, ChangesOnly, DraftBecomes, DraftView, Drafting, Drafts, EndsCall, FitsLeaf, Ghosts, GoesHolding, Graph, HasDraft, Image, IsDraftTrouble, IsNearTree, IsRead, Kept, LeafCall, Leaves, LeavesFit, Way, OnlyReads, Puid, PutsAt, PutsLeaf, Refused, Result, SameBeside, Tells, Top, Trouble, cut, draft_takes, drop_all, get_or-append_right, get_or-replicate, has_met_damage, is_damage, is_full_refusal, leaf_claims, leaf_content, leaves_below, leaves_in, length-leaf_content, length-take, makes_then, of_draft, opened_as, over_byte, over_past, overlaid, past_size, patched, reads_make, reads_then, reads_within, refused_by, root_spelling, sum, then, then_tried, top_of, tree_in}
+use Rattle.std.proofs.Common.{◌≡◌, ℕ, ◌+◌, ◌-◌, ◌*◌, ◌/◌, ◌%◌, ◌<◌, ◌≤◌, List, ◌++◌, length, get_or, take, replicate, slice_range, Err, refl, sym, ◌∙◌, ap, subst, arith, false, Ok, Some}
+use Rattle.special_files.proofs.Words.{AreClaimed, ChangesOnly, DraftBecomes, DraftView, Drafting, Drafts, EndsCall, FitsLeaf, Ghosts, GoesHolding, Graph, HasDraft, Image, IsDraftTrouble, IsNearTree, IsRead, Kept, LeafCall, Leaves, LeavesFit, Way, OnlyReads, Puid, PutsAt, PutsLeaf, Refused, Result, SameBeside, Tells, Top, Trouble, cut, draft_takes, drop_all, get_or-append_right, get_or-replicate, has_met_damage, is_damage, is_full_refusal, leaf_claims, leaf_content, leaves_below, leaves_in, length-leaf_content, length-take, of_draft, opened_as, over_byte, over_past, overlaid, past_size, patched, reads_make, reads_within, refused_by, root_spelling, sum, then, then_tried, top_of, tree_in}
 use Rattle.block_tree.specs.declared.root.Root as roots
 use Rattle.ufs_model.specs.declared.object.Draft as models
 use Rattle.special_files.proofs.read.ReadLeaves.{tree_near}
 use Rattle.special_files.specs.View.{HasTree}
 use Rattle.special_files.proofs.View.{read_leaves, view_reads}
-use Rattle.special_files.proofs.Endings.{makes_none, stays_itself}
+use Rattle.cfs_base.proofs.Went.{makes_within, went_as, went_then}
+use Rattle.cfs_base.specs.Went.{Went}
+use Rattle.cyl_alloc.proofs.Takes.{takes_none}
+use Rattle.special_files.proofs.Endings.{stays_itself}
 use Rattle.cfs_base.specs.declared.refusal.Trouble.TheVariants as trouble
-use Rattle.special_files.proofs.Refusals.{refusal_after_reads, refusal_of, damaged_by, on_ok, if_err}
+use Rattle.special_files.proofs.Refusals.{refusal_after_reads, refusal_of, damaged_by, on_ok}
 
 -- ---- bytes
 
@@ -84,27 +87,25 @@ module _ {D : Type 0} {g : Ghosts D} {d0 d1 : D} {n : ℕ} (reads : OnlyReads g 
   pub goes_stopped : {A : Type 0} {graph : Graph} {P : Type 0} (t : Trouble) (e : Refused) → e ≡ refused_by t → is_damage t ≡ false → GoesHolding {A = A} g graph P d0 d1 (Err e)
   goes_stopped {graph = graph} t e is sound = record { done = tt; leaves = read_leaves reads; sound = ap has_met_damage is ∙ damaged_by t sound }
 
-  pub ends_since : {A : Type 0} {at : Top} {floor m t k : ℕ} {d2 : D} {k1 k2 : Kept} {r : Result A Refused} (most : ℕ) → EndsCall g at floor m t k d1 d2 k1 k2 r → n + m ≤ most → EndsCall g at floor most t k d0 d2 k1 k2 r
-  ends_since {at = at} {floor = floor} {m = m} {t = t} {d2 = d2} {k2 = k2} {r = r} most is le = record {
-    told = on_ok r (λ told b was. told b (reads.told b was)) is.told;
-    refused = if_err r (λ e why. refusal_after_reads g at d0 d1 d2 k2 floor n e reads why) is.refused;
-    untried = if_err r (λ e why same. ((why same).0, reads_then g d0 d1 d2 n m most reads (why same).1 le)) is.untried;
-    cylinders = is.cylinders;
-    left = is.left;
-    takes = is.takes;
-    calls = makes_then g d0 d1 d2 n m most 0 t t (reads_make g d0 d1 n reads) is.calls le (omega arith);
-  }
+  pub ends_since : {A : Type 0} {at : Top} {m t k : ℕ} {d2 : D} {k1 k2 : Kept} {r : Result A Refused} (most : ℕ) → EndsCall g at 0 m t k d1 d2 k1 k2 r → n + m ≤ most → EndsCall g at 0 most t k d0 d2 k1 k2 r
+  ends_since {A = A} {at} {m} {t} {k} {d2} {k1} {k2} {r} most is le = went_as most t most (λ takes. takes) (λ e why. why) (λ e so. so) (λ x knows. knows) (by r is) le (omega arith) le
+    where
+      reads_went : Went {A = Unit {0}} g n 0 n d0 d1 k1 k1 (Unit {0}) (λ (e : Refused). ⊥) (λ e. ⊥) (λ x. Some false) (Ok tt)
+      reads_went = record { told = reads.told; knows = (refl, reads); refused = tt; untried = tt; moves = tt; calls = reads_make g d0 d1 n reads }
+
+      by : (r : Result A Refused) → EndsCall g at 0 m t k d1 d2 k1 k2 r → EndsCall g at 0 (n + m) (0 + t) k d0 d2 k1 k2 r
+      by (Ok x) is = went_then (λ e. e) (λ none takes. takes) tt tt refl reads_went is
+      by (Err e) is = went_then (λ e. e) (λ none takes. takes) (refusal_after_reads g at d0 d1 d2 k2 0 n e reads) (λ same. (refl, same)) tt reads_went is
 
   -- only reads, and then a trouble
-  pub ends_trouble : {A : Type 0} {at : Top} {floor : ℕ} {kept : Kept} (t k most : ℕ) (trouble : Trouble) (e : Refused) → e ≡ refused_by trouble → n ≤ most → IsDraftTrouble g at d0 d1 kept trouble → EndsCall {A = A} g at floor most t k d0 d1 kept kept (Err e)
-  ends_trouble {A = A} {at = at} {floor = floor} {kept = kept} t k most trouble e same le is = subst (λ (x : Refused). EndsCall {A = A} g at floor most t k d0 d1 kept kept (Err x)) (sym same) (record {
+  pub ends_trouble : {A : Type 0} {at : Top} {kept : Kept} (floor t k most : ℕ) (trouble : Trouble) (e : Refused) → e ≡ refused_by trouble → n ≤ most → IsDraftTrouble g at d0 d1 kept trouble → EndsCall {A = A} g at floor most t k d0 d1 kept kept (Err e)
+  ends_trouble {A = A} {at = at} {kept = kept} floor t k most trouble e same le is = subst (λ (x : Refused). EndsCall {A = A} g at floor most t k d0 d1 kept kept (Err x)) (sym same) (record {
     told = tt;
+    knows = tt;
     refused = refusal_of g at floor d0 d1 kept trouble is;
     untried = λ same. (refl, reads_within g d0 d1 n most le reads);
-    cylinders = refl;
-    left = refl;
-    takes = omega arith;
-    calls = makes_then g d0 d1 d1 n 0 most 0 0 t (reads_make g d0 d1 n reads) (makes_none g d1 0 0) (omega (arith, le)) (omega arith);
+    moves = takes_none kept k;
+    calls = makes_within g d0 d1 n 0 most t le (omega arith) (reads_make g d0 d1 n reads);
   })
 
 -- ---- one leaf put
@@ -128,7 +129,7 @@ module _ {D : Type 0} {g : Ghosts D} {d0 d1 : D} {n : ℕ} (reads : OnlyReads g 
   }
 
   pub leaf_stopped : {leaf : ℕ} {kept : Kept} {was : Drafting} (read : Way) (most : ℕ) (t : Trouble) (e : Refused) → e ≡ refused_by t → n ≤ most → IsDraftTrouble g (top_of was) d0 d1 kept t → LeafCall g most leaf d0 d1 kept kept was was read (Err e)
-  leaf_stopped {leaf} read most t e same le is = leaf_refused read (ends_trouble reads 4 _ most t e same le is) (λ enough. ap is_full_refusal same ∙ not_full t)
+  leaf_stopped {leaf} read most t e same le is = leaf_refused read (ends_trouble reads 0 4 _ most t e same le is) (λ enough. ap is_full_refusal same ∙ not_full t)
 
   -- content that was read, and then put
   pub leaf_changed : {k0 k2 : Kept} {was now : Drafting} {d2 : D} {r : Result (Unit {0}) Refused} (v : DraftView g d0 k0 was) (read mid next : Way) (leaf : ℕ) (content whole : List ℕ) → (Tells g d0 → IsRead (g.content d0) was read → IsRead (g.content d0) was mid) → IsRead (g.content d0) was read
@@ -141,7 +142,3 @@ module _ {D : Type 0} {g : Ghosts D} {d0 d1 : D} {n : ℕ} (reads : OnlyReads g 
 -- on an honest disk the tree is near
 pub near_there : {D : Type 0} {g : Ghosts D} {d0 : D} {was : Drafting} (v : HasTree g d0 was) → length (g.content d0) ≡ g.blocks d0 → 0 < g.blocks d0 → IsNearTree (g.blocks d0) (g.content d0) (root_spelling was.root)
 near_there {g = g} {d0 = d0} {was = was} v size some = tree_near (g.content d0) (g.blocks d0) v.owner was v.object v.tree size some
-
--- the same, done with another answer
-pub ends_as : {D A B : Type 0} {g : Ghosts D} {at : Top} {floor n t k : ℕ} {d0 d1 : D} {k0 k1 : Kept} {x : A} (y : B) → EndsCall g at floor n t k d0 d1 k0 k1 (Ok x) → EndsCall g at floor n t k d0 d1 k0 k1 (Ok y)
-ends_as y is = record { told = is.told; refused = tt; untried = tt; cylinders = is.cylinders; left = is.left; takes = is.takes; calls = is.calls }

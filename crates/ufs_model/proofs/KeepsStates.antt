@@ -20,7 +20,8 @@ use Rattle.std.proofs.lemmas.List.Folds.{list_any-append}
 use Rattle.ufs_model.proofs.Drafts.{draft_open}
 use Rattle.ufs_model.proofs.Objects.{new_file_whole, new_index_whole}
 use Rattle.ufs_model.proofs.WellGraphs.{taken_keeps}
-use Rattle.ufs_model.proofs.WellStates.{beside, Goes, goes, HasNoOther, has_no_other, changed_keeps, created_keeps, granted_keeps, closed_keeps, leave_keeps}
+use Rattle.ufs_model.proofs.WellStates.{beside, Goes, goes, HasNoOther, has_no_other, changed_keeps, created_keeps}
+use Rattle.ufs_model.proofs.WellGrants.{granted_keeps, closed_keeps, leave_keeps}
 use Rattle.ufs_model.proofs.Vanishing.{may_vanish_meant, root_kept, open_kept, kept_stays}
 use Rattle.ufs_model.proofs.Legal.{none_holds}
 

@@ -19,6 +19,7 @@ pub mod WellGraphs
 pub mod Grants
 pub mod Drafts
 pub mod WellStates
+pub mod WellGrants
 pub mod Vanishing
 pub mod KeepsStates
 pub mod Drawn

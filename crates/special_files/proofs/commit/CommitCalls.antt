@@ -4,7 +4,7 @@ use Rattle.special_files.proofs.Words.{AbortCall, AreDraftParts, Drafting, draft
 use Rattle.block_tree.specs.declared.root.Root as roots
 use Rattle.cfs_base.specs.declared.refusal.Trouble.TheVariants as trouble
 use Rattle.cyl_alloc.specs.Left.{LeftCommit}
-use Rattle.special_files.proofs.Endings.{makes_none}
+use Rattle.cfs_base.proofs.Went.{makes_none}
 use Rattle.special_files.proofs.Refusals.{if_err, on_ok, trouble_after_reads, trouble_as}
 
 pub far_trouble : {D : Type 0} (g : Ghosts D) (at : Top) (d : D) (kept : Kept) (t : Trouble) → at.IsFar (g.blocks d) → t ≡ far_root at.block → IsDraftTrouble g at d d kept t

@@ -1,15 +1,14 @@
 -- A draft that makes an object: what stands once the object's root is claimed and written, and then its slot is filled.
 use Rattle.std.proofs.Common.{◌≡◌, ◌≢◌, inl, ⊎_elim, ℕ, ◌+◌, ◌/◌, ◌%◌, true, false, List, [], ◌∷◌, length, Option, Some, None, Ok, Err, refl, sym, ◌∙◌, ap, subst, arith, eq-eqb}
-use Rattle.special_files.proofs.Words.{Accounts, ChangesOnly, DraftView, Drafting, Drafts, EndsCall, FillCall, FillsDraft, FillsIfIndex, Free, Ghosts, GoesTo, HasDraft, HasTried, Image, Index, IsBareRoot, IsEntry, IsLeastFree, IsMadeRoot, IsOpen, IsOpenTo, IsRootBlock, Kept, MapEntry, Opened, Puid, Refused, Result, Root, SameBeside, StoreHas, Swap, Tree, after_try, and_from, and_parts, block_at, block_at-with_entry, both_ways, changes_entry, changes_then, changes_wider, created_if, draft_takes, entry_in, entry_in-set, entry_in-with_entry_other, entry_in-with_entry_same, free_is_loose, has_met_damage, has_number, in_image, intended, is_fixed, is_free_in, is_full_refusal, is_had, is_made, is_meant, is_owned_by, is_placed, is_taken, length-with_entry, making_begins, ne_eqb, node_pointers, not_map, of_draft, of_drafts, of_taken, opened_as, owner_of, part_of, pointers_of, puid_at, root_spelling, same_Some, same_or_not, same_tree, still_top, taken_apart, then, top_of, tree_in, tree_placed, tried_then, with_entry, with_opened}
+use Rattle.special_files.proofs.Words.{Accounts, ChangesOnly, DraftView, Drafting, Drafts, EndsCall, FillCall, FillsDraft, FillsIfIndex, Free, Ghosts, GoesTo, HasDraft, HasTried, Image, Index, IsBareRoot, IsEntry, IsLeastFree, IsMadeRoot, IsOpen, IsOpenTo, IsRootBlock, Kept, MapEntry, Opened, Puid, Refused, Result, Root, SameBeside, StoreHas, Swap, Tree, after_try, and_from, and_parts, block_at, block_at-with_entry, both_ways, changes_entry, changes_then, changes_wider, created_if, draft_takes, entry_in, entry_in-set, entry_in-with_entry_other, entry_in-with_entry_same, free_is_loose, has_met_damage, has_number, in_image, intended, is_fixed, is_free_in, is_full_refusal, is_had, is_made, is_meant, is_owned_by, is_placed, is_taken, length-with_entry, making_begins, ne_eqb, node_pointers, not_map, of_draft, of_drafts, of_taken, opened_as, owner_of, part_of, pointers_of, puid_at, root_spelling, same_Some, same_or_not, same_tree, still_top, taken_apart, then, tree_in, tree_placed, tried_then, with_entry, with_opened}
 use Rattle.cyl_map.specs.Volume.{is_free_entry}
 use Rattle.intentions.proofs.Flips.{first_number, more_numbers, option_is}
 use Rattle.special_files.specs.Creates.{CreatesBeside, CreatesIfIndex, HasImage, RootEnds, IsBare, MakesBesideCall, Spells, adopting, created_draft, with_root}
-use Rattle.special_files.proofs.Endings.{ends_at, ends_err, ends_then_err, ends_then_ok, ends_wider, not_untried, still_room, still_sound}
+use Rattle.special_files.proofs.Endings.{ends_as, ends_err, ends_then, ends_wider, not_untried, still_ends, still_room, still_sound}
 use Rattle.special_files.proofs.Made.{bare_kept, content_kept, made_kept}
 use Rattle.special_files.proofs.Meant.{free_is, meant_open}
 use Rattle.special_files.proofs.leaf.Puts.{taken_not_free}
 use Rattle.special_files.proofs.View.{draft_of}
-use Rattle.special_files.proofs.WriteLeaf.{ends_as}
 use Rattle.std.proofs.lemmas.List.{get_or-set_other, get_or-set_same}
 use Rattle.vol_owners.proofs.Changes.{changes_content}
 use Rattle.vol_owners.proofs.Drafts.{with_again, with_here}
@@ -199,17 +198,13 @@ module _ {D : Type 0} {g : Ghosts D} {d0 d1 : D} {k0 k1 : Kept} {was : Drafting}
 
 -- ---- how the call ends
 
--- as one of the draft's root, of which no pointer was followed
-as_of : {D : Type 0} {g : Ghosts D} {d0 d1 : D} {k0 k1 : Kept} (was : Drafting) {n t k : ℕ} {r : Result (Unit {0}) Refused} → EndsCall g (still_top was.at) 0 n t k d0 d1 k0 k1 r → EndsCall g (top_of was) 0 n t k d0 d1 k0 k1 r
-as_of was ends = ends_at {at = still_top was.at} {now = top_of was} refl (λ far. absurd far) ends
-
 module _ {D : Type 0} {g : Ghosts D} {d0 d1 : D} {k0 k1 : Kept} (was : Drafting) (slot c : ℕ) where
   -- the root isn't made
   pub make_stopped : {e : Refused} → EndsCall {A = Unit {0}} g (still_top was.at) 0 3 2 1 d0 d1 k0 k1 (Err e) → is_full_refusal e ≡ false → MakesBesideCall g slot c d0 d1 k0 k1 was was (Err e)
   make_stopped {e} ends spare = record {
     stays = tt;
     near = λ equal. tt;
-    ends = ends_wider 0 11 6 (1 + draft_takes was (slot / 64)) (ends_err {A = Unit {0}} {B = Swap} g (top_of was) 0 3 2 1 d0 d1 k0 k1 e (as_of was ends)) (omega arith) (omega arith) (omega (arith, ends.takes));
+    ends = ends_wider 0 11 6 (1 + draft_takes was (slot / 64)) (ends_err (still_ends was ends)) (omega arith) (omega arith) (omega (arith, ends.moves.takes));
     tried = tt;
     untried = ends.untried;
     room = λ enough. spare;
@@ -224,11 +219,10 @@ module _ {D : Type 0} {g : Ghosts D} {d0 d1 : D} {k0 k1 : Kept} (was : Drafting)
         subst (λ (y : Refused). MakesBesideCall g slot c d0 d2 k0 k2 was now (Err y)) (sym is) (record {
           stays = tt;
           near = λ equal. tt;
-          ends = ends_then_err {A = Unit {0}} {B = Swap} g (top_of was) 0 d0 d1 d2 k0 k1 k2 tt e 3 2 1 8 4 (draft_takes was (slot / 64)) (as_of was made) tried
-              (ends_err {A = Option Swap} {B = Swap} g (top_of was) 0 8 4 (draft_takes was (slot / 64)) d1 d2 k1 k2 e call.ends) 11 6 (1 + draft_takes was (slot / 64)) (omega arith) (omega arith) (omega arith);
+          ends = ends_then 11 6 (1 + draft_takes was (slot / 64)) (still_ends was made) (ends_err {B = Swap} call.ends) tried (omega arith) (omega arith) (omega arith);
           tried = tt;
           untried = λ same. absurd (not_untried e same);
-          room = λ enough. still_room true e (call.room (omega (arith, enough, made.takes)));
+          room = λ enough. still_room true e (call.room (omega (arith, enough, made.moves.takes)));
         })
 
     -- it is
@@ -238,7 +232,7 @@ module _ {D : Type 0} {g : Ghosts D} {d0 d1 : D} {k0 k1 : Kept} (was : Drafting)
         record {
           stays = call.stays;
           near = call.near;
-          ends = ends_then_ok {A = Unit {0}} {B = Swap} g (top_of was) 0 d0 d1 d2 k0 k1 k2 tt swap 3 2 1 8 4 (draft_takes was (slot / 64)) (as_of was made) (ends_as swap call.ends) 11 6 (1 + draft_takes was (slot / 64)) (omega arith) (omega arith) (omega arith);
+          ends = ends_then 11 6 (1 + draft_takes was (slot / 64)) (still_ends was made) (ends_as swap call.ends) tt (omega arith) (omega arith) (omega arith);
           tried = tried_then g d0 d1 d2 8 4 tried call.ends.calls;
           untried = tt;
           room = λ enough. tt;

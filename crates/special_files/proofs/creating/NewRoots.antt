@@ -1,6 +1,6 @@
 -- The root of a new object: its block is found, claimed for itself, and written.
 use Rattle.std.proofs.Common.{◌≡◌, ◌≢◌, ℕ, ◌/◌, ◌^◌, ◌<◌, false, length, set, replicate, Some, Ok, Err, refl, sym, ◌∙◌, ap, subst, arith, lt-ltb}
-use Rattle.special_files.proofs.Words.{AreCounts, Drafts, EndsCall, Frame, Frames, Free, Ghosts, Graph, HasTried, Holds, IfErr, Image, IsEntry, IsLeastFree, Kept, Leaves, MapEntry, MayPut, OnOk, Refused, Result, Root, StoreHas, Top, Trouble, WritesDraftBlock, after_taking, after_try, both_ways, entry_in, has_met_damage, in_image, intended, is_damage, keeps_frame, length-with_entry, node_pointers, not_map, on_entry, refused_by, root_spelling, then, trouble_after_try, wider, with_entry}
+use Rattle.special_files.proofs.Words.{AreCounts, Drafts, Frame, Frames, Free, Ghosts, Graph, Holds, IfErr, Image, IsEntry, IsLeastFree, Kept, Leaves, MapEntry, MayPut, OnOk, Refused, Result, Root, StoreHas, Trouble, WritesDraftBlock, after_taking, both_ways, entry_in, has_met_damage, in_image, intended, is_damage, keeps_frame, length-with_entry, node_pointers, not_map, on_entry, refused_by, root_spelling, then, trouble_after_try, wider, with_entry}
 use Rattle.block_tree.specs.declared.root.Root as roots
 use Rattle.cfs_base.specs.declared.kind.Kind.{Kind}
 use Rattle.cfs_base.specs.declared.kind.Kind.TheVariants as kinds
@@ -13,7 +13,6 @@ use Rattle.intentions.specs.Calls.{ChangesEntry}
 use Rattle.intentions.specs.declared.change.Change.TheVariants.{Claim}
 use Rattle.special_files.specs.Creates.{HasImage, MayBeMade, RootEnds, made_of, with_root}
 use Rattle.special_files.proofs.Amid.{framed_carries, framed_holds, written_framed}
-use Rattle.special_files.proofs.Endings.{ends_then_err, ends_then_ok, write_ends}
 use Rattle.special_files.proofs.Meant.{free_is}
 use Rattle.vol_image.proofs.AtRest.{loose_stays}
 use Rattle.vol_image.proofs.AtRoot.{bare_index, bare_normal, bare_special}
@@ -24,16 +23,6 @@ use Rattle.vol_image.specs.Reading.{bare_object}
 
 pub root_entry : (n : ℕ) → n ≢ 0 → n < 2 ^ 32 → IsEntry (intended Root n)
 root_entry n some small = record { in_table = rw (lt-ltb 0 n (omega (arith, some)), lt-ltb n (2 ^ 32) small) refl }
-
--- ---- on any disk
-
-module _ {D : Type 0} (g : Ghosts D) (at : Top) where
-  pub make_ends : (n : ℕ) (d0 d1 d2 : D) (k0 k1 : Kept) (root : roots.Root) → EndsCall {A = Unit {0}} g at 0 2 1 1 d0 d1 k0 k1 (Ok tt) → HasTried g d0 d1 → (r : Result (Unit {0}) Refused) → WritesDraftBlock g n (root_spelling root) d1 d2 r → EndsCall g at 0 3 2 1 d0 d2 k0 k1 r
-  make_ends n d0 d1 d2 k0 k1 root first tried (Ok u) is =
-      ends_then_ok {A = Unit {0}} {B = Unit {0}} g at 0 d0 d1 d2 k0 k1 k1 tt u 2 1 1 1 1 0 first (write_ends g at 0 d1 d2 k1 n (root_spelling root) (Ok u) is) 3 2 1 (omega arith) (omega arith) (omega arith)
-  make_ends n d0 d1 d2 k0 k1 root first tried (Err e) is =
-      subst (λ (x : Refused). EndsCall {A = Unit {0}} g at 0 3 2 1 d0 d2 k0 k1 (Err x)) (ap after_try is.refused ∙ sym is.refused)
-      (ends_then_err {A = Unit {0}} {B = Unit {0}} g at 0 d0 d1 d2 k0 k1 k1 tt e 2 1 1 1 1 0 first tried (write_ends g at 0 d1 d2 k1 n (root_spelling root) (Err e) is) 3 2 1 (omega arith) (omega arith) (omega arith))
 
 -- ---- where the store has the objects
 

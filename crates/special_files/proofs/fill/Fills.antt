@@ -7,10 +7,10 @@ use Rattle.ufs_model.specs.declared.object.Object.TheVariants as objects
 use Rattle.vol_owners.proofs.Drafts.{with_here}
 use Rattle.special_files.proofs.Marks.{Marks, fresh_written, marks_begin, marks_more}
 use Rattle.special_files.proofs.PutStore.{the_draft}
-use Rattle.special_files.proofs.Endings.{ends_err}
+use Rattle.special_files.proofs.Endings.{ends_as, ends_err}
 use Rattle.special_files.proofs.fill.Swapped.{is_swapped}
 use Rattle.special_files.proofs.View.{draft_of, view_reads}
-use Rattle.special_files.proofs.WriteLeaf.{becomes_since, ends_as, leaf_stopped}
+use Rattle.special_files.proofs.WriteLeaf.{becomes_since, leaf_stopped}
 use Rattle.special_files.proofs.write.Writes.{becomes_as, becomes_begin}
 
 -- ---- a leaf of a slot
@@ -199,7 +199,7 @@ module _ {D : Type 0} {g : Ghosts D} {d0 d1 : D} {k0 k1 : Kept} {was now : Draft
 
   -- it was refused
   pub fill_refused : {e : Refused} → LeafCall g 8 (slot / 64) d0 d1 k0 k1 was now read (Err e) → FillCall g slot what d0 d1 k0 k1 was now (Err e)
-  fill_refused {e} calls = record { stays = calls.stays; near = λ equal. tt; ends = ends_err g (top_of was) 0 8 4 _ d0 d1 k0 k1 e calls.ends; tried = tt; spared = tt; empty = tt; kept = calls.kept; room = calls.room }
+  fill_refused {e} calls = record { stays = calls.stays; near = λ equal. tt; ends = ends_err calls.ends; tried = tt; spared = tt; empty = tt; kept = calls.kept; room = calls.room }
 
 -- the leaf couldn't be read: the result that a `?` made of a trouble
 pub fill_stopped : {D : Type 0} {g : Ghosts D} {d0 d1 : D} {kept : Kept} {was : Drafting} (read : Way) (slot : ℕ) (what : Option Puid) → OnlyReads g 2 d0 d1 → (result : Result (Option Swap) Refused) (t : Trouble) → IsErrAnd result (λ e. e ≡ refused_by t) → IsDraftTrouble g (top_of was) d0 d1 kept t

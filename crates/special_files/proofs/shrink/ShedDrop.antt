@@ -2,12 +2,14 @@
 use Rattle.std.proofs.Common.{◌≡◌, ◌≢◌, ℕ, ◌+◌, ◌*◌, ◌/◌, ◌%◌, ◌^◌, ◌<◌, ◌≤◌, Bool, true, false, IsTrue, List, length, Ok, Err, refl, sym, ◌∙◌, ap, subst, arith, inl, inr, if◌then◌else◌, not}
 use Rattle.block_tree.specs.Reads.{IsPast}
 use Rattle.special_files.proofs.Ways.{node_is_read}
-use Rattle.special_files.proofs.Words.{HasNode, AreClaimed, AreShed, BlockNo, ChangesOnly, Claims, ClaimsAndDrops, DraftView, Drafting, Drafts, DropCall, DropsFrom, EndsCall, Flips, Forgets, GetsDraftNode, Ghosts, GoesHolding, Graph, Had, HasTried, Holds, Image, IsDraftTrouble, IsFarRoot, IsRead, KeepsOne, Kept, Leaves, MakesAtMost, NoBlock, NoWrite, Way, OnlyReads, Opened, Puid, Put, PutsWithin, Refused, Result, Trouble, Undo, Whole, Within, WritesDraftBlock, border_claims, border_takes, both_ways, cases_Bool, cases_lt, entry_in, eqb-true, flips, get_or_past, given_all, has_met_damage, is_damage, is_fresh_node, is_full_refusal, leaf_pointers, leaves_at, leaves_below, length-map-range_with_len, makes_then, ne_eqb, number_at, of_draft, one_unless, opened_as, pointer_to_node, pointers_of, reads_make, reads_within, refusal_after, refused_by, still_top, sum, then_tried, top_of, tried_then, trouble_after_try, ◌==◌, way_leaves, blocks_limit, drop_calls, drop_tries, leaf_limit, node_pointers}
+use Rattle.special_files.proofs.Words.{HasNode, AreClaimed, AreShed, BlockNo, ChangesOnly, Claims, ClaimsAndDrops, DraftView, Drafting, Drafts, DropCall, DropsFrom, EndsCall, Flips, Forgets, GetsDraftNode, Ghosts, GoesHolding, Graph, Had, HasTried, Holds, Image, IsDraftTrouble, IsFarRoot, IsRead, KeepsOne, Kept, Leaves, MakesAtMost, NoBlock, NoWrite, Way, OnlyReads, Opened, Puid, Put, PutsWithin, Refused, Result, Trouble, Undo, Whole, Within, WritesDraftBlock, border_claims, border_takes, both_ways, cases_Bool, cases_lt, entry_in, eqb-true, flips, get_or_past, given_all, has_met_damage, is_damage, is_fresh_node, is_full_refusal, leaf_pointers, leaves_at, leaves_below, length-map-range_with_len, ne_eqb, number_at, of_draft, one_unless, opened_as, pointer_to_node, pointers_of, reads_make, reads_within, refusal_after, refused_by, still_top, sum, then_tried, top_of, tried_then, trouble_after_try, ◌==◌, way_leaves, blocks_limit, drop_calls, drop_tries, leaf_limit, node_pointers}
 use Rattle.std.proofs.lemmas.Bool.{eq-eqb}
 use Rattle.cfs_base.specs.declared.refusal.Refused.TheVariants as refusals
 use Rattle.cfs_base.specs.declared.refusal.Trouble.TheVariants as trouble
 use Rattle.special_files.proofs.Amid.{IsAmid, amid_begins}
-use Rattle.special_files.proofs.Endings.{ends_err, ends_then_err, ends_then_ok, gets_ends, makes_none, write_ends, ends_wider, stays_itself, still_sound, still_room, claim_real}
+use Rattle.cfs_base.proofs.Went.{makes_within}
+use Rattle.cyl_alloc.proofs.Takes.{takes_none}
+use Rattle.special_files.proofs.Endings.{ends_as, ends_err, ends_none, ends_then, gets_ends, write_ends, ends_wider, stays_itself, still_sound, still_room, claim_real, then_written}
 use Rattle.special_files.proofs.PutCall.{find_sound, gets_near}
 use Rattle.special_files.proofs.Refusals.{damaged_by, refusal_of, still_as}
 use Rattle.special_files.proofs.shrink.ShedRun.{IsPut, get_leaves, put_amid, put_is, put_leaves, put_none, put_claims, put_small, shed_amid, shed_leaves, shed_order, shed_short, shed_sound}
@@ -159,31 +161,22 @@ one_taken was f within stale = elim (cases_Bool (f % leaf_pointers.count == 0)) 
 
 module _ {D : Type 0} {g : Ghosts D} {d0 d1 : D} {was : Drafting} (reads : OnlyReads g node_pointers.count d0 d1) (none : ((n : ℕ) → is_fresh_node was n ≡ false) → d1 ≡ d0) (f : ℕ) where
   pub list_err_call : (k0 : Kept) (t : Trouble) (e : Refused) → e ≡ refused_by t → IsDraftTrouble g (top_of was) d0 d1 k0 t → DropCall g f d0 d1 k0 k0 was was (Err e)
-  list_err_call k0 t e same why = drop_refused (ends_trouble reads drop_tries (sum k0.free) drop_calls t e same (omega arith) why) (λ whole stale. (none stale, refl)) (λ room. ap is_full_refusal same ∙ not_full t)
+  list_err_call k0 t e same why = drop_refused (ends_trouble reads 0 drop_tries (sum k0.free) drop_calls t e same (omega arith) why) (λ whole stale. (none stale, refl)) (λ room. ap is_full_refusal same ∙ not_full t)
 
   module _ {k0 : Kept} (leaves : List ℕ) {d2 : D} {k2 : Kept} where
-    no_write : (mid : D) (y : BlockNo) (block : List ℕ) (e : Refused) → GetsDraftNode g (f / leaf_pointers.count) d1 mid k0 k2 was (Ok y) → WritesDraftBlock g y.0 block mid d2 (Err e) → EndsCall {A = BlockNo} g (top_of was) 0 3 2 (sum k0.free) d1 d2 k0 k2 (Err e)
-    no_write mid y block e gets writes =
-        let one = write_ends g (top_of was) 0 mid d2 k2 y.0 block (Err e) writes in
-        ends_err g (top_of was) 0 3 2 (sum k0.free) d1 d2 k0 k2 e (by gets one)
-      where
-        by : GetsDraftNode g (f / leaf_pointers.count) d1 mid k0 k2 was (Ok y) → EndsCall {A = Unit {0}} g (top_of was) 0 1 1 0 mid d2 k2 k2 (Err e) → EndsCall {A = Unit {0}} g (top_of was) 0 3 2 (sum k0.free) d1 d2 k0 k2 (Err e)
-        by (Had fresh same kept done) one =
-            let two = subst (λ (k : Kept). EndsCall {A = Unit {0}} g (top_of was) 0 1 1 0 mid d2 k k2 (Err e)) kept one in
-            ends_wider 0 3 2 (sum k0.free) (subst (λ (x : D). EndsCall {A = Unit {0}} g (top_of was) 0 1 1 0 x d2 k0 k2 (Err e)) same two) (omega arith) (omega arith) (omega arith)
-        by (Claims stale enters) one =
-            let told = ends_then_err g (top_of was) 0 d1 mid d2 k0 k2 k2 y e 2 1 (one_unless (is_fresh_node was (f / leaf_pointers.count))) 1 1 0 (gets_ends g (f / leaf_pointers.count) 0 d1 mid k0 k2 was (Ok y) (Claims stale enters)) enters.made one 3 2 ((one_unless (is_fresh_node was (f / leaf_pointers.count))) + 0) (omega arith) (omega arith) (omega arith) in
-            let again : refusal_after true e ≡ e = ap (refusal_after true) writes.refused ∙ sym writes.refused in
-            ends_wider 0 3 2 (sum k0.free) (subst (λ (x : Refused). EndsCall {A = Unit {0}} g (top_of was) 0 3 2 ((one_unless (is_fresh_node was (f / leaf_pointers.count))) + 0) d1 d2 k0 k2 (Err x)) again told) (omega arith) (omega arith) (omega arith)
+    no_write : (mid : D) (y : BlockNo) (block : List ℕ) (e : Refused) → GetsDraftNode g (f / leaf_pointers.count) d1 mid k0 k2 was (Ok y) → WritesDraftBlock g y.0 block mid d2 (Err e) → EndsCall {A = Unit {0}} g (top_of was) 0 3 2 (sum k0.free) d1 d2 k0 k2 (Err e)
+    no_write mid y block e (Had fresh same kept done) writes =
+        let one = subst (λ (k : Kept). EndsCall {A = Unit {0}} g (top_of was) 0 1 1 0 mid d2 k k2 (Err e)) kept (write_ends (top_of was) k2 writes) in
+        ends_wider 0 3 2 (sum k0.free) (subst (λ (x : D). EndsCall {A = Unit {0}} g (top_of was) 0 1 1 0 x d2 k0 k2 (Err e)) same one) (omega arith) (omega arith) (omega arith)
+    no_write mid y block e (Claims stale enters) writes = ends_wider 0 3 2 (sum k0.free) (then_written 3 2 (gets_ends {drafting = was} (Claims stale enters)) enters.made writes (omega arith) (omega arith)) (omega arith) (omega arith) (omega arith)
 
     pub put_ends : (r : Result BlockNo Refused) → PutsWithin g f leaves was d1 d2 k0 k2 r → EndsCall g (top_of was) 0 3 2 (sum k0.free) d1 d2 k0 k2 r
-    put_ends r (Whole y whole same kept done) = subst (EndsCall g (top_of was) 0 3 2 (sum k0.free) d1 d2 k0 k2) (sym done) (subst (λ (e : D). EndsCall g (top_of was) 0 3 2 (sum k0.free) d1 e k0 k2 (Ok y)) (sym same)
-        (subst (λ (k : Kept). EndsCall g (top_of was) 0 3 2 (sum k0.free) d1 d1 k0 k (Ok y)) (sym kept) (record { told = λ b h. h; refused = tt; untried = tt; cylinders = refl; left = refl; takes = omega arith; calls = makes_none g d1 3 2 })))
-    put_ends r (Within within (NoBlock e gets done)) = subst (EndsCall g (top_of was) 0 3 2 (sum k0.free) d1 d2 k0 k2) (sym done) (ends_wider 0 3 2 (sum k0.free) (gets_ends g (f / leaf_pointers.count) 0 d1 d2 k0 k2 was (Err e) gets) (omega arith) (omega arith) (omega arith))
-    put_ends r (Within within (NoWrite mid y block e gets short writes done)) = subst (EndsCall g (top_of was) 0 3 2 (sum k0.free) d1 d2 k0 k2) (sym done) (no_write mid y block e gets writes)
-    put_ends r (Within within (Put mid y block gets short writes done)) = subst (EndsCall g (top_of was) 0 3 2 (sum k0.free) d1 d2 k0 k2) (sym done)
-        (let both = ends_then_ok g (top_of was) 0 d1 mid d2 k0 k2 k2 y (tt {0}) 2 1 (one_unless (is_fresh_node was (f / leaf_pointers.count))) 1 1 0 (gets_ends g (f / leaf_pointers.count) 0 d1 mid k0 k2 was (Ok y) gets) (write_ends g (top_of was) 0 mid d2 k2 y.0 block (Ok (tt {0})) writes) 3 2 ((one_unless (is_fresh_node was (f / leaf_pointers.count))) + 0) (omega arith) (omega arith) (omega arith) in
-        record { told = both.told; refused = tt; untried = tt; cylinders = both.cylinders; left = both.left; takes = omega arith; calls = both.calls })
+    put_ends r (Whole y whole same kept done) = subst (EndsCall g (top_of was) 0 3 2 (sum k0.free) d1 d2 k0 k2) (sym done) (ends_none g (top_of was) 0 3 2 (sum k0.free) y same kept)
+    put_ends r (Within within (NoBlock e gets done)) = subst (EndsCall g (top_of was) 0 3 2 (sum k0.free) d1 d2 k0 k2) (sym done) (ends_wider 0 3 2 (sum k0.free) (gets_ends gets) (omega arith) (omega arith) (omega arith))
+    put_ends r (Within within (NoWrite mid y block e gets short writes done)) = subst (EndsCall g (top_of was) 0 3 2 (sum k0.free) d1 d2 k0 k2) (sym done) (ends_err (no_write mid y block e gets writes))
+    put_ends r (Within within (Put mid y block gets short writes done)) =
+        let both = ends_then 3 2 (one_unless (is_fresh_node was (f / leaf_pointers.count)) + 0) (gets_ends gets) (write_ends (top_of was) k2 writes) tt (omega arith) (omega arith) (omega arith) in
+        subst (EndsCall g (top_of was) 0 3 2 (sum k0.free) d1 d2 k0 k2) (sym done) (ends_wider 0 3 2 (sum k0.free) (ends_as y both) (omega arith) (omega arith) (omega arith))
 
     put_full : (e : Refused) → border_takes was f ≤ sum k0.free → PutsWithin g f leaves was d1 d2 k0 k2 (Err e) → is_full_refusal e ≡ false
     put_full e room (Whole y whole same kept done) = cc
@@ -199,7 +192,7 @@ module _ {D : Type 0} {g : Ghosts D} {d0 d1 : D} {was : Drafting} (reads : OnlyR
     put_tried y within (Whole z whole same kept done) = absurd (within whole)
     put_tried y within (Within w (NoBlock e gets done)) = cc
     put_tried y within (Within w (NoWrite mid z block e gets short writes done)) = cc
-    put_tried y within (Within w (Put mid z block gets short writes done)) = then_tried g d1 mid d2 2 1 (gets_ends g (f / leaf_pointers.count) 0 d1 mid k0 k2 was (Ok z) gets).calls writes.tried
+    put_tried y within (Within w (Put mid z block gets short writes done)) = then_tried g d1 mid d2 2 1 (gets_ends gets).calls writes.tried
 
     put_nothing : (r : Result BlockNo Refused) → f % leaf_pointers.count ≡ 0 → PutsWithin g f leaves was d1 d2 k0 k2 r → (d2 ≡ d1) × (k2 ≡ k0)
     put_nothing r whole (Whole z w same kept done) = (same, kept)
@@ -207,13 +200,12 @@ module _ {D : Type 0} {g : Ghosts D} {d0 d1 : D} {was : Drafting} (reads : OnlyR
 
     pub put_err_call : (e : Refused) → PutsWithin g f leaves was d1 d2 k0 k2 (Err e) → DropCall g f d0 d2 k0 k2 was was (Err e)
     put_err_call e puts =
-        let ends = ends_since reads drop_calls (put_ends (Err e) puts) (omega arith) in
-        drop_refused (ends_wider 0 drop_calls drop_tries (sum k0.free) (ends_err g (top_of was) 0 drop_calls 2 (sum k0.free) d0 d2 k0 k2 e ends) (omega arith) (omega arith) (omega arith))
+        drop_refused (ends_wider 0 drop_calls drop_tries (sum k0.free) (ends_err (ends_since reads drop_calls (put_ends (Err e) puts) (omega arith))) (omega arith) (omega arith) (omega arith))
         (λ whole stale. let put = put_nothing (Err e) whole puts in (put.0 ∙ none stale, put.1)) (λ room. put_full e room puts)
 
     module _ (y : BlockNo) (puts : PutsWithin g f leaves was d1 d2 k0 k2 (Ok y)) (n : ℕ) (few : n ≤ blocks_limit) (d3 : D) (calls : MakesAtMost g (2 * n) n d2 d3) (still : ((n : ℕ) → is_fresh_node was n ≡ false) → d3 ≡ d2) where
       wide : MakesAtMost g (2 * blocks_limit) blocks_limit d2 d3
-      wide = makes_then g d2 d2 d3 0 (2 * n) (2 * blocks_limit) 0 n blocks_limit (makes_none g d2 0 0) calls (omega (arith, few)) (omega (arith, few))
+      wide = makes_within g d2 d3 (2 * n) n (2 * blocks_limit) blocks_limit (omega (arith, few)) few calls
 
       nothing : f % leaf_pointers.count ≡ 0 → ((n : ℕ) → is_fresh_node was n ≡ false) → (d3 ≡ d0) × (k2 ≡ k0)
       nothing whole stale = let put = put_nothing (Ok y) whole puts in (still stale ∙ put.0 ∙ none stale, put.1)
@@ -225,18 +217,16 @@ module _ {D : Type 0} {g : Ghosts D} {d0 d1 : D} {was : Drafting} (reads : OnlyR
           undone : (k : Kept) → EndsCall {A = Unit {0}} g (top_of was) 0 (2 * blocks_limit) blocks_limit 0 d2 d3 k k (Err (refused_by t))
           undone k = record {
             told = tt;
+            knows = tt;
             refused = refusal_of g (top_of was) 0 d2 d3 k t (still_as g (top_of was) d2 d3 k t (why was.at k));
             untried = λ same. (refl, reads_within g d2 d3 1 (2 * blocks_limit) (omega arith) (only (disk_false t same)));
-            cylinders = refl;
-            left = refl;
-            takes = omega arith;
+            moves = takes_none k 0;
             calls = wide;
           }
 
           by : (b : Bool) → not (f % leaf_pointers.count == 0) ≡ b → EndsCall {A = Unit {0}} g (top_of was) 0 (2 * blocks_limit + 3) drop_tries (sum k0.free) d1 d3 k0 k2 (Err (refusal_after b (refused_by t)))
           by true is =
-              let both = ends_then_err g (top_of was) 0 d1 d2 d3 k0 k2 k2 y (refused_by t) 3 2 (sum k0.free) (2 * blocks_limit) blocks_limit 0 (put_ends (Ok y) puts) (put_tried y (ne_true (f % leaf_pointers.count) is) puts) (undone k2) (2 * blocks_limit + 3) drop_tries (sum k0.free + 0) (omega arith) (omega arith) (omega arith) in
-              ends_wider 0 (2 * blocks_limit + 3) drop_tries (sum k0.free) both (omega arith) (omega arith) (omega arith)
+              ends_wider 0 (2 * blocks_limit + 3) drop_tries (sum k0.free) (ends_then (2 * blocks_limit + 3) drop_tries (sum k0.free + 0) (put_ends (Ok y) puts) (undone k2) (put_tried y (ne_true (f % leaf_pointers.count) is) puts) (omega arith) (omega arith) (omega arith)) (omega arith) (omega arith) (omega arith)
           by false is =
               let two = put_nothing (Ok y) (ne_false (f % leaf_pointers.count) is) puts in
               let here = subst (λ (d : D). EndsCall {A = Unit {0}} g (top_of was) 0 (2 * blocks_limit) blocks_limit 0 d d3 k2 k2 (Err (refused_by t))) two.0 (undone k2) in
@@ -277,8 +267,8 @@ module _ {D : Type 0} {g : Ghosts D} {d0 d1 : D} {was : Drafting} (reads : OnlyR
         untried = λ whole stale. let all = nothing whole stale in (all.0, same stale ∙ all.1);
         near = drop_near forgets;
         ends =
-            let undone : EndsCall {A = Unit {0}} g (top_of was) 0 (2 * blocks_limit) blocks_limit (sum k2.free) d2 d3 k2 k3 (Ok tt) = record { told = told; refused = tt; untried = tt; cylinders = long; left = left; takes = omega arith; calls = wide } in
-            let both = ends_then_ok g (top_of was) 0 d1 d2 d3 k0 k2 k3 y (tt {0}) 3 2 (sum k0.free) (2 * blocks_limit) blocks_limit (sum k2.free) (put_ends (Ok y) puts) undone (2 * blocks_limit + 3) drop_tries (sum k0.free + sum k2.free) (omega arith) (omega arith) (omega arith) in
+            let undone : EndsCall {A = Unit {0}} g (top_of was) 0 (2 * blocks_limit) blocks_limit (sum k2.free) d2 d3 k2 k3 (Ok tt) = record { told = told; knows = tt; refused = tt; untried = tt; moves = record { cylinders = long; left = left; takes = omega arith }; calls = wide } in
+            let both = ends_then (2 * blocks_limit + 3) drop_tries (sum k0.free + sum k2.free) (put_ends (Ok y) puts) undone tt (omega arith) (omega arith) (omega arith) in
             ends_since reads drop_calls (ends_wider 0 (2 * blocks_limit + 3) drop_tries (sum k0.free) both (omega arith) (omega arith) (omega arith)) (omega arith);
         kept = tt;
         room = λ room. tt;

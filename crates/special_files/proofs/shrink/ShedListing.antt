@@ -6,7 +6,7 @@ use Rattle.special_files.proofs.Levels.{Tell}
 use Rattle.special_files.proofs.PutStore.{flags_of}
 use Rattle.special_files.proofs.WriteLeaf.{near_there}
 use Rattle.special_files.proofs.View.{draft_of, view_tree}
-use Rattle.special_files.proofs.Endings.{no_reads}
+use Rattle.cfs_base.proofs.Went.{reads_none}
 use Rattle.special_files.proofs.shrink.ShedLists.{Lists, Upto, all_listed, length-fresh_in, length-one_if, node_below, node_listed, node_skipped}
 
 module _ {D : Type 0} {g : Ghosts D} {d0 : D} {space : Kept} {was : Drafting} (v : DraftView g d0 space was) where
@@ -35,7 +35,7 @@ module _ {D : Type 0} {g : Ghosts D} {root : roots.Root} {leaves nodes : List Bo
   pub run_skips : n < node_pointers.count → get_or nodes n false ≡ false → ListRun g root leaves nodes read f (n + 1) d0 d1 ns
   run_skips few stale = record {
     from = omega (arith, run.from);
-    reads = reads_then g d0 d1 d1 (n - f / leaf_pointers.count) 0 (n + 1 - f / leaf_pointers.count) run.reads (no_reads g d1 0) (omega (arith, run.from));
+    reads = reads_then g d0 d1 d1 (n - f / leaf_pointers.count) 0 (n + 1 - f / leaf_pointers.count) run.reads (reads_none g 0 d1) (omega (arith, run.from));
     room = omega (arith, run.room, run.from);
     below = run.below;
     lists = λ space was v parts is_read.

@@ -8,7 +8,7 @@ use Rattle.special_files.proofs.PutStore.{flags_of}
 use Rattle.special_files.proofs.shrink.Recut.{only_if, recut_claims, recut_need}
 use Rattle.special_files.proofs.shrink.ShrinkRun.{cut_to, keeps_one, CutDone, both_take, cut_done, cut_images, cut_less, node_read, told_by_nodes}
 use Rattle.special_files.proofs.shrink.Shrunk.{CutTo, shrunk_becomes}
-use Rattle.special_files.proofs.Endings.{stays_itself, ends_then_err, ends_then_ok, ends_wider, not_untried, stays_then, still_room, still_sound, ends_at}
+use Rattle.special_files.proofs.Endings.{stays_itself, ends_then, ends_wider, not_untried, stays_then, still_room, still_sound, ends_at}
 use Rattle.special_files.proofs.View.{draft_of, view, view_reads}
 use Rattle.cfs_base.specs.declared.refusal.Refused.TheVariants as refusals
 use Rattle.special_files.proofs.WriteLeaf.{images_since, read_since, becomes_since, ends_since, ends_trouble, not_full}
@@ -38,7 +38,7 @@ resize_stopped reads size floor was k0 t e is why = record {
   spared = λ full. absurd (both_ways _ (ap is_full_refusal is ∙ not_full t) full);
   told = λ none. tt;
   near = λ far. far;
-  ends = ends_trouble reads resize_tries (sum k0.free) resize_calls t e is (omega arith) why;
+  ends = ends_trouble reads floor resize_tries (sum k0.free) resize_calls t e is (omega arith) why;
   kept = λ untried. refl;
 }
 
@@ -91,7 +91,7 @@ module _ {D : Type 0} {g : Ghosts D} {size : ℕ} {d0 d1 : D} {was : Drafting} {
 
   module _ (floor : ℕ) (k0 : Kept) (room : plan_needs size was plan + floor ≤ sum k0.free) where
     after_read : {d3 : D} {k3 : Kept} {n t k : ℕ} {r : Result (Unit {0}) Refused} → EndsCall g (top_of was) 0 n t k d1 d3 k0 k3 r → n ≤ drop_calls + 8 → t ≤ resize_tries → EndsCall g (top_of was) floor resize_calls resize_tries (sum k0.free) d0 d3 k0 k3 r
-    after_read ends le lt = ends_since p.reads resize_calls (ends_wider floor (drop_calls + 8) resize_tries (sum k0.free) ends le lt (omega arith)) (omega arith)
+    after_read ends le lt = ends_wider floor resize_calls resize_tries (sum k0.free) (ends_since p.reads resize_calls ends (omega (arith, le))) (omega arith) lt (omega arith)
 
     enough : cut_takes was cut e ≤ sum k0.free
     enough = omega (arith, cut_less was cut from e n at_leaf, room)
@@ -164,7 +164,7 @@ module _ {D : Type 0} {g : Ghosts D} {size : ℕ} {d0 d1 : D} {was : Drafting} {
             arith,
             both_take was mid cut from e n at_leaf at_border cd.flags (λ whole. (cd.whole whole).2) (omega (arith, p.nodes, p.less, p.limit)),
             room,
-            cd.ends.takes,
+            cd.ends.moves.takes,
           ))
 
           -- refused
@@ -189,7 +189,7 @@ module _ {D : Type 0} {g : Ghosts D} {size : ℕ} {d0 d1 : D} {was : Drafting} {
                 here = ends_at {at = top_of mid} {now = top_of was} cd.stays.at (near_at mid.root was.root calls.ends.calls.same.size cd.near) calls.ends
 
                 ends : (b : Bool) → cut ≡ b → EndsCall {A = Unit {0}} g (top_of was) floor resize_calls resize_tries (sum k0.free) d0 d3 k0 k3 (Err (refusal_after b x))
-                ends true so = let c = cut_takes was cut e in after_read (ends_then_err g (top_of was) 0 d1 d2 d3 k0 k2 k3 (tt {0}) x 8 4 c drop_calls drop_tries (sum k2.free) cd.ends (cd.tried so) here (drop_calls + 8) resize_tries (c + sum k2.free) (omega arith) (omega arith) (omega arith)) (omega arith) (omega arith)
+                ends true so = let c = cut_takes was cut e in after_read (ends_then (drop_calls + 8) resize_tries (c + sum k2.free) cd.ends here (cd.tried so) (omega arith) (omega arith) (omega arith)) (omega arith) (omega arith)
                 ends false not =
                     let two = cd.whole not in
                     after_read (subst (λ (k : Kept). EndsCall {A = Unit {0}} g (top_of was) 0 drop_calls drop_tries (sum k2.free) d1 d3 k k3 (Err x)) two.1 (subst (λ (d : D). EndsCall {A = Unit {0}} g (top_of was) 0 drop_calls drop_tries (sum k2.free) d d3 k2 k3 (Err x)) two.0 here)) (omega arith) (omega arith)
@@ -209,7 +209,7 @@ module _ {D : Type 0} {g : Ghosts D} {size : ℕ} {d0 d1 : D} {was : Drafting} {
               ends =
                   let c = cut_takes was cut e in
                   let here = ends_at {at = top_of mid} {now = top_of was} cd.stays.at (near_at mid.root was.root calls.ends.calls.same.size cd.near) calls.ends in
-                  after_read (ends_then_ok g (top_of was) 0 d1 d2 d3 k0 k2 k3 (tt {0}) (tt {0}) 8 4 c drop_calls drop_tries (sum k2.free) cd.ends here (drop_calls + 8) resize_tries (c + sum k2.free) (omega arith) (omega arith) (omega arith)) (omega arith) (omega arith);
+                  after_read (ends_then (drop_calls + 8) resize_tries (c + sum k2.free) cd.ends here tt (omega arith) (omega arith) (omega arith)) (omega arith) (omega arith);
               kept = tt;
             }
 

@@ -1,9 +1,10 @@
 -- The size of a draft set to less, as the call does it: a node is read, a leaf cut, and leaves are dropped.
-use Rattle.std.proofs.Common.{◌≡◌, ◌≢◌, inl, inr, ℕ, ◌+◌, ◌*◌, ◌/◌, ◌%◌, ◌<◌, ◌≤◌, Bool, true, false, List, length, get_or, set, Ok, Err, refl, sym, ◌∙◌, ap, subst, get_or-set_same, arith, IsTrue, not, if◌then◌else◌}
+use Rattle.std.proofs.Common.{◌≡◌, ◌≢◌, inl, inr, ℕ, ◌+◌, ◌*◌, ◌/◌, ◌%◌, ◌<◌, ◌≤◌, Bool, true, false, List, length, get_or, set, Ok, Err, refl, sym, ◌∙◌, ap, subst, get_or-set_same, arith, not, if◌then◌else◌}
 use Rattle.special_files.proofs.Ways.{node_is_read}
-use Rattle.special_files.proofs.Words.{HasNode, IsTo, Cuts, CutsIf, Drafting, DropCall, EndsCall, Forgets, Ghosts, HasNoneFresh, HasTried, Holds, IfErr, IsBorder, IsCutHere, IsPlan, IsRead, IsSafe, IsToldByNodes, KeepsOne, Kept, Leaves, MakesAtMost, Way, OnOk, OnlyReads, Plan, Refused, ResizeCall, Result, SetsFlags, Spares, StaysBut, DraftView, border_takes, both_ways, cases_Bool, cases_lt, cut_takes, eqb-false, eqb-true, held_is, is_fresh_leaf, is_fresh_node, is_some, last_draft_node, draft_takes, leaves_at, leaves_in, leaves_below, pointer_to_node, one_unless, reads_make, same_held, shadow_need, shrink_takes, sized, sum, then_tried, tried_then, ◌&&◌, ◌==◌, ◌||◌, IsFarRoot, top_of, way_leaves, drop_calls, drop_tries, leaf_pointers, node_pointers, resize_calls, resize_tries, size_limit}
+use Rattle.special_files.proofs.Words.{HasNode, IsTo, Cuts, CutsIf, Drafting, DropCall, EndsCall, Forgets, Ghosts, HasNoneFresh, HasTried, Holds, IfErr, IsBorder, IsCutHere, IsPlan, IsRead, IsSafe, IsToldByNodes, KeepsOne, Kept, Leaves, Way, OnOk, OnlyReads, Plan, Refused, ResizeCall, Result, SetsFlags, Spares, StaysBut, DraftView, border_takes, both_ways, cases_Bool, cases_lt, cut_takes, eqb-false, eqb-true, held_is, is_fresh_leaf, is_fresh_node, is_some, last_draft_node, draft_takes, leaves_at, leaves_in, leaves_below, pointer_to_node, one_unless, reads_make, same_held, shadow_need, shrink_takes, sized, sum, then_tried, tried_then, ◌&&◌, ◌==◌, ◌||◌, IsFarRoot, top_of, way_leaves, drop_calls, drop_tries, leaf_pointers, node_pointers, resize_calls, resize_tries, size_limit}
 use Rattle.cfs_base.specs.declared.refusal.Refused.TheVariants as refusals
-use Rattle.special_files.proofs.Endings.{makes_none, stays_itself, full_ends, no_reads}
+use Rattle.cfs_base.proofs.Went.{reads_none}
+use Rattle.special_files.proofs.Endings.{ends_none, stays_itself, full_ends}
 use Rattle.special_files.proofs.PutStore.{the_draft}
 use Rattle.special_files.proofs.shrink.Recut.{held_of_slot, none_of_slot}
 use Rattle.special_files.proofs.View.{draft_of}
@@ -88,15 +89,7 @@ pub cut_done : {D : Type 0} {g : Ghosts D} {size : ℕ} {cut : Bool} {d1 d2 : D}
 cut_done {g = g} {size} {cut} {d1} {d2} {k1} {k2} {was} {mid} {read} {next} (Spares not ok same kept still again) = record {
   stays = subst (StaysBut was) (sym still) (stays_itself was);
   near = λ far. subst (λ (w : Drafting). IsFarRoot (g.blocks d2) w.root) still far;
-  ends = record {
-    told = λ b h. subst (λ d. IsTrue (g.told d b)) (sym same) h;
-    refused = tt;
-    untried = tt;
-    cylinders = ap (λ (k : Kept). length k.free) kept;
-    left = ap (λ (k : Kept). k.left) kept;
-    takes = omega (arith, ap (λ (k : Kept). sum k.free) kept);
-    calls = subst (λ d. MakesAtMost g 8 4 d1 d) (sym same) (makes_none g d1 8 4);
-  };
+  ends = ends_none g (top_of was) 0 8 4 (cut_takes was cut (size / 512)) tt same kept;
   tried = λ is. absurd (both_ways cut not is);
   whole = λ any. (same, kept, still, again);
   flags = λ is. absurd (both_ways cut not is);
@@ -226,14 +219,14 @@ pub grown_call : {D : Type 0} (g : Ghosts D) (d0 : D) (k0 : Kept) (size floor : 
 grown_call g d0 k0 size floor was now (Ok t) is kept short = record {
   stays = subst (StaysBut (sized was size)) (sym is) (stays_itself (sized was size));
   spared = tt;
-  told = λ none. record { tried = λ n fresh. absurd (both_ways _ (ap (λ (w : Drafting). is_fresh_node w n) is ∙ none.nodes n) fresh); untried = λ stale. (refl, no_reads g d0 1) };
+  told = λ none. record { tried = λ n fresh. absurd (both_ways _ (ap (λ (w : Drafting). is_fresh_node w n) is ∙ none.nodes n) fresh); untried = λ stale. (refl, reads_none g 1 d0) };
   near = λ far. subst (λ (w : Drafting). IsFarRoot (g.blocks d0) w.root) is far;
-  ends = record { told = λ b h. h; refused = tt; untried = tt; cylinders = refl; left = refl; takes = omega arith; calls = makes_none g d0 resize_calls resize_tries };
+  ends = ends_none g (top_of was) floor resize_calls resize_tries (sum k0.free) tt refl refl;
   kept = tt;
 }
 grown_call g d0 k0 size floor was now (Err e) is kept short = record {
   stays = subst (StaysBut was) (sym kept) (stays_itself was);
-  spared = λ full. (no_reads g d0 1, refl, kept);
+  spared = λ full. (reads_none g 1 d0, refl, kept);
   told = λ none. tt;
   near = λ far. subst (λ (w : Drafting). IsFarRoot (g.blocks d0) w.root) kept far;
   ends = subst (λ (e : Refused). EndsCall {A = Unit {0}} g (top_of was) floor resize_calls resize_tries (sum k0.free) d0 d0 k0 k0 (Err e)) (sym short.0) (full_ends g (top_of was) floor resize_calls resize_tries (sum k0.free) d0 k0 (record { free = sum k0.free; need = shadow_need was }) refl short.1);

@@ -5,7 +5,7 @@ use Rattle.special_files.proofs.Words.{AreClaimed, Draft, DraftBecomes, DraftVie
 use Rattle.std.proofs.Math.ListN.{length-set}
 use Rattle.cfs_base.specs.declared.refusal.Refused.TheVariants as refusals
 use Rattle.ufs_model.specs.declared.object.Object.TheVariants as objects
-use Rattle.special_files.proofs.Endings.{full_ends, ends_then_err, ends_then_ok, makes_none, not_untried, ends_wider, stays_itself, stays_then, still_room, still_sound, ends_at}
+use Rattle.special_files.proofs.Endings.{full_ends, ends_none, ends_then, not_untried, ends_wider, stays_itself, stays_then, still_room, still_sound, ends_at}
 use Rattle.special_files.proofs.write.Needs.{need_is, no_need, takes_less}
 use Rattle.special_files.proofs.View.{view}
 use Rattle.special_files.proofs.write.Writes.{WrittenTo, written_begin, written_end, written_more}
@@ -36,7 +36,7 @@ run_begin g offset bytes to d0 k0 was read order most none leaves nodes room spa
   from = omega arith;
   upto = order;
   most = most;
-  ends = record { told = λ b is. is; refused = tt; untried = tt; cylinders = refl; left = refl; takes = omega arith; calls = makes_none g d0 (8 * (offset / 512 - offset / 512)) (4 * (offset / 512 - offset / 512)) };
+  ends = ends_none g (top_of was) 0 (8 * (offset / 512 - offset / 512)) (4 * (offset / 512 - offset / 512)) (sum k0.free) tt refl refl;
   stays = stays_itself was;
   near = λ far. far;
   safe = safe_of_none (g.blocks d0) was.root read none;
@@ -93,8 +93,7 @@ module _ {D : Type 0} {g : Ghosts D} {offset : ℕ} {bytes : List ℕ} {leaf to 
     from = omega (arith, run.from);
     upto = omega (arith, more);
     most = run.most;
-    ends = let all = ends_then_ok g (top_of was) 0 d0 d1 d2 k0 k1 k2 (tt {0}) (tt {0}) (8 * (leaf - offset / 512)) (4 * (leaf - offset / 512)) (sum k0.free) 8 4 (draft_takes mid leaf) run.ends (here calls)
-        (8 * (leaf + 1 - offset / 512)) (4 * (leaf + 1 - offset / 512)) (sum k0.free + draft_takes mid leaf) (omega (arith, run.from)) (omega (arith, run.from)) (omega arith) in ends_wider 0 _ _ (sum k0.free) all (omega arith) (omega arith) (omega arith);
+    ends = ends_wider 0 _ _ (sum k0.free) (ends_then (8 * (leaf + 1 - offset / 512)) (4 * (leaf + 1 - offset / 512)) (sum k0.free + draft_takes mid leaf) run.ends (here calls) tt (omega (arith, run.from)) (omega (arith, run.from)) (omega arith)) (omega arith) (omega arith) (omega arith);
     stays = all_stays;
     near = λ far. near_at mid.root was.root calls.ends.calls.same.size run.near (calls.near far);
     safe = calls.safe;
@@ -114,7 +113,7 @@ module _ {D : Type 0} {g : Ghosts D} {offset : ℕ} {bytes : List ℕ} {leaf to 
   }
     where
       left : (leaves_take now (leaf + 1) to + shadow_need was ≤ sum k2.free) × (shadow_need was ≤ sum k2.free)
-      left = room_left (draft_takes mid leaf) (leaves_take now (leaf + 1) to) (leaves_take mid leaf to) (shadow_need was) (sum k1.free) (sum k2.free) (takes_less leaf to mid now more below_nodes below_leaves calls.flags) (run.room more) calls.ends.takes
+      left = room_left (draft_takes mid leaf) (leaves_take now (leaf + 1) to) (leaves_take mid leaf to) (shadow_need was) (sum k1.free) (sum k2.free) (takes_less leaf to mid now more below_nodes below_leaves calls.flags) (run.room more) calls.ends.moves.takes
 
       all_stays : StaysBut was now
       all_stays = stays_then was mid now run.stays calls.stays
@@ -140,8 +139,7 @@ module _ {D : Type 0} {g : Ghosts D} {offset : ℕ} {bytes : List ℕ} {leaf to 
       where
         by : (b : Bool) → nat_lt (offset / 512) leaf ≡ b → EndsBy floor (refusal_after b e)
         by true is =
-            let all = ends_then_err g (top_of was) 0 d0 d1 d2 k0 k1 k2 (tt {0}) e (8 * (leaf - offset / 512)) (4 * (leaf - offset / 512)) (sum k0.free) 8 4 (draft_takes mid leaf) run.ends (run.tried (ltb-true (offset / 512) leaf is)) (here calls)
-            (8 * (leaf + 1 - offset / 512)) (4 * (leaf + 1 - offset / 512)) (sum k0.free + draft_takes mid leaf) (omega (arith, run.from)) (omega (arith, run.from)) (omega arith) in
+            let all = ends_then (8 * (leaf + 1 - offset / 512)) (4 * (leaf + 1 - offset / 512)) (sum k0.free + draft_takes mid leaf) run.ends (here calls) (run.tried (ltb-true (offset / 512) leaf is)) (omega (arith, run.from)) (omega (arith, run.from)) (omega arith) in
             ends_wider floor _ _ (sum k0.free) all (omega (arith, more, end)) (omega (arith, more, end)) (omega arith)
         by false is =
             let begun = run.begun (first is) in

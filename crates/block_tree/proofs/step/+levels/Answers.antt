@@ -1,5 +1,5 @@
 use Rattle.std.proofs.Common.{rules, ◌≡◌, ◌≢◌, ◌+◌, ◌-◌, ◌*◌, ◌/◌, ◌%◌, ◌<◌, ◌≤◌, ℕ, suc, length, get_or, sym, ◌∙◌, ap, subst, arith, IfOk, IfSome, Option, Some}
-use Rattle.block_tree.proofs.Words.{Err, HeldStep, IfOk-weaker, Image, err_from_is_err_and, leaf_limit, leaf_pointers, levels_below, mod-lt, reads_then, tells_on, width}
+use Rattle.block_tree.proofs.Words.{Err, HeldStep, IfOk-weaker, Image, Tells, err_from_is_err_and, leaf_limit, leaf_pointers, levels_below, mod-lt, reads_then, tells_on}
 use Rattle.block_tree.proofs.Descents.{narrower}
 use Rattle.block_tree.proofs.Faults.{later_fault, refused_as}
 use Rattle.block_tree.proofs.Steps.{as_many, at_leaf, block_in, child_step, child_there, earlier_place, few_below, few_places, lone_step, none_after_first, none_first, none_from, none_in, none_past_first, none_to_second, past_before, past_child, past_here, second_step, set_inside, some_wide, start_in, step_before, step_in_is, there_above, within_above, within_before}
@@ -7,6 +7,7 @@ use Rattle.block_tree.specs.Step.{IsPastBelow, IsSteppedIn, IsSteppedOf, IsThere
 use Rattle.std.proofs.Math.Nat.{mul-div_cancel}
 use Rattle.std.proofs.lemmas.Nat.{div-add-mod'}
 use Rattle.block_tree.proofs.step.+levels.Goals as goal
+use Rattle.block_tree.proofs.step.+levels.Goals.{step_in-In-Some, step_in-In_ok-step}
 
 -- ---- below all pointers
 
@@ -166,56 +167,48 @@ step_in-returns-in_err-step-clause-refused g t c =
     (λ p tells far. past_child image c.args.holder c.args.pointers.now h w c.requires.width k c.if-height-eq0.false c.requires.set c.in_ok-node.node.leaves (c.in_ok-node.ensures.pointers tells) c.args.from (c.args.from % w) size p (omega (arith, div-add-mod' c.args.from w)))
     c.in_err-step.ensures.refused)
 
+-- what was found below the pointer, of its leaves
+child : (g : _) (t : _) (c : step_in-In_ok-step g t) → Tells g.D.Disk c.args.disk.now → NoDeadEndBelow (g.D.Disk.content c.args.disk.now) (levels_below c.args.height) c.args.pointers.now
+    → IsSteppedOf (block_in (g.D.Disk.content c.args.disk.now) c.args.holder c.args.pointers.now c.args.height c.args.width c.requires.width (c.args.from / c.args.width)) c.args.width (c.args.from % c.args.width) c.in_ok-step.field-0
+child g t c tells alive =
+    child_step (g.D.Disk.content c.args.disk.now) c.args.holder c.args.pointers.now c.args.height c.args.width c.requires.width (c.args.from / c.args.width) c.if-height-eq0.false c.requires.set c.in_ok-node.node.leaves (c.in_ok-node.ensures.pointers tells)
+    (g.D.Disk.content c.node_at.new.disk) (c.args.from % c.args.width) c.in_ok-step.field-0 c.in_ok-node.ensures.reads.content alive (c.in_ok-step.ensures.step (tells_on g.D.Disk c.args.disk.now c.node_at.new.disk c.node_at.new.disk 1 c.in_ok-node.ensures.reads tells))
+
 pub step_in-returns-in-Some-clause-step : goal.step_in-returns-in-Some-clause-step
 step_in-returns-in-Some-clause-step g t c tells alive =
     let image = g.D.Disk.content c.args.disk.now in
-    let holder = c.args.holder in
-    let pointers = c.args.pointers.now in
-    let h : ℕ = c.args.height in
     let w : ℕ = c.args.width in
     let k : ℕ = c.args.from / w in
-    let m : ℕ = c.args.from % w in
-    let found = child_step image holder pointers h w c.requires.width k c.if-height-eq0.false c.requires.set c.in_ok-node.node.leaves (c.in_ok-node.ensures.pointers tells) (g.D.Disk.content c.node_at.new.disk) m c.in_ok-step.field-0 c.in_ok-node.ensures.reads.content alive
-    (c.in_ok-step.ensures.step (tells_on g.D.Disk c.args.disk.now c.node_at.new.disk c.node_at.new.disk 1 c.in_ok-node.ensures.reads tells)) in
-    step_in_is image holder pointers h w c.requires.width alive c.args.from c.in-Some.step c.above-in-Some.result (set_inside pointers k c.requires.set) c.above-in-Some.ensures
-    (subst (IsSteppedOf (block_in image holder pointers h w c.requires.width k) w m) c.in-Some.is found)
+    step_in_is image c.args.holder c.args.pointers.now c.args.height w c.requires.width alive c.args.from c.in-Some.step c.above-in-Some.result (set_inside c.args.pointers.now k c.requires.set) c.above-in-Some.ensures
+    (subst (IsSteppedOf (block_in image c.args.holder c.args.pointers.now c.args.height w c.requires.width k) w (c.args.from % w)) c.in-Some.is (child g t (goal.at-step_in-returns-in-Some-clause-step g t c).In_ok-step tells alive))
 
 pub step_in-returns-in-None-clause-step : goal.step_in-returns-in-None-clause-step
 step_in-returns-in-None-clause-step g t c tells alive =
     let image = g.D.Disk.content c.args.disk.now in
-    let holder = c.args.holder in
-    let pointers = c.args.pointers.now in
-    let h : ℕ = c.args.height in
     let w : ℕ = c.args.width in
-    let k : ℕ = c.args.from / w in
-    let m : ℕ = c.args.from % w in
-    let found = child_step image holder pointers h w c.requires.width k c.if-height-eq0.false c.requires.set c.in_ok-node.node.leaves (c.in_ok-node.ensures.pointers tells) (g.D.Disk.content c.node_at.new.disk) m c.in_ok-step.field-0 c.in_ok-node.ensures.reads.content alive
-    (c.in_ok-step.ensures.step (tells_on g.D.Disk c.args.disk.now c.node_at.new.disk c.node_at.new.disk 1 c.in_ok-node.ensures.reads tells)) in
-    none_in image holder pointers h w c.requires.width c.args.from (subst (IsSteppedOf (block_in image holder pointers h w c.requires.width k) w m) c.in-None.is found)
+    none_in image c.args.holder c.args.pointers.now c.args.height w c.requires.width c.args.from
+    (subst (IsSteppedOf (block_in image c.args.holder c.args.pointers.now c.args.height w c.requires.width (c.args.from / w)) w (c.args.from % w)) c.in-None.is (child g t (goal.at-step_in-returns-in-None-clause-step g t c).In_ok-step tells alive))
 
--- what the step below the pointer is within
-child_within : (h w n m : ℕ) (r : Option HeldStep) (step : HeldStep) → h ≢ 0 → w ≡ width (levels_below h) → n ≡ leaf_pointers.count → r ≡ Some step → IfSome r (IsHeldAmong (n * (w / leaf_pointers.count)) m) → IsHeldAmong w m step
-child_within h w n m r step more wide count is within = subst (λ (n : ℕ). IsHeldAmong n m step) (as_many h w n more wide count) (subst (λ (r : Option HeldStep). IfSome r (IsHeldAmong (n * (w / leaf_pointers.count)) m)) is within)
+-- it is one of them
+child_within : (g : _) (t : _) (c : step_in-In-Some g t) → IsHeldAmong c.args.width (c.args.from % c.args.width) c.in-Some.step
+child_within g t c =
+    subst (λ (n : ℕ). IsHeldAmong n (c.args.from % c.args.width) c.in-Some.step) (as_many c.args.height c.args.width (length c.in_ok-node.node.leaves) c.if-height-eq0.false c.requires.width (omega arith))
+    (subst (λ (r : Option HeldStep). IfSome r (IsHeldAmong (length c.in_ok-node.node.leaves * (c.args.width / leaf_pointers.count)) (c.args.from % c.args.width))) c.in-Some.is c.in_ok-step.ensures.within)
 
 pub step_in-returns-in-Some-clause-within : goal.step_in-returns-in-Some-clause-within
 step_in-returns-in-Some-clause-within g t c =
-    let w : ℕ = c.args.width in
-    within_above (g.D.Disk.content c.args.disk.now) c.args.holder c.args.pointers.now c.args.height w c.requires.width c.args.from c.in-Some.step c.above-in-Some.result (set_inside c.args.pointers.now (c.args.from / w) c.requires.set) c.above-in-Some.ensures
-    (child_within c.args.height w (length c.in_ok-node.node.leaves) (c.args.from % w) c.in_ok-step.field-0 c.in-Some.step c.if-height-eq0.false c.requires.width (omega arith) c.in-Some.is c.in_ok-step.ensures.within)
+    within_above (g.D.Disk.content c.args.disk.now) c.args.holder c.args.pointers.now c.args.height c.args.width c.requires.width c.args.from c.in-Some.step c.above-in-Some.result
+    (set_inside c.args.pointers.now (c.args.from / c.args.width) c.requires.set) c.above-in-Some.ensures (child_within g t (goal.at-step_in-returns-in-Some-clause-within g t c).In-Some)
 
 pub step_in-returns-in-Some-clause-there : goal.step_in-returns-in-Some-clause-there
 step_in-returns-in-Some-clause-there g t c tells =
     let image = g.D.Disk.content c.args.disk.now in
-    let holder = c.args.holder in
-    let pointers = c.args.pointers.now in
     let h : ℕ = c.args.height in
-    let w : ℕ = c.args.width in
-    let k : ℕ = c.args.from / w in
+    let k : ℕ = c.args.from / c.args.width in
     let leaves = c.in_ok-node.node.leaves in
-    let within = child_within h w (length leaves) (c.args.from % w) c.in_ok-step.field-0 c.in-Some.step c.if-height-eq0.false c.requires.width (omega arith) c.in-Some.is c.in_ok-step.ensures.within in
-    there_above image holder pointers h w c.requires.width k c.in-Some.step c.above-in-Some.result within.inside c.above-in-Some.ensures
-    (child_there image holder pointers h w c.requires.width k c.if-height-eq0.false c.requires.set leaves (c.in_ok-node.ensures.pointers tells) (g.D.Disk.content c.node_at.new.disk) c.in-Some.step c.in_ok-node.ensures.reads.content
-    (subst (λ (r : Option HeldStep). IfSome r (IsThere (g.D.Disk.content c.node_at.new.disk) (Some (get_or pointers k 0)) leaves (levels_below (h - 1)))) c.in-Some.is
+    there_above image c.args.holder c.args.pointers.now h c.args.width c.requires.width k c.in-Some.step c.above-in-Some.result (child_within g t (goal.at-step_in-returns-in-Some-clause-there g t c).In-Some).inside c.above-in-Some.ensures
+    (child_there image c.args.holder c.args.pointers.now h c.args.width c.requires.width k c.if-height-eq0.false c.requires.set leaves (c.in_ok-node.ensures.pointers tells) (g.D.Disk.content c.node_at.new.disk) c.in-Some.step c.in_ok-node.ensures.reads.content
+    (subst (λ (r : Option HeldStep). IfSome r (IsThere (g.D.Disk.content c.node_at.new.disk) (Some (get_or c.args.pointers.now k 0)) leaves (levels_below (h - 1)))) c.in-Some.is
     (c.in_ok-step.ensures.there (tells_on g.D.Disk c.args.disk.now c.node_at.new.disk c.node_at.new.disk 1 c.in_ok-node.ensures.reads tells))))
 
 pub step_in-returns-in-Some-clause-reads : goal.step_in-returns-in-Some-clause-reads

@@ -1,9 +1,9 @@
 use Rattle.std.proofs.Common.{None, sym, ◌∙◌, subst, arith}
+use Rattle.cfs_base.proofs.Went.{makes_within}
 use Rattle.cfs_core.specs.Drafts.{EndsDraft}
 use Rattle.cfs_core.proofs.Readied.{never_none, ready_for}
 use Rattle.intentions.proofs.Changes.{all_ok}
 use Rattle.special_files.specs.Limits.{abort_calls, abort_tries, commit_calls, commit_tries}
-use Rattle.cfs_core.proofs.Went.{fewer_calls}
 use Rattle.cfs_core.proofs.closing.end_draft.Goals as goal
 
 pub commit-requires : goal.commit-requires
@@ -23,7 +23,7 @@ returns-then-not-commit g c =
       refused = call.refused;
       cylinders = call.cylinders;
       left = all_ok c.abort.result (call.left ∙ c.requires.left);
-      calls = fewer_calls g.D.Disk abort_calls abort_tries commit_calls commit_tries c.args.disk.now c.abort.new.disk (omega arith) (omega arith) call.calls;
+      calls = makes_within g.D.Disk c.args.disk.now c.abort.new.disk abort_calls abort_tries commit_calls commit_tries (omega arith) (omega arith) call.calls;
     })
 
 pub returns : goal.returns

@@ -1,7 +1,7 @@
 use Rattle.std.proofs.Common.{[], ◌∷◌, length, arith, subst, sym}
+use Rattle.cfs_base.proofs.Went.{reads_none}
 use Rattle.cfs_core.proofs.Words.{OnlyReads, Overwrite}
 use Rattle.cfs_core.specs.Claimed.{claims_in_draft}
-use Rattle.cfs_core.proofs.Answering.{reads_none}
 use Rattle.cfs_core.proofs.Claimed.{claims_all}
 use Rattle.cfs_core.proofs.Handled.{on_ok}
 use Rattle.cfs_core.proofs.Rewritten.{changes_so, few_leaves, goes_on, stays_of}

@@ -1,5 +1,6 @@
 use Rattle.std.proofs.Common.{◌≡◌, true, is_some, refl, ap}
-use Rattle.cfs_core.proofs.Words.{Drafting, nothing_made}
+use Rattle.cfs_base.proofs.Went.{makes_none}
+use Rattle.cfs_core.proofs.Words.{Drafting}
 use Rattle.cfs_core.proofs.MayOpen.{begun_open, refusal_so}
 use Rattle.cfs_core.proofs.Openings.{or_memory}
 use Rattle.cfs_core.proofs.granting.first_draft.Goals as goal
@@ -10,7 +11,7 @@ returns-in-None-clause-begins g c = record {
   ready = tt;
   cause = tt;
   left = refl;
-  calls = nothing_made g.D.Disk c.args.disk.now 3 1;
+  calls = makes_none g.D.Disk c.args.disk.now 3 1;
 }
 
 pub returns-in-Ok-clause-begins : goal.returns-in-Ok-clause-begins

@@ -1,4 +1,4 @@
-use Rattle.cfs_core.proofs.Answering.{reads_none}
+use Rattle.cfs_base.proofs.Went.{reads_none}
 use Rattle.cfs_core.proofs.writing.root_since.Goals as goal
 
 pub returns-else-tried-clause-calm : goal.returns-else-tried-clause-calm

@@ -1,6 +1,7 @@
 use Rattle.std.proofs.Common.{◌≡◌, ℕ, ◌+◌, ◌*◌, ◌<◌, ◌≤◌, List, [], length, get_or, refl, sym, ◌∙◌, ap, subst, arith}
 use Rattle.cfs_recover.proofs.Words.{HasTidied, Image, IsMapIn, MapEntry, Tidies, block_at, changed_maps, makes_then, map_spelling}
-use Rattle.cfs_recover.proofs.Keepings.{keeps_begin, keeps_lead, makes_none}
+use Rattle.cfs_base.proofs.Went.{makes_none}
+use Rattle.cfs_recover.proofs.Keepings.{keeps_begin, keeps_lead}
 use Rattle.cfs_recover.proofs.TidyCylinders.{changed_more, map_in, none_counted, none_size, the_map, tidied_more}
 use Rattle.cfs_recover.proofs.Tidyings.{tidies_begin}
 use Rattle.cfs_recover.proofs.tidy.write_maps.Goals as goal

@@ -1,6 +1,7 @@
 use Rattle.std.proofs.Common.{◌≡◌, inl, inr, ℕ, ◌+◌, ◌<◌, ◌≤◌, length, get_or, drop, Some, sym, ◌∙◌, ap, subst, arith}
 use Rattle.cfs_recover.proofs.Words.{AreWritten, Copied, CopiesRoots, Found, IsCopyOf, RunKeeps, all_pieces, cases_eq, copies_before, makes_then, slice_get, source}
-use Rattle.cfs_recover.proofs.Keepings.{makes_none, written_more}
+use Rattle.cfs_base.proofs.Went.{makes_none}
+use Rattle.cfs_recover.proofs.Keepings.{written_more}
 use Rattle.cfs_recover.proofs.Kept.{copy_next, item_at, own_next}
 use Rattle.cfs_recover.proofs.Pieces.{none_is, pieces_anew, some_is}
 use Rattle.cfs_recover.proofs.writes.write_roots.Goals as goal

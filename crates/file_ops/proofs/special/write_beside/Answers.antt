@@ -1,4 +1,4 @@
-use Rattle.file_ops.proofs.Words.{◌≡◌, ◌+◌, ◌-◌, ◌/◌, length, refl, sym, ap, subst, arith, OnlyReads, reads_none, reads_within, AreClaimed, Drafting, claims_by_leaf, leaves_in, shadow_need}
+use Rattle.file_ops.proofs.Words.{◌≡◌, ◌+◌, ◌-◌, ◌/◌, length, refl, sym, ap, subst, arith, OnlyReads, reads_none, AreClaimed, Drafting, claims_by_leaf, leaves_in, shadow_need}
 use Rattle.file_ops.proofs.Beside.{ended, never_begun, refused_change, too_short}
 use Rattle.file_ops.proofs.Views.{begun_by, view_begun}
 use Rattle.file_ops.proofs.special.write_beside.Goals as goal
@@ -20,7 +20,7 @@ returns-in-Err-write-clause-changes g c =
       begun = b;
       goes = λ m. let x = w.goes (view_begun m b) in record { done = tt; leaves = x.leaves; sound = x.sound };
       full = λ m is. (w.call.full is).3 _ _ _ (view_begun m b).opened;
-      spared = λ is. let all = w.call.full is in (subst (λ d. OnlyReads g.D.Disk 1 d1 d) (sym all.0) (reads_within g.D.Disk d1 d1 0 1 (omega arith) (reads_none g.D.Disk d1)), all.1);
+      spared = λ is. let all = w.call.full is in (subst (λ d. OnlyReads g.D.Disk 1 d1 d) (sym all.0) (reads_none g.D.Disk 1 d1), all.1);
       stays = tt;
       ends = w.call.ends;
       few = omega (arith, c.requires.most);

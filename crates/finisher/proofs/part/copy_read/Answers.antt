@@ -1,3 +1,4 @@
+use Rattle.std.proofs.Common.{arith}
 use Rattle.std.proofs.Common.{Some, ◌∙◌, ap, sym}
 use Rattle.cfs_base.specs.Disk.{Image, block_at}
 use Rattle.finisher.proofs.Calls.{goes_reads, goes_then, goes_told, reads_end}
@@ -14,4 +15,4 @@ returns-in-Ok-clause-goes g c = λ l space un root shadow.
     (c.copy.ensures.goes l space un root (ap (λ (i : Image). block_at i l.shadow) reads.content ∙ ap (block_at (g.D.Disk.content d0)) shadow ∙ sym (c.in-Ok.ensures.content tells))))
 
 pub returns-in-Ok-clause-ends : goal.returns-in-Ok-clause-ends
-returns-in-Ok-clause-ends g c = reads_end g.D.Disk c.args.disk.now c.read_shadow.new.disk c.copy.new.disk 1 c.in-Ok.ensures.reads 2 2 c.copy.result c.copy.ensures.ends c.copy.ensures.calls c.copy.ensures.told
+returns-in-Ok-clause-ends g c = λ k. reads_end g.D.Disk c.args.disk.now c.read_shadow.new.disk c.copy.new.disk 1 c.in-Ok.ensures.reads 2 2 3 k c.copy.result (c.copy.ensures.ends k) c.copy.ensures.told (omega arith)

@@ -40,4 +40,4 @@ returns-in-Err-clause-goes g c = λ l ns copied rest is.
     (flip_failed g.D.Disk c.args.disk.now c.change_entry.new.disk c.args.space.now c.args.space.now l.root l.shadow c.args.block.0 ns {A = MapEntry} c.in-Err.trouble change)
 
 pub returns-in-Ok-clause-ends : goal.returns-in-Ok-clause-ends
-returns-in-Ok-clause-ends g c = entry_ends g.D.Disk c.args.disk.now c.change_entry.new.disk c.args.block.0 c.in-Ok.was c.in-Ok.ensures.changes
+returns-in-Ok-clause-ends g c = entry_ends g.D.Disk c.args.disk.now c.change_entry.new.disk c.args.space.now c.count_freed.new.space c.args.block.0 c.in-Ok.was c.count_freed.ensures.cylinders c.in-Ok.ensures.changes

@@ -47,7 +47,7 @@ pub fill-requires-clause-on_disk : goal.fill-requires-clause-on_disk
 fill-requires-clause-on_disk g c = omega (arith, c.requires.on_disk, c.least.ensures.reads.same.size, (c.in_ok-make_at.ensures.ends 0).calls.same.size)
 
 pub fill-requires-clause-size : goal.fill-requires-clause-size
-fill-requires-clause-size g c = omega (arith, c.requires.size, c.least.ensures.reads.same.size, (c.in_ok-make_at.ensures.ends 0).calls.same.size, (c.in_ok-make_at.ensures.ends 0).cylinders)
+fill-requires-clause-size g c = omega (arith, c.requires.size, c.least.ensures.reads.same.size, (c.in_ok-make_at.ensures.ends 0).calls.same.size, (c.in_ok-make_at.ensures.ends 0).moves.cylinders)
 
 pub returns-in-Err : goal.returns-in-Err
 returns-in-Err g c =

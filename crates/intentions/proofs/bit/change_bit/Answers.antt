@@ -14,7 +14,7 @@ returns g c =
       changes = rewrites_bit g.D.Disk n (λ e. entries.changed_entry c.args.how e) c.in_ok-entry.entry (entries_of c.read_entry.new.map) c.args.disk.now read new c.put_between.result c.in_ok-entry.ensures.reads
           c.in_ok-entry.ensures.entry c.in_ok-entry.ensures.map c.in_ok-entry.ensures.whole
           (λ is. subst (λ (e : MapEntry). OnOk c.put_between.result (g.D.Disk.content new ≡ with_entry (g.D.Disk.content read) n e)) value (c.put_between.ensures.written is))
-          c.put_between.ensures.settled
+          c.put_between.ensures.told c.put_between.ensures.settled
           (λ tells is. subst (λ (e : MapEntry). Leaves g.D.Disk read new (λ k. k ≡ with_entry (g.D.Disk.content read) n e)) value (c.put_between.ensures.images tells is))
           c.put_between.ensures.refused c.put_between.ensures.stopped c.put_between.ensures.made c.put_between.ensures.calls;
     }
@@ -27,6 +27,7 @@ returns-in_err-entry g c =
     record {
       changes = record {
         put = search rules;
+        told = search rules;
         settled = search rules;
         tried = search rules;
         images = λ tells e here. nothing_more g.D.Disk old new _ reads.images;

@@ -1,7 +1,7 @@
 use Rattle.normal_files.proofs.Words.{◌≡◌, ◌∙◌, ℕ, Bool, true, ap, refl, sym, subst, arith, Ok, Err, Result, BlockNo, Ghosts, Kept, Refused, refused_by, trouble_after_try}
 use Rattle.normal_files.specs.Ends.{Halts, is_damaged}
 use Rattle.normal_files.specs.Takes.{Claims, GetsNode, Had, leaf_takes}
-use Rattle.normal_files.proofs.Ending.{enters_halts, halts_within, leaf_gone, leaf_halts, node_halts, takes_one}
+use Rattle.normal_files.proofs.Ending.{enters_halts, gone_within, leaf_gone, leaf_halts, node_halts, takes_one}
 use Rattle.normal_files.proofs.TakeLeaf.{leaf_err, leaf_taken, node_err, write_leaves}
 use Rattle.normal_files.proofs.absent.take_leaf.Goals as goal
 
@@ -9,7 +9,7 @@ pub returns-in-Err-clause-takes : goal.returns-in-Err-clause-takes
 returns-in-Err-clause-takes g c = λ offset bytes w may. leaf_err may c.requires.below c.requires.some (omega arith) c.in-Err.error c.in-Err.ensures.enters
 
 pub returns-in-Err-clause-ends : goal.returns-in-Err-clause-ends
-returns-in-Err-clause-ends g c = halts_within (enters_halts c.in-Err.ensures.enters) (omega arith) (omega arith) (takes_one c.args.held)
+returns-in-Err-clause-ends g c = gone_within (enters_halts c.in-Err.ensures.enters) (omega arith) (omega arith) (takes_one c.args.held)
 
 pub returns-in-Err-take_node-clause-takes : goal.returns-in-Err-take_node-clause-takes
 returns-in-Err-take_node-clause-takes g c = λ offset bytes w may.

@@ -1,4 +1,7 @@
-use Rattle.normal_files.proofs.Words.{◌≡◌, ◌∙◌, ap, refl, false, true, ℕ, List, set, sym, subst, arith, Leaves, makes_then, reads_make, then_tried, is_damage}
+use Rattle.normal_files.proofs.Words.{◌≡◌, ◌∙◌, ap, false, true, ℕ, IsTrue, List, set, sym, subst, Ghosts, HasTried, Leaves, MakesAtMost, OnlyReads, is_damage}
+use Rattle.normal_files.proofs.Come.{come_reads, come_then}
+use Rattle.normal_files.specs.Frees.{HasBegun}
+use Rattle.normal_files.specs.Steps.{HasCome}
 use Rattle.normal_files.proofs.FileCalls.{becomes_on, cut_of, drop_troubled, images_read, near_of, next_root, none_on, read_troubled, root_images, shrunk_ends, stop_troubled, trim_images}
 use Rattle.normal_files.proofs.Refusals.{stopped_later, tells_after}
 use Rattle.normal_files.proofs.WriteParts.{after_is}
@@ -35,12 +38,12 @@ returns-in-Err-write_through-clause-shrunk g c = λ v less.
             (subst (λ (s : List ℕ). Leaves g.D.Disk c.trim.new.disk c.write_through.new.disk (λ e. e ≡ set (g.D.Disk.content c.trim.new.disk) c.args.at.0 s)) spelt (c.in-Err-write_through.ensures.images settled));
       }),
       tt,
-      ap is_damage (c.after.ensures ∙ after_is g.D.Disk c.trim.new.disk c.write_through.new.disk c.in-Err-write_through.trouble c.in-Err-write_through.ensures.ends.stopped),
+      ap is_damage (c.after.ensures ∙ after_is g.D.Disk c.trim.new.disk c.write_through.new.disk c.in-Err-write_through.trouble c.in-Err-write_through.ensures.ends.refused),
     )
 
 pub returns-in-Err-write_through-clause-untried : goal.returns-in-Err-write_through-clause-untried
 returns-in-Err-write_through-clause-untried g c = λ same.
-    (let no : trouble.Disk true ≡ trouble.Disk false = sym (after_is g.D.Disk c.trim.new.disk c.write_through.new.disk c.in-Err-write_through.trouble c.in-Err-write_through.ensures.ends.stopped) ∙ sym c.after.ensures ∙ same in cc)
+    (let no : trouble.Disk true ≡ trouble.Disk false = sym (after_is g.D.Disk c.trim.new.disk c.write_through.new.disk c.in-Err-write_through.trouble c.in-Err-write_through.ensures.ends.refused) ∙ sym c.after.ensures ∙ same in cc)
 
 pub returns-clause-shrunk : goal.returns-clause-shrunk
 returns-clause-shrunk g c = λ v less.
@@ -53,11 +56,14 @@ returns-clause-shrunk g c = λ v less.
     (done.0 ∙ ap (λ (s : List ℕ). set (g.D.Disk.content c.trim.new.disk) c.args.at.0 s) spelt) done.1 c.free_past.ensures.frees in
     (becomes_on c.in-Ok.ensures.reads v all.0, none_on c.in-Ok.ensures.reads c.free_past.new.disk c.free_past.result all.1, all.2)
 
-pub returns-clause-refused : goal.returns-clause-refused
-returns-clause-refused g c = drop_troubled g.D.Disk (root_top c.args.at.0 c.args.root.now) c.args.disk.now c.free_past.new.disk c.free_past.result (c.free_past.ensures.follows.stopped c.args.disk.now (record {
+-- the first calls of it, of which none failed
+begun : {D : Type 0} {g : Ghosts D} {old mid trimmed now : D} → OnlyReads g 2 old mid → ((b : ℕ) → IsTrue (g.told mid b) → IsTrue (g.told trimmed b)) → MakesAtMost g 3 3 mid trimmed → HasTried g mid trimmed → HasCome g 2 2 true trimmed now → HasBegun g old now
+begun reads told calls tried last = record {
   n = 7;
   t = 5;
-  told = λ b was. c.in-Ok-write_through.ensures.ends.told b (c.in-Ok-trim.ensures.told b (c.in-Ok.ensures.reads.told b was));
-  makes = makes_then g.D.Disk c.args.disk.now c.trim.new.disk c.write_through.new.disk 5 2 7 3 2 5 (makes_then g.D.Disk c.args.disk.now c.read_end.new.disk c.trim.new.disk 2 3 5 0 3 3 (reads_make g.D.Disk c.args.disk.now c.read_end.new.disk 2 c.in-Ok.ensures.reads) c.in-Ok-trim.ensures.calls (omega arith) (omega arith)) c.in-Ok-write_through.ensures.ends.makes (omega arith) (omega arith);
-  tried = then_tried g.D.Disk c.args.disk.now c.trim.new.disk c.write_through.new.disk 5 3 (makes_then g.D.Disk c.args.disk.now c.read_end.new.disk c.trim.new.disk 2 3 5 0 3 3 (reads_make g.D.Disk c.args.disk.now c.read_end.new.disk 2 c.in-Ok.ensures.reads) c.in-Ok-trim.ensures.calls (omega arith) (omega arith)) (c.in-Ok-write_through.ensures.ends.tries refl);
-}))
+  went = come_then true true (come_then false true (come_reads reads) (record { told = told; knows = tried; refused = tt; untried = tt; moves = tt; calls = calls })) last;
+}
+
+pub returns-clause-refused : goal.returns-clause-refused
+returns-clause-refused g c = drop_troubled g.D.Disk (root_top c.args.at.0 c.args.root.now) c.args.disk.now c.free_past.new.disk c.free_past.result
+    (begun c.in-Ok.ensures.reads c.in-Ok-trim.ensures.told c.in-Ok-trim.ensures.calls c.in-Ok-trim.ensures.made c.in-Ok-write_through.ensures.ends) c.free_past.ensures.follows

@@ -1,11 +1,11 @@
 use Rattle.normal_files.proofs.Words.{◌∙◌, ap, sym, subst, arith, ◌-◌, ◌*◌, ◌+◌, Refused}
 use Rattle.normal_files.specs.Ends.{Halts, is_damaged}
 use Rattle.normal_files.specs.Parts.{part_need}
-use Rattle.normal_files.proofs.Ending.{gone_err, gone_then, halts_within, still_sound}
+use Rattle.normal_files.proofs.Ending.{gone_err, gone_then, gone_within, still_sound}
 use Rattle.normal_files.proofs.two_nodes.take_both.Goals as goal
 
 pub returns-in-Err-clause-ends : goal.returns-in-Err-clause-ends
-returns-in-Err-clause-ends g c = halts_within c.in-Err.ensures.ends (omega arith) (omega arith) (omega arith)
+returns-in-Err-clause-ends g c = gone_within c.in-Err.ensures.ends (omega arith) (omega arith) (omega arith)
 
 pub returns-in-Ok-take-clause-takes : goal.returns-in-Ok-take-clause-takes
 returns-in-Ok-take-clause-takes g c = λ w may.

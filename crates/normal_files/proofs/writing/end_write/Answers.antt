@@ -15,4 +15,4 @@ returns-in-Err-link_both-clause-ends g c =
     subst (Stops g.D.Disk 5 5 c.args.disk.now c.link_both.new.disk) (sym c.after.ensures) (come_err true c.in-Ok.ensures.ends c.in-Err-link_both.ensures.ends (omega arith) (omega arith))
 
 pub returns-in-Err-link_both-clause-failed : goal.returns-in-Err-link_both-clause-failed
-returns-in-Err-link_both-clause-failed g c = c.after.ensures ∙ after_is g.D.Disk c.flush.new.disk c.link_both.new.disk c.in-Err-link_both.trouble c.in-Err-link_both.ensures.ends.stopped
+returns-in-Err-link_both-clause-failed g c = c.after.ensures ∙ after_is g.D.Disk c.flush.new.disk c.link_both.new.disk c.in-Err-link_both.trouble c.in-Err-link_both.ensures.ends.refused

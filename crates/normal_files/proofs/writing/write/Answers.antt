@@ -1,7 +1,8 @@
 use Rattle.normal_files.proofs.Words.{Ok, ◌≡◌, ◌∙◌, length, true, false, refl, ap, sym, subst, arith, had_tried, refused_by, trouble_had_tried, Trouble, makes_then, reads_make, reads_within}
 use Rattle.normal_files.specs.Ends.{is_damaged}
 use Rattle.normal_files.specs.WriteRefusal.{IsWriteRefusal, TellsNeed, needs}
-use Rattle.normal_files.proofs.Come.{come_reads, makes_within}
+use Rattle.cfs_base.proofs.Went.{makes_within}
+use Rattle.normal_files.proofs.Come.{come_reads}
 use Rattle.normal_files.proofs.Ending.{gone_come, gone_err}
 use Rattle.normal_files.proofs.FileCalls.{becomes_as, damage_same, handed_file, images_read, partly_as, parts_refused, parts_tell, parts_untried, read_refused, room_refused, room_tells, trouble_tells, view, writable_on, wrote_on, view_on}
 use Rattle.normal_files.proofs.NeedOf.{parts_need}
@@ -33,7 +34,7 @@ pub returns-in-Err-has_room-clause-calls : goal.returns-in-Err-has_room-clause-c
 returns-in-Err-has_room-clause-calls g c = makes_within g.D.Disk c.args.disk.now c.read.new.disk 2 0 _ _ (omega arith) (omega arith) (reads_make g.D.Disk c.args.disk.now c.read.new.disk _ c.in-Ok.ensures.reads)
 
 pub returns-in-Ok-write_parts-clause-calls : goal.returns-in-Ok-write_parts-clause-calls
-returns-in-Ok-write_parts-clause-calls g c = makes_then g.D.Disk c.args.disk.now c.read.new.disk c.write_parts.new.disk 2 _ _ 0 _ _ (reads_make g.D.Disk c.args.disk.now c.read.new.disk _ c.in-Ok.ensures.reads) c.in-Ok-write_parts.ensures.ends.come.makes (omega (arith, c.in-Ok.ensures.few)) (omega (arith, c.in-Ok.ensures.few))
+returns-in-Ok-write_parts-clause-calls g c = makes_then g.D.Disk c.args.disk.now c.read.new.disk c.write_parts.new.disk 2 _ _ 0 _ _ (reads_make g.D.Disk c.args.disk.now c.read.new.disk _ c.in-Ok.ensures.reads) c.in-Ok-write_parts.ensures.ends.calls (omega (arith, c.in-Ok.ensures.few)) (omega (arith, c.in-Ok.ensures.few))
 
 pub returns-in-Err-write_parts-clause-refused : goal.returns-in-Err-write_parts-clause-refused
 returns-in-Err-write_parts-clause-refused g c =

@@ -6,7 +6,8 @@ use Rattle.special_files.proofs.commit.CommitCalls.{aborts_stopped, far_trouble}
 use Rattle.special_files.proofs.CommitDone.{makes_more}
 use Rattle.special_files.proofs.CommitDraft.{after_damage, below_all, far_apart, finish_apart, finish_tried, known_apart, shadow_below, tried_apart}
 use Rattle.special_files.proofs.commit.CommitStore.{made_below}
-use Rattle.special_files.proofs.Endings.{makes_none, trouble_after_tried}
+use Rattle.cfs_base.proofs.Went.{makes_none}
+use Rattle.special_files.proofs.Endings.{trouble_after_tried}
 use Rattle.special_files.proofs.View.{view_reads}
 use Rattle.special_files.proofs.abort.abort_parts.Goals as goal
 use Rattle.special_files.proofs.Refusals.{trouble_as}

@@ -3,7 +3,7 @@ use Rattle.special_files.proofs.Words.{AreDraftParts, BlockNo, number_if, FarSha
 use Rattle.special_files.proofs.commit.CommitCalls.{commits_far, commits_on}
 use Rattle.special_files.proofs.CommitDraft.{far_apart, shadow_below}
 use Rattle.special_files.proofs.commit.CommitStore.{made_below}
-use Rattle.special_files.proofs.Endings.{no_reads}
+use Rattle.cfs_base.proofs.Went.{reads_none}
 use Rattle.special_files.proofs.becoming.commit_parts.Goals as goal
 
 pub commit_direct-requires : goal.commit_direct-requires
@@ -40,7 +40,7 @@ pub returns-in_default : goal.returns-in_default
 returns-in_default g c = record {
   commits = λ was v made parts makes. c.commit_direct.ensures.commits was v made
       (subst (λ (x : Option BlockNo). AreDraftParts was c.args.at.0 (number_if x) c.args.own.now c.args.root.now (number_if c.args.created)) c.in_default.is parts) makes;
-  ends = commits_on (no_reads g.D.Disk c.args.disk.now 0) refl FarRoots c.commit_direct.ensures.ends commit_calls commit_tries (omega arith) (omega arith);
+  ends = commits_on (reads_none g.D.Disk 0 c.args.disk.now) refl FarRoots c.commit_direct.ensures.ends commit_calls commit_tries (omega arith) (omega arith);
   tried = λ some. absurd (some (ap number_if c.in_default.is));
   untried = c.commit_direct.ensures.untried;
 }
@@ -50,4 +50,4 @@ returns-in-Ok-is_on_disk-clause-commits g c = λ was v made parts makes. c.commi
     (subst (λ (x : Option BlockNo). AreDraftParts was c.args.at.0 (number_if x) c.args.own.now c.args.root.now (number_if c.args.created)) c.in-Some.is parts) makes
 
 pub returns-in-Ok-is_on_disk-clause-ends : goal.returns-in-Ok-is_on_disk-clause-ends
-returns-in-Ok-is_on_disk-clause-ends g c = commits_on (no_reads g.D.Disk c.args.disk.now 0) refl FarRoots c.commit_begun.ensures.ends commit_calls commit_tries (omega arith) (omega arith)
+returns-in-Ok-is_on_disk-clause-ends g c = commits_on (reads_none g.D.Disk 0 c.args.disk.now) refl FarRoots c.commit_begun.ensures.ends commit_calls commit_tries (omega arith) (omega arith)

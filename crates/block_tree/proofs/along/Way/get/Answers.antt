@@ -1,6 +1,7 @@
 use Rattle.std.proofs.Common.{◌≡◌, ◌+◌, ◌<◌, ℕ, List, length, get_or, take, refl, sym, ◌∙◌, ap, subst, arith}
 use Rattle.block_tree.proofs.Words.{All, Image, Node, length-take, node_levels, reads_then, reads_within, tells_on}
-use Rattle.block_tree.proofs.Descents.{HasTop, last_below, leaf_on, length-path, on_way, reads_none, way_trouble_after}
+use Rattle.cfs_base.proofs.Went.{reads_none}
+use Rattle.block_tree.proofs.Descents.{HasTop, last_below, leaf_on, length-path, on_way, way_trouble_after}
 use Rattle.block_tree.specs.Along.{IsTopWithin, IsWay, IsWayWithin, pointer_on}
 use Rattle.block_tree.specs.Path.{SamePlaces, no_node}
 use Rattle.block_tree.specs.Reads.{IsNear}

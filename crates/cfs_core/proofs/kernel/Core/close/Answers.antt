@@ -69,11 +69,11 @@ returns-in-Err g c =
 pub invariant_of-self-in-Some : goal.invariant_of-self-in-Some
 invariant_of-self-in-Some g c =
     let fewer = sized_taken c.self.invariant c.args.grant.draw c.take-2.new.self.handles c.take-2.ensures.handles in
-    sized_with fewer c.finish.new.disk c.finish.new.space _ _ c.finish.ensures.calls.same.size c.finish.ensures.cylinders fewer.drawn_all fewer.ready
+    sized_with fewer c.finish.new.disk c.finish.new.space _ _ c.finish.ensures.ends.calls.same.size c.finish.ensures.ends.moves fewer.drawn_all fewer.ready
 
 pub end-requires : goal.end-requires
 end-requires g c = record {
-  ready = subst (λ n. is_ready_for n c.in-Some.draft ≡ true) (c.self.invariant.room ∙ sym c.finish.ensures.calls.same.size) (ready_at c.self.inside.directory.room c.args.grant.draw c.self.inside.handles.handles c.self.invariant.ready c.in-Some.draft (sym c.take-2.ensures.draft ∙ c.in-Some.is));
+  ready = subst (λ n. is_ready_for n c.in-Some.draft ≡ true) (c.self.invariant.room ∙ sym c.finish.ensures.ends.calls.same.size) (ready_at c.self.inside.directory.room c.args.grant.draw c.self.inside.handles.handles c.self.invariant.ready c.in-Some.draft (sym c.take-2.ensures.draft ∙ c.in-Some.is));
   taken = ap (have_draft (is_at c.args.grant.draw)) c.take-2.ensures.handles ∙ none_taken c.args.grant.draw c.self.inside.handles.handles;
   found = subst (λ gs. IsSome (session_grant gs c.args.who c.args.grant)) (sym (ap grants_in c.take-2.ensures.handles ∙ grants_with c.args.grant.draw None c.self.inside.handles.handles))
       (subst (λ o. IsSome o) c.find.ensures (is_some_of c.find.result (c.is_none.ensures ∙ ap not c.if-is_none.false)));

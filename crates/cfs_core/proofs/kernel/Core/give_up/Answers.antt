@@ -14,7 +14,7 @@ none_of (Some x) is = cc
 pub abort-requires : goal.abort-requires
 abort-requires g c =
     let ready = ready_for _ c.args.draft (subst (λ x. is_ready_for (g.D.Disk.blocks x.disk) c.args.draft ≡ true) (sym c.self.view_is) c.requires.ready) in
-    record { on_disk = omega (arith, ready.on_disk, c.finish.ensures.calls.same.size); size = c.finish.ensures.calls.same.size ∙ c.self.invariant.size ∙ ap (λ (n : ℕ). 64 * n) (sym c.finish.ensures.cylinders) }
+    record { on_disk = omega (arith, ready.on_disk, c.finish.ensures.ends.calls.same.size); size = c.finish.ensures.ends.calls.same.size ∙ c.self.invariant.size ∙ ap (λ (n : ℕ). 64 * n) (sym c.finish.ensures.ends.moves) }
 
 pub returns-in-Err : goal.returns-in-Err
 returns-in-Err g c =

@@ -35,7 +35,7 @@ returns-in-Ok-create g c = λ request making.
       | inl few ↦ (let full = (c.create.ensures.full few).0 in let no = sym full ∙ c.in-Ok-create.is in cc)
       | inr enough ↦ (
           let puts = subst (λ r. PutsObject G c.args.index.block c.args.slot o c.ahead-word.result d1 c.create.new.disk k1 c.create.new.space r) c.in-Ok-create.is (c.create.ensures.makes enough) in (
-            tries_made G g.met.D.Disk.left_sized g.met.D.Disk.sized mid c.create.new.disk c.create.new.space (c.self.invariant.room ∙ sym c.finish.ensures.calls.same.size) c.args.index c.args.slot o (one_block c.args.kind c.args.fill c.args.size) c.ahead-word.result c.ahead-word.ensures
+            tries_made G g.met.D.Disk.left_sized g.met.D.Disk.sized mid c.create.new.disk c.create.new.space (c.self.invariant.room ∙ sym c.finish.ensures.ends.calls.same.size) c.args.index c.args.slot o (one_block c.args.kind c.args.fill c.args.size) c.ahead-word.result c.ahead-word.ensures
                 (Ok c.in-Ok-create.id) puts enough request making c.in-Ok-create.id refl c.name.new.self c.name.result directory,
             puts.calls.same.size,
           ))
@@ -66,7 +66,7 @@ returns-in-Err-create g c = λ request making.
           ))
       | inr enough ↦ (
           let puts = subst (λ r. PutsObject G c.args.index.block c.args.slot o c.ahead-word.result d1 c.create.new.disk k1 c.create.new.space r) c.in-Err-create.is (c.create.ensures.makes enough) in (
-            tries_unmade G g.met.D.Disk.left_sized g.met.D.Disk.sized mid c.create.new.disk c.create.new.space (c.self.invariant.room ∙ sym c.finish.ensures.calls.same.size) c.args.index c.args.slot o (one_block c.args.kind c.args.fill c.args.size) c.ahead-word.result c.ahead-word.ensures
+            tries_unmade G g.met.D.Disk.left_sized g.met.D.Disk.sized mid c.create.new.disk c.create.new.space (c.self.invariant.room ∙ sym c.finish.ensures.ends.calls.same.size) c.args.index c.args.slot o (one_block c.args.kind c.args.fill c.args.size) c.ahead-word.result c.ahead-word.ensures
                 (Err e) puts enough request making e refl,
             puts.calls.same.size,
             unmade_never G c.args.index.block c.args.slot d1 c.create.new.disk k1 c.create.new.space e puts.refused,

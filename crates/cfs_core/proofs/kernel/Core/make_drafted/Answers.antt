@@ -17,7 +17,7 @@ pub create-ended-requires-clause-has : goal.create-ended-requires-clause-has
 create-ended-requires-clause-has g c = (let has = c.requires.has in record { drafting = has.drafting; has = ap (λ x. drafting_at x.handles c.args.grant.draw) c.self.view_is ∙ has.has; within = has.within })
 
 pub create-ended-requires-clause-on_disk : goal.create-ended-requires-clause-on_disk
-create-ended-requires-clause-on_disk g c = all_on_disk c.self.invariant c.args.grant.draw _ c.finish.ensures.calls.same.size
+create-ended-requires-clause-on_disk g c = all_on_disk c.self.invariant c.args.grant.draw _ c.finish.ensures.ends.calls.same.size
 
 pub returns-in-Err : goal.returns-in-Err
 returns-in-Err g c = λ who request making has.
@@ -29,13 +29,13 @@ pub invariant_of-self-in-Ok-ended : goal.invariant_of-self-in-Ok-ended
 invariant_of-self-in-Ok-ended g c =
     let made = c.create-ended.ensures in
     let call = made.so.call in
-    sized_put c.self.invariant c.args.grant.draw c.create-ended.new.self.handles made (stays_of call.stays) c.create-ended.new.disk c.create-ended.new.space (call.calls.same.size ∙ c.finish.ensures.calls.same.size) (call.cylinders ∙ c.finish.ensures.cylinders)
+    sized_put c.self.invariant c.args.grant.draw c.create-ended.new.self.handles made (stays_of call.stays) c.create-ended.new.disk c.create-ended.new.space (call.calls.same.size ∙ c.finish.ensures.ends.calls.same.size) (call.cylinders ∙ c.finish.ensures.ends.moves)
 
 pub invariant_of-self-in-Err-ended : goal.invariant_of-self-in-Err-ended
 invariant_of-self-in-Err-ended g c =
     let made = c.create-ended.ensures in
     let call = made.so.call in
-    sized_put c.self.invariant c.args.grant.draw c.create-ended.new.self.handles made (stays_of call.stays) c.create-ended.new.disk c.create-ended.new.space (call.calls.same.size ∙ c.finish.ensures.calls.same.size) (call.cylinders ∙ c.finish.ensures.cylinders)
+    sized_put c.self.invariant c.args.grant.draw c.create-ended.new.self.handles made (stays_of call.stays) c.create-ended.new.disk c.create-ended.new.space (call.calls.same.size ∙ c.finish.ensures.ends.calls.same.size) (call.cylinders ∙ c.finish.ensures.ends.moves)
 
 pub returns-in-Ok-ended : goal.returns-in-Ok-ended
 returns-in-Ok-ended g c = λ who request making has.
@@ -51,7 +51,7 @@ returns-in-Ok-ended g c = λ who request making has.
     subst (λ x. TriesMakingWith g.D.Disk x.space.left x c.name.new.self who c.args.grant request c.since.result) c.self.view_is
     (subst (λ r. TriesMakingWith g.D.Disk k.space.left k c.name.new.self who c.args.grant request r) (sym c.since.ensures)
     (where_since g.D.Disk k c.finish.new.disk c.finish.new.space c.in-Ok.tried c.in-Ok.ensures g.met.D.Disk.left_sized g.met.D.Disk.sized c.name.new.self (ap g.D.Disk.blocks directory.disk ∙ made.so.call.calls.same.size) request c.name.result decides.0 decides.1 who _ (λ s so. so.goes)
-    (tries_made_in g.D.Disk g.met.D.Disk.left_sized g.met.D.Disk.sized mid (c.self.invariant.room ∙ sym c.finish.ensures.calls.same.size) who c.args.grant made.was made.has there c.args.slot c.args.kind c.args.fill c.args.size c.ahead-word.result c.ahead-word.ensures
+    (tries_made_in g.D.Disk g.met.D.Disk.left_sized g.met.D.Disk.sized mid (c.self.invariant.room ∙ sym c.finish.ensures.ends.calls.same.size) who c.args.grant made.was made.has there c.args.slot c.args.kind c.args.fill c.args.size c.ahead-word.result c.ahead-word.ensures
     made.now c.create-ended.new.disk c.create-ended.new.space c.create-ended.result made.so request making c.in-Ok-ended.id c.in-Ok-ended.is c.name.new.self c.name.result directory)))
 
 pub returns-in-Err-ended : goal.returns-in-Err-ended
@@ -68,5 +68,5 @@ returns-in-Err-ended g c = λ who request making has.
     (subst (λ hs. TriesMakingWith g.D.Disk k.space.left k (record new { handles = hs }) who c.args.grant request (Err c.refused_since.result)) (sym made.with_it)
     (subst (λ x. TriesMakingWith g.D.Disk k.space.left k unnamed who c.args.grant request (Err x)) (sym c.refused_since.ensures)
     (where_since g.D.Disk k c.finish.new.disk c.finish.new.space c.in-Ok.tried c.in-Ok.ensures g.met.D.Disk.left_sized g.met.D.Disk.sized unnamed made.so.call.calls.same.size request (Err e) tt (unmade_never g.D.Disk made.was c.finish.new.disk c.create-ended.new.disk c.finish.new.space c.create-ended.new.space e (rw c.in-Err-ended.is at made.so.call.refused)) who _ (λ s so. so.goes)
-    (tries_unmade_in g.D.Disk g.met.D.Disk.left_sized g.met.D.Disk.sized mid (c.self.invariant.room ∙ sym c.finish.ensures.calls.same.size) who c.args.grant made.was made.has there c.args.slot c.args.kind c.args.fill c.args.size c.ahead-word.result c.ahead-word.ensures
+    (tries_unmade_in g.D.Disk g.met.D.Disk.left_sized g.met.D.Disk.sized mid (c.self.invariant.room ∙ sym c.finish.ensures.ends.calls.same.size) who c.args.grant made.was made.has there c.args.slot c.args.kind c.args.fill c.args.size c.ahead-word.result c.ahead-word.ensures
     made.now c.create-ended.new.disk c.create-ended.new.space c.create-ended.result made.so request making e c.in-Err-ended.is))))

@@ -1,4 +1,5 @@
 use Rattle.std.proofs.Common.{◌≡◌, ◌≢◌, inl, inr, Bool, true, Option, Result, ◌+◌, ◌++◌, [], ◌∷◌, is_some, false, None, Some, Ok, Err, refl, sym, ◌∙◌, ap, subst, ◌<◌, ◌*◌, IsSome}
+use Rattle.cfs_base.proofs.Went.{reads_none}
 use Rattle.cfs_core.proofs.Words.{Drafting, Draws, fault_of, is_locked, directory_kind, list_all, refusal_of, Refused, Reply, State, Trouble, Tuid, word}
 use Rattle.cfs_base.specs.declared.refusal.Refused.TheVariants as refusals
 use Rattle.open_table.specs.declared.grant.Grant.{Grant}
@@ -10,7 +11,7 @@ use Rattle.cfs_core.specs.Finished.{FinishesLeft}
 use Rattle.cfs_core.specs.StandsFor.{CoreServes, ServesIs}
 use Rattle.std.proofs.lemmas.Bool.{cases_Bool}
 use Rattle.cfs_core.specs.Opening.{Begins, reply_to_fault}
-use Rattle.cfs_core.proofs.Answering.{memory, reads_none, tries_refusal, tries_so}
+use Rattle.cfs_core.proofs.Answering.{memory, tries_refusal, tries_so}
 use Rattle.cfs_core.proofs.Granted.{drawn_push, not_drawn}
 use Rattle.cfs_core.proofs.MayOpen.{begun_ready, fault_told, none_told, open_gone, told_plain}
 use Rattle.cfs_core.proofs.Openings.{tries_bare, tries_not, tries_open}

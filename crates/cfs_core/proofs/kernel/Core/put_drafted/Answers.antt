@@ -13,7 +13,7 @@ pub put-ended-requires-clause-has : goal.put-ended-requires-clause-has
 put-ended-requires-clause-has g c = (let has = c.requires.has in record { drafting = has.drafting; has = ap (λ x. drafting_at x.handles c.args.grant.draw) c.self.view_is ∙ has.has; within = has.within })
 
 pub put-ended-requires-clause-on_disk : goal.put-ended-requires-clause-on_disk
-put-ended-requires-clause-on_disk g c = all_on_disk c.self.invariant c.args.grant.draw _ c.finish.ensures.calls.same.size
+put-ended-requires-clause-on_disk g c = all_on_disk c.self.invariant c.args.grant.draw _ c.finish.ensures.ends.calls.same.size
 
 pub returns-in-Err : goal.returns-in-Err
 returns-in-Err g c = λ who request has delete.
@@ -24,7 +24,7 @@ returns-in-Err g c = λ who request has delete.
 pub invariant_of-self-2 : goal.invariant_of-self-2
 invariant_of-self-2 g c =
     let done = c.put-ended.ensures in
-    sized_put c.self.invariant c.args.grant.draw c.put-ended.new.self.handles done done.so.stays c.put-ended.new.disk c.put-ended.new.space (done.so.calls.same.size ∙ c.finish.ensures.calls.same.size) (done.so.cylinders ∙ c.finish.ensures.cylinders)
+    sized_put c.self.invariant c.args.grant.draw c.put-ended.new.self.handles done done.so.stays c.put-ended.new.disk c.put-ended.new.space (done.so.calls.same.size ∙ c.finish.ensures.ends.calls.same.size) (done.so.cylinders ∙ c.finish.ensures.ends.moves)
 
 pub returns : goal.returns
 returns g c = λ who request has delete.

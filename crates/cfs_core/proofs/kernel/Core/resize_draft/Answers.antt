@@ -31,7 +31,7 @@ pub resize-ended-requires-clause-has : goal.resize-ended-requires-clause-has
 resize-ended-requires-clause-has g c = record { drafting = c.requires.drafting; has = ap (λ x. drafting_at x.handles c.args.grant.draw) c.self.view_is ∙ c.requires.has; within = omega arith }
 
 pub resize-ended-requires-clause-on_disk : goal.resize-ended-requires-clause-on_disk
-resize-ended-requires-clause-on_disk g c = all_on_disk c.self.invariant c.args.grant.draw _ c.finish.ensures.calls.same.size
+resize-ended-requires-clause-on_disk g c = all_on_disk c.self.invariant c.args.grant.draw _ c.finish.ensures.ends.calls.same.size
 
 pub returns-in-Err : goal.returns-in-Err
 returns-in-Err g c =
@@ -45,7 +45,7 @@ returns-in-Err g c =
 pub invariant_of-self-2 : goal.invariant_of-self-2
 invariant_of-self-2 g c =
     let done = c.resize-ended.ensures in
-    sized_put c.self.invariant c.args.grant.draw c.resize-ended.new.self.handles done done.so.stays c.resize-ended.new.disk c.resize-ended.new.space (done.so.calls.same.size ∙ c.finish.ensures.calls.same.size) (done.so.cylinders ∙ c.finish.ensures.cylinders)
+    sized_put c.self.invariant c.args.grant.draw c.resize-ended.new.self.handles done done.so.stays c.resize-ended.new.disk c.resize-ended.new.space (done.so.calls.same.size ∙ c.finish.ensures.ends.calls.same.size) (done.so.cylinders ∙ c.finish.ensures.ends.moves)
 
 pub returns : goal.returns
 returns g c =

@@ -1,4 +1,5 @@
 use Rattle.std.proofs.Common.{◌≡◌, ◌<◌, ◌≤◌, ℕ, Err, true, false, refl, sym, ◌∙◌, ap, subst, arith, nat_lt}
+use Rattle.cfs_base.proofs.Went.{reads_none}
 use Rattle.cfs_core.proofs.Words.{nat_tests, SetSize}
 use Rattle.ufs_model.specs.Limits.{most_bytes}
 use Rattle.ufs_model.specs.declared.asked.Reply.TheVariants as replies
@@ -9,7 +10,7 @@ use Rattle.cfs_core.specs.Kernel.{Kernel}
 use Rattle.cfs_core.specs.Looks.{ReachesAll}
 use Rattle.cfs_core.specs.Finished.{since}
 use Rattle.cfs_core.specs.StandsFor.{ServesIs}
-use Rattle.cfs_core.proofs.Answering.{reads_none, tries_refusal, tries_want}
+use Rattle.cfs_core.proofs.Answering.{tries_refusal, tries_want}
 use Rattle.cfs_core.proofs.FileChange.{resize_changes}
 use Rattle.cfs_core.proofs.Filed.{tries_filed}
 use Rattle.cfs_core.proofs.Joined.{left_none, tries_unfinished}

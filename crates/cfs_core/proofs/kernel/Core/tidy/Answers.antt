@@ -2,7 +2,7 @@ use Rattle.std.proofs.Common.{◌≡◌, Option, Err, refl, sym, ◌∙◌, ap, 
 use Rattle.std.specs.Prelude.{IsSome}
 use Rattle.cyl_alloc.specs.Left.{LeftCommit}
 use Rattle.finisher.proofs.Calls.{some_left}
-use Rattle.finisher.specs.Going.{Goes}
+use Rattle.finisher.specs.Going.{Goes, PartEnds}
 use Rattle.cfs_core.proofs.Words.{Kept}
 use Rattle.cfs_core.specs.Kernel.{Kernel}
 use Rattle.cfs_core.specs.Tidy.{TidiesVolume, tidy_fault_by, halt_by}
@@ -29,4 +29,4 @@ returns-in-Err g c =
     subst (λ x. TidiesVolume g.D.Disk x c.halt.new.self (Err c.halt.result)) c.self.view_is
     (subst (λ r. TidiesVolume g.D.Disk k c.halt.new.self (Err r)) (sym c.halt.ensures.told)
     (subst (λ y. TidiesVolume g.D.Disk k y (Err told)) (sym (c.halt.ensures.stop ∙ ap (λ (x : Kept). record k { disk = d; space = x; stop = halt_by told k.stop }) kept))
-    (tidies_cut g.D.Disk g.met.D.Disk.left_sized g.met.D.Disk.sized k d c.in_default.is c.step.ensures.calls t (subst (λ (x : Kept). Goes g.D.Disk k.disk d k.space x (Err t)) kept c.in-Err.ensures.goes) (c.in-Err.ensures.ends some) some)))
+    (tidies_cut g.D.Disk g.met.D.Disk.left_sized g.met.D.Disk.sized k d c.in_default.is c.step.ensures.calls t (subst (λ (x : Kept). Goes g.D.Disk k.disk d k.space x (Err t)) kept c.in-Err.ensures.goes) (subst (λ (x : Kept). PartEnds g.D.Disk 4 3 k.disk d k.space x (Err t)) kept (c.in-Err.ensures.ends some)) some)))

@@ -36,7 +36,7 @@ write-ended-requires-clause-has g c = record {
 }
 
 pub write-ended-requires-clause-on_disk : goal.write-ended-requires-clause-on_disk
-write-ended-requires-clause-on_disk g c = all_on_disk c.self.invariant c.args.grant.draw _ c.finish.ensures.calls.same.size
+write-ended-requires-clause-on_disk g c = all_on_disk c.self.invariant c.args.grant.draw _ c.finish.ensures.ends.calls.same.size
 
 pub returns-in-Err : goal.returns-in-Err
 returns-in-Err g c =
@@ -50,7 +50,7 @@ returns-in-Err g c =
 pub invariant_of-self-2 : goal.invariant_of-self-2
 invariant_of-self-2 g c =
     let done = c.write-ended.ensures in
-    sized_put c.self.invariant c.args.grant.draw c.write-ended.new.self.handles done done.so.stays c.write-ended.new.disk c.write-ended.new.space (done.so.calls.same.size ∙ c.finish.ensures.calls.same.size) (done.so.cylinders ∙ c.finish.ensures.cylinders)
+    sized_put c.self.invariant c.args.grant.draw c.write-ended.new.self.handles done done.so.stays c.write-ended.new.disk c.write-ended.new.space (done.so.calls.same.size ∙ c.finish.ensures.ends.calls.same.size) (done.so.cylinders ∙ c.finish.ensures.ends.moves)
 
 pub returns : goal.returns
 returns g c =

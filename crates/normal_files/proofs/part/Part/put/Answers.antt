@@ -1,6 +1,6 @@
-use Rattle.normal_files.proofs.Words.{◌≡◌, ℕ, ◌∙◌, refl, sym, subst, arith, ◌*◌, ◌-◌}
+use Rattle.normal_files.proofs.Words.{Some, ap, ◌≡◌, ℕ, ◌∙◌, refl, sym, subst, arith, ◌*◌, ◌-◌}
 use Rattle.normal_files.specs.Steps.{IsAmid, Stops}
-use Rattle.normal_files.proofs.Come.{come_as, come_err, come_none, come_then, come_within}
+use Rattle.normal_files.proofs.Come.{come_err, come_none, come_then, come_within, done_as}
 use Rattle.normal_files.proofs.part.Part.put.Goals as goal
 
 pub loop-leaf-init : goal.loop-leaf-init
@@ -8,7 +8,7 @@ loop-leaf-init g c = record { come = come_none g.D.Disk c.args.disk.now _ _; siz
 
 pub loop-leaf-preserved : goal.loop-leaf-preserved
 loop-leaf-preserved g c = record {
-  come = come_as (sym c.either-tried.ensures) (come_within (come_then c.loop-leaf.tried c.in-Ok.now c.loop-leaf.invariant.come c.in-Ok.ensures.ends) (omega (arith, c.loop-leaf.auto.leaf)) (omega (arith, c.loop-leaf.auto.leaf)));
+  come = done_as (ap Some (sym c.either-tried.ensures)) (come_within (come_then c.loop-leaf.tried c.in-Ok.now c.loop-leaf.invariant.come c.in-Ok.ensures.ends) (omega (arith, c.loop-leaf.auto.leaf)) (omega (arith, c.loop-leaf.auto.leaf)));
   size = c.put_one.ensures.size ∙ c.loop-leaf.invariant.size;
   puts = λ r w kept is amid.
       let was = c.loop-leaf.invariant.puts r w kept is amid in

@@ -5,12 +5,12 @@ use Rattle.normal_files.specs.Parts.{part_need}
 use Rattle.normal_files.specs.Plans.{plan_of}
 use Rattle.normal_files.specs.Steps.{WritesBlock}
 use Rattle.block_tree.specs.declared.node.Node as nodes
-use Rattle.normal_files.proofs.Ending.{gone_within, halts_within}
+use Rattle.normal_files.proofs.Ending.{gone_within}
 use Rattle.normal_files.proofs.TakeOne.{no_node, node_gone, node_leaves, node_stops, node_taken}
 use Rattle.normal_files.proofs.part.Part.take.Goals as goal
 
 pub returns-in-Err-clause-ends : goal.returns-in-Err-clause-ends
-returns-in-Err-clause-ends g c = halts_within c.in-Err.ensures.ends (omega arith) (omega arith) (omega arith)
+returns-in-Err-clause-ends g c = gone_within c.in-Err.ensures.ends (omega arith) (omega arith) (omega arith)
 
 pub returns-then-not-new-clause-takes : goal.returns-then-not-new-clause-takes
 returns-then-not-new-clause-takes g c = λ w may.

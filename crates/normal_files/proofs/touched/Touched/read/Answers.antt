@@ -1,5 +1,5 @@
 use Rattle.normal_files.proofs.Refusals.{tells_after}
-use Rattle.normal_files.proofs.Come.{reads_none}
+use Rattle.cfs_base.proofs.Went.{reads_none}
 use Rattle.normal_files.proofs.FileCalls.{near_after}
 use Rattle.normal_files.proofs.touched.Touched.read.Goals as goal
 use Rattle.leaf_changes.specs.Tops.{root_top}
@@ -8,7 +8,7 @@ use Rattle.normal_files.proofs.Refusals.{trouble_after_reads}
 pub returns-in-Err-clause-sound : goal.returns-in-Err-clause-sound
 returns-in-Err-clause-sound g c = λ f tells file rooted.
     c.in-Err.ensures.sound tells
-    (near_after g.D.Disk c.args.disk.now c.args.disk.now c.args.at.0 c.args.root.now f (g.met.D.Disk.sized c.args.disk.now tells.honest) c.requires.on_disk (reads_none g.D.Disk c.args.disk.now) rooted file)
+    (near_after g.D.Disk c.args.disk.now c.args.disk.now c.args.at.0 c.args.root.now f (g.met.D.Disk.sized c.args.disk.now tells.honest) c.requires.on_disk (reads_none g.D.Disk 0 c.args.disk.now) rooted file)
 
 pub returns-in-Err-read-clause-sound : goal.returns-in-Err-read-clause-sound
 returns-in-Err-read-clause-sound g c = λ f tells file rooted.

@@ -1,8 +1,9 @@
-use Rattle.std.proofs.Common.{Some, Err, refl, sym, ◌∙◌, ap, subst, arith, rules}
-use Rattle.special_files.proofs.Words.{BeginsDraft, Drafting, IsRootBlock, ShadowRoot, begun_at, block_at, both_ways, intended, reads_then, still_top}
+use Rattle.std.proofs.Common.{Some, refl, sym, ◌∙◌, ap, subst, arith, rules}
+use Rattle.special_files.proofs.Words.{BeginsDraft, Drafting, IsRootBlock, begun_at, block_at, both_ways, reads_then, still_top}
 use Rattle.special_files.proofs.begin.Begins.{begin_leaves, begin_opens}
 use Rattle.special_files.proofs.Begun.{own_root}
-use Rattle.special_files.proofs.Endings.{claim_real, enters_ends}
+use Rattle.cyl_alloc.proofs.Takes.{enters_went}
+use Rattle.special_files.proofs.Endings.{claim_real, ends_wider, enters_ends}
 use Rattle.special_files.proofs.View.{read_refused}
 use Rattle.special_files.proofs.WriteLeaf.{ends_since}
 use Rattle.special_files.proofs.draft.Draft.begin.Goals as goal
@@ -39,7 +40,7 @@ pub returns-in-Err-clause-call : goal.returns-in-Err-clause-call
 returns-in-Err-clause-call g c =
     let enters = c.in-Err.ensures.enters in
     let reads = c.in_ok-root.ensures.reads in
-    let ends = ends_since reads 3 (enters_ends g.D.Disk (still_top c.args.at.0) c.args.floor c.read_root.new.disk c.intend.new.disk c.args.space.now c.intend.new.self (intended ShadowRoot c.args.at.0) (Err c.in-Err.error) enters) (omega arith) in
+    let ends = ends_wider c.args.floor 3 1 1 (ends_since reads 3 (enters_ends (still_top c.args.at.0) enters) (omega arith)) (omega arith) (omega arith) (enters_went enters).moves.takes in
     record {
       begun = tt;
       root = λ tells. tt;
@@ -47,7 +48,7 @@ returns-in-Err-clause-call g c =
       full = λ full. absurd (both_ways _ (claim_real g.D.Disk c.read_root.new.disk c.intend.new.disk c.args.space.now c.in-Err.error (omega (arith, c.in_ok-has_room.ensures.room)) enters.refused).0 full);
       refused = ends.refused;
       untried = λ early. (enters.kept refl, reads_then g.D.Disk c.args.disk.now c.read_root.new.disk c.intend.new.disk 1 1 2 reads (enters.unless_tried early) (omega arith));
-      cylinders = ends.cylinders;
-      left = ends.left;
+      cylinders = ends.moves.cylinders;
+      left = ends.moves.left;
       calls = ends.calls;
     }

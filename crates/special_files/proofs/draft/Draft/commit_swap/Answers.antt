@@ -2,7 +2,7 @@ use Rattle.std.proofs.Common.{ℕ, ◌≤◌, length, length-append, refl, sym, 
 use Rattle.special_files.proofs.Words.{Drafting, Makes, far_root}
 use Rattle.special_files.proofs.commit.CommitCalls.{commits_far, commits_on}
 use Rattle.special_files.proofs.commit.CommitStore.{made_below, parts_of}
-use Rattle.special_files.proofs.Endings.{no_reads}
+use Rattle.cfs_base.proofs.Went.{reads_none}
 use Rattle.special_files.proofs.changed.Unlike.{one_at_most}
 use Rattle.special_files.proofs.draft.Draft.commit_swap.Goals as goal
 
@@ -28,4 +28,4 @@ pub returns-clause-call : goal.returns-clause-call
 returns-clause-call g c =
     let long = ap (length {A = ℕ}) (c.as_slice.ensures ∙ c.list_two-2.ensures) in
     let few : length c.as_slice.result.now ≤ 2 = omega (arith, long, length-append {A = ℕ}, one_at_most) in
-    commits_on (no_reads g.D.Disk c.args.disk.now 0) (sym (parts_of c.args.self _ c.self.view_is).at_is) (λ far. absurd far) c.commit_listed.ensures.ends 11 7 (omega (arith, few)) (omega (arith, few))
+    commits_on (reads_none g.D.Disk 0 c.args.disk.now) (sym (parts_of c.args.self _ c.self.view_is).at_is) (λ far. absurd far) c.commit_listed.ensures.ends 11 7 (omega (arith, few)) (omega (arith, few))

@@ -18,7 +18,7 @@ pub fill-requires-clause-on_disk : goal.fill-requires-clause-on_disk
 fill-requires-clause-on_disk g c = omega (arith, ap (λ (x : Drafting). x.at) c.adopt.ensures, c.requires.on_disk, (c.in-Ok.ensures.ends 0).calls.same.size)
 
 pub fill-requires-clause-size : goal.fill-requires-clause-size
-fill-requires-clause-size g c = omega (arith, c.requires.size, (c.in-Ok.ensures.ends 0).calls.same.size, (c.in-Ok.ensures.ends 0).cylinders)
+fill-requires-clause-size g c = omega (arith, c.requires.size, (c.in-Ok.ensures.ends 0).calls.same.size, (c.in-Ok.ensures.ends 0).moves.cylinders)
 
 pub returns-in-Err-fill : goal.returns-in-Err-fill
 returns-in-Err-fill g c = record {

@@ -68,7 +68,7 @@ returns-in-Err-undo_listed-clause-calls g c =
 pub give_all-requires : goal.give_all-requires
 give_all-requires g c =
     let puts = subst (λ (w : Drafting). PutsWithin g.D.Disk c.args.from (way_leaves c.args.way.now) w c.list_from.new.disk c.put_within.new.disk c.args.space.now c.put_within.new.space (Ok c.in-Ok-put_within.field-0)) c.self.view_is c.in-Ok-put_within.ensures.puts in
-    let long = (put_ends c.in-Ok.ensures.reads (λ stale. (c.list_from.ensures.none (λ n. ap (λ (w : Drafting). is_fresh_node w n) c.self.view_is ∙ stale n)).2) c.args.from (way_leaves c.args.way.now) _ puts).cylinders in
+    let long = (put_ends c.in-Ok.ensures.reads (λ stale. (c.list_from.ensures.none (λ n. ap (λ (w : Drafting). is_fresh_node w n) c.self.view_is ∙ stale n)).2) c.args.from (way_leaves c.args.way.now) _ puts).moves.cylinders in
     record { on_disk = subst (λ (k : ℕ). All (λ n. n < k) c.as_slice-2.result.now) (omega (arith, c.requires.size, long)) (subst (All (λ n. n < g.D.Disk.blocks c.args.disk.now)) (sym c.as_slice-2.ensures) c.in-Ok.ensures.on_disk) }
 
 pub returns-clause-goes : goal.returns-clause-goes

@@ -1,4 +1,4 @@
-use Rattle.std.proofs.Common.{◌≡◌, ℕ, ◌/◌, ◌%◌, Ok, get_or, set, sym, ◌∙◌, ap, subst, arith}
+use Rattle.std.proofs.Common.{◌≡◌, ℕ, ◌/◌, ◌%◌, get_or, set, sym, ◌∙◌, ap, subst, arith}
 use Rattle.block_tree.specs.Way.{with_node}
 use Rattle.block_tree.specs.declared.node.Node.{Node}
 use Rattle.special_files.proofs.Words.{Drafting, IsTo, WritesDraftBlock, leaf_pointers, way_leaves}
@@ -59,7 +59,7 @@ pub write_own-requires-3 : goal.write_own-requires-3
 write_own-requires-3 g c =
     let below = node_is_safe (g.D.Disk.blocks c.args.disk.now) c.args.self.now.root c.args.way.now (c.args.leaf / leaf_pointers.count) (has_node c.args.way.now c.args.leaf c.requires.to) c.requires.safe in
     let first = c.in-Ok.ensures.calls.same.size in
-    let second = (gets_ends g.D.Disk (c.args.leaf / leaf_pointers.count) 0 c.claim.new.disk c.node_block.new.disk c.claim.new.space c.node_block.new.space c.args.self.now (Ok c.in-Ok-node_block.node) c.in-Ok-node_block.ensures).calls.same.size in
+    let second = (gets_ends c.in-Ok-node_block.ensures).calls.same.size in
     omega (arith, gets_below g.D.Disk (c.args.leaf / leaf_pointers.count) c.claim.new.disk c.node_block.new.disk c.claim.new.space c.node_block.new.space c.args.self.now c.in-Ok-node_block.node (omega (arith, below, first)) c.in-Ok-node_block.ensures, second, c.in-Ok-write_own.ensures.calls.same.size)
 
 pub returns-clause-goes : goal.returns-clause-goes

@@ -1,6 +1,6 @@
 use Rattle.std.proofs.Common.{refl, ap, arith}
 use Rattle.special_files.proofs.Words.{Drafting, has_met_damage}
-use Rattle.special_files.proofs.Endings.{no_reads}
+use Rattle.cfs_base.proofs.Went.{reads_none}
 use Rattle.special_files.proofs.Refusals.{if_err}
 use Rattle.special_files.proofs.shrink.ShrinkRun.{grown_call}
 use Rattle.special_files.proofs.View.{read_leaves}
@@ -12,7 +12,7 @@ pub returns-then-self-size : goal.returns-then-self-size
 returns-then-self-size g c = record {
   goes = λ v. record {
     done = c.grow.ensures.resized v;
-    leaves = read_leaves (no_reads g.D.Disk c.args.disk.now 0);
+    leaves = read_leaves (reads_none g.D.Disk 0 c.args.disk.now);
     sound = if_err c.grow.result (λ e short. ap has_met_damage short.0) c.grow.ensures.short;
   };
   full = λ v f file. if_err c.grow.result (λ e is any. is) (c.grow.ensures.full v f file);

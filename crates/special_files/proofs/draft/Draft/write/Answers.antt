@@ -1,7 +1,7 @@
 use Rattle.std.proofs.Common.{inl, inr, ℕ, ◌*◌, ◌/◌, length, sym, ◌∙◌, ap, arith}
 use Rattle.special_files.proofs.Words.{Drafting, has_met_damage}
 use Rattle.special_files.proofs.View.{read_leaves}
-use Rattle.special_files.proofs.Endings.{no_reads}
+use Rattle.cfs_base.proofs.Went.{reads_none}
 use Rattle.special_files.proofs.write.WriteRuns.{err_call, err_goes, need_told, run_begin, run_call, run_goes, run_more, write_full}
 use Rattle.special_files.proofs.draft.Draft.write.Goals as goal
 use Rattle.std.proofs.lemmas.Bool.{cases_lt}
@@ -10,7 +10,7 @@ use Rattle.std.proofs.lemmas.Bool.{cases_lt}
 
 pub returns-in-Err : goal.returns-in-Err
 returns-in-Err g c = record {
-  goes = λ v. record { done = tt; leaves = read_leaves (no_reads g.D.Disk c.args.disk.now 0); sound = ap has_met_damage c.in-Err.ensures.full.0 };
+  goes = λ v. record { done = tt; leaves = read_leaves (reads_none g.D.Disk 0 c.args.disk.now); sound = ap has_met_damage c.in-Err.ensures.full.0 };
   call = write_full g.D.Disk c.args.disk.now c.args.space.now c.args.self.now c.args.offset c.args.bytes.now c.args.floor _ c.in-Err.full
       (λ ds id d opened. need_told ds id c.args.self.now d c.args.offset c.args.bytes.now c.leaves_in-to.result c.need_to_write.result opened c.leaves_in-to.ensures c.need_to_write.ensures.some c.need_to_write.ensures.none) c.in-Err.ensures.full.0 c.in-Err.ensures.full.1;
 }
@@ -24,7 +24,7 @@ loop-leaf-init g c =
     (elim (cases_lt (c.args.offset / 512) c.leaves_in-to.result) [ inl less ↦ omega (arith, c.need_to_write.ensures.some less, c.in-Ok.ensures.room) | inr past ↦ omega (arith, c.need_to_write.ensures.none past, c.in-Ok.ensures.room) ])
 
 pub write_leaf-requires-clause-size : goal.write_leaf-requires-clause-size
-write_leaf-requires-clause-size g c = c.loop-leaf.invariant.ends.calls.same.size ∙ c.requires.size ∙ ap (λ (n : ℕ). 64 * n) (sym c.loop-leaf.invariant.ends.cylinders)
+write_leaf-requires-clause-size g c = c.loop-leaf.invariant.ends.calls.same.size ∙ c.requires.size ∙ ap (λ (n : ℕ). 64 * n) (sym c.loop-leaf.invariant.ends.moves.cylinders)
 
 pub write_leaf-requires-clause-some : goal.write_leaf-requires-clause-some
 write_leaf-requires-clause-some g c = omega (arith, c.requires.on_disk, c.loop-leaf.invariant.ends.calls.same.size)

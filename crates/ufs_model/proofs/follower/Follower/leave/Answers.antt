@@ -1,6 +1,6 @@
 use Rattle.std.proofs.Common.{sym, subst}
 use Rattle.ufs_model.proofs.Words.{IsState, Server}
-use Rattle.ufs_model.proofs.WellStates.{leave_keeps}
+use Rattle.ufs_model.proofs.WellGrants.{leave_keeps}
 use Rattle.ufs_model.proofs.follower.Follower.leave.Goals as goal
 
 pub invariant_of-self : goal.invariant_of-self
