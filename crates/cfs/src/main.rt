@@ -6,6 +6,7 @@
 //! `cfs --version` print a page.
 #![tactic(auto)]
 
+mod known;
 mod opening;
 
 ghost use Rattle.std.specs.Prelude.{◌≡◌, ◌/◌, option_map};
@@ -13,12 +14,13 @@ ghost use Rattle.std.specs.Prelude.{◌≡◌, ◌/◌, option_map};
 use cfs_base::Disk;
 use cfs_fakes::OpenGate;
 use cfs_host::{FileDisk, FileSink};
-use cfs_serve::{Bay, top};
+use cfs_serve::{Bay, Cause, Ended, Path, top};
 use opening::{AnySink, AnySource, open, tell_starved};
 use pair_disk::PairDisk;
 use std::alloc::Global;
 use std::env;
-use std::io::ErrorKind;
+use std::fs::{self, File};
+use std::io::{self, ErrorKind};
 use std::process::ExitCode;
 use std::sync::Wait;
 use std::thread::Threads;
@@ -49,6 +51,38 @@ fn paired(file: Option<FileDisk>) -> Option<PairDisk<FileDisk>>
     }
 }
 
+/// Empties the files of replies that got none. Whether all could be.
+fn empty_all(sinks: &mut [AnySink]) -> bool {
+    let mut all = true;
+    for sink in sinks.iter_mut() {
+        all = sink.empty().is_ok() && all;
+    }
+    all
+}
+
+/// What is left to do once a run has ended: a volume that could not be made is taken away, words of no form are told
+/// where the forms stand, and of sessions that were served the files of replies that got none are emptied. Answers the
+/// status.
+fn finish<D: Disk + Drop>(
+    rt: &HostRuntime,
+    made: &Option<Path>,
+    mut ended: Ended<D, AnySource, AnySink>,
+) -> u8 {
+    match (made, ended.told.cause) {
+        (Some(path), Cause::Disk(_)) => {
+            let _ = fs::remove_file(rt, path.as_str());
+        }
+        (_, Cause::Words) => {
+            let _ = eprintln!(rt; "cfs: these words are of no form; cfs --help prints the forms");
+        }
+        _ => {}
+    }
+    if ended.told.counts.is_some() && !empty_all(&mut ended.sinks) && ended.status == 0 {
+        return 5;
+    }
+    ended.status
+}
+
 /// Does what the words ask, in threads, and answers the status.
 fn run<R: Threads + Wait + Sync>(rt: &HostRuntime, threads: &R, alloc: Global) -> Result<u8, u8> {
     let Some(words) = words(rt, alloc) else {
@@ -66,7 +100,8 @@ fn run<R: Threads + Wait + Sync>(rt: &HostRuntime, threads: &R, alloc: Global) -
             sinks: opened.sinks,
             report,
         };
-        return Ok(top(threads, alloc, words, bay, &OpenGate).status);
+        let ended = top(threads, alloc, words, bay, &OpenGate);
+        return Ok(finish(rt, &opened.made, ended));
     }
     let bay: Bay<FileDisk, AnySource, AnySink> = Bay {
         disk: opened.disk,
@@ -74,11 +109,30 @@ fn run<R: Threads + Wait + Sync>(rt: &HostRuntime, threads: &R, alloc: Global) -
         sinks: opened.sinks,
         report,
     };
-    Ok(top(threads, alloc, words, bay, &OpenGate).status)
+    let ended = top(threads, alloc, words, bay, &OpenGate);
+    Ok(finish(rt, &opened.made, ended))
+}
+
+/// Three open files, so that none of the run's own takes the number of a standard stream that is closed. What such a
+/// stream is then can neither be read nor written.
+#[derive(Drop)]
+struct Held(File, File, File);
+
+/// Opens the folder of all others three times.
+fn hold_streams(rt: &HostRuntime) -> io::Result<Held> {
+    Ok(Held(fs::open(rt, "/")?, fs::open(rt, "/")?, fs::open(rt, "/")?))
 }
 
 fn main(rt: HostRuntime) -> ExitCode {
     let alloc = rt.alloc();
+    let _held = match hold_streams(&rt) {
+        Ok(held) => held,
+        Err(why) => {
+            let _ = println!(&rt; "cfs: cannot open /");
+            let _ = eprintln!(&rt; "cfs: /: {why}");
+            return ExitCode::from(10);
+        }
+    };
     match run(&rt, &rt, alloc) {
         Ok(status) => ExitCode::from(status),
         Err(status) => ExitCode::from(status),

@@ -3,14 +3,19 @@ ghost use Rattle.std.specs.Prelude.{◌≡◌, ◌≤◌, false, IfOk, IsErr};
 ghost use Rattle.cfs_base.specs.Disk.{CountsRead, CountsTry};
 
 use crate::faults::failed;
+use crate::identity::Identity;
 use cfs_base::{Block, BlockNo, Disk, Failed};
 use pair_disk::TornDisk;
-use std::os::unix::fs::FileExt;
+use std::fs::{self, File, TryLockError};
+use std::io::{self, ErrorKind, Seek, SeekFrom};
+use std::os::unix::fs::{FileExt, FileTypeExt};
 use std::rt::Files;
-use std::{fs, io};
 
 /// The bytes of a block.
 const BLOCK: u64 = 512;
+
+/// The blocks at the beginning of a device that are to be zero for a volume to be made on it.
+const BLANK: u64 = 64;
 
 /// A volume in a file of the system: block n is its bytes from 512 n on. Each read and write is one of the system at
 /// its place, nothing is kept back, and a barrier is a data sync. A call that a signal interrupts is tried again. It
@@ -18,8 +23,10 @@ const BLOCK: u64 = 512;
 /// whose blocks may tear.
 #[derive(Drop)]
 pub struct FileDisk {
-    file: fs::File,
+    file: File,
     blocks: u32,
+    /// This run made the file.
+    made: bool,
     /// The clock, and the number of calls.
     calls: u64,
     tries: u64,
@@ -27,50 +34,143 @@ pub struct FileDisk {
 }
 
 impl FileDisk {
-    /// Opens the volume of this name, which is read and written. `InvalidData` where its length is no multiple of 512,
-    /// or it has more blocks than block numbers.
-    pub fn existing<R: Files<File = fs::File>>(rt: &R, path: &str) -> io::Result<FileDisk> {
-        let file = fs::OpenOptions::new()
+    /// Opens the volume in the file or on the block device of this name, which is read and written, and locks it until
+    /// the disk is dropped. `WouldBlock` where another has it locked, `InvalidInput` where it is neither a file nor a
+    /// block device, `InvalidData` where its length is no multiple of 512 or it has more blocks than block numbers.
+    pub fn existing<R: Files<File = File>>(rt: &R, path: &str) -> io::Result<FileDisk> {
+        let mut file = fs::OpenOptions::new()
             .read(true)
             .write(true)
             .open(rt, path)?;
-        let length = file.metadata()?.len();
+        lock(&file)?;
+        let length = length_of(&mut file)?;
         if length % BLOCK != 0 {
-            return Err(io::ErrorKind::InvalidData.into());
+            return Err(io::Error::new(
+                ErrorKind::InvalidData,
+                "its length is no multiple of 512 bytes",
+            ));
         }
-        match u32::try_from(length / BLOCK) {
-            Ok(blocks) => Ok(FileDisk::of(file, blocks)),
-            Err(_) => Err(io::ErrorKind::InvalidData.into()),
-        }
+        let Ok(blocks) = u32::try_from(length / BLOCK) else {
+            return Err(io::Error::new(
+                ErrorKind::InvalidData,
+                "it has more blocks than a volume may have",
+            ));
+        };
+        Ok(FileDisk::of(file, blocks))
     }
 
-    /// Makes a file of so many zero blocks. `AlreadyExists` where something has this name. When it is back, the file's
-    /// length and its name in its folder outlast a crash.
-    pub fn fresh<R: Files<File = fs::File>>(rt: &R, path: &str, blocks: u32) -> io::Result<FileDisk>
+    /// Makes a file of so many zero blocks, or takes a block device of just so many whose first 64 are zero, and locks
+    /// it until the disk is dropped. `AlreadyExists` where something else has this name, or the device holds something.
+    /// When it is back, the file's length and its name in its folder outlast a crash; where it can't be made so, it is
+    /// taken away again.
+    pub fn fresh<R: Files<File = File>>(rt: &R, path: &str, blocks: u32) -> io::Result<FileDisk>
         ensures { IfOk result (λ disk. disk.blocks ≡ blocks) }
     {
+        if is_block_device(rt, path) {
+            return FileDisk::on_device(rt, path, blocks);
+        }
         let file = fs::OpenOptions::new()
             .read(true)
             .write(true)
             .create_new(true)
             .open(rt, path)?;
-        file.set_len(BLOCK * blocks as u64)?;
-        file.sync_all()?;
-        fs::open(rt, folder_of(path))?.sync_all()?;
-        Ok(FileDisk::of(file, blocks))
+        if let Err(error) = lengthen(rt, &file, path, blocks) {
+            let _ = fs::remove_file(rt, path);
+            return Err(error);
+        }
+        Ok(FileDisk {
+            made: true,
+            ..FileDisk::of(file, blocks)
+        })
     }
 
-    fn of(file: fs::File, blocks: u32) -> FileDisk
+    /// Takes a block device for a new volume.
+    fn on_device<R: Files<File = File>>(rt: &R, path: &str, blocks: u32) -> io::Result<FileDisk>
+        ensures { IfOk result (λ disk. disk.blocks ≡ blocks) }
+    {
+        let disk = FileDisk::existing(rt, path)?;
+        if disk.blocks != blocks {
+            return Err(io::Error::new(ErrorKind::InvalidInput, "the device has another size"));
+        }
+        if !is_blank(&disk.file)? {
+            return Err(io::Error::new(ErrorKind::AlreadyExists, "the device holds something"));
+        }
+        Ok(disk)
+    }
+
+    fn of(file: File, blocks: u32) -> FileDisk
         ensures { result.blocks ≡ blocks }
     {
         FileDisk {
             file,
             blocks,
+            made: false,
             calls: 0,
             tries: 0,
             faults: 0,
         }
     }
+
+    /// Whether its file wasn't there before.
+    pub fn is_made(&self) -> bool {
+        self.made
+    }
+
+    /// Which file or block device it is.
+    pub fn identity(&self) -> io::Result<Option<Identity>> {
+        Identity::of(&self.file)
+    }
+}
+
+/// Locks a file against all others, as long as it is open.
+fn lock(file: &File) -> io::Result<()> {
+    file.try_lock().map_err(|error| match error {
+        TryLockError::WouldBlock => io::Error::new(ErrorKind::WouldBlock, "it is in use"),
+        TryLockError::Error(error) => error,
+    })
+}
+
+/// The bytes of a file or of a block device.
+fn length_of(file: &mut File) -> io::Result<u64> {
+    let found = file.metadata()?;
+    if found.is_file() {
+        return Ok(found.len());
+    }
+    if found.file_type().is_block_device() {
+        return file.seek(SeekFrom::End(0));
+    }
+    Err(io::Error::new(
+        ErrorKind::InvalidInput,
+        "it is neither a file nor a block device",
+    ))
+}
+
+/// Whether a block device has this name.
+fn is_block_device<R: Files>(rt: &R, path: &str) -> bool {
+    match fs::metadata(rt, path) {
+        Ok(found) => found.file_type().is_block_device(),
+        Err(_) => false,
+    }
+}
+
+/// Whether each of its first blocks is zero.
+fn is_blank(file: &File) -> io::Result<bool> {
+    let mut bytes = [0; BLOCK as usize];
+    for at in 0..BLANK {
+        file.read_exact_at(&mut bytes, BLOCK * at)?;
+        if bytes.iter().any(|&byte| byte != 0) {
+            return Ok(false);
+        }
+    }
+    Ok(true)
+}
+
+/// Locks a file that was made, and gives it so many zero blocks, which outlast a crash, as its name does.
+fn lengthen<R: Files<File = File>>(rt: &R, file: &File, path: &str, blocks: u32) -> io::Result<()> {
+    lock(file)?;
+    file.set_len(BLOCK * blocks as u64)?;
+    file.sync_all()?;
+    fs::open(rt, folder_of(path))?.sync_all()
 }
 
 /// The folder in which a file of this name stands.

@@ -5,11 +5,15 @@
 
 mod disk;
 mod faults;
+mod identity;
+mod reply_file;
 mod sink;
 mod source;
 mod stream;
 
 pub use disk::FileDisk;
+pub use identity::Identity;
+pub use reply_file::ReplyFile;
 pub use sink::FileSink;
 pub use source::FileSource;
 pub use stream::Stream;

@@ -2,11 +2,13 @@
 ghost use Rattle.std.specs.Prelude.{◌≡◌, IsOk, codes};
 
 use crate::faults::failed;
+use crate::identity::Identity;
+use crate::reply_file::ReplyFile;
 use crate::stream::{Stream, is_standard};
 use cfs_base::{Failed, Sink};
-use std::io::Write;
+use std::fs::File;
+use std::io::{self, Write};
 use std::rt::Files;
-use std::{fs, io};
 
 /// A file that is written, or standard output. It tells of its bytes what its writer does: nothing, of the system's
 /// files. It keeps none back: each call is one of the system. One that fails, or takes nothing of some bytes, is a
@@ -17,21 +19,38 @@ pub struct FileSink<W> {
     faults: u64,
 }
 
-impl<F: Write + Drop, S: Write + Drop> FileSink<Stream<F, S>> {
-    /// Creates the file of this name, or empties it. `-` names standard output, which is handed in.
-    pub fn named<R: Files<File = F>>(
+impl<S: Write + Drop> FileSink<Stream<ReplyFile, S>> {
+    /// Opens the file of this name, or makes it. One that is there keeps what it holds until the first byte. `-` names
+    /// standard output, which is handed in.
+    pub fn named<R: Files<File = File>>(
         rt: &R,
         path: &str,
         standard: S,
-    ) -> io::Result<FileSink<Stream<F, S>>>
+    ) -> io::Result<FileSink<Stream<ReplyFile, S>>>
         ensures standard { path.now ≡ codes "-" → IsOk result }
     {
         let writer = if is_standard(path) {
             Stream::Standard(standard)
         } else {
-            Stream::File(fs::create(rt, path)?)
+            Stream::File(ReplyFile::open(rt, path)?)
         };
         Ok(FileSink { writer, faults: 0 })
+    }
+
+    /// Which file it is; nothing for standard output, and for what keeps no bytes.
+    pub fn identity(&self) -> io::Result<Option<Identity>> {
+        match &self.writer {
+            Stream::File(file) => file.identity(),
+            Stream::Standard(_) => Ok(None),
+        }
+    }
+
+    /// Empties the file, unless something was written to it.
+    pub fn empty(&mut self) -> io::Result<()> {
+        match &mut self.writer {
+            Stream::File(file) => file.empty(),
+            Stream::Standard(_) => Ok(()),
+        }
     }
 }
 

@@ -2,11 +2,12 @@
 ghost use Rattle.std.specs.Prelude.{◌≡◌, IsOk, codes};
 
 use crate::faults::failed;
+use crate::identity::Identity;
 use crate::stream::{Stream, is_standard};
 use cfs_base::{Failed, Source};
-use std::io::Read;
+use std::fs::{self, File};
+use std::io::{self, Read};
 use std::rt::Files;
-use std::{fs, io};
 
 /// A file that is read, or standard input. It tells of its bytes what its reader does: nothing, of the system's files.
 /// A call of the system that fails is a fault.
@@ -16,14 +17,14 @@ pub struct FileSource<R> {
     faults: u64,
 }
 
-impl<F: Read + Drop, S: Read + Drop> FileSource<Stream<F, S>> {
+impl<S: Read + Drop> FileSource<Stream<File, S>> {
     /// Opens the file of this name. `-` names standard input, which is handed in. A folder may be opened, and its first
     /// read fails.
-    pub fn named<R: Files<File = F>>(
+    pub fn named<R: Files<File = File>>(
         rt: &R,
         path: &str,
         standard: S,
-    ) -> io::Result<FileSource<Stream<F, S>>>
+    ) -> io::Result<FileSource<Stream<File, S>>>
         ensures standard { path.now ≡ codes "-" → IsOk result }
     {
         let reader = if is_standard(path) {
@@ -32,6 +33,14 @@ impl<F: Read + Drop, S: Read + Drop> FileSource<Stream<F, S>> {
             Stream::File(fs::open(rt, path)?)
         };
         Ok(FileSource { reader, faults: 0 })
+    }
+
+    /// Which file it is; nothing for standard input, and for what keeps no bytes.
+    pub fn identity(&self) -> io::Result<Option<Identity>> {
+        match &self.reader {
+            Stream::File(file) => Identity::of(file),
+            Stream::Standard(_) => Ok(None),
+        }
     }
 }
 

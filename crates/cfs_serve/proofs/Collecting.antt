@@ -1,5 +1,8 @@
 -- A step of the collector of a core, as the hall sees it.
-use Rattle.std.proofs.Common.{◌≡◌, ◌⊎◌, inl, inr, ℕ, ◌+◌, ◌-◌, ◌<◌, ◌≤◌, Bool, true, false, List, [], ◌∷◌, ◌++◌, Option, Some, None, Result, Ok, Err, is_some, length, option_to_list, refl, sym, ap, ◌∙◌, subst, arith, ◌||◌}
+use Rattle.std.proofs.Common.{eq-eqb, ◌≡◌, ◌⊎◌, inl, inr, ℕ, ◌+◌, ◌-◌, ◌<◌, ◌≤◌, Bool, true, false, List, [], ◌∷◌, ◌++◌, Option, Some, None, Result, Ok, Err, is_some, length, option_to_list, refl, sym, ap, ◌∙◌, subst, arith, ◌||◌}
+use Rattle.cfs_serve.specs.Ending.{AreStoppedReplies, IsStopTimed, MakesStop, moment_in}
+use Rattle.cfs_serve.specs.Events.{is_of_session}
+use Rattle.cfs_serve.proofs.Stepping.{nobodys}
 use Rattle.cfs_serve.proofs.Cited.{AsBefore, CallKeeps, CollectFault, Collecting, Collection, Collections, CollectsStep, EndsCollecting, Event, Ghosts, Graph, Happens, HappensOrRests, HasCollection, IsNextOf, IsCollectStep, IsUnchanged, Kernel, MayCount, MayGoOn, MayLose, MayMake, MayTally, PassesStep, Puid, ServerRests, Rose, RunSurvives, ServesIs, SpendsStep, Stands, StandsFor, State, Step, Stop, StopsAmong, Survived, Tallies, TellsStep, TellsStop, append-nil, damage_in, end_in, event_by, event_of, fails, is_calm_step, is_collecting, is_marking, sweeps_now, lost_blocks, marks_in, next, option_and_then, option_to_list, recorded, refusal_by, replay, collection_runs, stops_in, sweeps_in, tally_of, tells_stop_at}
 use Rattle.cfs_core.specs.Left.{steps_ahead}
 use Rattle.cfs_core.specs.declared.collecting.CollectFault.TheVariants as faults
@@ -170,9 +173,27 @@ module _ {D : Type 0} (g : Ghosts D) (old new : Kernel D) (result : Result Step 
 
   -- ---- why it stopped
 
-  pub stops : StopsAmong old.stop new.stop (recorded (event_by result)) × TellsStop (refusal_by result) new.stop
-  stops = by result refl
+  pub stops : MakesStop (λ (k : Kernel D). g.moment k.disk) (λ (k : Kernel D). k.stop) old new (recorded (event_by result)) × TellsStop (refusal_by result) new.stop
+  stops = (record { among = (by result refl).0; after = silent (event_by result) (nobodys result); timed = timed old.stop refl }, (by result refl).1)
     where
+      -- no reply is among its events
+      silent : (made : Option Event) → ((e : Event) → made ≡ Some e → (k : ℕ) → is_of_session k e ≡ false) → AreStoppedReplies (moment_in old.stop) (recorded made)
+      silent None nobody = tt
+      silent (Some (events.Ask who request reply)) nobody = absurd (cc (eq-eqb who who refl, nobody (events.Ask who request reply) refl who))
+      silent (Some e) nobody = (tt, tt)
+
+      timed : (o : Option Stop) → old.stop ≡ o → IsStopTimed old.stop (g.moment old.disk) → IsStopTimed new.stop (g.moment new.disk)
+      timed None is was = at_last result refl
+        where
+          at_last : (r : Result Step CollectFault) → result ≡ r → IsStopTimed new.stop (g.moment new.disk)
+          at_last (Ok step) same = rw (rw same at did.goes_on, is) tt
+          at_last (Err faults.Memory) same = rw (rw same at did.stops, is) tt
+          at_last (Err (faults.Disk None)) same = rw (rw same at did.stops, is) tt
+          at_last (Err (faults.Stopped moment)) same = rw (rw same at did.stops, is) tt
+          at_last (Err (faults.Disk (Some moment))) same = rw (rw same at did.stops) (rw same at did.cause).1
+          at_last (Err (faults.Damaged damage moment)) same = rw (rw same at did.stops) (rw same at did.cause).1
+      timed (Some stop) is was = rw (did.stopped stop is).0 was
+
       Told : Result Step CollectFault → Type 0
       Told r = StopsAmong old.stop new.stop (recorded (event_by r)) × TellsStop (refusal_by r) new.stop
 

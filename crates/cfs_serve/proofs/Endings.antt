@@ -1,5 +1,6 @@
 -- How a service ended, and what spoiled it.
 use Rattle.std.proofs.Common.{◌≡◌, inl, inr, ℕ, ◌≤◌, Bool, true, false, List, Option, Some, None, is_some, refl, sym, ap, ◌∙◌, subst, arith, ◌||◌}
+use Rattle.cfs_serve.specs.Ending.{AreStoppedReplies}
 use Rattle.cfs_serve.proofs.Cited.{Cause, CollectFault, Damage, Ending, EndsService, Event, IsStopTold, Rose, Stop, StopsAmong, TellsStop, Told, cause_of, count_after, damage_in, faults_after, first_fault, has_failed, has_fallen, is_calm, is_failure, is_fault, is_none, is_quiet_fault, is_short, is_want_of_memory, list_all, list_any, moment_in, spoiled_by, tells_disk, wants_memory}
 use Rattle.cfs_core.specs.declared.collecting.CollectFault.TheVariants as faults
 use Rattle.cfs_serve.specs.declared.report.Cause.TheVariants as causes
@@ -125,11 +126,12 @@ module _ (n m : ℕ) (trail : List Event) where
 -- How a service ended, by what is known of its server.
 pub ends : {A : Type 0} (count : A → ℕ) (has_stopped is_damaged : A → Bool) (stop : A → Option Stop) (begun server : A) (ending : Ending) (collections : ℕ) (trail : List Event)
     → has_stopped server ≡ is_some (stop server) → is_damaged server ≡ is_some (damage_in (stop server)) → ending.stop ≡ stop server
-    → StopsAmong None (stop server) trail → TellsStop ending.refused (stop server) → (collections ≡ 0 → ending.refused ≡ Some faults.Memory → ⊥)
+    → StopsAmong None (stop server) trail → AreStoppedReplies None trail → TellsStop ending.refused (stop server) → (collections ≡ 0 → ending.refused ≡ Some faults.Memory → ⊥)
     → Told count has_stopped is_damaged begun server trail → faults_after tells_disk trail (first_fault ending.refused (count begun)) ≤ count server
     → EndsService (Rose (count begun) (count server)) collections ending trail
-ends count has_stopped is_damaged stop begun server ending collections trail stopped damaged is stops tells quiet told counted = record {
+ends count has_stopped is_damaged stop begun server ending collections trail stopped damaged is stops after tells quiet told counted = record {
   stops = subst (λ o. StopsAmong None o trail) (sym is) stops;
+  after = after;
   refusal = subst (TellsStop ending.refused) (sym is) tells;
   quiet = quiet;
   failed = λ some. elim (or_true (list_any tells_disk trail) (has_fallen ending) some) [

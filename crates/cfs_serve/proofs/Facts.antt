@@ -170,6 +170,7 @@ module _ (service : Service) (ground : Ground) (disk disk_after : Option ℕ) (s
         stop = λ served. run.stop;
         counted = (subst (λ n. counts ≡ counts_of n trail run.last.graph counts.free) clients_count run.counted, run.free);
         rests = run.rests;
+        whole = λ served. run.whole;
       };
       sound = λ served. sound;
       took = took played.root played.over;
@@ -182,6 +183,7 @@ module _ (service : Service) (ground : Ground) (disk disk_after : Option ℕ) (s
         each_of (λ k source after. IsServedFrom played.root trail (took played.root played.over k) k source) sources sources_after sources_count
             (λ k source after at there. served_at played.root played.over k source (at_source played.root played.over k source at)),
       );
+      within = λ is served. few;
       replied = each_of (λ k sink after. Replied sink after (printed_replies k trail) (took played.root played.over k)) sinks sinks_after sinks_count
           (λ k sink after at there. replied_at played.root played.over k sink after (at_sink played.root played.over k sink after at there));
       broken = λ served. each_of (λ k sink after. took played.root played.over k ≡ false → BreaksOff k sink after (turns_in k trail)) sinks sinks_after sinks_count

@@ -62,6 +62,7 @@ module _ (asked : Asked) (ground : Ground) (disk disk_after : Option ℕ) (sourc
     falls = λ k. refl;
     stands = λ none. refl;
     turns = no_serves asked _ none;
+    within = λ is served. absurd (clash-sym served);
     replied = tt;
     broken = λ served. absurd (clash-sym served);
     words = words;
@@ -190,6 +191,7 @@ module _ (service : Service) (ground : Ground) (disk disk_after : Option ℕ) (s
         stop = λ served. absurd (clash-sym served);
         counted = tt;
         rests = λ runs all. refl;
+        whole = λ served. absurd (clash-sym served);
       };
       sound = λ served. absurd (clash-sym served);
       took = λ k. true;
@@ -197,6 +199,7 @@ module _ (service : Service) (ground : Ground) (disk disk_after : Option ℕ) (s
       falls = λ k. refl;
       stands = λ none. refl;
       turns = λ served. absurd (clash-sym served);
+      within = λ is served. absurd (clash-sym served);
       replied = each_of (λ session sink after. Replied sink after (printed_replies session []) true) sinks sinks refl
           (λ k sink after at there. subst (λ x. Replied sink x (printed_replies k []) true) (some_same _ _ (sym at ∙ there)) (nothing sink));
       broken = λ served. absurd (clash-sym served);

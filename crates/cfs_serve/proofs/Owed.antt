@@ -1,5 +1,7 @@
 -- A reply that is owed is exact.
 use Rattle.std.proofs.Common.{◌≡◌, ◌⊎◌, inl, inr, ℕ, ◌+◌, ◌<◌, ◌≤◌, Bool, true, false, ◌&&◌, Option, List, [], ◌∷◌, Some, None, refl, sym, ap, ◌∙◌, subst, arith, length, ◌||◌, is_some}
+use Rattle.cfs_core.specs.Asked.{IsToldCause}
+use Rattle.cfs_serve.specs.Ending.{IsStopTimed, IsStoppedReply, MakesStop, moment_in}
 use Rattle.cfs_serve.proofs.Cited.{AreRescued, ByOutcome, ByRefusal, ByWant, Collecting, FitsRoom, FitsLine, Ghosts, Happens, Image, IsAsked, IsExact, IsOwed, IsPlainReply, IsRoom, IsShortContent, Kernel, Need, Owes, Puid, SessionPasses, Reply, Request, Rescue, Rose, ServesIs, Stands, StandsFor, State, Stop, StopsAmong, Tallies, TellsEvent, allowed_if, answered, append-nil, by_outcome, cases_lt, end_in, free_to_come, goes_through, is_calm, is_direct_delete, is_full, is_none, is_outcome, is_running, sweeps_now, lost_blocks, marks_in, need_of, option_and_then, option_to_list, outcome_of, outcome_plain, refusal_of, reserve, collection_runs, stopped_by, sweeps_in, tally_of, tells_disk, tells_outcome}
 use Rattle.cfs_core.specs.Asked.{Asks}
 use Rattle.cfs_core.specs.Left.{AddsNone, steps_ahead}
@@ -184,14 +186,34 @@ module _ {D : Type 0} (g : Ghosts D) (old new : Kernel D) (who : ℕ) (request :
       halts_at None is stopped sound = inr (halts_in reply refl is (asks.stops is) stopped sound)
 
   -- why it stopped
-  pub stops : StopsAmong old.stop new.stop (events.Ask who request reply ∷ [])
-  stops = at old.stop refl
+  pub stops : MakesStop (λ (k : Kernel D). g.moment k.disk) (λ (k : Kernel D). k.stop) old new (events.Ask who request reply ∷ [])
+  stops = record { among = among old.stop refl; after = (after old.stop refl, tt); timed = timed old.stop refl }
     where
-      at : (o : Option Stop) → old.stop ≡ o → StopsAmong old.stop new.stop (events.Ask who request reply ∷ [])
-      at None is = rw is (ap option_to_list (asks.stops is) ∙ sym (append-nil (option_to_list (stopped_by reply None))))
-      at (Some stop) is =
+      among : (o : Option Stop) → old.stop ≡ o → StopsAmong old.stop new.stop (events.Ask who request reply ∷ [])
+      among None is = rw is (ap option_to_list (asks.stops is) ∙ sym (append-nil (option_to_list (stopped_by reply None))))
+      among (Some stop) is =
           let stood = asks.stopped stop is in
           rw stood.1 (ap (λ (k : Kernel D). option_to_list k.stop) stood.0 ∙ sym (append-nil (option_to_list old.stop)))
+
+      -- one that ran doesn't tell that it has stopped
+      never : (r : Reply) → IsToldCause g old new request r → IsStoppedReply None (events.Ask who request r)
+      never (replies.Stopped moment) cause = absurd cause
+      never r cause = tt
+
+      after : (o : Option Stop) → old.stop ≡ o → IsStoppedReply (moment_in old.stop) (events.Ask who request reply)
+      after None is = subst (λ (o : Option Stop). IsStoppedReply (moment_in o) (events.Ask who request reply)) (sym is) (never reply (asks.cause is))
+      after (Some stop) is = subst (λ r. IsStoppedReply (moment_in old.stop) (events.Ask who request r)) (sym (asks.stopped stop is).1) (ap moment_in is)
+
+      -- one that stops does so at the last call, and makes none from then on
+      at_last : (r : Reply) → IsToldCause g old new request r → IsStopTimed (stopped_by r None) (g.moment new.disk)
+      at_last (replies.Disk None) cause = tt
+      at_last (replies.Disk (Some moment)) cause = cause.1
+      at_last (replies.Damaged damage moment) cause = cause.1
+      at_last r cause = tt
+
+      timed : (o : Option Stop) → old.stop ≡ o → IsStopTimed old.stop (g.moment old.disk) → IsStopTimed new.stop (g.moment new.disk)
+      timed None is was = rw (asks.stops is) (at_last reply (asks.cause is))
+      timed (Some stop) is was = rw (asks.stopped stop is).0 was
 
   -- what becomes of the collections
   pub tallied : (s : State) → StandsFor g old s → Tallies (λ (k : Kernel D). is_some k.stop) (tally_of g) old.words.seed old new s (events.Ask who request reply)

@@ -1,10 +1,13 @@
 -- A service on a core.
-use Rattle.std.proofs.Common.{◌≡◌, ℕ, ◌/◌, ◌≤◌, Bool, true, false, cond, List, [], ◌∷◌, length, map, filter, Some, None, IsTrue, is_some, refl, sym, ap, ◌∙◌, subst, arith, ◌+◌}
+use Rattle.std.proofs.Common.{◌≡◌, ℕ, ◌/◌, ◌≤◌, Bool, true, false, cond, List, [], ◌∷◌, length, map, filter, Option, Some, None, IsTrue, is_some, refl, sym, ap, ◌∙◌, subst, arith, ◌+◌}
 use Rattle.cfs_serve.proofs.Cited.{AreOver, Cause, Collection, Counts, Ending, EndsService, Event, Ghosts, Graph, Holds, Image, IsFront, IsRoom, IsRunFrom, IsRunOn, IsSoundAs, IsStopTold, IsTallied, IsWanting, Kernel, Object, Puid, PortReading, Report, MomentsRise, Rose, RunSurvives, ServesIs, ServesSessions, Stands, StandsFor, State, Status, TellsLast, begins_in, blocks_of, cause_of, client_of, counts_of, damage_in, faults_after, finishes_in, first_fault, fits, free_once_tidy, free_to_come, free_with, front_of, graph_blocks, has_broken, honest, is_among, is_calm, is_collecting, is_reply, sweeps_now, left_now, length-map, list_all, moment_in, opening, pending, rooted, rooted_part, rooted_reads, collection_runs, serves_now, stored, sum, sum_by, sum_by-cons, tally_of, tells_disk, tells_fault}
 use Rattle.cfs_core.specs.declared.collecting.CollectFault.TheVariants as faulted
 use Rattle.survival.specs.Held.{FitsDisk}
 use Rattle.ufs_model.specs.declared.collection.Collection.TheVariants as collections
+use Rattle.cfs_core.specs.declared.kernel.Stop.{Stop}
 use Rattle.cfs_serve.specs.Calls as calls
+use Rattle.cfs_serve.specs.Ending.{IsStopTimed}
+use Rattle.cfs_serve.specs.Volume.{IsStatusOf}
 use Rattle.cfs_serve.proofs.Endings.{calm_by, no_damage, stop_told, went_well}
 use Rattle.cfs_serve.proofs.Journals.{some_same}
 use Rattle.cfs_serve.proofs.Stopping.{stop_none}
@@ -82,16 +85,6 @@ rests_at g k s n trail serves few tallied all = at (collection_runs k.collection
 
 -- ---- sessions on a core
 
--- what a core tells of itself
-pub record IsStatusOf {D : Type 0} (k : Kernel D) (status : Status) : Type 0 where
-  pub objects : status.objects ≡ length k.directory.named
-  pub free : status.free ≡ sum k.space.free
-  pub stopped : status.stopped ≡ moment_in k.stop
-  pub damage : status.damage ≡ damage_in k.stop
-  pub running : status.running ≡ collection_runs k.collections.collector
-  pub called : status.called ≡ k.collections.called
-  pub finished : status.finished ≡ k.collections.finished
-
 -- what is known of a service that a core began for which so many collections were called
 pub record IsServed {D : Type 0} (g : Ghosts D) (n : ℕ) (ending : Ending) (server : Kernel D) (trail : List Event)
     (moments : List ℕ) (k : Kernel D) : Type 0 where
@@ -100,6 +93,7 @@ pub record IsServed {D : Type 0} (g : Ghosts D) (n : ℕ) (ending : Ending) (ser
   pub later : g.faults k.disk ≤ g.faults server.disk
   pub ends : EndsService (Rose (g.faults k.disk) (g.faults server.disk)) n ending trail
   pub stop : ending.stop ≡ server.stop
+  pub timed : IsStopTimed server.stop (g.moment server.disk)
   pub few : begins_in trail ≤ n
   pub collected : ending.refused ≡ None → finishes_in trail ≡ n
   pub settled : ending.refused ≡ None → server.space.left ≡ None
@@ -174,6 +168,7 @@ module _ {D : Type 0} (g : Ghosts D) (sized : (d : D) → IsTrue (g.honest d) �
         rests = λ none all.
             let here = stop_none server.stop (sym front.stopped ∙ none) in
             rests_at g server on.last n trail (serving here) is.few (is.tallied (ap is_some here)) all;
+        whole = begun.state.graph;
       }
 
     last : TellsLast n (record ending { last = Some status }) trail counts
@@ -201,13 +196,21 @@ module _ {D : Type 0} (g : Ghosts D) (sized : (d : D) → IsTrue (g.honest d) �
         over = over;
         counted = (count ∙ over.count, refl, refl);
         last = last;
-        ends = record { stops = is.ends.stops; refusal = is.ends.refusal; quiet = is.ends.quiet; failed = is.ends.failed; calm = is.ends.calm };
+        ends = record { stops = is.ends.stops; after = is.ends.after; refusal = is.ends.refusal; quiet = is.ends.quiet; failed = is.ends.failed; calm = is.ends.calm };
         few = is.few;
         collected = is.collected;
         wanting = is.wanting;
         undamaged = whole;
         spoiled = refl;
       };
+      last = server;
+      last_disk = refl;
+      ends = record {
+        told = λ told same. subst (IsStatusOf server) (some_same _ _ same) tells;
+        stop = is.stop;
+        front = λ graph stands s legal. subst (IsFront server) (some_same _ _ (sym (on graph stands).legal ∙ legal)) (front graph stands);
+      };
+      timed = subst (λ (o : Option Stop). IsStopTimed o (g.moment server.disk)) (sym is.stop) is.timed;
       later = is.later;
       rise = is.rise;
       faults = is.faults;

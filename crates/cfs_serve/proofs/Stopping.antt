@@ -1,5 +1,7 @@
 -- Why a server stopped, as its trail tells it.
 use Rattle.std.proofs.Common.{◌≡◌, ℕ, Bool, false, List, [], ◌∷◌, ◌++◌, Option, Some, None, is_some, refl, sym, ap, ◌∙◌, subst, append_assoc}
+use Rattle.cfs_serve.specs.Ending.{AreStoppedReplies, KnowsStop, MakesStop, stopped_with}
+use Rattle.ufs_model.specs.declared.asked.Unread.{Unread}
 use Rattle.cfs_serve.proofs.Cited.{CollectFault, Damage, Event, Stop, StopsAmong, TellsStop, append-nil, damage_in, list_any, option_to_list, moment_in, stops_in, tells_damage, told_stop}
 use Rattle.cfs_core.specs.declared.collecting.CollectFault.TheVariants as faults
 use Rattle.ufs_model.specs.declared.asked.Event.TheVariants as events
@@ -49,12 +51,67 @@ stops_on (Some s) new trail made was one =
     subst (λ o. StopsAmong None o (trail ++ made)) (sym same)
     (subst (λ o. StopsAmong (Some s) o made) same one ∙ ap (λ l. l ++ stops_in s.damage made) was ∙ sym (stops_append s.damage trail made))
 
+-- ---- replies that it has stopped
+
+-- the moment that is told is the same, whatever damage was met
+told_alike : (a b : Option Damage) (e : Event) → moment_in (told_stop a e) ≡ moment_in (told_stop b e)
+told_alike a b (events.Ask who request reply) = refl
+told_alike a b (events.Leave who (Some moment)) = refl
+told_alike a b (events.Halted moment) = refl
+told_alike a b e = refl
+
+-- the moment of the stop after all of these
+stopped_along : Option ℕ → List Event → Option ℕ
+stopped_along o [] = o
+stopped_along o (e ∷ trail) = stopped_along (stopped_with o e) trail
+
+stays_stopped : (moment : ℕ) (trail : List Event) → stopped_along (Some moment) trail ≡ Some moment
+unfolding stopped_along
+stays_stopped moment [] = refl
+stays_stopped moment (e ∷ trail) = stays_stopped moment trail
+
+-- the first of some stops, if there is one
+told_first : (o s : Option Stop) (rest : List Stop) (trail : List Event) → option_to_list s ≡ option_to_list o ++ rest
+    → (option_to_list s ≡ rest → stopped_along None trail ≡ moment_in s) → stopped_along (moment_in o) trail ≡ moment_in s
+told_first None s rest trail is later = later is
+told_first (Some x) None rest trail is later = absurd (cc is)
+told_first (Some x) (Some y) rest trail is later = stays_stopped x.moment trail ∙ ap (λ (z : Stop). Some z.moment) (head rest is)
+  where
+    head : (rest : List Stop) → y ∷ [] ≡ x ∷ rest → x ≡ y
+    head rest same = cc same
+
+-- it is the one that the trail tells
+along_is : (d : Option Damage) (s : Option Stop) (trail : List Event) → option_to_list s ≡ stops_in d trail → stopped_along None trail ≡ moment_in s
+unfolding stopped_along
+along_is d None [] is = refl
+along_is d (Some s) [] is = absurd (cc is)
+along_is d s (e ∷ trail) is =
+    rw (told_alike None d e) (told_first (told_stop d e) s (stops_in d trail) trail is (along_is d s trail))
+
+replies_append : (o : Option ℕ) (trail made : List Event) → AreStoppedReplies o trail → AreStoppedReplies (stopped_along o trail) made → AreStoppedReplies o (trail ++ made)
+unfolding stopped_along
+replies_append o [] made was one = one
+replies_append o (e ∷ trail) made was one = (was.0, replies_append (stopped_with o e) trail made was.1 one)
+
+-- so it is with all that is known of why it stopped
+pub knows_on : {A : Type 0} (clock : A → ℕ) (stop : A → Option Stop) (old new : A) (trail made : List Event) → KnowsStop clock stop old trail → MakesStop clock stop old new made
+    → KnowsStop clock stop new (trail ++ made)
+knows_on clock stop old new trail made was one = record {
+  among = stops_on (stop old) (stop new) trail made was.among one.among;
+  after = replies_append None trail made was.after (rw (along_is (damage_in (stop old)) (stop old) trail was.among) one.after);
+  timed = one.timed was.timed;
+}
+
 -- a call that makes no event, or one that tells no stop
 pub stops_still : (stop : Option Stop) → StopsAmong stop stop []
 stops_still stop = sym (append-nil (option_to_list stop))
 
 pub stops_calm : (stop : Option Stop) (e : Event) → option_to_list (told_stop (damage_in stop) e) ≡ [] → StopsAmong stop stop (e ∷ [])
 stops_calm stop e none = sym (rw none (append-nil (option_to_list stop)))
+
+-- a line that is no request
+pub knows_unread : {A : Type 0} (clock : A → ℕ) (stop : A → Option Stop) (server : A) (who : ℕ) (why : Unread) → MakesStop clock stop server server (events.Unread who why ∷ [])
+knows_unread clock stop server who why = record { among = stops_calm (stop server) (events.Unread who why) refl; after = (tt, tt); timed = λ timed. timed }
 
 -- what the collector was refused tells the stop still
 pub tells_on : (refused : Option CollectFault) (old new : Option Stop) → ((s : Stop) → old ≡ Some s → new ≡ Some s) → TellsStop refused old → TellsStop refused new

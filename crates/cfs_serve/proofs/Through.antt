@@ -1,6 +1,7 @@
 -- What is said of a volume that is served through a cache is so of the disk below it.
 use Rattle.std.proofs.Common.{inl, inr, ℕ, List, ap}
 use Rattle.cfs_serve.proofs.Cited.{Cache, Ending, Event, Ghosts, Image, IsSettled, IsSoundAs, IsUntouched, Leaves, LeavesSinceTry, Report, ServesVolume, content_of, is_honest, is_telling, is_told, left_of, moment_of, tries_of}
+use Rattle.cfs_core.specs.Kernel.{Kernel}
 use Rattle.map_cache.specs.Cache.{blocks_of, faults_of}
 
 -- the cache as a disk
@@ -19,6 +20,19 @@ cached g = record {
 }
 
 module _ {D : Type 0} (g : Ghosts D) where
+  -- a core over the cache, as one over the disk below
+  abbrev on_lower : Kernel (Cache D) → Kernel D
+  on_lower k = record {
+    disk = k.disk.lower;
+    root = k.root;
+    directory = k.directory;
+    space = k.space;
+    words = k.words;
+    handles = k.handles;
+    collections = k.collections;
+    stop = k.stop;
+  }
+
   leaves : (old new : Cache D) (P : Image → Type 0) → Leaves (cached g) old new P → Leaves g old.lower new.lower P
   leaves old new P is = record { later = is.later; since = is.since; now = is.now }
 
@@ -44,6 +58,21 @@ module _ {D : Type 0} (g : Ghosts D) where
       | inr since ↦ inr (since_try old is.opened (λ c. IsSoundAs c graph) since)
     ];
     unserved = λ none. ap (λ (c : Cache D). c.lower) (is.unserved none);
+    untouched = λ honest none fault told. untouched old new (is.untouched honest none fault told);
+    unsound = λ honest not. untouched old new (is.unsound honest not);
+    unread = λ none told. ap (λ (c : Cache D). c.lower) (is.unread none told);
+    timed = is.timed;
+    core = λ some. let core = is.core some in (
+      on_lower core.0,
+      ap (λ (c : Cache D). c.lower) core.1,
+      record {
+        told = λ status told. let so = core.2.told status told in
+            record { objects = so.objects; free = so.free; stopped = so.stopped; damage = so.damage; running = so.running; called = so.called; finished = so.finished };
+        stop = core.2.stop;
+        front = λ graph began s legal. let front = core.2.front graph began s legal in
+            record { drawn = front.drawn; directory = front.directory; grants = front.grants; stopped = front.stopped };
+      },
+    );
     crashes = λ some honest graph sound. let run = is.crashes some honest graph sound in
         record { count = run.count; past = run.past; rising = run.rising; each = run.each; now = run.now };
     sound = is.sound;

@@ -1,5 +1,6 @@
 -- A part of a commit, as a turn of the collector: a step that is no event.
 use Rattle.std.proofs.Common.{◌≡◌, ◌⊎◌, inl, inr, ℕ, ◌<◌, Bool, true, false, List, [], ◌∷◌, ◌++◌, Option, Some, None, Result, Ok, Err, IsSome, is_some, refl, sym, ap, ◌∙◌, subst, arith}
+use Rattle.cfs_serve.specs.Ending.{AreStoppedReplies, IsStopTimed, MakesStop, moment_in}
 use Rattle.cfs_serve.proofs.Cited.{AsBefore, CallKeeps, CollectFault, Collections, EndsCollecting, Event, Ghosts, Graph, Kernel, MayCount, MayGoOn, MayMake, MayTally, PassesStep, ServerRests, Rose, RunSurvives, StandsFor, State, Step, Stop, StopsAmong, Survived, TellsStep, TellsStop, append-nil, event_by, fails, is_calm_step, option_and_then, option_to_list, recorded, refusal_by, replay, tally_of, tells_stop_at}
 use Rattle.cfs_core.specs.Kernel.{collection_runs}
 use Rattle.cfs_core.specs.Left.{events_ahead, steps_ahead}
@@ -149,9 +150,28 @@ module _ {D : Type 0} (g : Ghosts D) (old new : Kernel D) (made : Result Tidy Ti
 
   -- ---- why it stopped
 
-  pub stops : StopsAmong old.stop new.stop (recorded (event_by (told made))) × TellsStop (refusal_by (told made)) new.stop
-  stops = by made refl
+  pub stops : MakesStop (λ (k : Kernel D). g.moment k.disk) (λ (k : Kernel D). k.stop) old new (recorded (event_by (told made))) × TellsStop (refusal_by (told made)) new.stop
+  stops = (record { among = (by made refl).0; after = silent made; timed = timed old.stop refl }, (by made refl).1)
     where
+      -- no reply is among its events
+      silent : (r : Result Tidy TidyFault) → AreStoppedReplies (moment_in old.stop) (recorded (event_by (told r)))
+      silent (Ok tidy) = tt
+      silent (Err (faults.Disk None)) = tt
+      silent (Err (faults.Stopped moment)) = tt
+      silent (Err (faults.Disk (Some moment))) = (tt, tt)
+      silent (Err (faults.Damaged damage moment)) = (tt, tt)
+
+      timed : (o : Option Stop) → old.stop ≡ o → IsStopTimed old.stop (g.moment old.disk) → IsStopTimed new.stop (g.moment new.disk)
+      timed None is was = at_last made refl
+        where
+          at_last : (r : Result Tidy TidyFault) → made ≡ r → IsStopTimed new.stop (g.moment new.disk)
+          at_last (Ok tidy) same = rw (rw same at did.goes_on, is) tt
+          at_last (Err (faults.Disk None)) same = rw (rw same at did.stops, is) tt
+          at_last (Err (faults.Stopped moment)) same = rw (rw same at did.stops, is) tt
+          at_last (Err (faults.Disk (Some moment))) same = rw (rw same at did.stops) (rw same at did.cause).1
+          at_last (Err (faults.Damaged damage moment)) same = rw (rw same at did.stops) (rw same at did.cause).1
+      timed (Some stop) is was = rw (did.stopped stop is).0 was
+
       Told : Result Tidy TidyFault → Type 0
       Told r = StopsAmong old.stop new.stop (recorded (event_by (told r))) × TellsStop (refusal_by (told r)) new.stop
 

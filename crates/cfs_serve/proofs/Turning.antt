@@ -3,6 +3,7 @@ use Rattle.std.proofs.Common.{◌≡◌, ℕ, ◌++◌, ◌∷◌, [], Bool, tru
 use Rattle.cfs_serve.proofs.Cited.{CallKeeps, CollectFault, EndsCollecting, Event, Ghosts, Graph, Kernel, MayGoOn, MayMake, MayTally, PassesStep, Rose, RunSurvives, ServesIs, StandsFor, State, Step, Stop, StopsAmong, Survived, TellsStep, TellsStop, end_in, event_by, sweeps_now, lost_blocks, option_and_then, recorded, refusal_by, replay, tally_of, tells_stop_at}
 use Rattle.cyl_alloc.specs.Left.{parts_left}
 use Rattle.cfs_serve.specs.Calls.{SpendsTurn, as_step}
+use Rattle.cfs_serve.specs.Ending.{MakesStop}
 use Rattle.cfs_serve.specs.Turns.{Stepped, TakesTurn, Tidied, step_made}
 use Rattle.cfs_serve.proofs.Collecting as stepping
 use Rattle.cfs_serve.proofs.Tidying as tidying
@@ -38,7 +39,8 @@ module _ {D : Type 0} (g : Ghosts D) (old new : Kernel D) (result : Result (Opti
   tells (Tidied one is some did) = rw is (tidying.tells g old new one did)
   tells (Stepped one is none did) = rw (is, as_made one) (stepping.tells g old new one did)
 
-  pub stops : TakesTurn g old new result → StopsAmong old.stop new.stop (recorded (event_by (as_step result))) × TellsStop (refusal_by (as_step result)) new.stop
+  pub stops : TakesTurn g old new result → MakesStop (λ (k : Kernel D). g.moment k.disk) (λ (k : Kernel D). k.stop) old new (recorded (event_by (as_step result)))
+      × TellsStop (refusal_by (as_step result)) new.stop
   stops (Tidied one is some did) = rw is (tidying.stops g old new one did)
   stops (Stepped one is none did) = rw (is, as_made one) (stepping.stops g old new one did)
 

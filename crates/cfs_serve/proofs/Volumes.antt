@@ -1,7 +1,14 @@
 -- A volume that was opened, and what a service comes to on it.
-use Rattle.std.proofs.Common.{◌≡◌, ◌⊎◌, inl, inr, ℕ, ◌*◌, ◌≤◌, List, [], Option, Some, None, Result, Ok, Err, IfOk, IsTrue, refl, sym, ap, ◌∙◌, subst, arith, length}
+use Rattle.std.proofs.Common.{◌≡◌, ◌⊎◌, inl, inr, ℕ, ◌*◌, ◌≤◌, List, [], Option, Some, None, Result, Ok, Err, IfOk, IsTrue, true, refl, sym, ap, ◌∙◌, subst, arith, length}
 use Rattle.cfs_serve.proofs.Cited.{AsksSessions, Cause, Counts, Ending, EndsService, Event, Ghosts, Graph, Ground, HaveScripts, IfSome, Image, Intake, IsUnservedCause, IsCaused, IsLater, IsNewCore, IsOpenFault, IsOpenedCore, IsPlayed, IsOpeningRefusal, IsRunFrom, IsRunOf, IsSound, IsSoundAs, IsSourceCause, Kernel, LeavesSinceBarrier, LeavesSinceTry, Places, PortReading, RecoverFault, Report, Rose, RoseIn, Client, ServesScripts, ServesVolume, StandsFor, Supply, front_of, ground_at, ground_on, not_begun, opened, opening, option_map, result_ok, opening_cause}
 use Rattle.cfs_recover.specs.declared.fault.RecoverFault.TheVariants as whys
+use Rattle.cfs_base.proofs.Runs.{stands}
+use Rattle.cfs_base.specs.Disk.{Nothing}
+use Rattle.cfs_base.specs.Run.{left_now}
+use Rattle.cfs_recover.specs.Recovered.{IsUntouched}
+use Rattle.cfs_serve.specs.Disks.{is_of_sources}
+use Rattle.cfs_serve.specs.declared.report.VolumeFault.{VolumeFault}
+use Rattle.vol_image.specs.Sound.{IsSound}
 use Rattle.cfs_serve.specs.declared.report.Cause.TheVariants as causes
 
 pub both_some : {A E : Type 0} (P Q R : A → Type 0) (r : Result A E) → IfOk r P → IfOk r Q → ((x : A) → P x → Q x → R x) → IfSome (result_ok r) R
@@ -35,6 +42,7 @@ ends_on : (rose wide : Type 0) (collections : ℕ) (ending : Ending) (trail : Li
     → EndsService wide collections ending trail
 ends_on rose wide collections ending trail to is = record {
   stops = is.stops;
+  after = is.after;
   refusal = is.refusal;
   quiet = is.quiet;
   failed = λ some. to (is.failed some);
@@ -53,6 +61,7 @@ module _ (a b : Ground) (seed collections : ℕ) (rose wide : Type 0) (cylinders
     counted = run.counted;
     free = run.free;
     rests = run.rests;
+    whole = run.whole;
   })
 
   pub played_on : (clients : List Client) (ports : List PortReading) (counts : Counts) (cause : Cause) (ending : Ending) (trail : List Event)
@@ -134,6 +143,17 @@ pub since_try : {D : Type 0} (g : Ghosts D) (old new : D) (P : Image → Type 0)
 since_try g old new P (inl failed) = inl (failed.failed.cause, failed.failed.clock, failed.untouched, failed.tries)
 since_try g old new P (inr since) = inr (since.0, since.1.settled, since.1.untouched, since.1.tries, since.2)
 
+-- one that isn't called is as it was
+pub untouched_itself : {D : Type 0} (g : Ghosts D) (d : D) → IsUntouched g d d
+untouched_itself g d = record { content = refl; images = (stands g {d = d} {N = left_now g d} {P = Nothing} (λ c is. is)).leaves }
+
+-- of an opening nothing is told of sources
+pub never_of_sources : {D : Type 0} (g : Ghosts D) (old new : D) (cause : Cause) → IsOpeningRefusal g old new cause → is_of_sources cause ≡ true → ⊥
+never_of_sources g old new (causes.Source n) is tells = is
+never_of_sources g old new (causes.Long n) is tells = is
+never_of_sources g old new causes.LongTotal is tells = is
+never_of_sources g old new cause is tells = cc tells
+
 module _ {D : Type 0} (g : Ghosts D) (old : D) (seed : ℕ) where
   -- it was refused
   pub refusal_cause : (new : D) (source after : List Supply) (script : List (List ℕ)) → HaveScripts source script → (cause : Cause) → IsOpeningRefusal g old new cause
@@ -154,15 +174,23 @@ module _ {D : Type 0} (g : Ghosts D) (old : D) (seed : ℕ) where
   refusal_cause new source after script has (causes.Illegal event) is = absurd is
 
   -- nothing was served on it
-  pub unserved : (new : D) (report : Report) (ending : Ending) (trail : List Event) (moments : List ℕ) (cause : Cause) → IsLater g old new → report ≡ record { counts = None; cause = cause } → ¬ (cause ≡ causes.Nothing)
-      → (IsTrue (g.honest old) → (graph : Graph) → IsSoundAs (g.content old) graph → (new ≡ old) ⊎ LeavesSinceTry g old new (λ c. IsSoundAs c graph)) → ServesVolume g seed report ending trail moments old new
-  unserved new report ending trail moments cause later told ill images = record {
+  pub unserved : (new : D) (report : Report) (ending : Ending) (trail : List Event) (moments : List ℕ) (cause : Cause) → IsLater g old new → report ≡ record { counts = None; cause = cause } → ending ≡ not_begun
+      → ¬ (cause ≡ causes.Nothing)
+      → (IsTrue (g.honest old) → (graph : Graph) → IsSoundAs (g.content old) graph → (new ≡ old) ⊎ LeavesSinceTry g old new (λ c. IsSoundAs c graph))
+      → (IsTrue (g.honest old) → (fault : VolumeFault) → cause ≡ causes.Volume fault → IsUntouched g old new) → (IsTrue (g.honest old) → ¬ IsSound (g.content old) → IsUntouched g old new)
+      → (is_of_sources cause ≡ true → new ≡ old) → ServesVolume g seed report ending trail moments old new
+  unserved new report ending trail moments cause later told none ill images untouched unsound unread = record {
     opened = new;
     later = later;
     rises = omega arith;
     rise = λ served. absurd (cc (rw told at served));
     opening = images;
     unserved = λ none. refl;
+    untouched = λ honest none fault is. untouched honest fault (sym (ap (λ (r : Report). r.cause) told) ∙ is);
+    unsound = unsound;
+    unread = λ none is. unread (rw told at is);
+    timed = rw none tt;
+    core = λ served. absurd (cc (rw told at served));
     crashes = λ served. absurd (cc (rw told at served));
     sound = λ well. absurd (ill (sym (ap (λ (r : Report). r.cause) told) ∙ well));
     faults = λ served. absurd (cc (rw told at served));
@@ -174,14 +202,28 @@ module _ {D : Type 0} (g : Ghosts D) (old : D) (seed : ℕ) where
       (new : D) → IsLater g old core.disk → core.words.seed ≡ seed
       → (IsTrue (g.honest old) → (graph : Graph) → IsSoundAs (g.content old) graph → StandsFor g core (opening graph))
       → (IsTrue (g.honest old) → (graph : Graph) → IsSoundAs (g.content old) graph → LeavesSinceBarrier g old core.disk (λ c. IsSoundAs c graph))
+      → (IsTrue (g.honest old) → IsSound (g.content old))
       → ServesScripts g core collections scripts sinks after report ending trail moments new → ServesVolume g seed report ending trail moments old new
-  served core collections scripts sinks after report ending trail moments new later words stands images (inl s) = record {
+  served core collections scripts sinks after report ending trail moments new later words stands images whole (inl s) = record {
     opened = core.disk;
     later = later;
     rises = s.serves.later;
     rise = λ some. s.serves.rise;
     opening = λ honest graph sound. inr (since_try g old core.disk _ (images honest graph sound));
     unserved = λ none. absurd (some_none (sym (ap (λ (r : Report). r.counts) s.serves.told) ∙ none));
+    untouched = λ honest none. absurd (some_none (sym (ap (λ (r : Report). r.counts) s.serves.told) ∙ none));
+    unsound = λ honest not. absurd (not (whole honest));
+    unread = λ none. absurd (some_none (sym (ap (λ (r : Report). r.counts) s.serves.told) ∙ none));
+    timed = s.serves.timed;
+    core = λ some. (
+      s.serves.last,
+      s.serves.last_disk,
+      record {
+        told = s.serves.ends.told;
+        stop = s.serves.ends.stop;
+        front = λ graph is last legal. s.serves.ends.front graph (stands is.0 graph is.1) last (rw words legal);
+      },
+    );
     crashes = λ some honest graph sound. rw (← words) (s.serves.crashes graph (stands honest graph sound));
     sound = λ well honest graph sound last legal. s.serves.sound (sym (ap (λ (r : Report). r.cause) s.serves.told) ∙ well) graph (stands honest graph sound) last (rw words legal);
     faults = λ some. s.serves.faults;
@@ -190,7 +232,7 @@ module _ {D : Type 0} (g : Ghosts D) (old : D) (seed : ℕ) where
     where
       some_none : {x : Counts} → Some x ≡ None → ⊥
       some_none e = cc
-  served core collections scripts sinks after report ending trail moments new later words stands images (inr n) = rw n.1 (unserved core.disk report ending trail moments causes.Memory later n.0.told (λ e. cc) (λ honest graph sound. inr (since_try g old core.disk _ (images honest graph sound))))
+  served core collections scripts sinks after report ending trail moments new later words stands images whole (inr n) = rw n.1 (unserved core.disk report ending trail moments causes.Memory later n.0.told n.0.no_end (λ e. cc) (λ honest graph sound. inr (since_try g old core.disk _ (images honest graph sound))) (λ honest fault is. absurd (cc is)) (λ honest not. absurd (not (whole honest))) (λ is. absurd (cc is)))
 
 pub refusal_ill : {D : Type 0} (g : Ghosts D) (old new : D) (cause : Cause) → IsOpeningRefusal g old new cause → ¬ (cause ≡ causes.Nothing)
 refusal_ill g old new cause is well = absurd (rw well at is)

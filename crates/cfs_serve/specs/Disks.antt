@@ -1,5 +1,5 @@
 -- What a run does to the disk of its volume.
-use Rattle.std.specs.Prelude.{◌≡◌, ◌⊎◌, ℕ, ◌+◌, ◌≤◌, IsTrue, List, ◌∷◌, Option, Some, None, IsSome}
+use Rattle.std.specs.Prelude.{◌≡◌, ◌⊎◌, ℕ, ◌+◌, ◌≤◌, Bool, true, false, IsTrue, List, ◌∷◌, Option, Some, None, IsSome}
 use Rattle.cfs_base.specs.Calls.{MakesAtMost}
 use Rattle.cfs_base.specs.Disk.{Image}
 use Rattle.cfs_base.specs.Outside.{Rose, count_after}
@@ -13,11 +13,15 @@ use Rattle.ufs_model.specs.Run.{replay}
 use Rattle.ufs_model.specs.State.{State}
 use Rattle.ufs_model.specs.Word.{word}
 use Rattle.vol_format.specs.Fresh.{IsFormatted, MayBeFresh}
-use Rattle.vol_image.specs.Sound.{IsSoundAs, rooted_part}
+use Rattle.vol_image.specs.Sound.{IsSound, IsSoundAs, rooted_part}
+use Rattle.cfs_core.specs.Kernel.{Kernel}
 use Rattle.cfs_serve.specs.declared.report.Cause.{Cause}
 use Rattle.cfs_serve.specs.declared.report.Cause.TheVariants as causes
 use Rattle.cfs_serve.specs.declared.ending.Ending.{Ending}
 use Rattle.cfs_serve.specs.declared.report.Report.{Report}
+use Rattle.cfs_serve.specs.declared.report.VolumeFault.{VolumeFault}
+use Rattle.cfs_serve.specs.Ending.{IsStopTimed}
+use Rattle.cfs_serve.specs.Volume.{EndsCore}
 use Rattle.cfs_serve.specs.Events.{tells_disk, tells_fault}
 use Rattle.cfs_serve.specs.Journal.{MomentsRise, faults_after, first_fault}
 use Rattle.cfs_serve.specs.Words.{Asked, Audits, Format, Formats, InFile, InMemory, Nothing, Place, Serves, Shows}
@@ -41,6 +45,13 @@ LeavesSinceTry {D} g old new P = (Rose (g.faults old) (g.faults new) × Rose (g.
     ⊎ ((mid : D) × IsSettled g mid × IsUntouched g old mid × (g.tries mid ≡ count_after (g.tries old))
     × Leaves g mid new P)
 
+-- it is told of the sources that they weren't served
+abbrev pub is_of_sources : Cause → Bool
+is_of_sources (causes.Source n) = true
+is_of_sources (causes.Long n) = true
+is_of_sources causes.LongTotal = true
+is_of_sources cause = false
+
 -- neither its count of failed calls nor its clock has fallen
 abbrev pub IsLater : {D : Type 0} → Ghosts D → D → D → Type 0
 IsLater g old new = (g.faults old ≤ g.faults new) × (g.moment old ≤ g.moment new)
@@ -58,6 +69,12 @@ pub record ServesVolume {D : Type 0} (g : Ghosts D) (seed : ℕ) (told : Report)
   pub opening : IsTrue (g.honest old) → (graph : Graph) → IsSoundAs (g.content old) graph
       → (opened ≡ old) ⊎ LeavesSinceTry g old opened (λ c. IsSoundAs c graph)
   pub unserved : told.counts ≡ None → new ≡ opened
+  -- nothing was written where the volume was refused for what is wrong with it, or isn't sound; and a source that failed
+  -- or is too long left it unopened
+  pub untouched : IsTrue (g.honest old) → told.counts ≡ None → (fault : VolumeFault) → told.cause ≡ causes.Volume fault
+      → IsUntouched g old new
+  pub unsound : IsTrue (g.honest old) → ¬ IsSound (g.content old) → IsUntouched g old new
+  pub unread : told.counts ≡ None → is_of_sources told.cause ≡ true → new ≡ old
   -- what one leaves since an event was recorded survives so many events of the run or more, and since the opening any
   -- number
   pub crashes : IsSome told.counts → IsTrue (g.honest old) → (graph : Graph) → IsSoundAs (g.content old) graph
@@ -72,6 +89,11 @@ pub record ServesVolume {D : Type 0} (g : Ghosts D) (seed : ℕ) (told : Report)
       (first_fault ending.refused (g.faults opened)) ≤ g.faults new
   pub stops : IsSome told.counts → IsTrue (g.honest old) → (graph : Graph) → IsSoundAs (g.content old) graph
       → faults_after tells_fault trail (first_fault ending.refused (g.faults opened)) ≤ g.faults new
+  -- a core that stopped did so at the last call of the disk
+  pub timed : IsStopTimed ending.stop (g.moment new)
+  -- there is the core that told its status last, with its disk as it is handed back
+  pub core : IsSome told.counts → (last : Kernel D) × (last.disk ≡ new) × EndsCore seed
+      (λ graph. IsTrue (g.honest old) × IsSoundAs (g.content old) graph) ending trail last
 
 abbrev MakesOn : {D : Type 0} → Ghosts D → Format → Cause → Option D → Option D → Type 0
 MakesOn g format cause (Some old) (Some new) = MakesVolume g format cause old new

@@ -1,5 +1,5 @@
 -- How a service ended: why its core stopped, what ended its collector, and what spoiled it.
-use Rattle.std.specs.Prelude.{◌≡◌, ◌||◌, ◌<◌, ℕ, Bool, true, false, List, [], ◌∷◌, ◌++◌, Option, Some, None, is_none}
+use Rattle.std.specs.Prelude.{◌≡◌, ◌||◌, ◌<◌, ◌-◌, ℕ, Bool, true, false, List, [], ◌∷◌, ◌++◌, Option, Some, None, is_none}
 use Rattle.std.specs.Prelude.{option_map, option_and_then, option_to_list}
 use Rattle.std.specs.List.{list_any, list_all}
 use Rattle.cfs_base.specs.declared.refusal.Damage.{Damage}
@@ -9,6 +9,7 @@ use Rattle.cfs_core.specs.declared.collecting.CollectFault.TheVariants as faults
 use Rattle.cfs_core.specs.declared.kernel.Stop.{Stop}
 use Rattle.ufs_model.specs.declared.asked.Event.{Event}
 use Rattle.ufs_model.specs.declared.asked.Event.TheVariants as events
+use Rattle.ufs_model.specs.declared.asked.Reply.TheVariants as replies
 use Rattle.cfs_serve.specs.Events.{begins_in, finishes_in, is_calm, tells_disk, wants_memory}
 use Rattle.cfs_serve.specs.declared.ending.Ending.{Ending}
 use Rattle.cfs_serve.specs.declared.report.Cause.{Cause}
@@ -43,6 +44,46 @@ stops_in damage (e ∷ trail) = option_to_list (told_stop damage e) ++ stops_in 
 -- These events were made: a core that stopped stays so, and of one that ran one of them tells why it stopped.
 abbrev pub StopsAmong : Option Stop → Option Stop → List Event → Type 0
 StopsAmong before after made = option_to_list after ≡ option_to_list before ++ stops_in (damage_in after) made
+
+-- Of a server that stopped, whose disk has this moment now: it stopped at the moment of the call that failed, or at this
+-- one where a block was damaged. No call of the disk came after.
+abbrev pub moment_of_stop : Option Damage → (now : ℕ) → ℕ
+moment_of_stop None now = now - 1
+moment_of_stop (Some damage) now = now
+
+abbrev pub IsStopTimed : Option Stop → (now : ℕ) → Type 0
+IsStopTimed None now = Unit {0}
+IsStopTimed (Some stop) now = stop.moment ≡ moment_of_stop stop.damage now
+
+-- ---- replies that it has stopped
+
+-- they tell the moment at which it did before
+abbrev pub IsStoppedReply : (stopped : Option ℕ) → Event → Type 0
+IsStoppedReply stopped (events.Ask who request (replies.Stopped moment)) = stopped ≡ Some moment
+IsStoppedReply stopped event = Unit {0}
+
+-- the moment of the stop after this event
+abbrev pub stopped_with : Option ℕ → Event → Option ℕ
+stopped_with (Some moment) event = Some moment
+stopped_with None event = moment_in (told_stop None event)
+
+abbrev pub AreStoppedReplies : (stopped : Option ℕ) → List Event → Type 0
+AreStoppedReplies stopped [] = Unit {0}
+AreStoppedReplies stopped (e ∷ trail) = IsStoppedReply stopped e × AreStoppedReplies (stopped_with stopped e) trail
+
+-- ---- a call, and all of them
+
+-- These events were made by a call.
+pub record MakesStop {A : Type 0} (clock : A → ℕ) (stop : A → Option Stop) (old new : A) (made : List Event) : Type 0 where
+  pub among : StopsAmong (stop old) (stop new) made
+  pub after : AreStoppedReplies (moment_in (stop old)) made
+  pub timed : IsStopTimed (stop old) (clock old) → IsStopTimed (stop new) (clock new)
+
+-- They are the trail of a server that ran as it began.
+pub record KnowsStop {A : Type 0} (clock : A → ℕ) (stop : A → Option Stop) (server : A) (trail : List Event) : Type 0 where
+  pub among : StopsAmong None (stop server) trail
+  pub after : AreStoppedReplies None trail
+  pub timed : IsStopTimed (stop server) (clock server)
 
 -- ---- why the collector was done
 
@@ -109,6 +150,8 @@ cause_of ending trail broken = cause_by ending (list_any tells_disk trail) broke
 pub record EndsService (rose : Type 0) (collections : ℕ) (ending : Ending) (trail : List Event) : Type 0 where
   -- the trail tells this stop once, and no other; and none where the core runs
   pub stops : StopsAmong None ending.stop trail
+  -- and a reply that it has stopped comes only after
+  pub after : AreStoppedReplies None trail
   pub refusal : TellsStop ending.refused ending.stop
   -- where no collection is called for the collector wants no memory
   pub quiet : collections ≡ 0 → ending.refused ≡ Some faults.Memory → ⊥

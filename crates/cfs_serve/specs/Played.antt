@@ -5,7 +5,7 @@ use Rattle.std.specs.List.{list_any, list_all}
 use Rattle.cfs_base.specs.Outside.{Intake, Supply}
 use Rattle.cfs_base.specs.declared.identifier.Puid.{Puid}
 use Rattle.ufs_model.specs.declared.asked.Event.{Event}
-use Rattle.ufs_model.specs.Graph.{Graph}
+use Rattle.ufs_model.specs.Graph.{Graph, IsGraph}
 use Rattle.ufs_model.specs.State.{State, opening}
 use Rattle.ufs_model.specs.Run.{replay}
 use Rattle.ufs_model.specs.Script.{request_lines}
@@ -84,6 +84,7 @@ pub record IsRunFrom (cylinders seed collections : ℕ) (graph : Graph) (rose : 
       → counts.free ≡ free_once_tidy cylinders last.graph
   -- once as many collections are finished as were called for, nothing sweeps
   pub rests : last.stopped ≡ None → finishes_in trail ≡ collections → sweeps_now last.collection ≡ false
+  pub whole : IsGraph graph
 
 -- the sink of one of them failed
 abbrev pub has_broken : List PortReading → Bool

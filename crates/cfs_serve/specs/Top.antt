@@ -9,7 +9,7 @@ use Rattle.cfs_ports.specs.Port.{Replied}
 use Rattle.cfs_streams.specs.Writing.{Wrote, WroteSome}
 use Rattle.ufs_model.specs.declared.asked.Event.{Event}
 use Rattle.ufs_model.specs.declared.asked.Event.TheVariants as events
-use Rattle.ufs_model.specs.Graph.{Graph}
+use Rattle.ufs_model.specs.Graph.{Graph, IsGraph}
 use Rattle.ufs_model.specs.State.{State, opening}
 use Rattle.ufs_model.specs.Run.{replay}
 use Rattle.ufs_model.specs.Script.{request_lines}
@@ -286,6 +286,8 @@ pub record DidOn (service : Service) (ground : Ground) (graph : Graph) (old new 
       → counts.free ≡ free_once_tidy ground.cylinders last.graph))
   -- once as many collections are finished as were called for, nothing sweeps
   pub rests : last.stopped ≡ None → finishes_in trail ≡ service.collections → sweeps_now last.collection ≡ false
+  -- the graph that was served is one, so that the laws of what vanishes hold of the trail
+  pub whole : WasServed told → IsGraph graph
 
 -- What a run does and tells: by what its words ask for, what its volume is, what is outside before and after, what is
 -- told, and the trail.
@@ -316,6 +318,9 @@ pub record Did (asked : Asked) (ground : Ground) (old new : Outside) (told : Rep
   pub turns : IfServes asked (λ service. WasServed told → (root : Puid)
       × ((graph : Graph) → ground.reads graph → graph.root ≡ root)
       × EachSource (λ session source _. IsServedFrom root trail (took session) session source) old new)
+  -- what was served is within the limits
+  pub within : is_service asked ≡ true → WasServed told → (scripts : List (List ℕ)) → HadLeft old scripts
+      → AreWithinLimits scripts
   -- the sink has taken the replies, all or some of their beginning
   pub replied : EachSink (λ session sink outside_after. Replied sink outside_after (printed_replies session trail)
       (took session)) old new

@@ -1,9 +1,10 @@
 -- A volume that was opened, and a session that is served on it.
-use Rattle.std.specs.Prelude.{◌≡◌, ◌⊎◌, ℕ, ◌≤◌, List, [], ◌∷◌, length, Some, None}
+use Rattle.std.specs.Prelude.{◌≡◌, ◌⊎◌, ℕ, ◌≤◌, List, [], ◌∷◌, length, sum, Some, None}
 use Rattle.cfs_base.specs.Outside.{Intake, Rose}
 use Rattle.cfs_base.specs.declared.disk.Disk.{Ghosts}
-use Rattle.cfs_core.specs.Kernel.{Kernel}
-use Rattle.cfs_core.specs.StandsFor.{StandsFor}
+use Rattle.cfs_core.specs.Kernel.{Kernel, collection_runs}
+use Rattle.cfs_core.specs.StandsFor.{IsFront, StandsFor}
+use Rattle.cfs_core.specs.declared.kernel.Status.{Status}
 use Rattle.survival.specs.Trail.{RunSurvives}
 use Rattle.ufs_model.specs.declared.asked.Event.{Event}
 use Rattle.ufs_model.specs.Graph.{Graph}
@@ -15,7 +16,7 @@ use Rattle.cfs_serve.specs.declared.report.Cause.{Cause}
 use Rattle.cfs_serve.specs.declared.report.Cause.TheVariants as causes
 use Rattle.cfs_serve.specs.declared.ending.Ending.{Ending}
 use Rattle.cfs_serve.specs.declared.report.Report.{Report}
-use Rattle.cfs_serve.specs.Ending.{not_begun}
+use Rattle.cfs_serve.specs.Ending.{IsStopTimed, damage_in, moment_in, not_begun}
 use Rattle.cfs_serve.specs.Ground.{Ground, opened}
 use Rattle.cfs_ports.specs.Port.{PortReading}
 use Rattle.cfs_serve.specs.Charter.{Client}
@@ -42,6 +43,24 @@ ground_at g core = record {
   faulty = λ fault. ⊥;
 }
 
+-- what a core tells of itself
+pub record IsStatusOf {D : Type 0} (k : Kernel D) (status : Status) : Type 0 where
+  pub objects : status.objects ≡ length k.directory.named
+  pub free : status.free ≡ sum k.space.free
+  pub stopped : status.stopped ≡ moment_in k.stop
+  pub damage : status.damage ≡ damage_in k.stop
+  pub running : status.running ≡ collection_runs k.collections.collector
+  pub called : status.called ≡ k.collections.called
+  pub finished : status.finished ≡ k.collections.finished
+
+-- The core as it ended: what it told last is what it has and counts, whether it stopped or not; and from each graph on
+-- which it began it came to the identifiers, the grants and the stop of the last state.
+pub record EndsCore {D : Type 0} (seed : ℕ) (began : Graph → Type 0) (ending : Ending) (trail : List Event)
+    (last : Kernel D) : Type 0 where
+  pub told : (status : Status) → ending.last ≡ Some status → IsStatusOf last status
+  pub stop : ending.stop ≡ last.stop
+  pub front : (graph : Graph) → began graph → (s : State) → replay seed graph trail ≡ Some s → IsFront last s
+
 -- The sessions of these clients were served by a core, which is over, and left their ports so; its disk is handed back.
 pub record ServesSessions {D : Type 0} (g : Ghosts D) (core : Kernel D) (collections : ℕ) (clients : List Client)
     (ports : List PortReading) (report : Report) (ending : Ending) (trail : List Event) (moments : List ℕ)
@@ -51,6 +70,10 @@ pub record ServesSessions {D : Type 0} (g : Ghosts D) (core : Kernel D) (collect
   pub told : report ≡ record { counts = Some counts; cause = cause }
   pub played : IsPlayed (ground_at g core) core.words.seed collections (Rose (g.faults core.disk) (g.faults disk))
       clients ports counts cause ending trail
+  pub last : Kernel D
+  pub last_disk : last.disk ≡ disk
+  pub ends : EndsCore core.words.seed (λ graph. StandsFor g core (opening graph)) ending trail last
+  pub timed : IsStopTimed ending.stop (g.moment disk)
   pub later : g.faults core.disk ≤ g.faults disk
   pub rise : MomentsRise (g.moment core.disk) moments (g.moment disk)
   pub crashes : (graph : Graph) → StandsFor g core (opening graph) → RunSurvives g core.words.seed graph trail

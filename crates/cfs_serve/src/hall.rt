@@ -4,7 +4,7 @@ ghost use Rattle.std.specs.List.{list_any, sum_by};
 ghost use Rattle.cfs_serve.specs.Events.{finishes_in, tells_disk, wants_memory};
 ghost use Rattle.cfs_core.specs.declared.collecting.CollectFault.TheVariants as faults;
 ghost use Rattle.cfs_serve.specs.Calls.{SessionPasses};
-ghost use Rattle.cfs_serve.specs.Ending.{IsWanting};
+ghost use Rattle.cfs_serve.specs.Ending.{IsStopTimed, IsWanting};
 ghost use Rattle.cfs_serve.specs.Journal.{CountsFaults, HasEnded, IsJournalKept, IsRun, IsStamped, IsTold, Lasts};
 ghost use Rattle.cfs_serve.specs.Journal.{Raises, StaysStopped, first_fault};
 ghost use Rattle.cfs_serve.specs.Hall.{AreFresh, AreHeard, IsSessionTurn, IsCollectorTurn, IsTurn};
@@ -293,7 +293,8 @@ impl<A: Server, J: Charter<A>, K: Sink> Hall<A, J, K> {
         ensures lasts { Lasts A.stands A.clock A.lasts J.charter result.server result.trail.events
             result.trail.moments }
         ensures ends { HasEnded A.faults J.charter result.server result.ending result.trail.events }
-        ensures stop { result.ending.stop ≡ A.stop result.server }
+        ensures stop { (result.ending.stop ≡ A.stop result.server)
+            × IsStopTimed (A.stop result.server) (A.clock result.server) }
         ensures heard { AreHeard J.charter result.trail.events result.ports.items }
         ensures ports { result.ports.items ≡ self.ports }
         ensures starved { result.starved ≡ list_any wants_memory result.trail.events }

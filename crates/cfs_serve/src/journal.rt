@@ -11,7 +11,7 @@ ghost use Rattle.cfs_base.specs.Outside.{Rose};
 ghost use Rattle.cfs_serve.specs.Charter.{Terms};
 ghost use Rattle.cfs_serve.specs.Events.{tells_disk, wants_memory};
 ghost use Rattle.cfs_serve.specs.Calls.{SessionPasses, SpendsStep, SpendsOne, Tally, as_step, event_by, refusal_by};
-ghost use Rattle.cfs_serve.specs.Ending.{IsWanting, StopsAmong, TellsStop};
+ghost use Rattle.cfs_serve.specs.Ending.{IsWanting, KnowsStop, TellsStop};
 ghost use Rattle.cfs_serve.specs.Events.{finishes_in};
 ghost use Rattle.cfs_serve.specs.Journal.{IsJournalKept, IsRun, IsStamped, IsTold, Lasts, Raises, Answered};
 ghost use Rattle.cfs_serve.specs.Journal.{is_progress_made};
@@ -78,7 +78,7 @@ impl<A: Server, J: Charter<A>> Model for Journal<A, J> {
     ghost use Rattle.std.specs.List.{list_any};
     ghost use Rattle.cfs_serve.specs.Events.{tells_disk, wants_memory};
     ghost use Rattle.std.specs.Prelude.{None};
-    ghost use Rattle.cfs_serve.specs.Ending.{StopsAmong};
+    ghost use Rattle.cfs_serve.specs.Ending.{KnowsStop};
     ghost use Rattle.cfs_serve.specs.Journal.{Journaled, IsJournalKept, IsRun, IsTold, Lasts};
 
     ghost Value = { Journaled A };
@@ -98,7 +98,7 @@ impl<A: Server, J: Charter<A>> Model for Journal<A, J> {
         × Lasts A.stands A.clock A.lasts J.charter j.server j.trail.events j.trail.moments
         × IsTold A.faults A.has_stopped A.is_damaged J.charter j.server j.trail.events
         × ((A.tally j.server).called ≡ J.charter.collections) × (j.failed ≡ list_any tells_disk j.trail.events)
-        × StopsAmong None (A.stop j.server) j.trail.events
+        × KnowsStop A.clock A.stop j.server j.trail.events
         × IsJournalKept A.clock A.has_stopped A.tally J.charter j.server j.trail.events j.trail.moments };
 }
 
@@ -243,7 +243,7 @@ impl<A: Server, J: Charter<A>> Journal<A, J> {
         ensures events { result.1.events ≡ self.events }
         ensures starved { result.2 ≡ list_any wants_memory self.events }
         ensures failed { result.3 ≡ list_any tells_disk self.events }
-        ensures stops { StopsAmong None (A.stop self.server) self.events }
+        ensures stops { KnowsStop A.clock A.stop self.server self.events }
         ensures size { A.cylinders self.server ≡ J.charter.cylinders }
         ensures called { (A.tally self.server).called ≡ J.charter.collections }
         ensures run { IsRun A.stands A.has_stopped A.is_damaged A.tally J.charter self.server self.events }

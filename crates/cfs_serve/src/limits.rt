@@ -1,4 +1,6 @@
 //! The limits of the program.
+ghost use Rattle.std.specs.Prelude.{◌≡◌};
+ghost use Rattle.cfs_serve.specs.Limits as limits;
 
 /// The cylinders of the largest volume in memory.
 pub const MOST_CYLINDERS: u64 = 1_024;
@@ -26,3 +28,16 @@ pub const MOST_SESSIONS: usize = 64;
 
 /// The collections that a service may be called for.
 pub const MOST_COLLECTIONS: u64 = 1_000;
+
+/// The constants are those of the definitions. This does nothing: it is a law.
+pub fn limits_are_stated()
+    ensures cylinders { MOST_CYLINDERS ≡ limits.most_cylinders }
+    ensures file { MOST_FILE_CYLINDERS ≡ limits.most_file_cylinders }
+    ensures pair { MOST_PAIR_CYLINDERS ≡ limits.most_pair_cylinders }
+    ensures held { HELD_MAPS ≡ limits.held_maps }
+    ensures script { MOST_SCRIPT ≡ limits.most_script }
+    ensures trail { MOST_TRAIL ≡ limits.most_trail }
+    ensures lines { MOST_LINES ≡ limits.most_lines }
+    ensures sessions { MOST_SESSIONS ≡ limits.most_sessions }
+    ensures collections { MOST_COLLECTIONS ≡ limits.most_collections }
+{}

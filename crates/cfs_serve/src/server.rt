@@ -12,7 +12,7 @@ ghost use Rattle.cfs_serve.specs.Calls.{TellsEvent};
 ghost use Rattle.cfs_serve.specs.Calls.{EndsCollecting, SessionPasses, PassesStep, SpendsTurn, TellsStep, as_step};
 ghost use Rattle.cfs_serve.specs.Calls.{event_by, refusal_by, tells_stop_at};
 ghost use Rattle.cfs_serve.specs.Turns.{TakesTurn, fault_as};
-ghost use Rattle.cfs_serve.specs.Ending.{StopsAmong, TellsStop, damage_in};
+ghost use Rattle.cfs_serve.specs.Ending.{MakesStop, TellsStop, damage_in};
 ghost use Rattle.cfs_serve.specs.Journal.{recorded};
 ghost use Rattle.cfs_core.specs.declared.kernel.Stop.{Stop};
 ghost use Rattle.ufs_model.specs.Graph.{Graph};
@@ -72,7 +72,7 @@ pub trait Server: Asker {
         ensures lasts { CrashesGoOn Self.stands clock lasts (Self.seed self.old) self.old self.new
             (events.Ask who request.now result) }
         ensures tells { TellsEvent faults has_stopped is_damaged self.old self.new (events.Ask who request.now result) }
-        ensures stops { StopsAmong (stop self.old) (stop self.new) (events.Ask who request.now result ∷ []) }
+        ensures stops { MakesStop clock stop self.old self.new (events.Ask who request.now result ∷ []) }
         ensures undamaged { (s : State) → Self.stands self.old s → is_damaged self.old ≡ false
             → is_damaged self.new ≡ false }
         ensures fits { FitsLine result }
@@ -93,7 +93,7 @@ pub trait Server: Asker {
         ensures lasts { CrashesGoOn Self.stands clock lasts (Self.seed self.old) self.old self.new
             (events.Leave who result) }
         ensures tells { TellsEvent faults has_stopped is_damaged self.old self.new (events.Leave who result) }
-        ensures stops { StopsAmong (stop self.old) (stop self.new) (events.Leave who result ∷ []) }
+        ensures stops { MakesStop clock stop self.old self.new (events.Leave who result ∷ []) }
         ensures undamaged { (s : State) → Self.stands self.old s → is_damaged self.old ≡ false
             → is_damaged self.new ≡ false }
         ensures size { cylinders self.new ≡ cylinders self.old }
@@ -108,7 +108,7 @@ pub trait Server: Asker {
         ensures lasts { MayGoOn Self.stands clock lasts (Self.seed self.old) self.old self.new
             (event_by (as_step result)) }
         ensures tells { TellsStep faults has_stopped is_damaged self.old self.new (as_step result) }
-        ensures stops { StopsAmong (stop self.old) (stop self.new) (recorded (event_by (as_step result)))
+        ensures stops { MakesStop clock stop self.old self.new (recorded (event_by (as_step result)))
             × TellsStop (refusal_by (as_step result)) (stop self.new) }
         ensures undamaged { (s : State) → Self.stands self.old s → is_damaged self.old ≡ false
             → is_damaged self.new ≡ false }

@@ -3,7 +3,7 @@ ghost use Rattle.std.specs.Prelude.{◌≡◌, ◌<◌, ◌≤◌, ◌+◌, ◌*
 ghost use Rattle.std.specs.List.{list_any, sum_by};
 ghost use Rattle.cfs_base.specs.Outside.{Rose};
 ghost use Rattle.cfs_serve.specs.Calls.{IsTallied};
-ghost use Rattle.cfs_serve.specs.Ending.{EndsService, IsWanting};
+ghost use Rattle.cfs_serve.specs.Ending.{EndsService, IsStopTimed, IsWanting};
 ghost use Rattle.cfs_core.specs.declared.collecting.CollectFault.TheVariants as faults;
 ghost use Rattle.cfs_serve.specs.Events.{begins_in, finishes_in, tells_disk, tells_fault, wants_memory};
 ghost use Rattle.cfs_serve.specs.Hall.{AllLeft, AreFresh, AreHeard, AreNew, AreOver, client_of, turns_left};
@@ -70,7 +70,8 @@ fn serve_so<
     ensures lasts { IfOk result (λ p. Lasts A.stands A.clock A.lasts J.charter p.server p.trail.events
         p.trail.moments) }
     ensures ends { IfOk result (λ p. HasEnded A.faults J.charter p.server p.ending p.trail.events) }
-    ensures stop { IfOk result (λ p. p.ending.stop ≡ A.stop p.server) }
+    ensures stop { IfOk result (λ p. (p.ending.stop ≡ A.stop p.server)
+        × IsStopTimed (A.stop p.server) (A.clock p.server)) }
     ensures heard { IfOk result (λ p. AreHeard J.charter p.trail.events p.ports.items) }
     ensures left { IfOk result (λ p. AllLeft p.ports.items) }
     ensures starved { IfOk result (λ p. p.starved ≡ list_any wants_memory p.trail.events) }
@@ -136,7 +137,8 @@ pub fn serve<A: Server + Send, K: Sink + Send, G: Gate + Sync, R: Threads + Wait
     ensures later { IfOk result (λ p. A.faults server ≤ A.faults p.server) }
     ensures ends { IfOk result (λ p. EndsService (Rose (A.faults server) (A.faults p.server)) collections p.ending
         p.trail.events) }
-    ensures stop { IfOk result (λ p. p.ending.stop ≡ A.stop p.server) }
+    ensures stop { IfOk result (λ p. (p.ending.stop ≡ A.stop p.server)
+        × IsStopTimed (A.stop p.server) (A.clock p.server)) }
     // and what was known of crashes as it began is known of the whole trail, from the moments of its events on
     ensures lasts { IfOk result (λ p. (graph : Graph) → A.stands server (opening graph)
         → A.lasts server (A.seed server) graph [] (A.clock server ∷ [])

@@ -3,7 +3,8 @@ ghost use Rattle.std.specs.Prelude.{◌≡◌, ◌*◌, ◌≤◌, IfErr, IfOk, 
 ghost use Rattle.cfs_core.specs.Opened.{IsOpenedCore};
 ghost use Rattle.cfs_serve.specs.Disks.{IsLater};
 ghost use Rattle.cfs_serve.specs.Opening.{IsOpeningRefusal, disk_refused, opening_cause};
-ghost use Rattle.cfs_recover.specs.Recovered.{LeavesSinceBarrier};
+ghost use Rattle.cfs_recover.specs.Recovered.{IsUntouched, LeavesSinceBarrier};
+ghost use Rattle.cfs_serve.specs.declared.report.VolumeFault as volume_faults;
 ghost use Rattle.vol_image.specs.Sound.{IsSound, IsSoundAs};
 ghost use Rattle.ufs_model.specs.Graph.{Graph};
 ghost use Rattle.cfs_serve.specs.Volume.{IsNewCore};
@@ -48,7 +49,7 @@ fn told_by(why: RecoverFault) -> Cause
     }
 }
 
-/// Opens the volume of a disk that a crash left. Nothing was written where the cause is the volume.
+/// Opens the volume of a disk that a crash left.
 pub(crate) fn open_volume<D: Disk>(alloc: Global, disk: D, seed: u64) -> Result<Core<D>, Refused<D>>
     ensures opened { IsTrue (D.honest disk) → (graph : Graph) → IsSoundAs (D.content disk) graph
         → IfOk result (IsOpenedCore D.Disk graph seed) }
@@ -56,6 +57,11 @@ pub(crate) fn open_volume<D: Disk>(alloc: Global, disk: D, seed: u64) -> Result<
     ensures idle { IfOk result (λ core. core.collections ≡ record { collector = None; called = 0; finished = 0 }) }
     ensures sound { IsTrue (D.honest disk) → IfOk result (λ core. IsSound (D.content disk)) }
     ensures size { IfOk result (λ core. D.blocks disk ≡ 64 * length core.space.free) }
+    // Nothing was written where it is refused for what is wrong with it, or isn't sound.
+    ensures untouched { IsTrue (D.honest disk) → IfErr result (λ e. (fault : volume_faults.VolumeFault)
+        → e.cause ≡ Cause.Volume fault → IsUntouched D.Disk disk e.disk) }
+    ensures unsound { IsTrue (D.honest disk) → ¬ IsSound (D.content disk)
+        → IsUntouched D.Disk disk (disk_refused result) }
     // Where it is refused, this is told: a failed call only where one failed, a fault of the volume only where it isn't
     // sound.
     ensures refused { IfErr result (λ e. IsOpeningRefusal D.Disk disk e.disk e.cause) }

@@ -54,18 +54,25 @@ fn expect_run(rt: &impl Abort, came: &Came, events: &str, replies: &str, report:
 }
 
 #[test]
-fn what_is_cut_off_vanishes_while_its_session_goes_on(rt: HostRuntime) -> Result<(), Fail> {
+fn two_collections_come_while_their_session_goes_on(rt: HostRuntime) -> Result<(), Fail> {
     // the collector's turns come once the index is cut off. It carries out the delete in seven parts: the root is
     // copied, a leaf and a node come, a leaf, a node and the shadow root go, the bit is cleared. Then it begins, scans
-    // the root index, condemns the other, sweeps in two steps and is finished, and then the session goes on
-    let gate = gate_of(rt.alloc(), &[hold(1, 0, 0, 1), hold(0, 2, 1, 12)])?;
+    // the root index, condemns the other, sweeps in two steps and is finished. The session goes on for one line, the
+    // next collection does the same and finds nothing, and then the session goes on
+    let holds = [
+        hold(1, 0, 0, 1),
+        hold(0, 2, 1, 12),
+        hold(1, 13, 0, 2),
+        hold(0, 3, 1, 18),
+    ];
+    let gate = gate_of(rt.alloc(), &holds)?;
     let seats = [session("create-index a 4 root 0\ndelete root 0\nretain root 5 a\nslots root\n")];
-    let asked = ask_for(&["play", "1", "0", "1"], &seats);
+    let asked = ask_for(&["play", "1", "0", "2"], &seats);
     let came = serve(&rt, rt.alloc(), &gate, &mut None::<MemoryDisk>, &asked)?;
     let replies = "ok 00000003903df1a0\nok\nno object\nok 64\n";
     // of the 61 blocks of a new volume a leaf and a node of the root index are taken
-    let report = "sessions 1\nreplies 4\ncollections 1\nobjects 1\nfree 59\nstatus 0\n";
-    expect_run(&rt, &came, "aabvfaal", replies, report);
+    let report = "sessions 1\nreplies 4\ncollections 2\nobjects 1\nfree 59\nstatus 0\n";
+    expect_run(&rt, &came, "aabvfabvfal", replies, report);
     assert!(rt; !gate.gave_up());
     Ok(())
 }

@@ -1,5 +1,5 @@
 //! All turns of a machine.
-ghost use Rattle.std.specs.Prelude.{◌≡◌, ℕ, ◌-◌, ◌<◌, ◌^◌, true, length, sum, IfErr, IfOk};
+ghost use Rattle.std.specs.Prelude.{◌≡◌, ℕ, ◌-◌, ◌<◌, ◌^◌, true, length, slice_index, sum, IfErr, IfOk};
 
 use crate::desk::run_desk;
 use crate::front::{Desk, Front, FrontFault};
@@ -9,10 +9,14 @@ use std::alloc::Global;
 use std::sync::Wait;
 use std::thread::Threads;
 
-/// The turns that each worker of a machine has left.
-fn budgets_of<M: Logged>(alloc: Global, machine: &M) -> Result<Vec<u64>, NoMemory> {
+/// The turns that each worker of a machine has left, worker after worker.
+fn budgets_of<M: Logged>(alloc: Global, machine: &M) -> Result<Vec<u64>, NoMemory>
+    ensures count { IfOk result (λ b. length b.items ≡ M.worker_count machine.now) }
+    ensures each { IfOk result (λ b. (w : ℕ) → w < M.worker_count machine.now
+        → slice_index b.items w ≡ M.left machine.now w) }
+{
     let mut budgets = Vec::new(alloc);
-    for worker in 0..machine.workers() {
+    'workers: for worker in 0..machine.workers() {
         budgets.push(machine.turns_left(worker))?;
     }
     Ok(budgets)
@@ -23,6 +27,8 @@ fn can_deal(budgets: &[u64]) -> bool
     ensures some { result ≡ true → 0 < length budgets.now }
     ensures few { result ≡ true → length budgets.now < 2 ^ 32 }
     ensures sum { result ≡ true → sum budgets.now < 2 ^ 64 - 1 }
+    ensures all { 0 < length budgets.now → length budgets.now < 2 ^ 32 → sum budgets.now < 2 ^ 64 - 1
+        → result ≡ true }
 {
     let mut room = u64::MAX - 1;
     for left in budgets {

@@ -4,7 +4,8 @@ use Rattle.cyl_alloc.specs.Left.{LeftCommit, parts_left}
 use Rattle.cfs_core.specs.Left.{events_ahead, steps_ahead}
 use Rattle.cfs_core.specs.declared.collecting.Collections.{Collections}
 use Rattle.cfs_serve.proofs.Cited.{AreOver, Stands, blocks_of_grant, opening, client_of, sum_by}
-use Rattle.cfs_serve.proofs.Playing.{IsServed, IsStatusOf, none_lost, served}
+use Rattle.cfs_serve.proofs.Playing.{IsServed, none_lost, served}
+use Rattle.cfs_serve.specs.Volume.{IsStatusOf}
 use Rattle.cfs_serve.proofs.play.serve_ports.Goals as goal
 
 pub serve-requires-clause-new : goal.serve-requires-clause-new
@@ -69,7 +70,8 @@ returns g c =
       run = facts.run;
       later = facts.later;
       ends = facts.ends;
-      stop = facts.stop;
+      stop = facts.stop.0;
+      timed = facts.stop.1;
       few = facts.few;
       collected = facts.collected.0;
       settled = λ whole. none_left parts.server.space.left (facts.settled whole);

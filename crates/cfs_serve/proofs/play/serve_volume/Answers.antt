@@ -1,13 +1,14 @@
 use Rattle.std.proofs.Common.{ap, arith, inl, inr, map, refl, Some}
 use Rattle.cfs_serve.proofs.Cited.{IsSoundAs, Rose, ground_on}
 use Rattle.cfs_serve.proofs.Lists.{map_count}
-use Rattle.cfs_serve.proofs.Volumes.{none_asks, refusal_cause, refusal_ill, script_run, served, since_try, source_cause, source_ill, unserved}
+use Rattle.cfs_serve.proofs.Volumes.{never_of_sources, none_asks, refusal_cause, refusal_ill, script_run, served, since_try, source_cause, source_ill, unserved, untouched_itself}
 use Rattle.cfs_serve.proofs.play.serve_volume.Goals as goal
 
 pub returns-in-Err-clause-volume : goal.returns-in-Err-clause-volume
 returns-in-Err-clause-volume g c =
-    unserved g.D.Disk c.args.disk c.args.seed c.args.disk c.nothing.result.report c.nothing.result.ending c.nothing.result.trail.events c.nothing.result.trail.moments c.in-Err.cause (omega arith, omega arith) c.nothing.ensures.report
+    unserved g.D.Disk c.args.disk c.args.seed c.args.disk c.nothing.result.report c.nothing.result.ending c.nothing.result.trail.events c.nothing.result.trail.moments c.in-Err.cause (omega arith, omega arith) c.nothing.ensures.report c.nothing.ensures.ending
     (source_ill (map g.S.Source.supply c.args.sources.now.items) (map g.S.Source.supply c.read_scripts.new.sources.items) c.in-Err.cause c.in-Err.ensures.cause) (λ honest graph sound. inl refl)
+    (λ honest fault is. absurd (rw is at c.in-Err.ensures.cause)) (λ honest not. untouched_itself g.D.Disk c.args.disk) (λ is. refl)
 
 pub returns-in-Ok-open_volume-clause-asks : goal.returns-in-Ok-open_volume-clause-asks
 returns-in-Ok-open_volume-clause-asks g c =
@@ -29,7 +30,7 @@ returns-in-Ok-open_volume-clause-volume g c =
     let opened = c.in-Ok-open_volume.ensures in
     served g.D.Disk c.args.disk c.args.seed c.in-Ok-open_volume.core c.args.collections c.in-Ok.scripts.scripts.items (map g.K.Sink.intake c.args.sinks.now.items) (map g.K.Sink.intake c.serve_scripts.new.sinks.items)
     result.0.report result.0.ending result.0.trail.events result.0.trail.moments result.1 opened.later (ap (λ w. w.seed) opened.begins.0)
-    (λ honest graph sound. (opened.opened honest graph sound).stands) opened.images c.serve_scripts.ensures.served
+    (λ honest graph sound. (opened.opened honest graph sound).stands) opened.images opened.sound c.serve_scripts.ensures.served
 
 -- ---- nothing was served
 
@@ -61,6 +62,7 @@ returns-in-Err-open_volume-clause-volume g c =
     let refused = c.in-Err-open_volume.field-0 in
     let told = c.nothing-in-Err-open_volume in
     let facts = c.in-Err-open_volume.ensures in
-    unserved g.D.Disk c.args.disk c.args.seed refused.disk told.result.report told.result.ending told.result.trail.events told.result.trail.moments refused.cause facts.later told.ensures.report
+    unserved g.D.Disk c.args.disk c.args.seed refused.disk told.result.report told.result.ending told.result.trail.events told.result.trail.moments refused.cause facts.later told.ensures.report told.ensures.ending
     (refusal_ill g.D.Disk c.args.disk refused.disk refused.cause facts.refused)
     (λ honest graph sound. inr (since_try g.D.Disk c.args.disk refused.disk (λ image. IsSoundAs image graph) (facts.images honest graph sound)))
+    facts.untouched facts.unsound (λ is. absurd (never_of_sources g.D.Disk c.args.disk refused.disk refused.cause facts.refused is))

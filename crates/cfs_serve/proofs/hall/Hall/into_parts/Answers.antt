@@ -16,9 +16,12 @@ returns-clause-ends g c =
       later = λ begun at. (made.told.since begun at).later;
       since = λ begun at.
           ends g.A.Server.faults g.A.Server.has_stopped g.A.Server.is_damaged g.A.Server.stop begun server ending t.collections c.self.inside.journal.events
-          (g.A.Server.stopped_so server) (g.A.Server.damaged_so server) (c.stopped-stop.ensures ∙ ap g.A.Server.stop made.server) made.stops kept.9
+          (g.A.Server.stopped_so server) (g.A.Server.damaged_so server) (c.stopped-stop.ensures ∙ ap g.A.Server.stop made.server) made.stops.among made.stops.after kept.9
           (λ none wants. absurd (omega (arith, (kept.10 wants).1, none))) (made.told.since begun at) (kept.8.told begun at);
     })
+
+pub returns-clause-stop : goal.returns-clause-stop
+returns-clause-stop g c = (c.stopped-stop.ensures, rw c.into_parts-server.ensures.server c.into_parts-server.ensures.stops.timed)
 
 -- where nothing is left to make, and it was refused none, no part is left
 settled_at : (refused : Option CollectFault) (steps parts : ℕ) → steps + parts_now refused parts ≡ 0 → refused ≡ None → parts ≡ 0

@@ -5,7 +5,7 @@ use Rattle.cfs_serve.proofs.Asking.{asked_makes}
 use Rattle.cfs_serve.proofs.Journals.{any-push, lasts_on, run_on, told_on}
 use Rattle.cfs_serve.proofs.Keeping.{kept_on}
 use Rattle.cfs_serve.proofs.Raising.{asked_raised}
-use Rattle.cfs_serve.proofs.Stopping.{stays, stops_on}
+use Rattle.cfs_serve.proofs.Stopping.{knows_on, stays}
 use Rattle.cfs_serve.proofs.journal.Journal.ask.Goals as goal
 
 pub invariant_of-self : goal.invariant_of-self
@@ -31,14 +31,14 @@ invariant_of-self g c =
       told_on g.A.Server.faults g.A.Server.has_stopped g.A.Server.is_damaged t trail old new kept.6 e answer.tells,
       answer.called ∙ kept.7,
       c.failed_by-self-inside.ensures c.args.session c.args.request ∙ ap (λ b. tells_disk e || b) kept.8 ∙ sym (any-push tells_disk trail e),
-      stops_on (g.A.Server.stop old) (g.A.Server.stop new) trail (e ∷ []) kept.9 answer.stops,
+      knows_on g.A.Server.clock g.A.Server.stop old new trail (e ∷ []) kept.9 answer.stops,
       kept_on g.A.Server.clock g.A.Server.has_stopped g.A.Server.tally t trail c.self.inside.trail.moments old new kept.10 answer.tells.stays answer.passes e refl refl,
     )
 
 pub returns-clause-stays : goal.returns-clause-stays
 returns-clause-stays g c =
     let e = events.Ask c.args.session c.args.request c.answer-reply.result in
-    rw (← c.self.view_is) (stays (g.A.Server.stop c.self.inside.server) (g.A.Server.stop c.answer-reply.new.self) (e ∷ []) c.answer-reply.ensures.stops)
+    rw (← c.self.view_is) (stays (g.A.Server.stop c.self.inside.server) (g.A.Server.stop c.answer-reply.new.self) (e ∷ []) c.answer-reply.ensures.stops.among)
 
 pub returns-clause-answered : goal.returns-clause-answered
 returns-clause-answered g c = rw (← c.self.view_is) (record { reply = c.answer-reply.result; answered = c.answer.ensures; events = c.push.ensures.events; room = c.push.ensures.room })

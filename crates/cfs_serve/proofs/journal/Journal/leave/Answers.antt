@@ -4,7 +4,7 @@ use Rattle.ufs_model.specs.declared.asked.Event.TheVariants as events
 use Rattle.cfs_serve.proofs.Journals.{any-push, lasts_on, run_on, told_on}
 use Rattle.cfs_serve.proofs.Keeping.{kept_on}
 use Rattle.cfs_serve.proofs.Raising.{left_raised}
-use Rattle.cfs_serve.proofs.Stopping.{stays, stops_on}
+use Rattle.cfs_serve.proofs.Stopping.{knows_on, stays}
 use Rattle.cfs_serve.proofs.journal.Journal.leave.Goals as goal
 
 pub invariant_of-self : goal.invariant_of-self
@@ -28,14 +28,14 @@ invariant_of-self g c =
       told_on g.A.Server.faults g.A.Server.has_stopped g.A.Server.is_damaged t trail old new kept.6 e left.tells,
       left.called ∙ kept.7,
       kept.8 ∙ sym (any-push tells_disk trail e),
-      stops_on (g.A.Server.stop old) (g.A.Server.stop new) trail (e ∷ []) kept.9 left.stops,
+      knows_on g.A.Server.clock g.A.Server.stop old new trail (e ∷ []) kept.9 left.stops,
       kept_on g.A.Server.clock g.A.Server.has_stopped g.A.Server.tally t trail c.self.inside.trail.moments old new kept.10 left.tells.stays left.passes e refl refl,
     )
 
 pub returns-clause-stays : goal.returns-clause-stays
 returns-clause-stays g c =
     let e = events.Leave c.args.session c.leave-stopped.result in
-    rw (← c.self.view_is) (stays (g.A.Server.stop c.self.inside.server) (g.A.Server.stop c.leave-stopped.new.self) (e ∷ []) c.leave-stopped.ensures.stops)
+    rw (← c.self.view_is) (stays (g.A.Server.stop c.self.inside.server) (g.A.Server.stop c.leave-stopped.new.self) (e ∷ []) c.leave-stopped.ensures.stops.among)
 
 pub returns-clause-raised : goal.returns-clause-raised
 returns-clause-raised g c =

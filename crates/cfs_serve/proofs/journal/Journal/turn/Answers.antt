@@ -4,7 +4,7 @@ use Rattle.cfs_serve.specs.Calls.{as_step}
 use Rattle.cfs_serve.proofs.Journals.{told_step}
 use Rattle.cfs_serve.proofs.Keeping.{collected_at, kept_step, wanting_at}
 use Rattle.cfs_serve.proofs.Stepping.{lasts_step, nobodys, quiet_made, run_step, silent, silent_step, spends_as, stop_only, tidied_only, unwanting, wanting_made}
-use Rattle.cfs_serve.proofs.Stopping.{stops_on}
+use Rattle.cfs_serve.proofs.Stopping.{knows_on}
 use Rattle.cfs_serve.proofs.Raising.{step_raised}
 use Rattle.cfs_serve.proofs.journal.Journal.turn.Goals as goal
 
@@ -29,7 +29,7 @@ invariant_of-self g c =
       told_step g.A.Server.faults g.A.Server.has_stopped g.A.Server.is_damaged t trail old new kept.6 (event_by made) did.tells.0,
       did.called ∙ kept.7,
       kept.8 ∙ silent_step trail tells_disk silent (event_by made) (nobodys made),
-      stops_on (g.A.Server.stop old) (g.A.Server.stop new) trail (recorded (event_by made)) kept.9 did.stops.0,
+      knows_on g.A.Server.clock g.A.Server.stop old new trail (recorded (event_by made)) kept.9 did.stops.0,
       kept_step g.A.Server.clock g.A.Server.has_stopped g.A.Server.tally t trail c.self.inside.trail.moments old new kept.10 did.tells.0.stays kept.7 made did.passes,
     )
 

@@ -4,7 +4,7 @@ use Rattle.ufs_model.specs.declared.asked.Event.TheVariants as events
 use Rattle.cfs_serve.proofs.Journals.{any-push, lasts_on, run_on, told_on, unread_makes, unread_tallies, unread_tells}
 use Rattle.cfs_serve.proofs.Keeping.{kept_on, unread_passes}
 use Rattle.cfs_serve.proofs.Raising.{never_raised}
-use Rattle.cfs_serve.proofs.Stopping.{stops_calm, stops_on}
+use Rattle.cfs_serve.proofs.Stopping.{knows_on, knows_unread}
 use Rattle.cfs_serve.proofs.journal.Journal.unread.Goals as goal
 
 pub invariant_of-self : goal.invariant_of-self
@@ -27,7 +27,7 @@ invariant_of-self g c =
           (unread_tells g.A.Server.faults g.A.Server.has_stopped g.A.Server.is_damaged server c.args.session c.args.why),
       kept.7,
       kept.8 ∙ sym (any-push tells_disk trail e),
-      stops_on (g.A.Server.stop server) (g.A.Server.stop server) trail (e ∷ []) kept.9 (stops_calm (g.A.Server.stop server) e refl),
+      knows_on g.A.Server.clock g.A.Server.stop server server trail (e ∷ []) kept.9 (knows_unread g.A.Server.clock g.A.Server.stop server c.args.session c.args.why),
       kept_on g.A.Server.clock g.A.Server.has_stopped g.A.Server.tally t trail c.self.inside.trail.moments server server kept.10 (λ is. is) (unread_passes g.A.Server.clock g.A.Server.tally server) e refl refl,
     )
 

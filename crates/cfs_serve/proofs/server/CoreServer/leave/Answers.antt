@@ -32,12 +32,12 @@ returns-in-Err-clause-lasts g c = λ graph trail marks s at stands run.
     (events.Leave c.args.who (Some c.in-Err.halt.moment)) (c.in-Err.ensures.event s stands).survives
 
 pub returns-in-Ok-clause-stops : goal.returns-in-Ok-clause-stops
-returns-in-Ok-clause-stops g c = stops_calm c.args.self.now.stop c.leave-left.new.self.stop c.args.who c.in-Ok.ensures.goes_on
+returns-in-Ok-clause-stops g c = stops_calm g.D.Disk c.args.self.now c.leave-left.new.self c.args.who c.in-Ok.ensures.goes_on c.leave-left.ensures.idle
 
 pub returns-in-Err-clause-stops : goal.returns-in-Err-clause-stops
 returns-in-Err-clause-stops g c =
     let halts = c.in-Err.ensures.halts in
-    stops_halted c.args.self.now.stop c.leave-left.new.self.stop c.args.who c.in-Err.halt.moment halts.0 halts.1 halts.2 halts.3
+    stops_halted g.D.Disk c.args.self.now c.leave-left.new.self c.args.who c.in-Err.halt.moment halts.0 halts.1 halts.2 halts.3 halts.4
 
 pub returns-in-Err-clause-undamaged : goal.returns-in-Err-clause-undamaged
 returns-in-Err-clause-undamaged g c = λ s stands before.
