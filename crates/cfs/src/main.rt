@@ -14,7 +14,7 @@ ghost use Rattle.std.specs.Prelude.{◌≡◌, ◌/◌, option_map};
 use cfs_base::Disk;
 use cfs_fakes::OpenGate;
 use cfs_host::{FileDisk, FileSink};
-use cfs_serve::{Bay, Cause, Ended, Path, top};
+use cfs_serve::{Bay, Cause, Command, Ended, Path, top};
 use opening::{AnySink, AnySource, open, tell_starved};
 use pair_disk::PairDisk;
 use std::alloc::Global;
@@ -88,8 +88,8 @@ fn run<R: Threads + Wait + Sync>(rt: &HostRuntime, threads: &R, alloc: Global) -
     let Some(words) = words(rt, alloc) else {
         return Err(tell_starved(rt));
     };
-    let words = words.as_slice();
-    let opened = open(rt, alloc, words)?;
+    let command = Command::parse(words.as_slice());
+    let opened = open(rt, alloc, command)?;
     let Ok(report) = FileSink::named(rt, "-", rt.stdout()) else {
         unreachable!();
     };
@@ -100,7 +100,7 @@ fn run<R: Threads + Wait + Sync>(rt: &HostRuntime, threads: &R, alloc: Global) -
             sinks: opened.sinks,
             report,
         };
-        let ended = top(threads, alloc, words, bay, &OpenGate);
+        let ended = top(threads, alloc, command, bay, &OpenGate);
         return Ok(finish(rt, &opened.made, ended));
     }
     let bay: Bay<FileDisk, AnySource, AnySink> = Bay {
@@ -109,7 +109,7 @@ fn run<R: Threads + Wait + Sync>(rt: &HostRuntime, threads: &R, alloc: Global) -
         sinks: opened.sinks,
         report,
     };
-    let ended = top(threads, alloc, words, bay, &OpenGate);
+    let ended = top(threads, alloc, command, bay, &OpenGate);
     Ok(finish(rt, &opened.made, ended))
 }
 

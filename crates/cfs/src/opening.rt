@@ -1,13 +1,14 @@
 //! The files that a command names, opened.
-ghost use Rattle.std.specs.Prelude.{◌≡◌, ◌*◌, ◌≤◌, length, map, option_map, string_bytes, IfOk, IfSome};
+ghost use Rattle.std.specs.Prelude.{◌≡◌, ◌*◌, ◌≤◌, length, option_map, IfOk, IfSome};
 ghost use Rattle.cfs.specs.Opened.{volume_blocks};
-ghost use Rattle.cfs_serve.specs.Words.{asked_in, most_made};
+ghost use Rattle.cfs_serve.specs.Commands.{asked_of};
+ghost use Rattle.cfs_serve.specs.Words.{most_made};
 ghost use Rattle.cfs_serve.specs.Whole.{FitsVolume, HasCylinders, HasDisk, HasPlaces};
 
 use crate::known::Known;
 use cfs_base::Disk;
 use cfs_host::{FileDisk, FileSink, FileSource, Identity, ReplyFile, Stream};
-use cfs_serve::{Files, Path, Volume, WordsFault, files_named};
+use cfs_serve::{Command, Files, Path, Volume};
 use std::alloc::Global;
 use std::fs::File;
 use std::io::{self, Stdin, Stdout};
@@ -198,26 +199,27 @@ fn open_files(rt: &HostRuntime, alloc: Global, files: &Files) -> Result<Opened, 
     })
 }
 
-/// Opens what the words name, and nothing for a page or for words that are of no form. Where it can't, it tells why and
-/// answers the status.
-pub(crate) fn open(rt: &HostRuntime, alloc: Global, words: &[String]) -> Result<Opened, u8>
-    ensures disk { IfOk result (λ o. HasDisk (asked_in (map string_bytes words.now))
+/// Opens what a command names, and nothing where there is none. Where it can't, it tells why and answers the status.
+pub(crate) fn open(
+    rt: &HostRuntime,
+    alloc: Global,
+    command: Option<Command<'_>>,
+) -> Result<Opened, u8>
+    ensures disk { IfOk result (λ o. HasDisk (asked_of command.entry)
         (option_map (λ f. volume_blocks o.pair (⟦<FileDisk as Disk>⟧.blocks f)) o.disk)) }
-    ensures places { IfOk result (λ o. HasPlaces (asked_in (map string_bytes words.now)) (length o.sources.items)
-        (length o.sinks.items)) }
+    ensures places { IfOk result (λ o. HasPlaces (asked_of command.entry) (length o.sources.items) (length o.sinks.items)) }
 {
-    let files = match files_named(alloc, words) {
-        Ok(files) => files,
-        Err(WordsFault::Words) => {
-            return Ok(Opened {
-                disk: None,
-                pair: false,
-                sources: Vec::new(alloc),
-                sinks: Vec::new(alloc),
-                made: None,
-            });
-        }
-        Err(WordsFault::Memory) => return Err(tell_starved(rt)),
+    let Some(command) = command else {
+        return Ok(Opened {
+            disk: None,
+            pair: false,
+            sources: Vec::new(alloc),
+            sinks: Vec::new(alloc),
+            made: None,
+        });
+    };
+    let Ok(files) = command.files(alloc) else {
+        return Err(tell_starved(rt));
     };
     let opened = open_files(rt, alloc, &files)?;
     let made = made_file(files.volume, &opened.disk);

@@ -50,6 +50,15 @@ pub since_none : {A : Type 0} (r : Result A Refused) → since false r ≡ r
 since_none (Ok x) = refl
 since_none (Err e) = refl
 
+-- what was done before it, or why it wasn't
+pub since_ok : {A : Type 0} (tried : Bool) (r : Result A Refused) (x : A) → since tried r ≡ Ok x → r ≡ Ok x
+since_ok tried (Ok y) x is = is
+since_ok tried (Err e) x is = cc
+
+pub since_err : {A : Type 0} (tried : Bool) (r : Result A Refused) (k : Refused) → since tried r ≡ Err k → (e : Refused) × (r ≡ Err e) × (k ≡ refused_since tried e)
+since_err tried (Ok y) k is = cc
+since_err tried (Err e) k is = (e, refl, cc)
+
 -- ---- it is carried out
 
 module _ {D : Type 0} (g : Ghosts D) (old : Kernel D) (d : D) (space : Kept) (tried : Bool) (fin : FinishesLeft g old.disk d old.space space (Ok tried)) where

@@ -58,4 +58,5 @@ mod StepMoves
 mod Stepping
 mod Stepped
 mod Parted
+mod Passed
 mod Waiting

@@ -1,5 +1,5 @@
 -- A request that was asked.
-use Rattle.std.specs.Prelude.{◌≡◌, ℕ, ◌+◌, ◌-◌, ◌≤◌, true, false, length, sum, IsSome, Result, Ok, Err, Option, Some}
+use Rattle.std.specs.Prelude.{◌≡◌, ℕ, ◌+◌, ◌-◌, ◌≤◌, Bool, true, false, length, sum, IsSome, Result, Ok, Err, Option, Some}
 use Rattle.std.specs.Prelude.{None}
 use Rattle.cfs_base.specs.Calls.{HasStopped}
 use Rattle.cfs_base.specs.declared.disk.Disk.{Ghosts}
@@ -30,10 +30,14 @@ use Rattle.cfs_core.specs.StandsFor.{StandsFor, end_in, free_to_come}
 
 -- ---- what is told of a refusal from below, at this moment of the disk
 
+-- a call failed: where a write had been tried the doubt is of the moment before
+abbrev pub doubt_of : (tried : Bool) → ℕ → Option ℕ
+doubt_of false moment = None
+doubt_of true moment = Some (moment - 1)
+
 abbrev pub reply_to : Refused → ℕ → Reply
 reply_to (refusals.Full need) moment = replies.Full need
-reply_to (refusals.Disk false) moment = replies.Disk None
-reply_to (refusals.Disk true) moment = replies.Disk (Some (moment - 1))
+reply_to (refusals.Disk tried) moment = replies.Disk (doubt_of tried moment)
 reply_to (refusals.Damaged damage) moment = replies.Damaged damage moment
 reply_to refusals.Memory moment = replies.Memory
 

@@ -42,7 +42,7 @@ use Rattle.cfs_core.specs.declared.collecting.CollectFault.TheVariants as faults
 use Rattle.cfs_core.specs.declared.collecting.Step.{Step}
 use Rattle.cfs_core.specs.declared.collecting.Step.TheVariants as steps
 use Rattle.cfs_core.specs.declared.kernel.Stop.{Stop}
-use Rattle.cfs_core.specs.Asked.{Happens}
+use Rattle.cfs_core.specs.Asked.{Happens, doubt_of}
 use Rattle.cfs_core.specs.Calls.{IsCause}
 use Rattle.cfs_core.specs.Damage.{IsDamageTold}
 use Rattle.cfs_core.specs.Kernel.{AreCollections, Kernel, Handle, collection_runs}
@@ -263,8 +263,7 @@ pub record StepsSo {D : Type 0} (g : Ghosts D) (old new : D) (before after : Kep
 
 abbrev pub fault_for : Refused → ℕ → CollectFault
 fault_for (refusals.Full need) moment = faults.Memory
-fault_for (refusals.Disk false) moment = faults.Disk None
-fault_for (refusals.Disk true) moment = faults.Disk (Some (moment - 1))
+fault_for (refusals.Disk tried) moment = faults.Disk (doubt_of tried moment)
 fault_for (refusals.Damaged damage) moment = faults.Damaged damage moment
 fault_for refusals.Memory moment = faults.Memory
 

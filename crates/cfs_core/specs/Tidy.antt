@@ -12,7 +12,7 @@ use Rattle.cfs_core.specs.declared.tidying.Tidy.{Tidy}
 use Rattle.cfs_core.specs.declared.tidying.Tidy.TheVariants as tidies
 use Rattle.cfs_core.specs.declared.tidying.TidyFault.{TidyFault}
 use Rattle.cfs_core.specs.declared.tidying.TidyFault.TheVariants as faults
-use Rattle.cfs_core.specs.Asked.{Happens}
+use Rattle.cfs_core.specs.Asked.{Happens, doubt_of}
 use Rattle.cfs_core.specs.Collect.{Rests}
 use Rattle.cfs_core.specs.Damage.{IsDamageTold}
 use Rattle.cfs_core.specs.Kernel.{Kernel}
@@ -21,8 +21,7 @@ use Rattle.cfs_core.specs.StandsFor.{StandsFor}
 -- ---- what is told of trouble, at this moment of the disk
 
 abbrev pub tidy_fault_by : Trouble → ℕ → TidyFault
-tidy_fault_by (troubles.Disk false) moment = faults.Disk None
-tidy_fault_by (troubles.Disk true) moment = faults.Disk (Some (moment - 1))
+tidy_fault_by (troubles.Disk tried) moment = faults.Disk (doubt_of tried moment)
 tidy_fault_by (troubles.Damaged damage) moment = faults.Damaged damage moment
 
 -- and whether the core stops

@@ -4,7 +4,7 @@ ghost use Rattle.cfs_core.specs.Asked.{Asks, stopped_by, reply_to};
 ghost use Rattle.cfs_core.specs.Calls.{Tries};
 ghost use Rattle.cfs_core.specs.Rescues.{AreRescued, HasRoomFor, ended_of, rescue_of};
 
-use crate::kernel::{Core, Stop};
+use crate::kernel::Core;
 use cfs_base::{Disk, Puid, Refused, Session};
 use std::alloc::Global;
 use ufs_model::{Reply, Request};
@@ -104,25 +104,13 @@ impl<D: Disk> Core<D> {
         match refused {
             Refused::Full(need) => Reply::Full(need),
             Refused::Memory => Reply::Memory,
-            Refused::Disk { tried: false } => Reply::Disk { doubt: None },
-            Refused::Disk { tried: true } => {
-                let moment = self.disk.moment().saturating_sub(1);
-                self.stop = Some(Stop {
-                    moment,
-                    damage: None,
-                });
-                Reply::Disk {
-                    doubt: Some(moment),
-                }
-            }
-            Refused::Damaged(damage) => {
-                let moment = self.disk.moment();
-                self.stop = Some(Stop {
-                    moment,
-                    damage: Some(damage),
-                });
-                Reply::Damaged { damage, moment }
-            }
+            Refused::Disk { tried } => Reply::Disk {
+                doubt: self.stop_in_doubt(tried),
+            },
+            Refused::Damaged(damage) => Reply::Damaged {
+                damage,
+                moment: self.stop_at(damage),
+            },
         }
     }
 }

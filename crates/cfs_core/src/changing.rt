@@ -43,10 +43,8 @@ pub(crate) fn holds_something(reply: &Reply) -> bool
 pub(crate) fn done(ended: Result<(), Refused>) -> Result<Reply, Refused>
     ensures { result ≡ done_or ended }
 {
-    match ended {
-        Ok(()) => Ok(Reply::Done),
-        Err(refused) => Err(refused),
-    }
+    ended?;
+    Ok(Reply::Done)
 }
 
 impl<D: Disk> Core<D> {
@@ -62,7 +60,7 @@ impl<D: Disk> Core<D> {
         ensures { Tries D.Disk self.old self.new who (asks.Retain to slot id) result }
     {
         match self.drafted(who, to, Wanted::AnIndex) {
-            Some(grant) => self.retain_draft(who, grant, slot, id),
+            Some(grant) => self.retain_draft(grant, slot, id),
             None => self.retain_object(alloc, who, to, slot, id),
         }
     }
@@ -107,7 +105,7 @@ impl<D: Disk> Core<D> {
         ensures { Tries D.Disk self.old self.new who (asks.Delete to slot) result }
     {
         match self.drafted(who, to, Wanted::AnIndex) {
-            Some(grant) => self.delete_draft(who, grant, slot),
+            Some(grant) => self.delete_draft(grant, slot),
             None => self.delete_object(alloc, who, to, slot),
         }
     }
@@ -153,14 +151,8 @@ impl<D: Disk> Core<D> {
         requires id { id.block ≢ 0 }
         ensures { (to : Ref) → TriesOn D.Disk self.old self.new index slot (asks.Retain to slot id) result }
     {
-        let room = match take_room(alloc) {
-            Ok(room) => room,
-            Err(refused) => return Err(refused),
-        };
-        let tried = match finish(&mut self.disk, &mut self.space) {
-            Ok(tried) => tried,
-            Err(trouble) => return Err(Refused::from(trouble)),
-        };
+        let room = take_room(alloc)?;
+        let tried = finish(&mut self.disk, &mut self.space)?;
         let at = BlockNo(index.block);
         let ended = retain(room, &mut self.disk, &mut self.space, at, slot, id);
         since(tried, done(ended))
@@ -176,23 +168,15 @@ impl<D: Disk> Core<D> {
         ensures { (to : Ref) → floor ≡ delete_floor to
             → TriesOn D.Disk self.old self.new index slot (asks.Delete to slot) result }
     {
-        let room = match take_room(alloc) {
-            Ok(room) => room,
-            Err(refused) => return Err(refused),
-        };
-        let tried = match finish(&mut self.disk, &mut self.space) {
-            Ok(tried) => tried,
-            Err(trouble) => return Err(Refused::from(trouble)),
-        };
+        let room = take_room(alloc)?;
+        let tried = finish(&mut self.disk, &mut self.space)?;
         if self.space.free() < 3 {
             return Err(Refused::Damaged(Damage {
                 block: 0,
                 code: code::TOO_FULL,
             }));
         }
-        if let Err(refused) = self.space.has_room(3, floor) {
-            return Err(refused);
-        }
+        self.space.has_room(3, floor)?;
         let at = BlockNo(index.block);
         let ended = delete(room, &mut self.disk, &mut self.space, at, slot);
         since(tried, done(ended))

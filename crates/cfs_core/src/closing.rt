@@ -65,10 +65,7 @@ impl<D: Disk> Core<D> {
             let _ = self.handles.take(grant.draw);
             return Ok(self.close_bare(who, grant, commit));
         }
-        let tried = match finish(&mut self.disk, &mut self.space) {
-            Ok(tried) => tried,
-            Err(trouble) => return Err(Refused::from(trouble)),
-        };
+        let tried = finish(&mut self.disk, &mut self.space)?;
         match self.handles.take(grant.draw) {
             Some(draft) => since(tried, self.end(who, grant, draft, commit)),
             None => unreachable!(),
@@ -108,13 +105,9 @@ impl<D: Disk> Core<D> {
         ensures never { IfErr result (λ e. e ≢ refusals.Memory) }
     {
         table_follows_the_model();
-        match end_draft(draft, &mut self.disk, &mut self.space, commit) {
-            Ok(()) => {
-                let _ = self.handles.close(who, grant);
-                Ok(Reply::Done)
-            }
-            Err(trouble) => Err(Refused::from(trouble)),
-        }
+        end_draft(draft, &mut self.disk, &mut self.space, commit)?;
+        let _ = self.handles.close(who, grant);
+        Ok(Reply::Done)
     }
 
     /// A session leaves: its grants are dropped, and their drafts are given up, once what was left of a commit is

@@ -10,7 +10,7 @@ ghost use Rattle.cyl_alloc.specs.Space as space;
 ghost use Rattle.open_table.specs.declared.grant.Grant as grant;
 
 use crate::handles::Handles;
-use crate::kernel::{Core, Stop};
+use crate::kernel::Core;
 use cfs_base::{Damage, Disk, Ids, NoMemory, Puid, Refused, Trouble};
 use collector_steps::{Collector, Phase};
 use cyl_alloc::Space;
@@ -118,10 +118,8 @@ fn mark<D: Disk>(
         return Ok(Step::Took);
     }
     if let Some(id) = collector.next_index() {
-        return match collector.scan(disk, directory, handles.root_on(id)) {
-            Ok(()) => Ok(Step::Scanned),
-            Err(trouble) => Err(Refused::from(trouble)),
-        };
+        collector.scan(disk, directory, handles.root_on(id))?;
+        return Ok(Step::Scanned);
     }
     let ids = collector.condemn(directory);
     Ok(Step::Condemned { ids })
@@ -153,10 +151,8 @@ fn sweep<D: Disk>(
 fn told(swept: Result<(), Trouble>) -> Result<Step, Refused>
     ensures { result ≡ told_as swept }
 {
-    match swept {
-        Ok(()) => Ok(Step::Swept),
-        Err(trouble) => Err(Refused::from(trouble)),
-    }
+    swept?;
+    Ok(Step::Swept)
 }
 
 /// A collector of so many blocks, with a collection that has begun.
@@ -320,25 +316,13 @@ impl<D: Disk> Core<D> {
     {
         match refused {
             Refused::Memory | Refused::Full(_) => CollectFault::Memory,
-            Refused::Disk { tried: false } => CollectFault::Disk { doubt: None },
-            Refused::Disk { tried: true } => {
-                let moment = self.disk.moment().saturating_sub(1);
-                self.stop = Some(Stop {
-                    moment,
-                    damage: None,
-                });
-                CollectFault::Disk {
-                    doubt: Some(moment),
-                }
-            }
-            Refused::Damaged(damage) => {
-                let moment = self.disk.moment();
-                self.stop = Some(Stop {
-                    moment,
-                    damage: Some(damage),
-                });
-                CollectFault::Damaged { damage, moment }
-            }
+            Refused::Disk { tried } => CollectFault::Disk {
+                doubt: self.stop_in_doubt(tried),
+            },
+            Refused::Damaged(damage) => CollectFault::Damaged {
+                damage,
+                moment: self.stop_at(damage),
+            },
         }
     }
 }

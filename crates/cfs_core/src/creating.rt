@@ -13,12 +13,13 @@ ghost use Rattle.ufs_model.specs.declared.asked.Wanted.TheVariants.{AnIndex};
 ghost use Rattle.ufs_model.specs.declared.asked.Request.TheVariants as asks;
 ghost use Rattle.ufs_model.specs.declared.asked.Request.{Request};
 
-use crate::finishing::{finish, refused_since, since, take_room};
+use crate::finishing::{finish, since, take_room};
 use crate::kernel::Core;
 use crate::looking::has_slot;
 use crate::way::Way;
 use cfs_base::{BlockNo, Damage, Disk, FileKind, Kind, Puid, Refused, Session, code};
 use index_ops::create;
+use special_files::bare_root;
 use std::alloc::Global;
 use ufs_model::{MOST_SLOTS, Ref, Reply, Wanted};
 
@@ -47,7 +48,7 @@ impl<D: Disk> Core<D> {
         ensures { Tries D.Disk self.old self.new who (asks.CreateFile kind fill to slot) result }
     {
         match self.drafted(who, to, Wanted::AnIndex) {
-            Some(grant) => self.create_file_drafted(who, grant, kind, fill, slot),
+            Some(grant) => self.create_file_drafted(grant, kind, fill, slot),
             None => self.create_file_object(alloc, who, kind, fill, to, slot),
         }
     }
@@ -96,7 +97,7 @@ impl<D: Disk> Core<D> {
         ensures { Tries D.Disk self.old self.new who (asks.CreateIndex slots to slot) result }
     {
         match self.drafted(who, to, Wanted::AnIndex) {
-            Some(grant) => self.create_index_drafted(who, grant, slots, slot),
+            Some(grant) => self.create_index_drafted(grant, slots, slot),
             None => self.create_index_object(alloc, who, slots, to, slot),
         }
     }
@@ -154,29 +155,13 @@ impl<D: Disk> Core<D> {
         ensures { (request : Request) → IsMaking request slot (made_of kind fill size)
             → TriesOn D.Disk self.old self.new index slot request result }
     {
-        let word = self.words.ahead();
-        let room = match take_room(alloc) {
-            Ok(room) => room,
-            Err(refused) => return Err(refused),
-        };
-        let tried = match finish(&mut self.disk, &mut self.space) {
-            Ok(tried) => tried,
-            Err(trouble) => return Err(Refused::from(trouble)),
-        };
-        match create(
-            room,
-            &mut self.disk,
-            &mut self.space,
-            BlockNo(index.block),
-            slot,
-            kind,
-            fill,
-            size,
-            word,
-        ) {
-            Ok(id) => since(tried, self.name(id, kind)),
-            Err(refused) => Err(refused_since(tried, refused)),
-        }
+        let root = bare_root(kind, fill, size, self.words.ahead());
+        let room = take_room(alloc)?;
+        let tried = finish(&mut self.disk, &mut self.space)?;
+        let at = BlockNo(index.block);
+        let made = create(room, &mut self.disk, &mut self.space, at, slot, &root);
+        let id = since(tried, made)?;
+        since(tried, self.name(id, kind))
     }
 
     /// Names an object that was made, with the word that is drawn for it. On a disk that lies its root block may be

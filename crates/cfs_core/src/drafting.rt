@@ -1,11 +1,11 @@
 //! Requests on a file through a grant with a draft.
-ghost use Rattle.std.specs.Prelude.{◌≡◌, ◌+◌, ◌*◌, ◌<◌, ◌≤◌, false, IfErr, IfNone, IfOk, IfSome, length};
+ghost use Rattle.std.specs.Prelude.{◌≡◌, ◌+◌, ◌*◌, ◌<◌, ◌≤◌, ℕ, false, IfErr, IfNone, IfOk, IfSome, length};
 ghost use Rattle.block_tree.specs.Pointers.{size_limit};
 ghost use Rattle.cfs_base.specs.Calls.{OnlyReads};
 ghost use Rattle.cfs_core.specs.Calls.{Tries};
 ghost use Rattle.cfs_core.specs.Drafts.{ChangesDraft, HasNoneOf, IsDrafted};
 ghost use Rattle.cfs_core.specs.Looks.{IsDraftCause, content_reply};
-ghost use Rattle.cfs_core.specs.Handles.{drafting_at};
+ghost use Rattle.cfs_core.specs.Handles.{HoldsDraft, drafting_at};
 ghost use Rattle.cfs_core.specs.StandsFor.{ServesIs};
 ghost use Rattle.special_files.specs.Refusal.{has_met_damage, top_of};
 ghost use Rattle.special_files.specs.View.{DraftSeen};
@@ -57,14 +57,9 @@ fn content<D: Disk>(
     if !is_range(draft.size(), offset, count) {
         return Ok(Reply::Range);
     }
-    let mut bytes = match zeros(alloc, count as usize) {
-        Ok(bytes) => bytes,
-        Err(want) => return Err(Refused::from(want)),
-    };
-    match draft.read(disk, offset, bytes.as_mut_slice()) {
-        Ok(()) => Ok(Reply::Content(Bytes::new(bytes))),
-        Err(trouble) => Err(Refused::from(trouble)),
-    }
+    let mut bytes = zeros(alloc, count as usize)?;
+    draft.read(disk, offset, bytes.as_mut_slice())?;
+    Ok(Reply::Content(Bytes::new(bytes)))
 }
 
 /// Writes bytes into a draft, within its size.
@@ -105,17 +100,14 @@ impl<D: Disk> Core<D> {
     pub(crate) fn drafted(&self, who: Session, to: Ref, wants: Wanted) -> Option<Tuid>
         ensures through { IfSome result (λ grant. to ≡ refs.Through grant) }
         ensures has { IfSome result (IsDrafted self.now wants who) }
+        ensures holds { IfSome result (λ grant. HoldsDraft self.now.handles grant.draw 0) }
         ensures bare { IfNone result ((s : State) → ServesIs D.Disk self.now s → HasNoneOf wants (draft_of s who to)) }
     {
         table_follows_the_model();
-        let grant = match to {
-            Ref::Direct(_) => return None,
-            Ref::Through(grant) => grant,
+        let Ref::Through(grant) = to else {
+            return None;
         };
-        let found = match self.handles.find(who, grant) {
-            Some(found) => found,
-            None => return None,
-        };
+        let found = self.handles.find(who, grant)?;
         if self.handles.draft(grant.draw).is_some() && is_fit(wants, self.kind(found.id)) {
             Some(grant)
         } else {
@@ -127,13 +119,13 @@ impl<D: Disk> Core<D> {
     pub(crate) fn read_draft(
         &mut self,
         alloc: Global,
-        who: Session,
         grant: Tuid,
         offset: u64,
         count: u64,
     ) -> Result<Reply, Refused>
-        requires { IsDrafted self.old AFile who grant }
-        ensures { Tries D.Disk self.old self.new who (asks.Read (refs.Through grant) offset count) result }
+        requires { HoldsDraft self.old.handles grant.draw 0 }
+        ensures { (who : ℕ) → IsDrafted self.old AFile who grant
+            → Tries D.Disk self.old self.new who (asks.Read (refs.Through grant) offset count) result }
     {
         table_follows_the_model();
         match self.handles.draft(grant.draw) {
@@ -143,9 +135,10 @@ impl<D: Disk> Core<D> {
     }
 
     /// The size of a draft in bytes.
-    pub(crate) fn size_of_draft(&self, who: Session, grant: Tuid) -> Reply
-        requires { IsDrafted self.now AFile who grant }
-        ensures { Tries D.Disk self.now self.now who (asks.Size (refs.Through grant)) (Ok result) }
+    pub(crate) fn size_of_draft(&self, grant: Tuid) -> Reply
+        requires { HoldsDraft self.now.handles grant.draw 0 }
+        ensures { (who : ℕ) → IsDrafted self.now AFile who grant
+            → Tries D.Disk self.now self.now who (asks.Size (refs.Through grant)) (Ok result) }
     {
         table_follows_the_model();
         match self.handles.draft(grant.draw) {
@@ -157,13 +150,13 @@ impl<D: Disk> Core<D> {
     /// Writes bytes into a draft, from an offset on.
     pub(crate) fn write_draft(
         &mut self,
-        who: Session,
         grant: Tuid,
         offset: u64,
         bytes: &[u8],
     ) -> Result<Reply, Refused>
-        requires { IsDrafted self.old AFile who grant }
-        ensures { Tries D.Disk self.old self.new who (asks.Write (refs.Through grant) offset bytes.now) result }
+        requires { HoldsDraft self.old.handles grant.draw 0 }
+        ensures { (who : ℕ) → IsDrafted self.old AFile who grant
+            → Tries D.Disk self.old self.new who (asks.Write (refs.Through grant) offset bytes.now) result }
     {
         are_bytes(bytes);
         table_follows_the_model();
@@ -174,10 +167,7 @@ impl<D: Disk> Core<D> {
         if !is_range(held, offset, bytes.len() as u64) {
             return Ok(Reply::Range);
         }
-        let tried = match finish(&mut self.disk, &mut self.space) {
-            Ok(tried) => tried,
-            Err(trouble) => return Err(Refused::from(trouble)),
-        };
+        let tried = finish(&mut self.disk, &mut self.space)?;
         let ended = self
             .handles
             .write(grant.draw, &mut self.disk, &mut self.space, offset, bytes);
@@ -185,23 +175,16 @@ impl<D: Disk> Core<D> {
     }
 
     /// Sets the size of a draft in bytes.
-    pub(crate) fn resize_draft(
-        &mut self,
-        who: Session,
-        grant: Tuid,
-        size: u64,
-    ) -> Result<Reply, Refused>
-        requires { IsDrafted self.old AFile who grant }
-        ensures { Tries D.Disk self.old self.new who (asks.Resize (refs.Through grant) size) result }
+    pub(crate) fn resize_draft(&mut self, grant: Tuid, size: u64) -> Result<Reply, Refused>
+        requires { HoldsDraft self.old.handles grant.draw 0 }
+        ensures { (who : ℕ) → IsDrafted self.old AFile who grant
+            → Tries D.Disk self.old self.new who (asks.Resize (refs.Through grant) size) result }
     {
         table_follows_the_model();
         if size > MOST_BYTES {
             return Ok(Reply::Range);
         }
-        let tried = match finish(&mut self.disk, &mut self.space) {
-            Ok(tried) => tried,
-            Err(trouble) => return Err(Refused::from(trouble)),
-        };
+        let tried = finish(&mut self.disk, &mut self.space)?;
         let ended = self
             .handles
             .resize(grant.draw, &mut self.disk, &mut self.space, size);

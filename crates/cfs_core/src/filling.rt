@@ -7,7 +7,7 @@ ghost use Rattle.cfs_core.specs.Handles.{HoldsDraft, drafting_at};
 ghost use Rattle.cfs_core.specs.Makes.{IsMaking};
 ghost use Rattle.index_drafts.specs.Creates.{CreatesIn};
 ghost use Rattle.leaf_changes.specs.Bytes.{IsSlot};
-ghost use Rattle.special_files.specs.Creates.{MayBeMade, made_of};
+ghost use Rattle.special_files.specs.Creates.{IsBare, MayBeMade, made_of};
 ghost use Rattle.special_files.specs.Drafting.{Drafting};
 ghost use Rattle.ufs_model.specs.Limits.{reserve};
 ghost use Rattle.ufs_model.specs.Next.{is_direct_delete};
@@ -16,16 +16,18 @@ ghost use Rattle.ufs_model.specs.declared.asked.Request as asked;
 ghost use Rattle.ufs_model.specs.declared.asked.Request.TheVariants as asks;
 ghost use Rattle.ufs_model.specs.declared.asked.Wanted.TheVariants.{AnIndex};
 ghost use Rattle.ufs_model.specs.declared.change.Change.TheVariants.{Fill};
+ghost use Rattle.vol_image.specs.Reading.{bare_object};
 
 use crate::changing::{done, holds_something};
 use crate::creating::kind_of;
-use crate::finishing::{finish, refused_since, since};
+use crate::finishing::{finish, since};
 use crate::kernel::Core;
-use cfs_base::{Disk, FileKind, Kind, Puid, Refused, Session, Tuid};
+use block_tree::Root;
+use cfs_base::{Disk, FileKind, Kind, Puid, Refused, Tuid};
 use cyl_alloc::Space;
 use index_drafts::{create_in, put_in};
 use open_table::table_follows_the_model;
-use special_files::Draft;
+use special_files::{Draft, bare_root};
 use ufs_model::{MOST_SLOTS, RESERVE, Reply};
 
 /// How many slots the index has of which this is a draft.
@@ -43,10 +45,9 @@ fn look_in<D: Disk>(disk: &mut D, draft: &Draft, slot: u64) -> Result<Reply, Ref
     if slot >= count(draft) {
         return Ok(Reply::Slot);
     }
-    match draft.slot(disk, slot) {
-        Ok(Some(id)) => Ok(Reply::Id(id)),
-        Ok(None) => Ok(Reply::Empty),
-        Err(trouble) => Err(Refused::from(trouble)),
+    match draft.slot(disk, slot)? {
+        Some(id) => Ok(Reply::Id(id)),
+        None => Ok(Reply::Empty),
     }
 }
 
@@ -67,25 +68,22 @@ pub(crate) fn put_slot<D: Disk>(
     put_in(draft, disk, space, slot, what, RESERVE)
 }
 
-/// Makes an object, and puts its identifier into a slot of a draft.
+/// Makes the object with this root, and puts its identifier into a slot of a draft.
 pub(crate) fn make_in<D: Disk>(
     draft: &mut Draft,
     disk: &mut D,
     space: &mut Space,
     slot: u64,
-    kind: Kind,
-    fill: u8,
-    size: u64,
-    word: u32,
+    root: &Root,
 ) -> Result<Puid, Refused>
     requires on_disk { draft.old.at < D.blocks disk.old }
     requires size { D.blocks disk.old ≡ 64 * length space.old.free }
     requires within { 8 * slot + 8 ≤ draft.old.root.size }
-    requires made { MayBeMade kind fill size }
-    ensures { CreatesIn D.Disk slot (made_of kind fill size) word reserve disk.old disk.new space.old space.new
+    requires root { IsBare root.now }
+    ensures { CreatesIn D.Disk slot (bare_object root.now) root.now.word reserve disk.old disk.new space.old space.new
         draft.old draft.new result }
 {
-    create_in(draft, disk, space, slot, kind, fill, size, word, RESERVE)
+    create_in(draft, disk, space, slot, root, RESERVE)
 }
 
 impl<D: Disk> Core<D> {
@@ -115,24 +113,20 @@ impl<D: Disk> Core<D> {
     }
 
     /// The identifier in a slot of a draft.
-    pub(crate) fn retrieve_draft(
-        &mut self,
-        who: Session,
-        grant: Tuid,
-        slot: u64,
-    ) -> Result<Reply, Refused>
-        requires { IsDrafted self.old AnIndex who grant }
-        ensures { Tries D.Disk self.old self.new who (asks.Retrieve (refs.Through grant) slot) result }
+    pub(crate) fn retrieve_draft(&mut self, grant: Tuid, slot: u64) -> Result<Reply, Refused>
+        requires { HoldsDraft self.old.handles grant.draw 0 }
+        ensures { (who : ℕ) → IsDrafted self.old AnIndex who grant
+            → Tries D.Disk self.old self.new who (asks.Retrieve (refs.Through grant) slot) result }
     {
         table_follows_the_model();
-        let _session = who;
         self.look_drafted(grant, slot)
     }
 
     /// The number of slots of a draft.
-    pub(crate) fn slots_of_draft(&self, who: Session, grant: Tuid) -> Reply
-        requires { IsDrafted self.now AnIndex who grant }
-        ensures { Tries D.Disk self.now self.now who (asks.Slots (refs.Through grant)) (Ok result) }
+    pub(crate) fn slots_of_draft(&self, grant: Tuid) -> Reply
+        requires { HoldsDraft self.now.handles grant.draw 0 }
+        ensures { (who : ℕ) → IsDrafted self.now AnIndex who grant
+            → Tries D.Disk self.now self.now who (asks.Slots (refs.Through grant)) (Ok result) }
     {
         table_follows_the_model();
         match self.handles.draft(grant.draw) {
@@ -144,16 +138,15 @@ impl<D: Disk> Core<D> {
     /// Puts an identifier of an object into a slot of a draft.
     pub(crate) fn retain_draft(
         &mut self,
-        who: Session,
         grant: Tuid,
         slot: u64,
         id: Puid,
     ) -> Result<Reply, Refused>
-        requires { IsDrafted self.old AnIndex who grant }
-        ensures { Tries D.Disk self.old self.new who (asks.Retain (refs.Through grant) slot id) result }
+        requires { HoldsDraft self.old.handles grant.draw 0 }
+        ensures { (who : ℕ) → IsDrafted self.old AnIndex who grant
+            → Tries D.Disk self.old self.new who (asks.Retain (refs.Through grant) slot id) result }
     {
         table_follows_the_model();
-        let _session = who;
         if self.lacks(Some(id)) {
             return Ok(Reply::NoObject);
         }
@@ -164,26 +157,17 @@ impl<D: Disk> Core<D> {
     }
 
     /// Empties a slot of a draft.
-    pub(crate) fn delete_draft(
-        &mut self,
-        who: Session,
-        grant: Tuid,
-        slot: u64,
-    ) -> Result<Reply, Refused>
-        requires { IsDrafted self.old AnIndex who grant }
-        ensures { Tries D.Disk self.old self.new who (asks.Delete (refs.Through grant) slot) result }
+    pub(crate) fn delete_draft(&mut self, grant: Tuid, slot: u64) -> Result<Reply, Refused>
+        requires { HoldsDraft self.old.handles grant.draw 0 }
+        ensures { (who : ℕ) → IsDrafted self.old AnIndex who grant
+            → Tries D.Disk self.old self.new who (asks.Delete (refs.Through grant) slot) result }
     {
         table_follows_the_model();
-        let _session = who;
-        match self.look_drafted(grant, slot) {
-            Ok(reply) => {
-                if holds_something(&reply) {
-                    self.put_drafted(grant, slot, None)
-                } else {
-                    Ok(reply)
-                }
-            }
-            Err(refused) => Err(refused),
+        let reply = self.look_drafted(grant, slot)?;
+        if holds_something(&reply) {
+            self.put_drafted(grant, slot, None)
+        } else {
+            Ok(reply)
         }
     }
 
@@ -194,10 +178,7 @@ impl<D: Disk> Core<D> {
         ensures { (who : ℕ) (request : asked.Request) → HasGrant self.old who grant → is_direct_delete request ≡ false
             → TriesThroughWith D.Disk self.old.space.left self.old self.new who grant (Fill slot what) request result }
     {
-        let tried = match finish(&mut self.disk, &mut self.space) {
-            Ok(tried) => tried,
-            Err(trouble) => return Err(Refused::from(trouble)),
-        };
+        let tried = finish(&mut self.disk, &mut self.space)?;
         let ended = self
             .handles
             .put(grant.draw, &mut self.disk, &mut self.space, slot, what);
@@ -207,18 +188,17 @@ impl<D: Disk> Core<D> {
     /// Makes a file of no bytes in a draft.
     pub(crate) fn create_file_drafted(
         &mut self,
-        who: Session,
         grant: Tuid,
         kind: FileKind,
         fill: u8,
         slot: u64,
     ) -> Result<Reply, Refused>
         requires words { self.old.words.drawn < 4294967295 }
-        requires drafted { IsDrafted self.old AnIndex who grant }
-        ensures { Tries D.Disk self.old self.new who (asks.CreateFile kind fill (refs.Through grant) slot) result }
+        requires holds { HoldsDraft self.old.handles grant.draw 0 }
+        ensures { (who : ℕ) → IsDrafted self.old AnIndex who grant
+            → Tries D.Disk self.old self.new who (asks.CreateFile kind fill (refs.Through grant) slot) result }
     {
         table_follows_the_model();
-        let _session = who;
         if !self.has_drafted(grant, slot) {
             return Ok(Reply::Slot);
         }
@@ -228,17 +208,16 @@ impl<D: Disk> Core<D> {
     /// Makes an index of empty slots in a draft.
     pub(crate) fn create_index_drafted(
         &mut self,
-        who: Session,
         grant: Tuid,
         slots: u64,
         slot: u64,
     ) -> Result<Reply, Refused>
         requires words { self.old.words.drawn < 4294967295 }
-        requires drafted { IsDrafted self.old AnIndex who grant }
-        ensures { Tries D.Disk self.old self.new who (asks.CreateIndex slots (refs.Through grant) slot) result }
+        requires holds { HoldsDraft self.old.handles grant.draw 0 }
+        ensures { (who : ℕ) → IsDrafted self.old AnIndex who grant
+            → Tries D.Disk self.old self.new who (asks.CreateIndex slots (refs.Through grant) slot) result }
     {
         table_follows_the_model();
-        let _session = who;
         if !self.has_drafted(grant, slot) {
             return Ok(Reply::Slot);
         }
@@ -264,18 +243,12 @@ impl<D: Disk> Core<D> {
             → HasGrant self.old who grant
             → TriesMakingWith D.Disk self.old.space.left self.old self.new who grant request result }
     {
-        let word = self.words.ahead();
-        let tried = match finish(&mut self.disk, &mut self.space) {
-            Ok(tried) => tried,
-            Err(trouble) => return Err(Refused::from(trouble)),
-        };
-        let (disk, space) = (&mut self.disk, &mut self.space);
-        let ended = self
+        let root = bare_root(kind, fill, size, self.words.ahead());
+        let tried = finish(&mut self.disk, &mut self.space)?;
+        let made = self
             .handles
-            .create(grant.draw, disk, space, slot, kind, fill, size, word);
-        match ended {
-            Ok(id) => since(tried, self.name(id, kind)),
-            Err(refused) => Err(refused_since(tried, refused)),
-        }
+            .create(grant.draw, &mut self.disk, &mut self.space, slot, &root);
+        let id = since(tried, made)?;
+        since(tried, self.name(id, kind))
     }
 }

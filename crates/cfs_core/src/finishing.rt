@@ -14,10 +14,7 @@ use std::alloc::Global;
 pub(crate) fn take_room(alloc: Global) -> Result<Room, Refused>
     ensures { IfErr result (λ e. e ≡ refusals.Memory) }
 {
-    match Room::new(alloc) {
-        Ok(room) => Ok(room),
-        Err(want) => Err(Refused::from(want)),
-    }
+    Ok(Room::new(alloc)?)
 }
 
 /// The same for a change of a file of this kind. A normal one is changed in place, and takes none.
@@ -27,10 +24,7 @@ pub(crate) fn room_for(alloc: Global, kind: FileKind) -> Result<Option<Room>, Re
 {
     match kind {
         FileKind::Normal => Ok(None),
-        FileKind::Special => match take_room(alloc) {
-            Ok(room) => Ok(Some(room)),
-            Err(refused) => Err(refused),
-        },
+        FileKind::Special => Ok(Some(take_room(alloc)?)),
     }
 }
 
@@ -41,14 +35,12 @@ pub(crate) fn finish<D: Disk>(disk: &mut D, space: &mut Space) -> Result<bool, T
     ensures { spec.FinishesLeft D.Disk disk.old disk.new space.old space.new result }
 {
     let tried = space.unfinished() > 0;
-    match finish_all(disk, space) {
-        Ok(()) => Ok(tried),
-        Err(trouble) => Err(trouble),
-    }
+    finish_all(disk, space)?;
+    Ok(tried)
 }
 
 /// The refusal of a change that came after tries, or after none.
-pub(crate) fn refused_since(tried: bool, refused: Refused) -> Refused
+fn refused_since(tried: bool, refused: Refused) -> Refused
     ensures { result ≡ spec.refused_since tried refused }
 {
     if tried { refused.after_try() } else { refused }
@@ -58,8 +50,5 @@ pub(crate) fn refused_since(tried: bool, refused: Refused) -> Refused
 pub(crate) fn since<T>(tried: bool, ended: Result<T, Refused>) -> Result<T, Refused>
     ensures { result ≡ spec.since tried ended }
 {
-    match ended {
-        Ok(value) => Ok(value),
-        Err(refused) => Err(refused_since(tried, refused)),
-    }
+    ended.map_err(|refused| refused_since(tried, refused))
 }

@@ -6,7 +6,7 @@ ghost use Rattle.cfs_core.specs.Finished.{FinishesLeft};
 ghost use Rattle.cfs_core.specs.Opening as spec;
 ghost use Rattle.ufs_model.specs.declared.asked.Request.TheVariants as asks;
 
-use crate::finishing::{finish, refused_since, take_room};
+use crate::finishing::{finish, since, take_room};
 use crate::kernel::Core;
 use cfs_base::{BlockNo, Disk, Kind, Mode, Puid, Refused, Session, Trouble, Tuid};
 use cyl_alloc::Space;
@@ -43,10 +43,7 @@ fn room_if(alloc: Global, wanted: bool) -> Result<Option<Room>, Refused>
     if !wanted {
         return Ok(None);
     }
-    match take_room(alloc) {
-        Ok(room) => Ok(Some(room)),
-        Err(refused) => Err(refused),
-    }
+    Ok(Some(take_room(alloc)?))
 }
 
 /// Carries out what was left of a commit, if a draft is to be begun.
@@ -79,14 +76,10 @@ fn first_draft<D: Disk>(
     ensures never { IfErr result (λ e. e ≢ refusals.Memory) }
     ensures cylinders { length space.new.free ≡ length space.old.free }
 {
-    let room = match room {
-        Some(room) => room,
-        None => return Ok(None),
+    let Some(room) = room else {
+        return Ok(None);
     };
-    match Draft::begin(room, disk, space, at, RESERVE) {
-        Ok(draft) => Ok(Some(draft)),
-        Err(refused) => Err(refused),
-    }
+    Ok(Some(Draft::begin(room, disk, space, at, RESERVE)?))
 }
 
 impl<D: Disk> Core<D> {
@@ -102,14 +95,11 @@ impl<D: Disk> Core<D> {
         requires words { self.old.words.drawn < 4294967295 }
         ensures { Tries D.Disk self.old self.new who (asks.OpenFor id mode) result }
     {
-        let kind = match self.kind(id) {
-            Some(kind) => kind,
-            None => return Ok(Reply::NoObject),
+        let Some(kind) = self.kind(id) else {
+            return Ok(Reply::NoObject);
         };
         table_follows_the_model();
-        if let Err(want) = self.handles.reserve() {
-            return Err(Refused::from(want));
-        }
+        self.handles.reserve()?;
         let tuid = Tuid {
             draw: self.words.drawn() + 1,
             word: self.words.ahead(),
@@ -124,19 +114,13 @@ impl<D: Disk> Core<D> {
             return Ok(reply_to_fault(fault));
         }
         let wanted = gets_draft(kind, mode);
-        let room = match room_if(alloc, wanted) {
-            Ok(room) => room,
-            Err(refused) => return Err(refused),
-        };
-        let tried = match finish_if(&mut self.disk, &mut self.space, wanted) {
-            Ok(tried) => tried,
-            Err(trouble) => return Err(Refused::from(trouble)),
-        };
+        let room = room_if(alloc, wanted)?;
+        let tried = finish_if(&mut self.disk, &mut self.space, wanted)?;
         let at = BlockNo(id.block);
-        let draft = match first_draft(room, &mut self.disk, &mut self.space, at) {
-            Ok(draft) => draft,
-            Err(refused) => return Err(refused_since(tried, refused)),
-        };
+        let draft = since(
+            tried,
+            first_draft(room, &mut self.disk, &mut self.space, at),
+        )?;
         self.handles.open(grant, draft);
         self.words.next();
         Ok(Reply::Grant(tuid))

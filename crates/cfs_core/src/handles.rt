@@ -12,14 +12,15 @@ ghost use Rattle.open_table.specs.Grants.{fault_of, first_grant, session_grant, 
 ghost use Rattle.open_table.specs.Grants.{open_mode};
 ghost use Rattle.index_drafts.specs.Creates.{CreatesIn};
 ghost use Rattle.leaf_changes.specs.Bytes.{IsSlot};
-ghost use Rattle.special_files.specs.Creates.{MayBeMade, made_of};
+ghost use Rattle.special_files.specs.Creates.{IsBare};
 ghost use Rattle.ufs_model.specs.Limits.{reserve};
 ghost use Rattle.ufs_model.specs.declared.change.Change.TheVariants.{Fill, Overwrite, SetSize};
+ghost use Rattle.vol_image.specs.Reading.{bare_object};
 
 use crate::drafting::{overwrite, set_size};
 use crate::filling::{make_in, put_slot};
 use block_tree::Root;
-use cfs_base::{Disk, Kind, Mode, NoMemory, Puid, Refused, Session, Tuid};
+use cfs_base::{Disk, Mode, NoMemory, Puid, Refused, Session, Tuid};
 use cyl_alloc::Space;
 use open_table::{AcquireFault, Grant, Grants, NoGrant};
 use special_files::Draft;
@@ -219,28 +220,25 @@ impl Handles {
         }
     }
 
-    /// Makes an object in the draft of one draw, and puts its identifier into a slot.
+    /// Makes the object with this root in the draft of one draw, and puts its identifier into a slot.
     pub fn create<D: Disk>(
         &mut self,
         draw: u32,
         disk: &mut D,
         space: &mut Space,
         slot: u64,
-        kind: Kind,
-        fill: u8,
-        size: u64,
-        word: u32,
+        root: &Root,
     ) -> Result<Puid, Refused>
         requires has { HoldsDraft self.old.handles draw (8 * slot + 8) }
         requires on_disk { IsOnDisk self.old.handles draw (D.blocks disk.old) }
-        requires made { MayBeMade kind fill size }
+        requires root { IsBare root.now }
         requires size { D.blocks disk.old ≡ 64 * length space.old.free }
         ensures { ChangesHeld draw self.old.handles self.new.handles
-            (λ was now. CreatesIn D.Disk slot (made_of kind fill size) word reserve disk.old disk.new
+            (λ was now. CreatesIn D.Disk slot (bare_object root.now) root.now.word reserve disk.old disk.new
             space.old space.new was now result) }
     {
         match self.drafts.get_mut(&draw) {
-            Some(draft) => make_in(draft, disk, space, slot, kind, fill, size, word),
+            Some(draft) => make_in(draft, disk, space, slot, root),
             None => unreachable!(),
         }
     }

@@ -17,6 +17,7 @@ mod looking;
 mod opening;
 mod reading;
 mod rescuing;
+mod stopping;
 mod tidying;
 mod way;
 mod writing;

@@ -28,17 +28,13 @@ pub(crate) fn look<D: Disk>(disk: &mut D, index: BlockNo, slot: u64) -> Result<R
     ensures plain { IfOk result IsPlainReply }
     ensures calm { IsCalm D.Disk objects.Index 4 index.0 disk.old disk.new result }
 {
-    let count = match slots(disk, index) {
-        Ok(count) => count,
-        Err(trouble) => return Err(Refused::from(trouble)),
-    };
+    let count = slots(disk, index)?;
     if slot >= count {
         return Ok(Reply::Slot);
     }
-    match retrieve(disk, index, slot) {
-        Ok(Some(id)) => Ok(Reply::Id(id)),
-        Ok(None) => Ok(Reply::Empty),
-        Err(trouble) => Err(Refused::from(trouble)),
+    match retrieve(disk, index, slot)? {
+        Some(id) => Ok(Reply::Id(id)),
+        None => Ok(Reply::Empty),
     }
 }
 
@@ -50,10 +46,7 @@ pub(crate) fn has_slot<D: Disk>(disk: &mut D, index: BlockNo, slot: u64) -> Resu
     ensures few { IfOk result (λ has. has ≡ true → slot < most_slots) }
     ensures calm { IsCalm D.Disk objects.Index 1 index.0 disk.old disk.new result }
 {
-    match slots(disk, index) {
-        Ok(count) => Ok(slot < count),
-        Err(trouble) => Err(Refused::from(trouble)),
-    }
+    Ok(slot < slots(disk, index)?)
 }
 
 /// How many slots the index at a block has, as a reply.
@@ -64,10 +57,7 @@ fn count<D: Disk>(disk: &mut D, index: BlockNo) -> Result<Reply, Refused>
     ensures plain { IfOk result IsPlainReply }
     ensures calm { IsCalm D.Disk objects.Index 1 index.0 disk.old disk.new result }
 {
-    match slots(disk, index) {
-        Ok(count) => Ok(Reply::Number(count)),
-        Err(trouble) => Err(Refused::from(trouble)),
-    }
+    Ok(Reply::Number(slots(disk, index)?))
 }
 
 impl<D: Disk> Core<D> {
@@ -76,7 +66,7 @@ impl<D: Disk> Core<D> {
         ensures { Tries D.Disk self.old self.new who (asks.Retrieve to slot) result }
     {
         match self.drafted(who, to, Wanted::AnIndex) {
-            Some(grant) => self.retrieve_draft(who, grant, slot),
+            Some(grant) => self.retrieve_draft(grant, slot),
             None => self.retrieve_object(who, to, slot),
         }
     }
@@ -104,7 +94,7 @@ impl<D: Disk> Core<D> {
         ensures { Tries D.Disk self.old self.new who (asks.Slots to) result }
     {
         match self.drafted(who, to, Wanted::AnIndex) {
-            Some(grant) => Ok(self.slots_of_draft(who, grant)),
+            Some(grant) => Ok(self.slots_of_draft(grant)),
             None => self.slots_of_object(who, to),
         }
     }

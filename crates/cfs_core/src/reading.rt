@@ -41,10 +41,7 @@ pub(crate) fn root_in<D: Disk>(disk: &mut D, file: BlockNo) -> Result<Root, Refu
     ensures calm { IsCalm D.Disk objects.File 1 file.0 disk.old disk.new result }
     ensures never { IfErr result (λ e. e ≢ refusals.Memory) }
 {
-    match file_ops::read_root(disk, file) {
-        Ok(root) => Ok(root),
-        Err(trouble) => Err(Refused::from(trouble)),
-    }
+    Ok(file_ops::read_root(disk, file)?)
 }
 
 /// So many bytes of the file at a block, from an offset on, as a reply: `Range` where they aren't 1 to 4,096 within its
@@ -63,17 +60,12 @@ fn content<D: Disk>(
     ensures calm { IsCalm D.Disk objects.File (1 + nodes_touched offset count + leaves_touched offset count) file.0
         disk.old disk.new result }
 {
-    let root = match root_in(disk, file) {
-        Ok(root) => root,
-        Err(refused) => return Err(refused),
-    };
+    let root = root_in(disk, file)?;
     if !is_range(root.size, offset, count) {
         return Ok(Reply::Range);
     }
-    match file_ops::read(alloc, disk, file, &root, offset, count as usize) {
-        Ok(bytes) => Ok(Reply::Content(bytes)),
-        Err(refused) => Err(refused),
-    }
+    let bytes = file_ops::read(alloc, disk, file, &root, offset, count as usize)?;
+    Ok(Reply::Content(bytes))
 }
 
 /// The size of the file at a block, as a reply.
@@ -84,10 +76,7 @@ fn measure<D: Disk>(disk: &mut D, file: BlockNo) -> Result<Reply, Refused>
     ensures plain { IfOk result IsPlainReply }
     ensures calm { IsCalm D.Disk objects.File 1 file.0 disk.old disk.new result }
 {
-    match file_ops::size(disk, file) {
-        Ok(size) => Ok(Reply::Number(size)),
-        Err(trouble) => Err(Refused::from(trouble)),
-    }
+    Ok(Reply::Number(file_ops::size(disk, file)?))
 }
 
 impl<D: Disk> Core<D> {
@@ -103,7 +92,7 @@ impl<D: Disk> Core<D> {
         ensures { Tries D.Disk self.old self.new who (asks.Read to offset count) result }
     {
         match self.drafted(who, to, Wanted::AFile) {
-            Some(grant) => self.read_draft(alloc, who, grant, offset, count),
+            Some(grant) => self.read_draft(alloc, grant, offset, count),
             None => self.read_object(alloc, who, to, offset, count),
         }
     }
@@ -138,7 +127,7 @@ impl<D: Disk> Core<D> {
         ensures { Tries D.Disk self.old self.new who (asks.Size to) result }
     {
         match self.drafted(who, to, Wanted::AFile) {
-            Some(grant) => Ok(self.size_of_draft(who, grant)),
+            Some(grant) => Ok(self.size_of_draft(grant)),
             None => self.size_of_object(who, to),
         }
     }

@@ -3,7 +3,7 @@ ghost use Rattle.std.specs.Prelude.{◌≡◌, ◌<◌};
 ghost use Rattle.cfs_core.specs.Tidy as spec;
 ghost use Rattle.cyl_alloc.specs.Left.{parts_left};
 
-use crate::kernel::{Core, Stop};
+use crate::kernel::Core;
 use cfs_base::{Damage, Disk, Trouble};
 
 /// What a turn did.
@@ -63,25 +63,13 @@ impl<D: Disk> Core<D> {
             } }
     {
         match trouble {
-            Trouble::Disk { tried: false } => TidyFault::Disk { doubt: None },
-            Trouble::Disk { tried: true } => {
-                let moment = self.disk.moment().saturating_sub(1);
-                self.stop = Some(Stop {
-                    moment,
-                    damage: None,
-                });
-                TidyFault::Disk {
-                    doubt: Some(moment),
-                }
-            }
-            Trouble::Damaged(damage) => {
-                let moment = self.disk.moment();
-                self.stop = Some(Stop {
-                    moment,
-                    damage: Some(damage),
-                });
-                TidyFault::Damaged { damage, moment }
-            }
+            Trouble::Disk { tried } => TidyFault::Disk {
+                doubt: self.stop_in_doubt(tried),
+            },
+            Trouble::Damaged(damage) => TidyFault::Damaged {
+                damage,
+                moment: self.stop_at(damage),
+            },
         }
     }
 }

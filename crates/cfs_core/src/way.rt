@@ -44,10 +44,7 @@ impl<D: Disk> Core<D> {
         ensures some { IfOk result (λ id. id.block ≢ 0) }
         ensures also { IfOk result (λ id. (also : Puid) → way.also ≡ Some also → also.block ≢ 0) }
     {
-        match self.object_at(who, way, Wanted::AnIndex) {
-            Ok((id, _)) => Ok(id),
-            Err(reply) => Err(reply),
-        }
+        Ok(self.object_at(who, way, Wanted::AnIndex)?.0)
     }
 
     /// The file that a request of a session goes to, and its kind, or its refusal on the way there. It has no draft.
@@ -63,11 +60,11 @@ impl<D: Disk> Core<D> {
         ensures on_disk { IfOk result (λ two. two.0.block < D.blocks self.now.disk) }
         ensures some { IfOk result (λ two. two.0.block ≢ 0) }
     {
-        match self.object_at(who, way, Wanted::AFile) {
-            Ok((id, Kind::Normal)) => Ok((id, FileKind::Normal)),
-            Ok((id, Kind::Special)) => Ok((id, FileKind::Special)),
-            Ok((_, Kind::Index)) => Err(Reply::NotFile),
-            Err(reply) => Err(reply),
+        let there = self.object_at(who, way, Wanted::AFile)?;
+        match there.1 {
+            Kind::Normal => Ok((there.0, FileKind::Normal)),
+            Kind::Special => Ok((there.0, FileKind::Special)),
+            Kind::Index => Err(Reply::NotFile),
         }
     }
 
@@ -86,17 +83,11 @@ impl<D: Disk> Core<D> {
         ensures some { IfOk result (λ two. two.0.block ≢ 0) }
         ensures also { IfOk result (λ two. (also : Puid) → way.also ≡ Some also → also.block ≢ 0) }
     {
-        let id = match self.goes_to(who, way.to) {
-            Some(id) => id,
-            None => return Err(Reply::NoGrant),
-        };
+        let id = self.goes_to(who, way.to).ok_or(Reply::NoGrant)?;
         if self.lacks(way.also) {
             return Err(Reply::NoObject);
         }
-        let kind = match wanted_kind(wants, self.kind(id)) {
-            Ok(kind) => kind,
-            Err(reply) => return Err(reply),
-        };
+        let kind = wanted_kind(wants, self.kind(id))?;
         if self.may_only_read(who, way) {
             return Err(Reply::ReadOnly);
         }
@@ -113,10 +104,7 @@ impl<D: Disk> Core<D> {
         table_follows_the_model();
         match to {
             Ref::Direct(id) => Some(id),
-            Ref::Through(grant) => match self.handles.find(who, grant) {
-                Some(grant) => Some(grant.id),
-                None => None,
-            },
+            Ref::Through(grant) => Some(self.handles.find(who, grant)?.id),
         }
     }
 

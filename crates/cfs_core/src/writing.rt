@@ -13,7 +13,7 @@ ghost use Rattle.ufs_model.specs.declared.asked.Wanted.TheVariants.{AFile};
 ghost use Rattle.ufs_model.specs.declared.object.Object.TheVariants as objects;
 
 use crate::changing::done;
-use crate::finishing::{finish, refused_since, room_for, since};
+use crate::finishing::{finish, room_for, since};
 use crate::kernel::Core;
 use crate::reading::{is_range, root_in};
 use crate::way::Way;
@@ -54,7 +54,7 @@ impl<D: Disk> Core<D> {
         ensures { Tries D.Disk self.old self.new who (asks.Write to offset bytes.now) result }
     {
         match self.drafted(who, to, Wanted::AFile) {
-            Some(grant) => self.write_draft(who, grant, offset, bytes),
+            Some(grant) => self.write_draft(grant, offset, bytes),
             None => self.write_object(alloc, who, to, offset, bytes),
         }
     }
@@ -82,26 +82,14 @@ impl<D: Disk> Core<D> {
             Err(reply) => return Ok(reply),
         };
         let seen = self.space.shown(BlockNo(file.block));
-        let root = match root_in(&mut self.disk, seen) {
-            Ok(root) => root,
-            Err(refused) => return Err(refused),
-        };
+        let root = root_in(&mut self.disk, seen)?;
         if !is_range(root.size, offset, bytes.len() as u64) {
             return Ok(Reply::Range);
         }
-        let room = match room_for(alloc, kind) {
-            Ok(room) => room,
-            Err(refused) => return Err(refused),
-        };
-        let tried = match finish(&mut self.disk, &mut self.space) {
-            Ok(tried) => tried,
-            Err(trouble) => return Err(Refused::from(trouble)),
-        };
+        let room = room_for(alloc, kind)?;
+        let tried = finish(&mut self.disk, &mut self.space)?;
         let at = BlockNo(file.block);
-        let root = match root_since(&mut self.disk, at, tried, root) {
-            Ok(root) => root,
-            Err(refused) => return Err(refused_since(tried, refused)),
-        };
+        let root = since(tried, root_since(&mut self.disk, at, tried, root))?;
         let (disk, space) = (&mut self.disk, &mut self.space);
         let ended = file_ops::write(room, disk, space, at, kind, &root, offset, bytes, RESERVE);
         since(tried, done(ended))
@@ -118,7 +106,7 @@ impl<D: Disk> Core<D> {
         ensures { Tries D.Disk self.old self.new who (asks.Resize to size) result }
     {
         match self.drafted(who, to, Wanted::AFile) {
-            Some(grant) => self.resize_draft(who, grant, size),
+            Some(grant) => self.resize_draft(grant, size),
             None => self.resize_object(alloc, who, to, size),
         }
     }
@@ -147,14 +135,8 @@ impl<D: Disk> Core<D> {
         if size > MOST_BYTES {
             return Ok(Reply::Range);
         }
-        let room = match room_for(alloc, kind) {
-            Ok(room) => room,
-            Err(refused) => return Err(refused),
-        };
-        let tried = match finish(&mut self.disk, &mut self.space) {
-            Ok(tried) => tried,
-            Err(trouble) => return Err(Refused::from(trouble)),
-        };
+        let room = room_for(alloc, kind)?;
+        let tried = finish(&mut self.disk, &mut self.space)?;
         let at = BlockNo(file.block);
         let (disk, space) = (&mut self.disk, &mut self.space);
         let ended = file_ops::resize(room, disk, space, at, kind, size, RESERVE);

@@ -1,4 +1,4 @@
--- What an answer is to the journal.
+-- What an answer is to the logged server.
 use Rattle.std.proofs.Common.{◌≡◌, ℕ}
 use Rattle.cfs_serve.proofs.Cited.{IsAsked, MakesServed, Reply, Request, State}
 use Rattle.ufs_model.specs.declared.asked.Event.TheVariants as events

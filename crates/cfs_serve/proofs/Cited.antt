@@ -41,8 +41,8 @@ pub use Rattle.cfs_serve.specs.Disks.{IsLater, LeavesSinceTry, MakesVolume, OnDi
 pub use Rattle.cfs_serve.specs.Ending.{EndsService, IsWanting, StopsAmong, TellsStop, cause_of, damage_in, has_failed, has_fallen, is_failure, is_fault, is_short, is_want_of_memory, moment_in, not_begun, spoiled_by, stops_in, told_stop}
 pub use Rattle.cfs_serve.specs.Events.{BreaksOff, begins_in, events_of_session, finishes_in, is_begin, is_calm, is_finish, is_of_session, is_reply, is_no_step, tells_damage, tells_disk, tells_fault, tells_stop, wants_memory}
 pub use Rattle.cfs_serve.specs.Ground.{Ground, ground_of, ground_on, new_ground, opened}
-pub use Rattle.cfs_serve.specs.Hall.{AllLeft, AreFresh, AreHeard, AreNew, AreOver, Departs, HasNoCollector, HasTurns, Hearing, IsFresh, IsLeave, IsSessionOver, IsSession, IsSessionTurn, IsTurn, Turned, charter_of, has_left_at, is_done_in, turns_left_in, client_of, turns_left, turns_left_at, turns_now}
-pub use Rattle.cfs_serve.specs.Journal.{CountsFaults, IsJournalKept, IsRun, IsRunOn, IsTold, Journaled, Lasts, Raises, MomentsRise, JournalSteps, Told, faults_after, first_fault, is_progress_made, is_quiet_fault, is_recorded, recorded, stamps}
+pub use Rattle.cfs_serve.specs.Machine.{AllLeft, AreFresh, AreHeard, AreNew, AreOver, Departs, HasNoCollector, HasTurns, Hearing, IsFresh, IsLeave, IsSessionOver, IsSession, IsSessionTurn, IsTurn, Turned, charter_of, has_left_at, is_done_in, turns_left_in, client_of, turns_left, turns_left_at, turns_now}
+pub use Rattle.cfs_serve.specs.Logs.{CountsFaults, IsLogKept, IsRun, IsRunOn, IsTold, ServerLog, Lasts, Raises, MomentsRise, LogSteps, Told, faults_after, first_fault, is_progress_made, is_quiet_fault, is_recorded, recorded, stamps}
 pub use Rattle.cfs_serve.specs.Limits.{most_lines, most_script, most_trail}
 pub use Rattle.cfs_serve.specs.Opening.{IsOpeningRefusal, opening_cause}
 pub use Rattle.cfs_serve.specs.Played.{AreClients, HasNone, IsUnservedCause, TellsLast, IsPlayed, IsRunFrom, IsRunOf, IsStopTold, counts_of, free_once_tidy, has_broken}
@@ -58,7 +58,7 @@ pub use Rattle.cfs_serve.specs.Volume.{IsNewCore, IsUnserved, ServesScripts, Ser
 pub use Rattle.cfs_serve.specs.Whole.{AsksServer, AsksAudit, AsksSessions, AsksSpin, FitsVolume, HasDisk, HasPlaces, IsWholeRun, NamesVolume, Places, RoseIn, TellsMade, status_at_end, spun}
 pub use Rattle.cfs_serve.specs.Words.{Asked, Audits, Files, Format, Formats, InFile, InMemory, Nothing, Place, Service, Shows, Spin, Spins, asked_by, collections_of, files_in, inputs_in, is_audit, is_file_word, is_service, most_in_source, outputs_in, play_in, serve_in, streams_in}
 pub use Rattle.cfs_serve.specs.declared.ending.Ending.{Ending}
-pub use Rattle.cfs_serve.specs.declared.journal.Progress.{Progress}
+pub use Rattle.cfs_serve.specs.declared.logged.CollectorTurn.{CollectorTurn}
 pub use Rattle.cfs_serve.specs.declared.page.Page.{Page}
 pub use Rattle.cfs_serve.specs.declared.paths.Volume.{Volume}
 pub use Rattle.cfs_serve.specs.declared.report.Cause.{Cause}

@@ -1,4 +1,4 @@
--- A step of the collector of a core, as the hall sees it.
+-- A step of the collector of a core, as the machine sees it.
 use Rattle.std.proofs.Common.{eq-eqb, ◌≡◌, ◌⊎◌, inl, inr, ℕ, ◌+◌, ◌-◌, ◌<◌, ◌≤◌, Bool, true, false, List, [], ◌∷◌, ◌++◌, Option, Some, None, Result, Ok, Err, is_some, length, option_to_list, refl, sym, ap, ◌∙◌, subst, arith, ◌||◌}
 use Rattle.cfs_serve.specs.Ending.{AreStoppedReplies, IsStopTimed, MakesStop, moment_in}
 use Rattle.cfs_serve.specs.Events.{is_of_session}
@@ -8,7 +8,7 @@ use Rattle.cfs_core.specs.Left.{steps_ahead}
 use Rattle.cfs_core.specs.declared.collecting.CollectFault.TheVariants as faults
 use Rattle.cfs_core.specs.declared.collecting.Step.TheVariants as steps
 use Rattle.ufs_model.specs.declared.asked.Event.TheVariants as events
-use Rattle.cfs_serve.proofs.Journals.{some_same}
+use Rattle.cfs_serve.proofs.Logs.{some_same}
 use Rattle.cfs_serve.proofs.Owed.{no_some, rescued_runs}
 
 never : true ≡ false → ⊥

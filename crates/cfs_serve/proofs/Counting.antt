@@ -1,7 +1,7 @@
 -- How many events of a beginning pass a test, one event further.
 use Rattle.std.proofs.Common.{◌≡◌, ℕ, zero, suc, ◌+◌, Bool, true, false, cond, List, [], ◌∷◌, length, filter, take, Some, slice_get, refl, arith, subst}
 use Rattle.cfs_serve.proofs.Cited.{Event}
-use Rattle.cfs_serve.proofs.Journals.{some_same}
+use Rattle.cfs_serve.proofs.Logs.{some_same}
 
 one_more : (test : Event → Bool) (es : List Event) (n : ℕ) (e : Event) → slice_get es n ≡ Some e
     → length (filter test (take (suc n) es)) ≡ length (filter test (take n es)) + cond (test e) 1 0

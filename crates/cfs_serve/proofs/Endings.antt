@@ -4,7 +4,7 @@ use Rattle.cfs_serve.specs.Ending.{AreStoppedReplies}
 use Rattle.cfs_serve.proofs.Cited.{Cause, CollectFault, Damage, Ending, EndsService, Event, IsStopTold, Rose, Stop, StopsAmong, TellsStop, Told, cause_of, count_after, damage_in, faults_after, first_fault, has_failed, has_fallen, is_calm, is_failure, is_fault, is_none, is_quiet_fault, is_short, is_want_of_memory, list_all, list_any, moment_in, spoiled_by, tells_disk, wants_memory}
 use Rattle.cfs_core.specs.declared.collecting.CollectFault.TheVariants as faults
 use Rattle.cfs_serve.specs.declared.report.Cause.TheVariants as causes
-use Rattle.cfs_serve.proofs.Journals.{or_false, or_true}
+use Rattle.cfs_serve.proofs.Logs.{or_false, or_true}
 use Rattle.cfs_serve.proofs.Raising.{counted_least, counted_some}
 
 -- ---- what a cause shows

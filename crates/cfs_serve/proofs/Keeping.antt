@@ -1,9 +1,9 @@
--- What a journal keeps whatever disk it is: how many collections began, and the moments of the events.
+-- What a logged server keeps whatever disk it is: how many collections began, and the moments of the events.
 use Rattle.std.proofs.Common.{◌≡◌, ℕ, ◌+◌, ◌<◌, ◌≤◌, Bool, true, false, cond, List, [], ◌∷◌, ◌++◌, Option, Some, None, Result, refl, sym, ap, ◌∙◌, subst, arith}
-use Rattle.cfs_serve.proofs.Cited.{AsBefore, CollectFault, Event, IsJournalKept, IsTallied, IsWanting, MayCount, SessionPasses, PassesStep, MomentsRise, Step, Tally, Terms, append-nil, begins_in, begun_so_far, event_by, finishes_in, is_begin, is_finish, recorded, stamps, tells_stop_at}
+use Rattle.cfs_serve.proofs.Cited.{AsBefore, CollectFault, Event, IsLogKept, IsTallied, IsWanting, MayCount, SessionPasses, PassesStep, MomentsRise, Step, Tally, Terms, append-nil, begins_in, begun_so_far, event_by, finishes_in, is_begin, is_finish, recorded, stamps, tells_stop_at}
 use Rattle.ufs_model.specs.declared.asked.Event.TheVariants as events
 use Rattle.cfs_serve.specs.Calls.{Counts}
-use Rattle.cfs_serve.proofs.Journals.{push_in, push_out, some_same, was_running}
+use Rattle.cfs_serve.proofs.Logs.{push_in, push_out, some_same, was_running}
 
 -- ---- the moments
 
@@ -61,23 +61,23 @@ as_tallied c d trail same now = (now.0 ∙ sym (begun_same c d same), now.1 ∙ 
 
 module _ {A : Type 0} (clock : A → ℕ) (has_stopped : A → Bool) (tally : A → Tally) (t : Terms A) (trail : List Event) (moments : List ℕ) where
   -- a server that runs, and for which nothing is left to do
-  pub collected_at : (server : A) → IsJournalKept clock has_stopped tally t server trail moments → has_stopped server ≡ false → (tally server).finished ≡ t.collections → finishes_in trail ≡ t.collections
+  pub collected_at : (server : A) → IsLogKept clock has_stopped tally t server trail moments → has_stopped server ≡ false → (tally server).finished ≡ t.collections → finishes_in trail ≡ t.collections
   collected_at server kept runs all = (kept.tallied runs).1 ∙ all
 
   -- where no collection runs, and more were called for
-  pub wanting_at : (server : A) → IsJournalKept clock has_stopped tally t server trail moments → has_stopped server ≡ false → (tally server).running ≡ false
+  pub wanting_at : (server : A) → IsLogKept clock has_stopped tally t server trail moments → has_stopped server ≡ false → (tally server).running ≡ false
       → (tally server).finished < (tally server).called → (tally server).called ≡ t.collections → IsWanting t.collections trail
   wanting_at server kept runs none more called =
       let tallied = kept.tallied runs in
       let count : begun_so_far (tally server) ≡ (tally server).finished + 0 = ap (λ b. (tally server).finished + cond b 1 0) none in
       (omega (arith, tallied.0, tallied.1, count), omega (arith, tallied.1, more, called))
 
-  module _ (old new : A) (was : IsJournalKept clock has_stopped tally t old trail moments) (stays : has_stopped old ≡ true → has_stopped new ≡ true) where
+  module _ (old new : A) (was : IsLogKept clock has_stopped tally t old trail moments) (stays : has_stopped old ≡ true → has_stopped new ≡ true) where
     running : has_stopped new ≡ false → has_stopped old ≡ false
     running runs = was_running (has_stopped old) (has_stopped new) stays runs
 
     -- a session's call
-    pub kept_on : SessionPasses clock tally old new → (e : Event) → is_begin e ≡ false → is_finish e ≡ false → IsJournalKept clock has_stopped tally t new (trail ++ e ∷ []) (moments ++ clock new ∷ [])
+    pub kept_on : SessionPasses clock tally old new → (e : Event) → is_begin e ≡ false → is_finish e ≡ false → IsLogKept clock has_stopped tally t new (trail ++ e ∷ []) (moments ++ clock new ∷ [])
     kept_on passes e begins finishes = record {
       few = omega (arith, push_out is_begin trail e begins, was.few);
       tallied = λ runs. same_tally e (tally old) (tally new) trail begins finishes passes.counts (was.tallied (running runs));
@@ -116,10 +116,10 @@ module _ {A : Type 0} (clock : A → ℕ) (has_stopped : A → Bool) (tally : A 
       no_halt (events.Ask who request reply) stops runs is = absurd (cc is)
 
       by_event : (o : Option Event) → MayCount o (tally old) (tally new) → (tells_stop_at o ≡ true → has_stopped new ≡ true) → (o ≡ Some events.Began → has_stopped new ≡ false)
-          → IsJournalKept clock has_stopped tally t new (trail ++ recorded o) (moments ++ stamps o (clock new))
+          → IsLogKept clock has_stopped tally t new (trail ++ recorded o) (moments ++ stamps o (clock new))
       by_event None counts stops begins =
-          subst (λ es. IsJournalKept clock has_stopped tally t new es (moments ++ [])) (sym (append-nil trail))
-          (subst (λ ms. IsJournalKept clock has_stopped tally t new trail ms) (sym (append-nil moments)) (record {
+          subst (λ es. IsLogKept clock has_stopped tally t new es (moments ++ [])) (sym (append-nil trail))
+          (subst (λ ms. IsLogKept clock has_stopped tally t new trail ms) (sym (append-nil moments)) (record {
             few = was.few;
             tallied = λ runs. as_tallied (tally old) (tally new) trail counts (was.tallied (running runs));
             rise = λ first at. rise_more (clock first) moments (clock old) (clock new) (was.rise first at) later;
@@ -131,7 +131,7 @@ module _ {A : Type 0} (clock : A → ℕ) (has_stopped : A → Bool) (tally : A 
       }
 
     pub kept_step : (tally old).called ≡ t.collections → (made : Result Step CollectFault) → PassesStep clock has_stopped tally old new made
-        → IsJournalKept clock has_stopped tally t new (trail ++ recorded (event_by made)) (moments ++ stamps (event_by made) (clock new))
+        → IsLogKept clock has_stopped tally t new (trail ++ recorded (event_by made)) (moments ++ stamps (event_by made) (clock new))
     kept_step called made passes = by_event called passes.later (event_by made) passes.counts passes.stops passes.begins
 
 -- a line that is no request
@@ -140,7 +140,7 @@ unread_passes clock tally server = record { later = omega arith; counts = (refl,
 
 -- as it begins
 pub kept_begins : {A : Type 0} (clock : A → ℕ) (has_stopped : A → Bool) (tally : A → Tally) (t : Terms A) (server : A) → t.began ≡ Some server
-    → ((tally server).finished ≡ 0) × ((tally server).running ≡ false) → IsJournalKept clock has_stopped tally t server [] []
+    → ((tally server).finished ≡ 0) × ((tally server).running ≡ false) → IsLogKept clock has_stopped tally t server [] []
 kept_begins clock has_stopped tally t server is idle = record {
   few = let none : begins_in [] ≡ 0 = refl in omega (arith, none);
   tallied = λ runs. (sym (none_begun (tally server) idle), sym idle.0);

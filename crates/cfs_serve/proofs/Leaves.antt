@@ -1,6 +1,6 @@
 -- A session leaves a core: one that stops in it does so at no damage.
 use Rattle.std.proofs.Common.{◌≡◌, ℕ, Option, Some, None, IsSome, [], ◌∷◌, false, refl, ap, sym, ◌∙◌, subst, is_some}
-use Rattle.cfs_serve.proofs.Cited.{Ghosts, Kernel, Rose, ServesIs, Stands, StandsFor, State, Stop, StopsAmong, append-nil, option_to_list, option_and_then}
+use Rattle.cfs_serve.proofs.Cited.{Ghosts, Kernel, Rose, ServesIs, Stands, StandsFor, State, Stop, append-nil, option_to_list, option_and_then}
 use Rattle.ufs_model.specs.declared.asked.Event.TheVariants as events
 use Rattle.cfs_base.specs.declared.refusal.Damage.{Damage}
 use Rattle.cfs_core.specs.Leaving.{StopsSo}

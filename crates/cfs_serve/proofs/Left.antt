@@ -5,7 +5,7 @@ use Rattle.ufs_model.specs.declared.asked.Event.TheVariants as events
 use Rattle.ufs_model.specs.declared.asked.Reply.TheVariants as replies
 use Rattle.ufs_model.specs.declared.asked.Request.TheVariants as asks
 use Rattle.ufs_model.specs.declared.object.Object.TheVariants as objects
-use Rattle.cfs_serve.proofs.Journals.{all-push, some_same}
+use Rattle.cfs_serve.proofs.Logs.{all-push, some_same}
 use Rattle.cfs_serve.proofs.Sessions.{test_refl}
 
 -- the grant is of another session

@@ -1,5 +1,5 @@
 mod Asking
-mod Journals
+mod Logs
 mod Stopping
 mod Endings
 mod Keeping
@@ -7,7 +7,7 @@ mod Sessions
 mod Stepping
 mod Raising
 mod Workers
-mod Served
+mod Begun
 mod SureDisks
 mod Counting
 mod Texts

@@ -2,7 +2,7 @@
 use Rattle.std.proofs.Common.{◌≡◌, ◌≢◌, ℕ, zero, suc, ◌+◌, ◌<◌, Bool, true, false, ◌||◌, inl, inr, List, [], ◌∷◌, ◌++◌, length, map, set, Option, Some, None, slice_get, refl, sym, ap, ◌∙◌, subst, arith}
 use Rattle.cfs_serve.proofs.Cited.{AreNew, EachFrom, IsNewPort, Puid, PortReading, Rose, SomeRose, has_broken, length-map, lines_in, map-append, request_lines, reverse, reverse-append, client_of, sum_by, sum_by-cons, turns_left}
 use Rattle.std.proofs.lemmas.List.{append_assoc}
-use Rattle.cfs_serve.proofs.Journals.{some_same}
+use Rattle.cfs_serve.proofs.Logs.{some_same}
 
 -- ---- any lists
 

@@ -4,7 +4,7 @@ use Rattle.cfs_serve.proofs.Cited.{AreWithinLimits, Asked, Audits, Cause, Did, E
 use Rattle.cfs_serve.specs.declared.report.Cause.TheVariants as causes
 use Rattle.cfs_serve.specs.Words.{IfServes, Serves, Spins, is_format}
 use Rattle.cfs_serve.proofs.Lists.{each_of, heads, never_none, one_rose}
-use Rattle.cfs_serve.proofs.Journals.{some_same}
+use Rattle.cfs_serve.proofs.Logs.{some_same}
 use Rattle.cfs_serve.proofs.Scripted.{had_count, within}
 use Rattle.cfs_serve.proofs.Because.{Because}
 use Rattle.cfs_serve.proofs.Endings.{shown}

@@ -7,7 +7,7 @@ use Rattle.cfs_core.specs.Asked.{Asks}
 use Rattle.cfs_core.specs.Left.{AddsNone, steps_ahead}
 use Rattle.ufs_model.specs.declared.asked.Event.TheVariants as events
 use Rattle.ufs_model.specs.declared.asked.Reply.TheVariants as replies
-use Rattle.cfs_serve.proofs.Journals.{some_same}
+use Rattle.cfs_serve.proofs.Logs.{some_same}
 
 -- ---- what is answered by its outcome, or is Full, wasn't refused
 

@@ -1,15 +1,18 @@
 -- A service on a core.
 use Rattle.std.proofs.Common.{◌≡◌, ℕ, ◌/◌, ◌≤◌, Bool, true, false, cond, List, [], ◌∷◌, length, map, filter, Option, Some, None, IsTrue, is_some, refl, sym, ap, ◌∙◌, subst, arith, ◌+◌}
-use Rattle.cfs_serve.proofs.Cited.{AreOver, Cause, Collection, Counts, Ending, EndsService, Event, Ghosts, Graph, Holds, Image, IsFront, IsRoom, IsRunFrom, IsRunOn, IsSoundAs, IsStopTold, IsTallied, IsWanting, Kernel, Object, Puid, PortReading, Report, MomentsRise, Rose, RunSurvives, ServesIs, ServesSessions, Stands, StandsFor, State, Status, TellsLast, begins_in, blocks_of, cause_of, client_of, counts_of, damage_in, faults_after, finishes_in, first_fault, fits, free_once_tidy, free_to_come, free_with, front_of, graph_blocks, has_broken, honest, is_among, is_calm, is_collecting, is_reply, sweeps_now, left_now, length-map, list_all, moment_in, opening, pending, rooted, rooted_part, rooted_reads, collection_runs, serves_now, stored, sum, sum_by, sum_by-cons, tally_of, tells_disk, tells_fault}
-use Rattle.cfs_core.specs.declared.collecting.CollectFault.TheVariants as faulted
+use Rattle.cfs_serve.proofs.Cited.{Cause, Collection, Counts, Ending, Event, Ghosts, Graph, Holds, Image, IsFront, IsRoom, IsRunFrom, IsRunOn, IsSoundAs, IsStopTold, IsTallied, Kernel, Object, Puid, PortReading, Report, Rose, RunSurvives, ServesIs, ServesSessions, Stands, StandsFor, State, Status, TellsLast, begins_in, blocks_of, cause_of, client_of, counts_of, damage_in, finishes_in, fits, free_once_tidy, free_to_come, free_with, front_of, graph_blocks, has_broken, honest, is_among, is_calm, is_collecting, is_reply, sweeps_now, left_now, length-map, list_all, moment_in, opening, pending, rooted, rooted_part, rooted_reads, collection_runs, serves_now, stored, sum, sum_by, sum_by-cons, tally_of}
 use Rattle.survival.specs.Held.{FitsDisk}
 use Rattle.ufs_model.specs.declared.collection.Collection.TheVariants as collections
 use Rattle.cfs_core.specs.declared.kernel.Stop.{Stop}
 use Rattle.cfs_serve.specs.Calls as calls
-use Rattle.cfs_serve.specs.Ending.{IsStopTimed}
+use Rattle.cyl_alloc.specs.Left.{LeftCommit, parts_left}
+use Rattle.cfs_serve.specs.Ending.{IsStopTimed, cause_by}
+use Rattle.cfs_serve.specs.Service.{HasServed}
+use Rattle.cfs_serve.specs.declared.served.Served.{Served}
+use Rattle.cfs_serve.specs.declared.server.Server as server_of
 use Rattle.cfs_serve.specs.Volume.{IsStatusOf}
 use Rattle.cfs_serve.proofs.Endings.{calm_by, no_damage, stop_told, went_well}
-use Rattle.cfs_serve.proofs.Journals.{some_same}
+use Rattle.cfs_serve.proofs.Logs.{some_same}
 use Rattle.cfs_serve.proofs.Stopping.{stop_none}
 use Rattle.cfs_serve.proofs.Collecting.{runs_so}
 use Rattle.cfs_serve.proofs.Left.{none_stands}
@@ -85,41 +88,52 @@ rests_at g k s n trail serves few tallied all = at (collection_runs k.collection
 
 -- ---- sessions on a core
 
--- what is known of a service that a core began for which so many collections were called
-pub record IsServed {D : Type 0} (g : Ghosts D) (n : ℕ) (ending : Ending) (server : Kernel D) (trail : List Event)
-    (moments : List ℕ) (k : Kernel D) : Type 0 where
-  pub run : (graph : Graph) → StandsFor g k (opening graph)
-      → IsRunOn (λ x s. StandsFor g x s) (λ (x : Kernel D). is_some x.stop) (λ (x : Kernel D). is_some (damage_in x.stop)) (tally_of g) k.words.seed (length k.space.free) graph k server trail
-  pub later : g.faults k.disk ≤ g.faults server.disk
-  pub ends : EndsService (Rose (g.faults k.disk) (g.faults server.disk)) n ending trail
-  pub stop : ending.stop ≡ server.stop
-  pub timed : IsStopTimed server.stop (g.moment server.disk)
-  pub few : begins_in trail ≤ n
-  pub collected : ending.refused ≡ None → finishes_in trail ≡ n
-  pub settled : ending.refused ≡ None → server.space.left ≡ None
-  pub wanting : ending.refused ≡ Some faulted.Memory → IsWanting n trail
-  pub tallied : is_some server.stop ≡ false → IsTallied (tally_of g server) trail
-  pub rise : MomentsRise (g.moment k.disk) moments (g.moment server.disk)
-  pub size : length server.space.free ≡ length k.space.free
-  pub called : server.collections.called ≡ n
-  pub lasts : (graph : Graph) → StandsFor g k (opening graph) → RunSurvives g k.words.seed graph [] (g.moment k.disk ∷ []) k.disk
-      → RunSurvives g k.words.seed graph trail (g.moment k.disk ∷ moments) server.disk
-  pub faults : faults_after tells_disk trail (first_fault ending.refused (g.faults k.disk)) ≤ g.faults server.disk
-  pub stops : (graph : Graph) → StandsFor g k (opening graph) → faults_after tells_fault trail (first_fault ending.refused (g.faults k.disk)) ≤ g.faults server.disk
+-- a core, as a server
+abbrev pub by_core : {D : Type 0} → Ghosts D → server_of.Ghosts (Kernel D)
+by_core g = record {
+  stands = λ k s. StandsFor g k s;
+  seed = λ k. k.words.seed;
+  words = λ k. k.words.drawn;
+  faults = λ k. g.faults k.disk;
+  cylinders = λ k. length k.space.free;
+  stop = λ k. k.stop;
+  has_stopped = λ k. is_some k.stop;
+  is_damaged = λ k. is_some (damage_in k.stop);
+  stopped_so = λ k. refl;
+  damaged_so = λ k. refl;
+  clock = λ k. g.moment k.disk;
+  tally = λ k. tally_of g k;
+  unfinished = λ k. parts_left k.space.left;
+  root = λ k. k.root;
+  lasts = λ k seed graph trail marks. RunSurvives g seed graph trail marks k.disk;
+}
 
-module _ {D : Type 0} (g : Ghosts D) (sized : (d : D) → IsTrue (g.honest d) → length (g.content d) ≡ g.blocks d) (left_sized : (d : D) (t : ℕ) (c : Image) → g.left_since d t c → length c ≡ g.blocks d)
-    (core server : Kernel D) (before ports : List PortReading) (trail : List Event) (moments : List ℕ) (sessions : ℕ) (ending : Ending) (report : Report) (status : Status) (tells : IsStatusOf server status) where
-  abbrev faults : Kernel D → ℕ
-  faults k = g.faults k.disk
+none_left : (o : Option LeftCommit) → parts_left o ≡ 0 → o ≡ None
+none_left None is = refl
+none_left (Some l) is = absurd (omega (arith, is))
 
+module _ {D K : Type 0} (g : Ghosts D) (sized : (d : D) → IsTrue (g.honest d) → length (g.content d) ≡ g.blocks d) (left_sized : (d : D) (t : ℕ) (c : Image) → g.left_since d t c → length c ≡ g.blocks d)
+    (core : Kernel D) (before : List PortReading) (s : Served (Kernel D) K) (status : Status) (tells : IsStatusOf s.server status) where
   abbrev stopped : Kernel D → Bool
   stopped k = is_some k.stop
 
   abbrev damaged : Kernel D → Bool
   damaged k = is_some (damage_in k.stop)
 
+  abbrev server : Kernel D
+  server = s.server
+
+  abbrev ending : Ending
+  ending = s.ending
+
+  abbrev ports : List PortReading
+  ports = s.ports.items
+
+  abbrev trail : List Event
+  trail = s.trail.events
+
   abbrev counts : Counts
-  counts = counted_as sessions trail status.objects status.free
+  counts = counted_as (length ports) trail status.objects status.free
 
   abbrev cause : Cause
   cause = cause_of ending trail (has_broken ports)
@@ -127,9 +141,12 @@ module _ {D : Type 0} (g : Ghosts D) (sized : (d : D) → IsTrue (g.honest d) �
   abbrev rose : Type 0
   rose = Rose (g.faults core.disk) (g.faults server.disk)
 
-  module _ (n : ℕ) (runs : core.stop ≡ None) (is : IsServed g n ending server trail moments (called core n))
-      (over : AreOver core.root n (map client_of before) trail ports) (count : sessions ≡ length ports)
-      (report_is : report ≡ record { counts = Some counts; cause = cause }) (free_is : (s : State) → ServesIs g server s → sweeps_now s.collection ≡ false → s.grants ≡ [] → free_to_come g server ≡ free_once_tidy (length server.space.free) s.graph) where
+  module _ (n : ℕ) (runs : core.stop ≡ None) (is : HasServed (by_core g) (called core n) before n s)
+      (report : Report) (report_is : report ≡ record { counts = Some counts; cause = cause_by ending s.failed (has_broken ports) s.starved })
+      (free_is : (last : State) → ServesIs g server last → sweeps_now last.collection ≡ false → last.grants ≡ [] → free_to_come g server ≡ free_once_tidy (length server.space.free) last.graph) where
+    settled : ending.refused ≡ None → server.space.left ≡ None
+    settled well = none_left server.space.left (is.collected.settled well)
+
     undamaged : damaged (called core n) ≡ false
     undamaged = rw runs refl
 
@@ -162,9 +179,9 @@ module _ {D : Type 0} (g : Ghosts D) (sized : (d : D) → IsTrue (g.honest d) �
         exact = on.exact;
         calm = calm;
         stop = subst (IsStopTold cause) (ap moment_in is.stop ∙ sym front.stopped) (stop_told ending trail (has_broken ports) whole);
-        counted = counts_same sessions (length (map client_of before)) trail status.free status.objects on.last.graph (count ∙ over.count) (tells.objects ∙ ap length front.directory ∙ length-map on.last.graph.objects _);
-        free = λ well none swept. tells.free ∙ sym (free_now g server (is.settled well)) ∙ free_is on.last (serving (stop_none server.stop (sym front.stopped ∙ none))) swept
-            (none_stands core.root n (map client_of before) trail ports core.words.seed graph on.last over on.legal) ∙ ap (λ m. free_once_tidy m on.last.graph) is.size;
+        counted = counts_same (length ports) (length (map client_of before)) trail status.free status.objects on.last.graph is.over.count (tells.objects ∙ ap length front.directory ∙ length-map on.last.graph.objects _);
+        free = λ well none swept. tells.free ∙ sym (free_now g server (settled well)) ∙ free_is on.last (serving (stop_none server.stop (sym front.stopped ∙ none))) swept
+            (none_stands core.root n (map client_of before) trail ports core.words.seed graph on.last is.over on.legal) ∙ ap (λ m. free_once_tidy m on.last.graph) is.size;
         rests = λ none all.
             let here = stop_none server.stop (sym front.stopped ∙ none) in
             rests_at g server on.last n trail (serving here) is.few (is.tallied (ap is_some here)) all;
@@ -184,22 +201,22 @@ module _ {D : Type 0} (g : Ghosts D) (sized : (d : D) → IsTrue (g.honest d) �
     }
 
     pub served : (begins : (graph : Graph) → ((c : Image) → left_now g core.disk c → IsSoundAs c (rooted_part graph)) → RunSurvives g core.words.seed graph [] (g.moment core.disk ∷ []) core.disk)
-        → ServesSessions g core n (map client_of before) ports report (record ending { last = Some status }) trail moments server.disk
+        → ServesSessions g core n (map client_of before) ports report (record ending { last = Some status }) trail s.trail.moments server.disk
     served begins = record {
       counts = counts;
       cause = cause;
-      told = report_is;
+      told = rw (is.failed, is.starved) at report_is;
       played = record {
         root = core.root;
         rooted = λ graph stands. (begun graph stands).root;
         run = is_run;
-        over = over;
-        counted = (count ∙ over.count, refl, refl);
+        over = is.over;
+        counted = (is.over.count, refl, refl);
         last = last;
         ends = record { stops = is.ends.stops; after = is.ends.after; refusal = is.ends.refusal; quiet = is.ends.quiet; failed = is.ends.failed; calm = is.ends.calm };
         few = is.few;
-        collected = is.collected;
-        wanting = is.wanting;
+        collected = is.collected.all;
+        wanting = is.collected.wanting;
         undamaged = whole;
         spoiled = refl;
       };
@@ -213,11 +230,11 @@ module _ {D : Type 0} (g : Ghosts D) (sized : (d : D) → IsTrue (g.honest d) �
       timed = subst (λ (o : Option Stop). IsStopTimed o (g.moment server.disk)) (sym is.stop) is.timed;
       later = is.later;
       rise = is.rise;
-      faults = is.faults;
+      faults = is.counted;
       stops = λ graph stands. is.stops graph (stands_on graph stands);
       crashes = λ graph stands. is.lasts graph (stands_on graph stands) (begins graph (sound_left g sized left_sized core (opening graph) (begun graph stands)));
       sound = λ well graph stands last legal.
           let here : (on graph stands).last ≡ last = some_same _ _ (sym (on graph stands).legal ∙ legal) in
           let all = went_well ending trail (has_broken ports) is.ends.refusal well in
-          rw (← here) (sound_now g sized left_sized server (on graph stands).last (serving graph stands (sym is.stop ∙ all.runs)) (is.settled all.refused));
+          rw (← here) (sound_now g sized left_sized server (on graph stands).last (serving graph stands (sym is.stop ∙ all.runs)) (settled all.refused));
     }

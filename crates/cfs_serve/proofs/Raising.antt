@@ -1,8 +1,8 @@
 -- A turn raises the count of failed calls as its event tells.
 use Rattle.std.proofs.Common.{◌≡◌, inl, inr, ℕ, ◌≤◌, Bool, true, false, cond, List, [], ◌∷◌, ◌++◌, Option, Some, None, Result, refl, sym, ap, ◌∙◌, subst, arith, ◌||◌, IsSome}
-use Rattle.cfs_serve.proofs.Cited.{CountsFaults, CollectFault, Event, IsRun, Journaled, Raises, Reply, Request, Rose, State, Step, Tally, Terms, append-nil, count_after, event_by, fails, faults_after, first_fault, is_quiet_fault, list_any, recorded, tells_disk, tells_fault, tells_stop, tells_stop_at}
+use Rattle.cfs_serve.proofs.Cited.{CountsFaults, CollectFault, Event, IsRun, ServerLog, Raises, Reply, Request, Rose, State, Step, Tally, Terms, append-nil, count_after, event_by, fails, faults_after, first_fault, is_quiet_fault, list_any, recorded, tells_disk, tells_fault, tells_stop, tells_stop_at}
 use Rattle.ufs_model.specs.declared.asked.Event.TheVariants as events
-use Rattle.cfs_serve.proofs.Journals.{or_true}
+use Rattle.cfs_serve.proofs.Logs.{or_true}
 use Rattle.cfs_serve.proofs.Stepping.{nobodys, silent}
 
 same_event : (a b : Event) → Some a ≡ Some b → b ≡ a
@@ -10,7 +10,7 @@ same_event a b is = cc is
 
 -- ---- one turn
 
-module _ {A : Type 0} (faults : A → ℕ) (stands : A → State → Type 0) (t : Terms A) (old new : Journaled A) where
+module _ {A : Type 0} (faults : A → ℕ) (stands : A → State → Type 0) (t : Terms A) (old new : ServerLog A) where
   -- with an event that tells nothing
   pub never_raised : (e : Event) → new.events ≡ old.events ++ e ∷ [] → faults old.server ≤ faults new.server → tells_disk e ≡ false → tells_stop e ≡ false → Raises faults stands t old new
   never_raised e made later disk stop = record {
@@ -31,7 +31,7 @@ module _ {A : Type 0} (faults : A → ℕ) (stands : A → State → Type 0) (t 
     stops = λ x is tells begun graph at standing. absurd (cc (subst (λ (e : Event). tells_stop e ≡ true) (same_event (events.Ask who request reply) x is) tells));
   }
 
-module _ {A : Type 0} (stands : A → State → Type 0) (has_stopped is_damaged : A → Bool) (tally : A → Tally) (faults : A → ℕ) (t : Terms A) (old new : Journaled A) where
+module _ {A : Type 0} (stands : A → State → Type 0) (has_stopped is_damaged : A → Bool) (tally : A → Tally) (faults : A → ℕ) (t : Terms A) (old new : ServerLog A) where
   pub left_raised : (who : ℕ) (stopped : Option ℕ) → IsRun stands has_stopped is_damaged tally t old.server old.events → new.events ≡ old.events ++ events.Leave who stopped ∷ []
       → faults old.server ≤ faults new.server → ((s : State) → stands old.server s → IsSome stopped → Rose (faults old.server) (faults new.server)) → Raises faults stands t old new
   left_raised who stopped run made later halts = record {
@@ -100,7 +100,7 @@ module _ (counts : Event → Bool) where
       by true is = let more = rose e refl is in omega (arith, was, more)
       by false is = omega (arith, was, later)
 
-module _ {A : Type 0} (faults : A → ℕ) (stands : A → State → Type 0) (t : Terms A) (old new : Journaled A) (raises : Raises faults stands t old new) where
+module _ {A : Type 0} (faults : A → ℕ) (stands : A → State → Type 0) (t : Terms A) (old new : ServerLog A) (raises : Raises faults stands t old new) where
   pub counted_turn : (first : ℕ → ℕ) → CountsFaults faults stands t first old.server old.events → CountsFaults faults stands t first new.server new.events
   counted_turn first was = rw raises.recorded (record {
     told = λ begun at. counted_on tells_disk old.events raises.made (first (faults begun)) (faults old.server) (faults new.server) (was.told begun at) raises.later raises.disk;

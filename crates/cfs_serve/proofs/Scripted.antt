@@ -3,7 +3,7 @@ use Rattle.std.proofs.Common.{◌≡◌, ◌⊎◌, inl, inr, ℕ, zero, suc, �
 use Rattle.cfs_serve.proofs.Cited.{AreShort, AreWithinLimits, Cause, Had, HasScript, HaveFirst, HaveScripts, IsFirstRead, IsOneCause, IsSourceCause, Supply, faults_of_sources, get_or-le-sum_by, get_or_from_slice_get, lines_in, most_lines, most_script, option_map, request_lines, slice_get-get_or, slice_get-map, slice_get_within, slice_index_or, sum_by_push}
 use Rattle.cfs_serve.specs.declared.report.Cause.TheVariants as causes
 use Rattle.cfs_serve.proofs.Lists.{get-set_other, get-set_same, item, map_at, never_none, same_items, same_length}
-use Rattle.cfs_serve.proofs.Journals.{some_same}
+use Rattle.cfs_serve.proofs.Logs.{some_same}
 
 -- ---- scripts within the limits
 

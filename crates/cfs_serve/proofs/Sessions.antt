@@ -1,4 +1,4 @@
--- An event keeps what the hall keeps of its sessions.
+-- An event keeps what the machine keeps of its sessions.
 use Rattle.std.proofs.Common.{◌≡◌, ◌≢◌, ◌⊎◌, inl, inr, ℕ, ◌+◌, ◌<◌, ◌≤◌, ◌==◌, Bool, true, false, not, cond, List, [], ◌∷◌, ◌++◌, length, filter, set, get_or, Option, Some, None, slice_get, refl, sym, ap, ◌∙◌, subst, arith, append_assoc, length-append, length-set}
 use Rattle.cfs_serve.proofs.Cited.{AreHeard, Departs, Event, Hearing, Hears, IsLeave, IsSession, IsSessionTurn, IsWanting, Names, Puid, Replied, Request, Client, TakesLine, Terms, Turned, Unread, Wrote, all_forms, append-nil, finishes_in, get_or_from_slice_get, has_left_at, is_begin, is_finish, is_of_session, is_no_step, is_turn_of, name_spoken, names_after, names_after_reply, names_of, nat_tests, no_names, printed, printed_replies, reading_of, slice_get-get_or, slice_get_within, sum_by, sum_by-set, then, then_some, turn_of, turns_from, turns_in, turns_left, turns_left_at, words_of}
 use Rattle.ufs_model.specs.declared.asked.Event.TheVariants as events
@@ -8,7 +8,7 @@ use Rattle.ufs_model.specs.Spoken.{Reading}
 use Rattle.cfs_ports.specs.declared.hearing.Heard.TheVariants as heard
 use Rattle.cfs_ports.specs.Port.{TellsWhy}
 use Rattle.cfs_ports.specs.Port as ports
-use Rattle.cfs_serve.proofs.Journals.{all-push, push_out, some_same}
+use Rattle.cfs_serve.proofs.Logs.{all-push, push_out, some_same}
 use Rattle.cfs_serve.proofs.Lists.{get-set_other, get-set_same}
 
 -- ---- numbers and lists

@@ -1,15 +1,15 @@
--- A step of the collector keeps what the journal keeps.
+-- A step of the collector keeps what the logged server keeps.
 use Rattle.std.proofs.Common.{◌≡◌, ℕ, ◌==◌, Bool, true, false, List, [], ◌++◌, Option, Some, None, Result, Ok, Err, refl, sym, ap, ◌∙◌, subst, ◌||◌}
 use Rattle.cfs_serve.proofs.Cited.{CollectFault, Event, Graph, IsExactEvent, IsRun, Lasts, MayGoOn, MayMake, MayTally, State, Step, Tally, Terms, append-nil, event_by, is_of_session, is_quiet_fault, list_any, recorded, refusal_by, stamps, tells_disk, wants_memory}
 use Rattle.cfs_core.specs.declared.collecting.CollectFault.TheVariants as faults
 use Rattle.cfs_serve.specs.Calls.{SpendsStep, SpendsTurn, as_step}
 use Rattle.cfs_serve.specs.Events.{is_no_step}
-use Rattle.cfs_serve.specs.Journal.{is_progress_made, is_step}
-use Rattle.cfs_serve.specs.declared.journal.Progress.{Progress}
-use Rattle.cfs_serve.specs.declared.journal.Progress.TheVariants as progresses
+use Rattle.cfs_serve.specs.Logs.{is_progress_made, is_step}
+use Rattle.cfs_serve.specs.declared.logged.CollectorTurn.{CollectorTurn}
+use Rattle.cfs_serve.specs.declared.logged.CollectorTurn.TheVariants as progresses
 use Rattle.cfs_core.specs.declared.collecting.Step.TheVariants as steps
 use Rattle.ufs_model.specs.declared.asked.Event.TheVariants as events
-use Rattle.cfs_serve.proofs.Journals.{any-push, lasts_on, lasts_rests, run_on, run_rests}
+use Rattle.cfs_serve.proofs.Logs.{any-push, lasts_on, lasts_rests, run_on, run_rests}
 use Rattle.cfs_serve.proofs.Sessions.{test_refl}
 
 some_event : (a b : Event) → Some a ≡ Some b → a ≡ b
@@ -93,7 +93,7 @@ module _ (trail : List Event) where
         by (Some e) goes = lasts_on stands has_stopped is_damaged tally clock lasts t trail moments old new e was before goes
 
 -- a part that was made is no step
-pub tidied_only : {A : Type 0} (progress : Progress) → is_progress_made progress ≡ true → progress ≡ progresses.Tidied → A
+pub tidied_only : {A : Type 0} (progress : CollectorTurn) → is_progress_made progress ≡ true → progress ≡ progresses.Tidied → A
 tidied_only progress made is = let no : false ≡ true = rw is at made in absurd (cc no)
 
 -- a step leaves fewer, or none was made
@@ -111,7 +111,7 @@ halts_alone faults.Memory e is = absurd (cc is)
 halts_alone (faults.Disk None) e is = absurd (cc is)
 halts_alone (faults.Stopped moment) e is = absurd (cc is)
 
-pub stop_only : (progress : Progress) (made : Result (Option Step) CollectFault) → (progress ≡ progresses.Tidied → made ≡ Ok None) → ((fault : CollectFault) → progress ≡ progresses.Refused fault → made ≡ Err fault)
+pub stop_only : (progress : CollectorTurn) (made : Result (Option Step) CollectFault) → (progress ≡ progresses.Tidied → made ≡ Ok None) → ((fault : CollectFault) → progress ≡ progresses.Refused fault → made ≡ Err fault)
     → is_step progress ≡ false → (e : Event) → event_by (as_step made) ≡ Some e → is_no_step e ≡ true
 stop_only progresses.Tidied made part refused is e there = absurd (cc (subst (λ x. event_by (as_step x) ≡ Some e) (part refl) there))
 stop_only (progresses.Refused fault) made part refused is e there = halts_alone fault e (subst (λ x. event_by (as_step x) ≡ Some e) (refused fault refl) there)

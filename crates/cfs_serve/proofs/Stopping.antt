@@ -6,7 +6,7 @@ use Rattle.cfs_serve.proofs.Cited.{CollectFault, Damage, Event, Stop, StopsAmong
 use Rattle.cfs_core.specs.declared.collecting.CollectFault.TheVariants as faults
 use Rattle.ufs_model.specs.declared.asked.Event.TheVariants as events
 use Rattle.ufs_model.specs.declared.asked.Reply.TheVariants as replies
-use Rattle.cfs_serve.proofs.Journals.{or_false}
+use Rattle.cfs_serve.proofs.Logs.{or_false}
 
 -- ---- lists of stops
 

@@ -1,7 +1,7 @@
 -- The lines of a trail, one event further.
 use Rattle.std.proofs.Common.{◌≡◌, ℕ, zero, suc, ◌+◌, List, [], ◌∷◌, ◌++◌, take, drop, Some, slice_get, sym, ap, ◌∙◌, subst, append_assoc, Result, Ok, Err, arith}
 use Rattle.cfs_serve.proofs.Cited.{Event, Failed, Intake, Opening, Replied, WritesWhole, Wrote, WroteSome, append-nil, begun_lines, cut, ended_line, event_line, flat_map, flat_map-append, is_ok, opening_line, take-append-drop, then, then_some}
-use Rattle.cfs_serve.proofs.Journals.{some_same}
+use Rattle.cfs_serve.proofs.Logs.{some_same}
 
 abbrev line : Event → List ℕ
 line e = ended_line (event_line e)

@@ -1,6 +1,6 @@
 -- A turn of a core's collector: a part of a commit, or a step.
 use Rattle.std.proofs.Common.{◌≡◌, ℕ, ◌++◌, ◌∷◌, [], Bool, true, false, List, Option, Some, Result, Ok, Err, is_some, refl, ap, ◌∙◌}
-use Rattle.cfs_serve.proofs.Cited.{CallKeeps, CollectFault, EndsCollecting, Event, Ghosts, Graph, Kernel, MayGoOn, MayMake, MayTally, PassesStep, Rose, RunSurvives, ServesIs, StandsFor, State, Step, Stop, StopsAmong, Survived, TellsStep, TellsStop, end_in, event_by, sweeps_now, lost_blocks, option_and_then, recorded, refusal_by, replay, tally_of, tells_stop_at}
+use Rattle.cfs_serve.proofs.Cited.{CallKeeps, CollectFault, EndsCollecting, Event, Ghosts, Graph, Kernel, MayGoOn, MayMake, MayTally, PassesStep, Rose, RunSurvives, ServesIs, StandsFor, State, Step, Stop, Survived, TellsStep, TellsStop, end_in, event_by, sweeps_now, lost_blocks, option_and_then, recorded, refusal_by, replay, tally_of, tells_stop_at}
 use Rattle.cyl_alloc.specs.Left.{parts_left}
 use Rattle.cfs_serve.specs.Calls.{SpendsTurn, as_step}
 use Rattle.cfs_serve.specs.Ending.{MakesStop}

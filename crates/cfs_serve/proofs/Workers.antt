@@ -1,11 +1,11 @@
 -- A turn of a worker, of a session or of the collector.
 use Rattle.std.proofs.Common.{◌≡◌, ◌≢◌, inl, inr, ℕ, zero, suc, ◌+◌, ◌<◌, ◌≤◌, ◌==◌, Bool, true, false, cond, List, [], ◌∷◌, ◌++◌, Option, Some, None, length, slice_get, refl, sym, ap, ◌∙◌, subst, arith, length-append}
-use Rattle.cfs_serve.proofs.Cited.{AreHeard, CollectFault, Event, HasNoCollector, Hearing, is_no_step, IsSessionTurn, IsTurn, Journaled, Progress, PortReading, JournalSteps, Terms, append-nil, has_left_at, is_done_in, is_of_session, turns_left_in, nat_tests, recorded, slice_get_within, sum_by, turns_left, turns_left_at, turns_now}
-use Rattle.cfs_serve.specs.Hall.{parts_now}
+use Rattle.cfs_serve.proofs.Cited.{AreHeard, CollectFault, Event, HasNoCollector, Hearing, is_no_step, IsSessionTurn, IsTurn, ServerLog, CollectorTurn, PortReading, LogSteps, Terms, append-nil, has_left_at, is_done_in, is_of_session, turns_left_in, nat_tests, recorded, slice_get_within, sum_by, turns_left, turns_left_at, turns_now}
+use Rattle.cfs_serve.specs.Machine.{parts_now}
 use Rattle.cfs_serve.specs.Calls.{Tally}
-use Rattle.cfs_serve.specs.Hall.{HasTurns}
-use Rattle.cfs_serve.specs.Journal.{is_progress_made, is_recorded, is_step, refusal_in}
-use Rattle.cfs_serve.specs.declared.journal.Progress.TheVariants as progresses
+use Rattle.cfs_serve.specs.Machine.{HasTurns}
+use Rattle.cfs_serve.specs.Logs.{is_progress_made, is_recorded, is_step, refusal_in}
+use Rattle.cfs_serve.specs.declared.logged.CollectorTurn.TheVariants as progresses
 use Rattle.cfs_serve.proofs.Sessions as sessions
 use Rattle.cfs_serve.proofs.Sessions.{heard_beside}
 
@@ -72,7 +72,7 @@ session_stays [] turns (suc w) apart stays = absurd (cc stays)
 session_stays (p ∷ ports) turns zero apart stays = (omega arith, stays)
 session_stays (p ∷ ports) turns (suc w) apart stays = let rest = session_stays ports turns w (λ same. apart (ap (λ n. suc n) same)) stays in (omega (arith, rest.0), rest.1)
 
--- a session of a hall whose workers are done has left
+-- a session of a machine whose workers are done has left
 pub all_done : (ports : List PortReading) (turns : ℕ) → ((w : ℕ) → is_done_in ports turns w ≡ true) → (k : ℕ) → has_left_at (slice_get ports k) ≡ true
 all_done [] turns done k = refl
 all_done (p ∷ ports) turns done zero = done 0
@@ -117,7 +117,7 @@ module _ (resting after : Bool) (steps left parts now : ℕ) (refused : Option C
   by_step : refused ≡ None → parts ≡ 0 → now ≡ 0 → left < steps → IsLess
   by_step none whole settled fewer = rw none (fewer_now resting after steps left parts now whole settled some fewer, omega (arith, whole, settled, fewer))
 
-  pub turns_less : (progress : Progress) → (progress ≡ progresses.Tidied → (now < parts) × (left ≡ steps) × (after ≡ resting)) → (is_step progress ≡ true → (parts ≡ 0) × (now ≡ 0) × (left < steps))
+  pub turns_less : (progress : CollectorTurn) → (progress ≡ progresses.Tidied → (now < parts) × (left ≡ steps) × (after ≡ resting)) → (is_step progress ≡ true → (parts ≡ 0) × (now ≡ 0) × (left < steps))
       → ((fault : CollectFault) → progress ≡ progresses.Refused fault → left ≡ 0) → refused ≡ refusal_in progress → IsLess
   turns_less progresses.Tidied tidied step over is = let made = tidied refl in rw (is, made.1, made.2) (fewer_parts resting steps parts now made.0, omega (arith, made.0))
   turns_less (progresses.Refused fault) tidied step over is =
@@ -129,7 +129,7 @@ module _ (resting after : Bool) (steps left parts now : ℕ) (refused : Option C
   turns_less progresses.Finished tidied step over is = let made = step refl in by_step is made.0 made.1 made.2
 
 -- what was made is a step
-pub made_step : (progress : Progress) → is_progress_made progress ≡ true → is_step progress ≡ true
+pub made_step : (progress : CollectorTurn) → is_progress_made progress ≡ true → is_step progress ≡ true
 made_step progresses.Tidied made = made
 made_step (progresses.Refused fault) made = made
 made_step progresses.Idle made = refl
@@ -138,7 +138,7 @@ made_step progresses.Recorded made = refl
 made_step progresses.Finished made = refl
 
 -- and enough turns still
-pub turns_on : (progress : Progress) (steps events left now lines : ℕ) (c d : Tally) → HasTurns steps events lines c → (progress ≡ progresses.Tidied → (left ≡ steps) × (now ≡ events) × (d.steps ≡ c.steps) × (d.events ≡ c.events))
+pub turns_on : (progress : CollectorTurn) (steps events left now lines : ℕ) (c d : Tally) → HasTurns steps events lines c → (progress ≡ progresses.Tidied → (left ≡ steps) × (now ≡ events) × (d.steps ≡ c.steps) × (d.events ≡ c.events))
     → (is_step progress ≡ true → 0 < left → (d.steps < c.steps) × (d.events + cond (is_recorded progress) 1 0 ≤ c.events) × (left + 1 ≡ steps) × (now + cond (is_recorded progress) 1 0 ≡ events))
     → ((fault : CollectFault) → progress ≡ progresses.Refused fault → left ≡ 0) → HasTurns left now lines d
 turns_on progresses.Tidied steps events left now lines c d was tidied step over =
@@ -154,7 +154,7 @@ turns_on progresses.Finished steps events left now lines c d was tidied step ove
     λ more. let made = step refl more in let had = was (omega (arith, more, made.2)) in (omega (arith, had.0, made.0, made.2), omega (arith, had.1, made.1, made.3))
 
 -- a part that was made makes no event, and where no step is left as many collections are finished as were called for
-pub finished_on : (progress : Progress) (left finished all : ℕ) → (progress ≡ progresses.Tidied → finished ≡ all) → (is_step progress ≡ true → left ≡ 0 → finished ≡ all) → refusal_in progress ≡ None → left ≡ 0 → finished ≡ all
+pub finished_on : (progress : CollectorTurn) (left finished all : ℕ) → (progress ≡ progresses.Tidied → finished ≡ all) → (is_step progress ≡ true → left ≡ 0 → finished ≡ all) → refusal_in progress ≡ None → left ≡ 0 → finished ≡ all
 finished_on progresses.Tidied left finished all tidied step none over = tidied refl
 finished_on (progresses.Refused fault) left finished all tidied step none over = absurd (cc none)
 finished_on progresses.Idle left finished all tidied step none over = step refl over
@@ -171,10 +171,10 @@ pub as_told : (b : Bool) (o : Option Event) → (b ≡ false → o ≡ None) →
 as_told true o none = one_at_most o
 as_told false o none = rw (none refl) (omega arith)
 
--- what the hall keeps, where the collector has a turn left
-module _ {A : Type 0} (t : Terms A) (clock : A → ℕ) (old new : Journaled A) (ports : List PortReading) (progress : Progress) (turns events : ℕ)
+-- what the machine keeps, where the collector has a turn left
+module _ {A : Type 0} (t : Terms A) (clock : A → ℕ) (old new : ServerLog A) (ports : List PortReading) (progress : CollectorTurn) (turns events : ℕ)
     (heard : AreHeard t old.events ports) (room : sum_by turns_left ports + events ≤ old.room) (few : length old.events + sum_by turns_left ports + events < 4294967295)
-    (some : is_step progress ≡ true → 0 < turns) (quiet : HasNoCollector t turns) (steps : JournalSteps clock old new progress) where
+    (some : is_step progress ≡ true → 0 < turns) (quiet : HasNoCollector t turns) (steps : LogSteps clock old new progress) where
   -- where no collection is called for it is no step
   no_step : t.collections ≡ 0 → is_step progress ≡ false
   no_step none = at (is_step progress) refl

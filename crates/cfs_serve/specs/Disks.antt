@@ -23,7 +23,7 @@ use Rattle.cfs_serve.specs.declared.report.VolumeFault.{VolumeFault}
 use Rattle.cfs_serve.specs.Ending.{IsStopTimed}
 use Rattle.cfs_serve.specs.Volume.{EndsCore}
 use Rattle.cfs_serve.specs.Events.{tells_disk, tells_fault}
-use Rattle.cfs_serve.specs.Journal.{MomentsRise, faults_after, first_fault}
+use Rattle.cfs_serve.specs.Logs.{MomentsRise, faults_after, first_fault}
 use Rattle.cfs_serve.specs.Words.{Asked, Audits, Format, Formats, InFile, InMemory, Nothing, Place, Serves, Shows}
 use Rattle.cfs_serve.specs.Words.{Spins}
 

@@ -11,7 +11,7 @@ use Rattle.cfs_serve.specs.Ground.{why}
 use Rattle.cfs_serve.specs.declared.report.Cause.{Cause}
 use Rattle.cfs_serve.specs.declared.report.Cause.TheVariants as causes
 use Rattle.cfs_serve.specs.declared.report.VolumeFault.TheVariants as faults
-use Rattle.cfs_serve.specs.declared.volume.Refused.{Refused}
+use Rattle.cfs_serve.specs.declared.volume.Unopened.{Unopened}
 
 abbrev pub opening_cause : RecoverFault → Cause
 opening_cause whys.Disk = causes.Disk None
@@ -30,6 +30,6 @@ IsOpeningRefusal g old new causes.Memory = Unit {0}
 IsOpeningRefusal g old new cause = ⊥
 
 -- the disk, in a core or handed back
-abbrev pub disk_refused : {D : Type 0} → Result (Kernel D) (Refused D) → D
+abbrev pub disk_refused : {D : Type 0} → Result (Kernel D) (Unopened D) → D
 disk_refused (Ok k) = k.disk
 disk_refused (Err e) = e.disk

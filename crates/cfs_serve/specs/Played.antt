@@ -19,7 +19,7 @@ use Rattle.cfs_serve.specs.Charter.{Client}
 use Rattle.cfs_serve.specs.Ending.{EndsService, IsWanting, cause_of, damage_in, moment_in, not_begun}
 use Rattle.cfs_serve.specs.Events.{begins_in, finishes_in, is_calm, is_reply}
 use Rattle.cfs_serve.specs.Ground.{Ground}
-use Rattle.cfs_serve.specs.Hall.{AreOver}
+use Rattle.cfs_serve.specs.Machine.{AreOver}
 use Rattle.cfs_serve.specs.Scripts.{HaveScripts, IsSourceCause}
 use Rattle.cfs_serve.specs.declared.report.Counts.{Counts}
 use Rattle.cfs_serve.specs.declared.report.Cause.{Cause}

@@ -21,7 +21,7 @@ use Rattle.cfs_serve.specs.Ground.{Ground, opened}
 use Rattle.cfs_ports.specs.Port.{PortReading}
 use Rattle.cfs_serve.specs.Charter.{Client}
 use Rattle.cfs_serve.specs.Events.{tells_disk, tells_fault}
-use Rattle.cfs_serve.specs.Journal.{MomentsRise, faults_after, first_fault}
+use Rattle.cfs_serve.specs.Logs.{MomentsRise, faults_after, first_fault}
 use Rattle.cfs_serve.specs.Played.{AreClients, IsPlayed, ServesNothing}
 
 -- the core stands for a root index of empty slots on so many cylinders; no word was drawn, it hasn't stopped, and no
@@ -32,6 +32,12 @@ pub record IsNewCore {D : Type 0} (g : Ghosts D) (cylinders seed : ℕ) (k : Ker
   pub some : 1 ≤ cylinders
   pub size : length k.space.free ≡ cylinders
   pub runs : k.stop ≡ None
+  pub idle : k.collections ≡ record { collector = None; called = 0; finished = 0 }
+
+-- A core of which nothing was asked yet: it runs, no word was drawn, and no collection was called for.
+pub record IsCoreUncalled {D : Type 0} (k : Kernel D) : Type 0 where
+  pub runs : k.stop ≡ None
+  pub words : k.words.drawn ≡ 0
   pub idle : k.collections ≡ record { collector = None; called = 0; finished = 0 }
 
 -- a core as it begins, by the graphs that it stands for

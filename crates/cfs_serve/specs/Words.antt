@@ -71,7 +71,7 @@ are_files words =
     is_file_word words
     && nat_le (streams_in (inputs_in words)) 1 && nat_le (streams_in (outputs_in words)) 1
 
-abbrev play_of : (traced : Bool) (cylinders seed collections : ℕ) (files : List (List ℕ)) → Option Service
+abbrev pub play_of : (traced : Bool) (cylinders seed collections : ℕ) (files : List (List ℕ)) → Option Service
 play_of traced cylinders seed collections files =
     if nat_lt 0 cylinders && nat_le cylinders most_cylinders && nat_le collections most_collections && are_files files
     then Some (record {
@@ -82,7 +82,7 @@ play_of traced cylinders seed collections files =
       traced = traced;
     }) else None
 
-abbrev numbered : (traced : Bool) → Option ℕ → Option ℕ → Option ℕ → List (List ℕ) → Option Service
+abbrev pub numbered : (traced : Bool) → Option ℕ → Option ℕ → Option ℕ → List (List ℕ) → Option Service
 numbered traced (Some cylinders) (Some seed) (Some collections) files =
     play_of traced cylinders seed collections files
 numbered traced (Some cylinders) (Some seed) None files = None
@@ -90,10 +90,10 @@ numbered traced (Some cylinders) None collections files = None
 numbered traced None seed collections files = None
 
 -- a standard stream is no volume, and no trail
-abbrev is_volume_word : List ℕ → Bool
+abbrev pub is_volume_word : List ℕ → Bool
 is_volume_word w = is_file_word w && not (is_stream w)
 
-abbrev serve_of : (pair : Bool) (volume : List ℕ) (seed collections : ℕ) (files : List (List ℕ)) → Option Service
+abbrev pub serve_of : (pair : Bool) (volume : List ℕ) (seed collections : ℕ) (files : List (List ℕ)) → Option Service
 serve_of pair volume seed collections files =
     if is_volume_word volume && nat_le collections most_collections && are_files files
     then Some (record {
@@ -104,7 +104,7 @@ serve_of pair volume seed collections files =
       traced = false;
     }) else None
 
-abbrev seeded : (pair : Bool) → List ℕ → Option ℕ → Option ℕ → List (List ℕ) → Option Service
+abbrev pub seeded : (pair : Bool) → List ℕ → Option ℕ → Option ℕ → List (List ℕ) → Option Service
 seeded pair volume (Some seed) (Some collections) files = serve_of pair volume seed collections files
 seeded pair volume (Some seed) None files = None
 seeded pair volume None collections files = None

@@ -4,6 +4,7 @@ ghost use Rattle.cfs_serve.specs.Disks.{ServesVolume};
 ghost use Rattle.cfs_serve.specs.Ground.{ground_on};
 ghost use Rattle.cfs_serve.specs.Whole.{AsksSessions};
 
+use crate::command::Serve;
 use crate::limits::HELD_MAPS;
 use crate::play::{Played, nothing, serve_volume};
 use crate::report::Cause;
@@ -13,8 +14,8 @@ use std::alloc::Global;
 use std::sync::Wait;
 use std::thread::Threads;
 
-/// Reads the sources, and serves their scripts on the volume of this disk, which comes back; so many collections are
-/// called for. Map blocks are read of the disk once, and then held.
+/// Reads the sources, and serves their scripts on the volume of this disk, which comes back. Map blocks are read of the
+/// disk once, and then held.
 pub(crate) fn serve_cached<
     D: Disk + Send,
     S: Source,
@@ -25,16 +26,14 @@ pub(crate) fn serve_cached<
     rt: &R,
     alloc: Global,
     gate: &G,
-    seed: u64,
-    collections: u32,
+    asked: &Serve<'_>,
     disk: D,
     sources: &mut Vec<S>,
     sinks: &mut Vec<K>,
 ) -> (Played, D)
     requires count { length sources.old.items ≡ length sinks.old.items }
     requires sessions { length sinks.old.items ≤ 64 }
-    requires few { collections ≤ 1000 }
-    ensures asks { AsksSessions (ground_on D.Disk disk) seed collections
+    ensures asks { AsksSessions (ground_on D.Disk disk) asked.now.seed asked.now.collections
         (record {
           disk = Some (D.faults disk);
           sources = map S.supply sources.old.items;
@@ -46,7 +45,7 @@ pub(crate) fn serve_cached<
           sinks = map K.intake sinks.new.items;
         })
         result.0.report result.0.ending result.0.trail.events }
-    ensures volume { ServesVolume D.Disk seed result.0.report result.0.ending result.0.trail.events
+    ensures volume { ServesVolume D.Disk asked.now.seed result.0.report result.0.ending result.0.trail.events
         result.0.trail.moments
         disk result.1 }
 {
@@ -54,6 +53,6 @@ pub(crate) fn serve_cached<
         Ok(cache) => cache,
         Err(CacheFault { lower }) => return (nothing(alloc, Cause::Memory), lower),
     };
-    let (played, cache) = serve_volume(rt, alloc, gate, seed, collections, cache, sources, sinks);
+    let (played, cache) = serve_volume(rt, alloc, gate, asked, cache, sources, sinks);
     (played, cache.into_lower())
 }

@@ -1,7 +1,7 @@
 //! The ports of the clients of a service, from their scripts and sinks, and their sinks when they have left.
 ghost use Rattle.std.specs.Prelude.{◌≡◌, ◌≤◌, ◌+◌, ◌++◌, [], IfNone, IfSome, length, map, reverse, vec_capacity};
 ghost use Rattle.ufs_model.specs.Script.{request_lines};
-ghost use Rattle.cfs_serve.specs.Hall.{AreNew};
+ghost use Rattle.cfs_serve.specs.Machine.{AreNew};
 
 use crate::script::Script;
 use cfs_base::{Puid, Sink};

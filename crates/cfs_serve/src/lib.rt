@@ -6,10 +6,11 @@
 mod audit;
 mod cached;
 mod clients;
+mod command;
 mod ending;
-mod hall;
-mod journal;
 mod limits;
+mod logged;
+mod machine;
 mod naming;
 mod page;
 mod paths;
@@ -19,7 +20,9 @@ mod rest;
 mod run;
 mod script;
 mod scripts;
+mod served;
 mod server;
+mod service;
 mod serving;
 mod spin;
 mod sure_disk;
@@ -27,16 +30,13 @@ mod traced;
 mod volume;
 mod words;
 
+pub use command::{Command, Format, Play, Serve, Spin};
 pub use ending::Ending;
-pub use hall::{Parts, Unserved};
 pub use limits::{
     HELD_MAPS, MOST_COLLECTIONS, MOST_CYLINDERS, MOST_FILE_CYLINDERS, MOST_LINES, MOST_SCRIPT,
     MOST_SESSIONS, MOST_TRAIL,
 };
-pub use naming::files_named;
 pub use page::Page;
-pub use paths::{Files, Path, Paths, Volume, WordsFault};
+pub use paths::{Files, Path, Paths, Volume};
 pub use report::{Cause, Counts, Report, VolumeFault};
 pub use run::{Bay, Ended, top};
-pub use server::Server;
-pub use serving::serve;

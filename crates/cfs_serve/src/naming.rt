@@ -1,14 +1,14 @@
-//! What the words of a command name.
-ghost use Rattle.std.specs.Prelude.{◌≡◌, ◌↔◌, ◌≤◌, ℕ, List, [], ◌∷◌, length, map, None, Some, IfSome, IfErr, IfOk};
-ghost use Rattle.std.specs.Prelude.{Err, false, string_bytes};
+//! What a command names.
+ghost use Rattle.std.specs.Prelude.{◌≡◌, ◌≤◌, ℕ, List, [], ◌∷◌, length, map, None, Some, IfSome, IfOk, false};
+ghost use Rattle.std.specs.Prelude.{string_bytes};
+ghost use Rattle.cfs_serve.specs.Commands.{asked_of};
 ghost use Rattle.cfs_serve.specs.Whole.{HasCylinders, HasPlaces, NamesVolume};
 ghost use Rattle.cfs_serve.specs.Words as spec;
-ghost use Rattle.cfs_serve.specs.Words.{Audits, Nothing, Serves, Service, asked_in, inputs_in, most_made};
-ghost use Rattle.cfs_serve.specs.Words.{outputs_in};
+ghost use Rattle.cfs_serve.specs.Words.{Audits, Serves, Service, inputs_in, most_made, outputs_in};
 
-use crate::paths::{Files, Volume, WordsFault, no_paths, one_path, path_of, session_paths};
-use crate::words::{audit_asked, format_asked, page_asked, play_asked, serve_asked, spin_asked};
-use std::alloc::Global;
+use crate::command::{Command, Format, Serve};
+use crate::paths::{Files, Volume, no_paths, one_path, path_of, session_paths};
+use std::alloc::{AllocError, Global};
 
 /// No files.
 fn no_files(alloc: Global) -> Files
@@ -25,45 +25,31 @@ fn no_files(alloc: Global) -> Files
 }
 
 /// The volume that is to be made, and no other file.
-fn volume_files(
-    alloc: Global,
-    volume: &str,
-    cylinders: u64,
-    pair: bool,
-) -> Result<Files, WordsFault>
-    requires { cylinders ≤ most_made pair }
-    ensures fault { IfErr result (λ e. e ≡ WordsFault.Memory) }
-    ensures volume { IfOk result (λ n. n.volume ≡ Some (Volume.Fresh volume.now cylinders)) }
+fn volume_files(alloc: Global, format: &Format<'_>) -> Result<Files, AllocError>
+    ensures volume { IfOk result (λ n. n.volume ≡ Some (Volume.Fresh format.now.volume.now format.now.cylinders)) }
     ensures places { IfOk result (λ n. (n.sources ≡ []) × (n.sinks ≡ [])) }
-    ensures pair { IfOk result (λ n. n.pair ≡ pair) }
+    ensures pair { IfOk result (λ n. n.pair ≡ format.now.pair) }
 {
-    let Ok(path) = path_of(alloc, volume) else {
-        return Err(WordsFault::Memory);
-    };
     Ok(Files {
         volume: Some(Volume::Fresh {
-            path,
-            cylinders: cylinders as u32,
+            path: path_of(alloc, format.volume)?,
+            cylinders: format.cylinders,
         }),
         sources: no_paths(alloc),
         sinks: no_paths(alloc),
-        pair,
+        pair: format.pair,
     })
 }
 
 /// The file of a trail, and no other.
-fn trail_files(alloc: Global, trail: &str) -> Result<Files, WordsFault>
-    ensures fault { IfErr result (λ e. e ≡ WordsFault.Memory) }
+fn trail_files(alloc: Global, trail: &str) -> Result<Files, AllocError>
     ensures volume { IfOk result (λ n. n.volume ≡ None) }
     ensures places { IfOk result (λ n. (n.sources ≡ trail.now ∷ []) × (n.sinks ≡ [])) }
     ensures pair { IfOk result (λ n. n.pair ≡ false) }
 {
-    let Ok(sources) = one_path(alloc, trail) else {
-        return Err(WordsFault::Memory);
-    };
     Ok(Files {
         volume: None,
-        sources,
+        sources: one_path(alloc, trail)?,
         sinks: no_paths(alloc),
         pair: false,
     })
@@ -75,16 +61,13 @@ fn session_files(
     volume: Option<Volume>,
     files: &[String],
     pair: bool,
-) -> Result<Files, WordsFault>
-    ensures fault { IfErr result (λ e. e ≡ WordsFault.Memory) }
+) -> Result<Files, AllocError>
     ensures volume { IfOk result (λ n. n.volume ≡ volume) }
     ensures sources { IfOk result (λ n. n.sources ≡ inputs_in (map string_bytes files.now)) }
     ensures sinks { IfOk result (λ n. n.sinks ≡ outputs_in (map string_bytes files.now)) }
     ensures pair { IfOk result (λ n. n.pair ≡ pair) }
 {
-    let Ok((sources, sinks)) = session_paths(alloc, files) else {
-        return Err(WordsFault::Memory);
-    };
+    let (sources, sinks) = session_paths(alloc, files)?;
     Ok(Files {
         volume,
         sources,
@@ -94,56 +77,40 @@ fn session_files(
 }
 
 /// The volume that is to be served, and the files of its sessions.
-fn served_files(
-    alloc: Global,
-    volume: &str,
-    files: &[String],
-    pair: bool,
-) -> Result<Files, WordsFault>
-    ensures fault { IfErr result (λ e. e ≡ WordsFault.Memory) }
-    ensures volume { IfOk result (λ n. n.volume ≡ Some (Volume.Existing volume.now)) }
-    ensures sources { IfOk result (λ n. n.sources ≡ inputs_in (map string_bytes files.now)) }
-    ensures sinks { IfOk result (λ n. n.sinks ≡ outputs_in (map string_bytes files.now)) }
-    ensures pair { IfOk result (λ n. n.pair ≡ pair) }
+fn served_files(alloc: Global, serve: &Serve<'_>) -> Result<Files, AllocError>
+    ensures volume { IfOk result (λ n. n.volume ≡ Some (Volume.Existing serve.now.volume.now)) }
+    ensures sources { IfOk result (λ n. n.sources ≡ inputs_in (map string_bytes serve.now.files.now)) }
+    ensures sinks { IfOk result (λ n. n.sinks ≡ outputs_in (map string_bytes serve.now.files.now)) }
+    ensures pair { IfOk result (λ n. n.pair ≡ serve.now.pair) }
 {
-    let Ok(path) = path_of(alloc, volume) else {
-        return Err(WordsFault::Memory);
-    };
-    session_files(alloc, Some(Volume::Existing { path }), files, pair)
+    let path = path_of(alloc, serve.volume)?;
+    session_files(
+        alloc,
+        Some(Volume::Existing { path }),
+        serve.files,
+        serve.pair,
+    )
 }
 
-/// What the words of a command name: nothing for a page or a spin. `Words` comes exactly where they are of no form.
-pub fn files_named(alloc: Global, words: &[String]) -> Result<Files, WordsFault>
-    ensures words { result ≡ Err WordsFault.Words ↔ (asked_in (map string_bytes words.now) ≡ Nothing) }
-    ensures volume { IfOk result (λ n. NamesVolume (asked_in (map string_bytes words.now)) n.volume) }
-    ensures sized { IfOk result (λ n. IfSome n.volume (HasCylinders n.pair)) }
-    ensures pair { IfOk result (λ n. n.pair ≡ spec.is_pair (asked_in (map string_bytes words.now))) }
-    ensures places { IfOk result (λ n. HasPlaces (asked_in (map string_bytes words.now)) (length n.sources)
-        (length n.sinks)) }
-    ensures sources { IfOk result (λ n. (s : Service) → asked_in (map string_bytes words.now) ≡ Serves s
-        → n.sources ≡ map (λ f. f.input) s.sessions) }
-    ensures trail { IfOk result (λ n. (t : List ℕ) → asked_in (map string_bytes words.now) ≡ Audits t
-        → n.sources ≡ t ∷ []) }
-    ensures sinks { IfOk result (λ n. (s : Service) → asked_in (map string_bytes words.now) ≡ Serves s
-        → n.sinks ≡ map (λ f. f.output) s.sessions) }
-{
-    if page_asked(words).is_some() {
-        return Ok(no_files(alloc));
-    }
-    if let Some(format) = format_asked(words) {
-        return volume_files(alloc, format.volume, format.cylinders, format.pair);
-    }
-    if let Some(trail) = audit_asked(words) {
-        return trail_files(alloc, trail);
-    }
-    if let Some(play) = play_asked(words) {
-        return session_files(alloc, None, play.files, false);
-    }
-    if spin_asked(words).is_some() {
-        return Ok(no_files(alloc));
-    }
-    match serve_asked(words) {
-        Some(served) => served_files(alloc, served.volume, served.files, served.pair),
-        None => Err(WordsFault::Words),
+impl Command<'_> {
+    /// The files that it names: none for a page or a spin.
+    pub fn files(&self, alloc: Global) -> Result<Files, AllocError>
+        ensures volume { IfOk result (λ n. NamesVolume (asked_of (Some self.now)) n.volume) }
+        ensures sized { IfOk result (λ n. IfSome n.volume (HasCylinders n.pair)) }
+        ensures pair { IfOk result (λ n. n.pair ≡ spec.is_pair (asked_of (Some self.now))) }
+        ensures places { IfOk result (λ n. HasPlaces (asked_of (Some self.now)) (length n.sources) (length n.sinks)) }
+        ensures sources { IfOk result (λ n. (s : Service) → asked_of (Some self.now) ≡ Serves s
+            → n.sources ≡ map (λ f. f.input) s.sessions) }
+        ensures trail { IfOk result (λ n. (t : List ℕ) → asked_of (Some self.now) ≡ Audits t → n.sources ≡ t ∷ []) }
+        ensures sinks { IfOk result (λ n. (s : Service) → asked_of (Some self.now) ≡ Serves s
+            → n.sinks ≡ map (λ f. f.output) s.sessions) }
+    {
+        match self {
+            Command::Page(_) | Command::Spin(_) => Ok(no_files(alloc)),
+            Command::Format(format) => volume_files(alloc, format),
+            Command::Audit(trail) => trail_files(alloc, trail),
+            Command::Play(play) => session_files(alloc, None, play.files, false),
+            Command::Serve(serve) => served_files(alloc, serve),
+        }
     }
 }

@@ -68,15 +68,6 @@ pub struct Files {
     pub pair: bool,
 }
 
-/// Why words name nothing.
-#[derive(Clone, Copy, Debug, PartialEq, Eq)]
-pub enum WordsFault {
-    /// They are of no form.
-    Words,
-    /// Want of memory.
-    Memory,
-}
-
 pub(crate) fn path_of(alloc: Global, text: &str) -> Result<Path, AllocError>
     ensures { IfOk result (λ p. p ≡ text.now) }
 {

@@ -5,20 +5,21 @@ ghost use Rattle.cfs_serve.specs.Disks.{ServesVolume};
 ghost use Rattle.cfs_serve.specs.Ending.{cause_by, not_begun};
 ghost use Rattle.cfs_serve.specs.Events as spec;
 ghost use Rattle.cfs_serve.specs.Ground.{ground_on, new_ground};
-ghost use Rattle.cfs_serve.specs.Hall.{AreNew, client_of, turns_left};
+ghost use Rattle.cfs_serve.specs.Machine.{AreNew, client_of, turns_left};
 ghost use Rattle.cfs_serve.specs.Played as played;
 ghost use Rattle.cfs_serve.specs.Scripts.{lines_in};
-ghost use Rattle.cfs_serve.specs.Volume.{IsUnserved, ServesScripts, ServesSessions};
+ghost use Rattle.cfs_serve.specs.Volume.{IsCoreUncalled, IsUnserved, ServesScripts, ServesSessions};
 ghost use Rattle.cfs_serve.specs.Whole.{AsksSessions};
 
 use crate::clients::{make_ports, take_sinks};
+use crate::command::{Play, Serve};
 use crate::ending::Ending;
-use crate::hall::{Parts, Unserved};
 use crate::report::{Cause, Counts, Report};
 use crate::scripts::{Scripts, read_scripts};
+use crate::served::{Served, Unserved};
 use crate::server::images_are_whole;
-use crate::serving::serve;
-use crate::volume::{Refused, new_volume, open_volume};
+use crate::service::{Schedule, Service};
+use crate::volume::{Unopened, new_volume, open_volume};
 use cfs_base::{Disk, Gate, Sink, Source};
 use cfs_core::{Core, Status};
 use cfs_ports::Port;
@@ -101,35 +102,29 @@ fn has_broken<K: Sink>(ports: &[Port<K>]) -> bool
 }
 
 /// The report on sessions that were served, by the core's last status.
-fn report_on(
-    last: Status,
-    trail: &Trail,
-    ending: Ending,
-    sessions: u64,
-    failed: bool,
-    broken: bool,
-    starved: bool,
-) -> Report
+fn report_on<A, K: Sink>(served: &Served<A, K>, last: Status) -> Report
     ensures { result ≡ record {
       counts = Some (record {
-        sessions = sessions;
-        replies = length (filter spec.is_reply trail.now.events);
-        collections = length (filter spec.is_finish trail.now.events);
+        sessions = length served.now.ports.items;
+        replies = length (filter spec.is_reply served.now.trail.events);
+        collections = length (filter spec.is_finish served.now.trail.events);
         objects = last.objects;
         free = last.free;
       });
-      cause = cause_by ending failed broken starved;
+      cause = cause_by served.now.ending served.now.failed (played.has_broken served.now.ports.items)
+          served.now.starved;
     } }
 {
+    let broken = has_broken(served.ports.as_slice());
     Report {
         counts: Some(Counts {
-            sessions,
-            replies: count_replies(trail),
-            collections: count_finished(trail),
+            sessions: served.ports.len() as u64,
+            replies: count_replies(&served.trail),
+            collections: count_finished(&served.trail),
             objects: u64::from(last.objects),
             free: u64::from(last.free),
         }),
-        cause: ending.cause(failed, broken, starved),
+        cause: served.ending.cause(served.failed, broken, served.starved),
     }
 }
 
@@ -145,8 +140,8 @@ fn count_steps(collections: u32, each: u64, turns: u64) -> u64
     u64::from(collections) * each + turns + 1
 }
 
-/// Serves the sessions of these ports, which come back, and calls for so many collections. The disk comes back. The
-/// sessions make no more turns than these, and so add no more steps to those of the collections.
+/// Serves the sessions of these ports, which come back, and calls for collections. The disk comes back. The sessions
+/// make no more turns than these, and so add no more steps to those of the collections.
 fn serve_ports<D: Disk + Send, K: Sink + Send, G: Gate + Sync, R: Threads + Wait + Sync>(
     rt: &R,
     alloc: Global,
@@ -154,64 +149,54 @@ fn serve_ports<D: Disk + Send, K: Sink + Send, G: Gate + Sync, R: Threads + Wait
     mut core: Core<D>,
     trail: Trail,
     ports: Vec<Port<K>>,
-    collections: u32,
+    schedule: Schedule,
     turns: u64,
-    rests: bool,
 ) -> (Played, Vec<Port<K>>, D)
     requires no_event { trail.events ≡ [] }
     requires turns { sum_by turns_left ports.items ≤ turns }
-    requires room { turns + 3 * collections + 1 ≤ trail.room }
-    requires few { turns + 3 * collections + 1 < 4294967295 }
+    requires room { turns + 3 * schedule.collections + 1 ≤ trail.room }
+    requires few { turns + 3 * schedule.collections + 1 < 4294967295 }
     requires sessions { length ports.items ≤ 64 }
-    requires most { collections ≤ 1000 }
+    requires most { schedule.collections ≤ 1000 }
     requires new { AreNew core.root ports.items }
-    requires runs { core.stop ≡ None }
-    requires words { core.words.drawn ≡ 0 }
-    requires idle { core.collections ≡ record { collector = None; called = 0; finished = 0 } }
-    ensures { ServesSessions D.Disk core collections (map client_of ports.items) result.1.items result.0.report
+    requires core { IsCoreUncalled core }
+    ensures { ServesSessions D.Disk core schedule.collections (map client_of ports.items) result.1.items result.0.report
         result.0.ending result.0.trail.events result.0.trail.moments result.2
         ⊎ IsUnserved core ports.items result.1.items result.0.report result.0.ending result.0.trail.events result.2 }
 {
-    let root = core.root();
-    core.call_for(collections);
+    core.call_for(schedule.collections);
     core.has_room();
     runs_survive::<D>();
     images_are_whole::<D>();
-    let steps = count_steps(collections, core.most_steps(), turns);
-    let parts = match serve(
-        rt,
-        alloc,
-        gate,
-        core,
+    let steps = count_steps(schedule.collections, core.most_steps(), turns);
+    let service = Service {
+        server: core,
         trail,
-        root,
         ports,
-        collections,
-        steps,
-        rests,
-    ) {
-        Ok(parts) => parts,
+        schedule,
+        turns: steps,
+    };
+    let served = match service.run(rt, alloc, gate) {
+        Ok(served) => served,
         Err(Unserved { server, ports }) => {
             return (nothing(alloc, Cause::Memory), ports, server.into_disk());
         }
     };
-    let Parts {
+    let last = served.server.status();
+    served.server.has_room();
+    let report = report_on(&served, last);
+    let ending = Ending {
+        last: Some(last),
+        ..served.ending
+    };
+    let Served {
         server,
         trail,
         ports,
-        starved,
-        failed,
-        ending,
-    } = parts;
-    let broken = has_broken(ports.as_slice());
-    let sessions = ports.len() as u64;
-    let last = server.status();
-    server.has_room();
-    let report = report_on(last, &trail, ending, sessions, failed, broken, starved);
-    let ending = Ending {
-        last: Some(last),
-        ..ending
-    };
+        starved: _,
+        failed: _,
+        ending: _,
+    } = served;
     let played = Played {
         report,
         trail,
@@ -220,7 +205,7 @@ fn serve_ports<D: Disk + Send, K: Sink + Send, G: Gate + Sync, R: Threads + Wait
     (played, ports, server.into_disk())
 }
 
-/// Serves these scripts, with a sink for each, and calls for so many collections. The disk comes back.
+/// Serves these scripts, with a sink for each, and calls for collections. The disk comes back.
 pub(crate) fn serve_scripts<
     D: Disk + Send,
     K: Sink + Send,
@@ -233,63 +218,45 @@ pub(crate) fn serve_scripts<
     core: Core<D>,
     scripts: Scripts,
     sinks: &mut Vec<K>,
-    collections: u32,
-    rests: bool,
+    schedule: Schedule,
 ) -> (Played, D)
     requires count { length scripts.scripts.items ≡ length sinks.old.items }
     requires sessions { length sinks.old.items ≤ 64 }
     requires lines { scripts.lines ≡ lines_in scripts.scripts.items }
     requires fits { scripts.lines ≤ 500000 }
-    requires runs { core.stop ≡ None }
-    requires words { core.words.drawn ≡ 0 }
-    requires idle { core.collections ≡ record { collector = None; called = 0; finished = 0 } }
-    requires most { collections ≤ 1000 }
-    ensures served { ServesScripts D.Disk core collections scripts.scripts.items (map K.intake sinks.old.items)
-        (map K.intake sinks.new.items)
-        result.0.report result.0.ending result.0.trail.events result.0.trail.moments result.1 }
+    requires core { IsCoreUncalled core }
+    requires most { schedule.collections ≤ 1000 }
+    ensures served { ServesScripts D.Disk core schedule.collections scripts.scripts.items
+        (map K.intake sinks.old.items) (map K.intake sinks.new.items) result.0.report result.0.ending
+        result.0.trail.events result.0.trail.moments result.1 }
     ensures count { length sinks.new.items ≡ length sinks.old.items }
 {
     let mut trail = Trail::new(alloc);
     let turns = scripts.lines + sinks.len() as u64;
-    let events = turns + 3 * u64::from(collections) + 1;
-    if let Err(_) = trail.reserve(events) {
+    let events = turns + 3 * u64::from(schedule.collections) + 1;
+    let Ok(()) = trail.reserve(events) else {
         return (nothing(alloc, Cause::Memory), core.into_disk());
-    }
+    };
     let Some(ports) = make_ports(alloc, core.root(), scripts.scripts, sinks) else {
         return (nothing(alloc, Cause::Memory), core.into_disk());
     };
-    let (played, ports, disk) = serve_ports(
-        rt,
-        alloc,
-        gate,
-        core,
-        trail,
-        ports,
-        collections,
-        turns,
-        rests,
-    );
+    let (played, ports, disk) = serve_ports(rt, alloc, gate, core, trail, ports, schedule, turns);
     take_sinks(ports, sinks);
     (played, disk)
 }
 
-/// Reads the sources, and serves their scripts on a new volume in memory, where it calls for so many collections.
+/// Reads the sources, and serves their scripts on a new volume in memory.
 pub(crate) fn play<S: Source, K: Sink + Send, G: Gate + Sync, R: Threads + Wait + Sync>(
     rt: &R,
     alloc: Global,
     gate: &G,
-    cylinders: u32,
-    seed: u64,
-    collections: u32,
+    asked: &Play<'_>,
     sources: &mut Vec<S>,
     sinks: &mut Vec<K>,
 ) -> Played
-    requires some { 1 ≤ cylinders }
-    requires most { cylinders ≤ 1024 }
-    requires few { collections ≤ 1000 }
     requires count { length sources.old.items ≡ length sinks.old.items }
     requires sessions { length sinks.old.items ≤ 64 }
-    ensures { AsksSessions (new_ground cylinders seed) seed collections
+    ensures { AsksSessions (new_ground asked.now.cylinders asked.now.seed) asked.now.seed asked.now.collections
         (record { disk = None; sources = map S.supply sources.old.items; sinks = map K.intake sinks.old.items })
         (record { disk = None; sources = map S.supply sources.new.items; sinks = map K.intake sinks.new.items })
         result.report result.ending result.trail.events }
@@ -298,15 +265,18 @@ pub(crate) fn play<S: Source, K: Sink + Send, G: Gate + Sync, R: Threads + Wait 
         Ok(scripts) => scripts,
         Err(cause) => return nothing(alloc, cause),
     };
-    let Some(core) = new_volume(alloc, cylinders, seed) else {
+    let Some(core) = new_volume(alloc, asked.cylinders, asked.seed) else {
         return nothing(alloc, Cause::Memory);
     };
-    let (played, _) = serve_scripts(rt, alloc, gate, core, scripts, sinks, collections, false);
+    let schedule = Schedule {
+        collections: asked.collections,
+        rests: false,
+    };
+    let (played, _) = serve_scripts(rt, alloc, gate, core, scripts, sinks, schedule);
     played
 }
 
-/// Reads the sources, and serves their scripts on the volume of this disk, which comes back; so many collections are
-/// called for.
+/// Reads the sources, and serves their scripts on the volume of this disk, which comes back.
 pub(crate) fn serve_volume<
     D: Disk + Send,
     S: Source,
@@ -317,16 +287,14 @@ pub(crate) fn serve_volume<
     rt: &R,
     alloc: Global,
     gate: &G,
-    seed: u64,
-    collections: u32,
+    asked: &Serve<'_>,
     disk: D,
     sources: &mut Vec<S>,
     sinks: &mut Vec<K>,
 ) -> (Played, D)
     requires count { length sources.old.items ≡ length sinks.old.items }
     requires sessions { length sinks.old.items ≤ 64 }
-    requires few { collections ≤ 1000 }
-    ensures asks { AsksSessions (ground_on D.Disk disk) seed collections
+    ensures asks { AsksSessions (ground_on D.Disk disk) asked.now.seed asked.now.collections
         (record {
           disk = Some (D.faults disk);
           sources = map S.supply sources.old.items;
@@ -338,16 +306,20 @@ pub(crate) fn serve_volume<
           sinks = map K.intake sinks.new.items;
         })
         result.0.report result.0.ending result.0.trail.events }
-    ensures volume { ServesVolume D.Disk seed result.0.report result.0.ending result.0.trail.events
-        result.0.trail.moments
-        disk result.1 }
+    ensures volume { ServesVolume D.Disk asked.now.seed result.0.report result.0.ending result.0.trail.events
+        result.0.trail.moments disk result.1 }
 {
     let scripts = match read_scripts(alloc, sources) {
         Ok(scripts) => scripts,
         Err(cause) => return (nothing(alloc, cause), disk),
     };
-    match open_volume(alloc, disk, seed) {
-        Ok(core) => serve_scripts(rt, alloc, gate, core, scripts, sinks, collections, false),
-        Err(Refused { cause, disk }) => (nothing(alloc, cause), disk),
-    }
+    let core = match open_volume(alloc, disk, asked.seed) {
+        Ok(core) => core,
+        Err(Unopened { cause, disk }) => return (nothing(alloc, cause), disk),
+    };
+    let schedule = Schedule {
+        collections: asked.collections,
+        rests: false,
+    };
+    serve_scripts(rt, alloc, gate, core, scripts, sinks, schedule)
 }

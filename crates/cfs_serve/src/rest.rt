@@ -1,9 +1,9 @@
 //! What is left to the collector.
 ghost use Rattle.std.specs.Prelude.{◌≡◌, ◌<◌, ◌≤◌, ◌+◌, ◌*◌, if◌then◌else◌, true, None, Some};
 ghost use Rattle.cfs_core.specs.declared.collecting.CollectFault as faulted;
-ghost use Rattle.cfs_serve.specs.Journal.{is_progress_made, is_recorded, is_step, refusal_in};
+ghost use Rattle.cfs_serve.specs.Logs.{is_progress_made, is_recorded, is_step, refusal_in};
 
-use crate::journal::Progress;
+use crate::logged::CollectorTurn;
 use cfs_core::CollectFault;
 
 /// The steps that the collector has left, and what ended it.
@@ -65,17 +65,17 @@ impl Rest {
     }
 
     /// What is left after a turn. No step is left once nothing is left to do, and at a refusal all is over.
-    pub(crate) fn after(self, progress: Progress) -> Rest
+    pub(crate) fn after(self, progress: CollectorTurn) -> Rest
         requires runs { self.refused ≡ None }
         requires some { is_step progress ≡ true → 0 < self.turns }
         requires more { is_progress_made progress ≡ true → 1 < self.turns }
         requires room { is_progress_made progress ≡ true → (if is_recorded progress then 1 else 0) < self.events }
         requires paired { 0 < self.events }
-        ensures tidied { progress ≡ Progress.Tidied → result ≡ self }
+        ensures tidied { progress ≡ CollectorTurn.Tidied → result ≡ self }
         ensures fewer { is_step progress ≡ true → result.turns < self.turns }
-        ensures over { (fault : faulted.CollectFault) → progress ≡ Progress.Refused fault → result.turns ≡ 0 }
+        ensures over { (fault : faulted.CollectFault) → progress ≡ CollectorTurn.Refused fault → result.turns ≡ 0 }
         ensures room { result.events + (if is_recorded progress then 1 else 0) ≤ self.events }
-        ensures idle { is_step progress ≡ true → result.turns ≡ 0 → progress ≡ Progress.Idle }
+        ensures idle { is_step progress ≡ true → result.turns ≡ 0 → progress ≡ CollectorTurn.Idle }
         ensures on { 0 < result.turns → result.refused ≡ None }
         ensures refused { result.refused ≡ refusal_in progress }
         ensures paired { result.refused ≡ None → 0 < result.events }
@@ -86,11 +86,14 @@ impl Rest {
         ensures stays { is_step progress ≡ true → 0 < result.turns → is_progress_made progress ≡ true }
     {
         match progress {
-            Progress::Tidied => self,
-            Progress::Quiet => Rest::on(self.turns - 1, self.events),
-            Progress::Recorded | Progress::Finished => Rest::on(self.turns - 1, self.events - 1),
-            Progress::Refused(fault) => Rest::refused_by(fault),
-            Progress::Idle => Rest::over(),
+            CollectorTurn::Tidied => self,
+            CollectorTurn::Quiet => Rest::on(self.turns - 1, self.events),
+            CollectorTurn::Recorded | CollectorTurn::Finished => Rest::on(
+                self.turns - 1,
+                self.events - 1,
+            ),
+            CollectorTurn::Refused(fault) => Rest::refused_by(fault),
+            CollectorTurn::Idle => Rest::over(),
         }
     }
 }

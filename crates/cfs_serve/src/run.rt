@@ -1,23 +1,24 @@
 //! A whole run, and the one public call that makes it.
-ghost use Rattle.std.specs.Prelude.{◌≡◌, ◌⊎◌, ◌%◌, ◌*◌, ◌≤◌, None, Some, string_bytes, map, length, option_map};
+ghost use Rattle.std.specs.Prelude.{◌≡◌, ◌⊎◌, ◌%◌, ◌*◌, ◌≤◌, None, Some, map, length, option_map};
 ghost use Rattle.cfs_base.specs.Outside.{Rose};
-ghost use Rattle.cfs_serve.specs.Words.{Asked, Format, InMemory, asked_by, format_in, page_in};
+ghost use Rattle.cfs_serve.specs.Commands.{asked_of};
+ghost use Rattle.cfs_serve.specs.Words.{Asked, Format};
 ghost use Rattle.cfs_serve.specs.Whole.{AsksServer, HasDisk, HasPlaces, status_at_end};
 ghost use Rattle.cfs_serve.specs.Disks.{MakesVolume, OnDisk};
 ghost use Rattle.cfs_serve.specs.Ground.{ground_of};
-ghost use Rattle.cfs_serve.specs.Text.{first_line, line_if, printed_line};
+ghost use Rattle.cfs_serve.specs.Text.{first_line, printed_line};
 ghost use Rattle.cfs_serve.specs.Traced.{IsWritten};
 ghost use Rattle.cfs_serve.specs.Says.{Says};
 ghost use Rattle.cfs_serve.specs.Top.{before, outside_after};
 
 use crate::audit::audit_only;
 use crate::cached::serve_cached;
+use crate::command::Command;
 use crate::ending::Ending;
 use crate::play::{Played, nothing, play};
 use crate::report::{Cause, Report};
 use crate::spin::spin;
 use crate::traced::{Written, write_trail};
-use crate::words::{audit_asked, format_asked, page_asked, play_asked, serve_asked, spin_asked};
 use cfs_base::{Disk, Failed, Gate, Sink, Source};
 use cfs_core::Core;
 use cfs_trail::Trail;
@@ -80,167 +81,61 @@ fn make_volume<D: Disk>(disk: &mut D, seed: u64) -> Cause
     }
 }
 
-/// What a run did, the first line of its trail where a trace was asked for, and the disk of its volume.
-#[derive(Drop)]
-struct Done<D> {
-    played: Played,
-    trace: Option<Opening>,
-    disk: Option<D>,
-}
-
-/// The first line of the trail of a volume in memory, where a trace is asked for.
-fn line_of(traced: bool, cylinders: u32, seed: u64) -> Option<Opening>
-    ensures { result ≡ line_if traced (InMemory cylinders) seed }
+/// The first line of the trail, where a trace is asked for.
+fn trace_of(command: Option<Command<'_>>) -> Option<Opening>
+    ensures { result ≡ first_line (asked_of command.entry) }
 {
-    if traced {
-        Some(Opening { cylinders, seed })
-    } else {
-        None
+    match command {
+        Some(Command::Play(play)) if play.traced => Some(Opening {
+            cylinders: play.cylinders,
+            seed: play.seed,
+        }),
+        _ => None,
     }
 }
 
-/// Audits the trail that is asked for; or serves the sessions that are, on the volume of the disk, where there is one.
-/// Nothing where the words are of no form.
-fn read_asked<D: Disk + Send, S: Source, K: Sink + Send, G: Gate + Sync, R: Threads + Wait + Sync>(
-    rt: &R,
-    alloc: Global,
-    gate: &G,
-    words: &[String],
-    disk: Option<D>,
-    sources: &mut Vec<S>,
-    sinks: &mut Vec<K>,
-) -> Done<D>
-    requires disk { HasDisk (asked_by words.now) (option_map D.blocks disk) }
-    requires places { HasPlaces (asked_by words.now) (length sources.old.items) (length sinks.old.items) }
-    requires page { page_in (map string_bytes words.now) ≡ None }
-    requires format { format_in (map string_bytes words.now) ≡ None }
-    ensures disk { OnDisk D.Disk (asked_by words.now) result.played.report result.played.ending
-        result.played.trail.events
-        result.played.trail.moments disk result.disk }
-    ensures asks { AsksServer (asked_by words.now) (ground_of D.Disk (asked_by words.now) disk)
-        (record {
-          disk = option_map D.faults disk;
-          sources = map S.supply sources.old.items;
-          sinks = map K.intake sinks.old.items;
-        })
-        (record {
-          disk = option_map D.faults result.disk;
-          sources = map S.supply sources.new.items;
-          sinks = map K.intake sinks.new.items;
-        })
-        result.played.report result.played.ending result.played.trail.events }
-    ensures trace { result.trace ≡ first_line (asked_by words.now) }
-{
-    if audit_asked(words).is_some() {
-        return Done {
-            played: nothing(alloc, audit_only(alloc, sources)),
-            trace: None,
-            disk,
-        };
-    }
-    if let Some(asked) = play_asked(words) {
-        let played = play(
-            rt,
-            alloc,
-            gate,
-            asked.cylinders as u32,
-            asked.seed,
-            asked.collections as u32,
-            sources,
-            sinks,
-        );
-        return Done {
-            played,
-            trace: line_of(asked.traced, asked.cylinders as u32, asked.seed),
-            disk,
-        };
-    }
-    if let Some(spun) = spin_asked(words) {
-        return Done {
-            played: spin(
-                rt,
-                alloc,
-                gate,
-                spun.cylinders as u32,
-                spun.seed,
-                spun.count,
-            ),
-            trace: None,
-            disk,
-        };
-    }
-    match (serve_asked(words), disk) {
-        (Some(served), Some(disk)) => {
-            let (played, disk) = serve_cached(
-                rt,
-                alloc,
-                gate,
-                served.seed,
-                served.collections as u32,
-                disk,
-                sources,
-                sinks,
-            );
-            Done {
-                played,
-                trace: None,
-                disk: Some(disk),
-            }
-        }
-        (_, disk) => Done {
-            played: nothing(alloc, Cause::Words),
-            trace: None,
-            disk,
-        },
-    }
-}
-
-/// Shows the page, makes the volume, audits the trail or serves the sessions, as is asked for.
+/// Does what is asked for, on the volume of the disk, where there is one, which comes back.
 fn do_asked<D: Disk + Send, S: Source, K: Sink + Send, G: Gate + Sync, R: Threads + Wait + Sync>(
     rt: &R,
     alloc: Global,
     gate: &G,
-    words: &[String],
+    command: Option<Command<'_>>,
     disk: Option<D>,
     sources: &mut Vec<S>,
     sinks: &mut Vec<K>,
-) -> Done<D>
-    requires disk { HasDisk (asked_by words.now) (option_map D.blocks disk) }
-    requires places { HasPlaces (asked_by words.now) (length sources.old.items) (length sinks.old.items) }
-    ensures disk { OnDisk D.Disk (asked_by words.now) result.played.report result.played.ending
-        result.played.trail.events
-        result.played.trail.moments disk result.disk }
-    ensures asks { AsksServer (asked_by words.now) (ground_of D.Disk (asked_by words.now) disk)
+) -> (Played, Option<D>)
+    requires disk { HasDisk (asked_of command) (option_map D.blocks disk) }
+    requires places { HasPlaces (asked_of command) (length sources.old.items) (length sinks.old.items) }
+    ensures disk { OnDisk D.Disk (asked_of command.entry) result.0.report result.0.ending result.0.trail.events
+        result.0.trail.moments disk result.1 }
+    ensures asks { AsksServer (asked_of command.entry) (ground_of D.Disk (asked_of command.entry) disk)
         (record {
           disk = option_map D.faults disk;
           sources = map S.supply sources.old.items;
           sinks = map K.intake sinks.old.items;
         })
         (record {
-          disk = option_map D.faults result.disk;
+          disk = option_map D.faults result.1;
           sources = map S.supply sources.new.items;
           sinks = map K.intake sinks.new.items;
         })
-        result.played.report result.played.ending result.played.trail.events }
-    ensures trace { result.trace ≡ first_line (asked_by words.now) }
+        result.0.report result.0.ending result.0.trail.events }
 {
-    if let Some(page) = page_asked(words) {
-        return Done {
-            played: nothing(alloc, Cause::Page(page)),
-            trace: None,
-            disk,
-        };
-    }
-    let Some(format) = format_asked(words) else {
-        return read_asked(rt, alloc, gate, words, disk, sources, sinks);
-    };
-    match disk {
-        Some(mut disk) => Done {
-            played: nothing(alloc, make_volume(&mut disk, format.seed)),
-            trace: None,
-            disk: Some(disk),
-        },
-        None => unreachable!(),
+    match (command, disk) {
+        (None, disk) => (nothing(alloc, Cause::Words), disk),
+        (Some(Command::Page(page)), disk) => (nothing(alloc, Cause::Page(page)), disk),
+        (Some(Command::Format(format)), Some(mut disk)) => {
+            let cause = make_volume(&mut disk, format.seed);
+            (nothing(alloc, cause), Some(disk))
+        }
+        (Some(Command::Audit(_)), disk) => (nothing(alloc, audit_only(alloc, sources)), disk),
+        (Some(Command::Play(asked)), disk) => (play(rt, alloc, gate, &asked, sources, sinks), disk),
+        (Some(Command::Spin(asked)), disk) => (spin(rt, alloc, gate, asked), disk),
+        (Some(Command::Serve(asked)), Some(disk)) => {
+            let (played, disk) = serve_cached(rt, alloc, gate, &asked, disk, sources, sinks);
+            (played, Some(disk))
+        }
+        (Some(Command::Format(_) | Command::Serve(_)), None) => unreachable!(),
     }
 }
 
@@ -274,20 +169,20 @@ fn write_report<K: Sink>(
     }
 }
 
-/// Does what the words ask: shows a page, makes a volume, audits a trail, or serves sessions, the words' own or those
-/// of a spin; and writes the report.
+/// Does what the words of a command ask, which none do where there is no command: shows a page, makes a volume, audits
+/// a trail, or serves sessions, those that are named or those of a spin; and writes the report.
 pub fn top<D: Disk + Send, S: Source, K: Sink + Send, G: Gate + Sync, R: Threads + Wait + Sync>(
     rt: &R,
     alloc: Global,
-    words: &[String],
+    command: Option<Command<'_>>,
     bay: Bay<D, S, K>,
     gate: &G,
 ) -> Ended<D, S, K>
-    requires disk { HasDisk (asked_by words.now) (option_map D.blocks bay.disk) }
-    requires places { HasPlaces (asked_by words.now) (length bay.sources.items) (length bay.sinks.items) }
-    ensures disk { OnDisk D.Disk (asked_by words.now) result.told result.ending result.trail.events result.trail.moments
+    requires disk { HasDisk (asked_of command) (option_map D.blocks bay.disk) }
+    requires places { HasPlaces (asked_of command) (length bay.sources.items) (length bay.sinks.items) }
+    ensures disk { OnDisk D.Disk (asked_of command.entry) result.told result.ending result.trail.events result.trail.moments
         bay.disk result.disk }
-    ensures said { Says (asked_by words.now) (ground_of D.Disk (asked_by words.now) bay.disk)
+    ensures said { Says (asked_of command.entry) (ground_of D.Disk (asked_of command.entry) bay.disk)
         (before D.faults S.supply K.intake bay) (outside_after D.faults S.supply K.intake result) result.told
         result.status result.ending result.trail.events }
 {
@@ -298,17 +193,13 @@ pub fn top<D: Disk + Send, S: Source, K: Sink + Send, G: Gate + Sync, R: Threads
         mut sinks,
         mut report,
     } = bay;
-    let Done {
-        played,
-        trace,
-        disk,
-    } = do_asked(rt, alloc, gate, words, disk, &mut sources, &mut sinks);
+    let (played, disk) = do_asked(rt, alloc, gate, command, disk, &mut sources, &mut sinks);
     let Played {
         report: told,
         trail,
         ending,
     } = played;
-    let written = write_report(alloc, trace, told, &trail, &mut report);
+    let written = write_report(alloc, trace_of(command), told, &trail, &mut report);
     Ended {
         status: status_of(written.whole, told.cause.at_last(written.short)),
         disk,

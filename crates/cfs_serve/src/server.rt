@@ -2,6 +2,7 @@
 ghost use Rattle.std.specs.Prelude.{◌≡◌, ◌+◌, ◌<◌, ◌≤◌, ℕ, Bool, List, [], ◌∷◌, Ok, Option, true, false, IsSome};
 ghost use Rattle.std.specs.Prelude.{IsTrue, is_some, length};
 ghost use Rattle.cfs_base.specs.Disk.{Image};
+ghost use Rattle.cfs_base.specs.declared.identifier.Puid.{Puid};
 ghost use Rattle.cfs_base.specs.Outside.{Rose};
 ghost use Rattle.cfs_script.specs.Room.{FitsLine};
 ghost use Rattle.ufs_model.specs.declared.asked.Event.TheVariants as events;
@@ -13,7 +14,7 @@ ghost use Rattle.cfs_serve.specs.Calls.{EndsCollecting, SessionPasses, PassesSte
 ghost use Rattle.cfs_serve.specs.Calls.{event_by, refusal_by, tells_stop_at};
 ghost use Rattle.cfs_serve.specs.Turns.{TakesTurn, fault_as};
 ghost use Rattle.cfs_serve.specs.Ending.{MakesStop, TellsStop, damage_in};
-ghost use Rattle.cfs_serve.specs.Journal.{recorded};
+ghost use Rattle.cfs_serve.specs.Logs.{recorded};
 ghost use Rattle.cfs_core.specs.declared.kernel.Stop.{Stop};
 ghost use Rattle.ufs_model.specs.Graph.{Graph};
 ghost use Rattle.ufs_model.specs.declared.asked.Event.{Event};
@@ -23,10 +24,19 @@ use cfs_base::{Disk, Session};
 use cfs_core::{CollectFault, Core, Step, Stop, TidyFault};
 use std::alloc::Global;
 use survival::runs_survive;
-use ufs_model::{Asker, Reply, Request};
+use ufs_model::{Reply, Request};
 
-/// An asker that sessions leave and that collects, and that tells of its disk how often a call failed.
-pub trait Server: Asker {
+/// A server that sessions ask and leave and that collects, and that tells of its disk how often a call failed. It stands
+/// for states of the definitions.
+pub trait Server {
+    /// Whether it stands for this state.
+    ghost stands: { Self → State → Type 0 };
+
+    /// The seed of its random words, and how many were drawn.
+    ghost seed: { Self → ℕ };
+
+    ghost words: { Self → ℕ };
+
     /// How many calls of its disk failed.
     ghost faults: { Self → ℕ };
 
@@ -54,75 +64,78 @@ pub trait Server: Asker {
     /// How many parts are left of a commit.
     ghost unfinished: { Self → ℕ };
 
+    /// Its root index.
+    ghost root: { Self → Puid };
+
     /// What is known, for a seed and a graph, of the crashes of a run with these events and the moments of its marks.
     ghost lasts: { Self → ℕ → Graph → List Event → List ℕ → Type 0 };
 
     /// The answer to a request of the language, as `ask` gives it, with all that is known of it on a disk.
     fn answer(&mut self, alloc: Global, who: Session, request: &Request) -> Reply
-        requires words { Self.words self.old < 4294967295 }
-        ensures event { (s : State) → Self.stands self.old s
-            → IsAsked (Self.stands self.new) (Self.seed self.old) s who request.now result }
-        ensures exact { (s : State) → Self.stands self.old s → 0 < cylinders self.old
+        requires words { words self.old < 4294967295 }
+        ensures event { (s : State) → stands self.old s
+            → IsAsked (stands self.new) (seed self.old) s who request.now result }
+        ensures exact { (s : State) → stands self.old s → 0 < cylinders self.old
             → (lost : ℕ) → (has_stopped self.old ≡ false → (tally self.old).lost s.graph ≤ lost)
             → IsExact (cylinders self.old) lost s who request.now result }
-        ensures tallies { (s : State) → Self.stands self.old s
-            → Tallies has_stopped tally (Self.seed self.old) self.old self.new s (events.Ask who request.now result) }
+        ensures tallies { (s : State) → stands self.old s
+            → Tallies has_stopped tally (seed self.old) self.old self.new s (events.Ask who request.now result) }
         ensures called { (tally self.new).called ≡ (tally self.old).called }
         ensures passes { SessionPasses clock tally self.old self.new }
-        ensures lasts { CrashesGoOn Self.stands clock lasts (Self.seed self.old) self.old self.new
+        ensures lasts { CrashesGoOn stands clock lasts (seed self.old) self.old self.new
             (events.Ask who request.now result) }
         ensures tells { TellsEvent faults has_stopped is_damaged self.old self.new (events.Ask who request.now result) }
         ensures stops { MakesStop clock stop self.old self.new (events.Ask who request.now result ∷ []) }
-        ensures undamaged { (s : State) → Self.stands self.old s → is_damaged self.old ≡ false
+        ensures undamaged { (s : State) → stands self.old s → is_damaged self.old ≡ false
             → is_damaged self.new ≡ false }
         ensures fits { FitsLine result }
         ensures size { cylinders self.new ≡ cylinders self.old }
-        ensures seed { Self.seed self.new ≡ Self.seed self.old }
-        ensures drawn { Self.words self.new ≤ Self.words self.old + 1 };
+        ensures seed { seed self.new ≡ seed self.old }
+        ensures drawn { words self.new ≤ words self.old + 1 };
 
     /// A session leaves. The moment at which the server stopped in this call, if it did.
     fn leave(&mut self, who: Session) -> Option<u64>
-        ensures event { (s : State) → Self.stands self.old s
-            → MakesServed (Self.stands self.new) (Self.seed self.old) s (events.Leave who result) }
-        ensures tallies { (s : State) → Self.stands self.old s
-            → Tallies has_stopped tally (Self.seed self.old) self.old self.new s (events.Leave who result) }
-        ensures halts { (s : State) → Self.stands self.old s → IsSome result
+        ensures event { (s : State) → stands self.old s
+            → MakesServed (stands self.new) (seed self.old) s (events.Leave who result) }
+        ensures tallies { (s : State) → stands self.old s
+            → Tallies has_stopped tally (seed self.old) self.old self.new s (events.Leave who result) }
+        ensures halts { (s : State) → stands self.old s → IsSome result
             → Rose (faults self.old) (faults self.new) }
         ensures called { (tally self.new).called ≡ (tally self.old).called }
         ensures passes { SessionPasses clock tally self.old self.new }
-        ensures lasts { CrashesGoOn Self.stands clock lasts (Self.seed self.old) self.old self.new
+        ensures lasts { CrashesGoOn stands clock lasts (seed self.old) self.old self.new
             (events.Leave who result) }
         ensures tells { TellsEvent faults has_stopped is_damaged self.old self.new (events.Leave who result) }
         ensures stops { MakesStop clock stop self.old self.new (events.Leave who result ∷ []) }
-        ensures undamaged { (s : State) → Self.stands self.old s → is_damaged self.old ≡ false
+        ensures undamaged { (s : State) → stands self.old s → is_damaged self.old ≡ false
             → is_damaged self.new ≡ false }
         ensures size { cylinders self.new ≡ cylinders self.old }
-        ensures seed { Self.seed self.new ≡ Self.seed self.old }
-        ensures drawn { Self.words self.new ≤ Self.words self.old };
+        ensures seed { seed self.new ≡ seed self.old }
+        ensures drawn { words self.new ≤ words self.old };
 
     /// A turn of the collector: one part of a commit, where one is unfinished, and else one step, the first that is
     /// due. It is an event or none.
     fn turn(&mut self, alloc: Global) -> Result<Option<Step>, CollectFault>
-        ensures event { (s : State) → Self.stands self.old s
-            → MayMake (Self.stands self.new) (Self.seed self.old) s (event_by (as_step result)) }
-        ensures lasts { MayGoOn Self.stands clock lasts (Self.seed self.old) self.old self.new
+        ensures event { (s : State) → stands self.old s
+            → MayMake (stands self.new) (seed self.old) s (event_by (as_step result)) }
+        ensures lasts { MayGoOn stands clock lasts (seed self.old) self.old self.new
             (event_by (as_step result)) }
         ensures tells { TellsStep faults has_stopped is_damaged self.old self.new (as_step result) }
         ensures stops { MakesStop clock stop self.old self.new (recorded (event_by (as_step result)))
             × TellsStop (refusal_by (as_step result)) (stop self.new) }
-        ensures undamaged { (s : State) → Self.stands self.old s → is_damaged self.old ≡ false
+        ensures undamaged { (s : State) → stands self.old s → is_damaged self.old ≡ false
             → is_damaged self.new ≡ false }
-        ensures tallies { (s : State) → Self.stands self.old s
-            → MayTally has_stopped tally (Self.seed self.old) self.old self.new s (event_by (as_step result)) }
-        ensures halts { (s : State) → Self.stands self.old s → tells_stop_at (event_by (as_step result)) ≡ true
+        ensures tallies { (s : State) → stands self.old s
+            → MayTally has_stopped tally (seed self.old) self.old self.new s (event_by (as_step result)) }
+        ensures halts { (s : State) → stands self.old s → tells_stop_at (event_by (as_step result)) ≡ true
             → Rose (faults self.old) (faults self.new) }
         ensures called { (tally self.new).called ≡ (tally self.old).called }
         ensures passes { PassesStep clock has_stopped tally self.old self.new (as_step result) }
         ensures spends { SpendsTurn unfinished tally self.old self.new result }
         ensures ends { EndsCollecting has_stopped tally self.old self.new (as_step result) }
         ensures size { cylinders self.new ≡ cylinders self.old }
-        ensures seed { Self.seed self.new ≡ Self.seed self.old }
-        ensures drawn { Self.words self.new ≤ Self.words self.old };
+        ensures seed { seed self.new ≡ seed self.old }
+        ensures drawn { words self.new ≤ words self.old };
 
     /// How many parts are left of a commit.
     fn parts_left(&self) -> u64
@@ -137,7 +150,7 @@ pub trait Server: Asker {
     fn moment(&self) -> u64
         ensures clock { result ≡ clock self.now }
         ensures lasts { (who : ℕ) (why : Unread)
-            → CrashesGoOn Self.stands clock lasts (Self.seed self.now) self.now self.now
+            → CrashesGoOn stands clock lasts (seed self.now) self.now self.now
             (events.Unread who why) };
 }
 
@@ -177,10 +190,17 @@ fn turn_of<D: Disk>(core: &mut Core<D>, alloc: Global) -> Result<Option<Step>, C
 
 impl<D: Disk> Server for Core<D> {
     ghost use Rattle.std.specs.Prelude.{is_some, length, refl};
+    ghost use Rattle.cfs_core.specs.StandsFor.{StandsFor};
     ghost use Rattle.cyl_alloc.specs.Left.{parts_left};
     ghost use Rattle.cfs_serve.specs.Ending.{damage_in};
     ghost use Rattle.cfs_serve.specs.Calls.{tally_of};
     ghost use Rattle.survival.specs.Trail.{RunSurvives};
+
+    ghost stands = { λ k s. StandsFor D.Disk k s };
+
+    ghost seed = { λ k. k.words.seed };
+
+    ghost words = { λ k. k.words.drawn };
 
     ghost faults = { λ k. D.faults k.disk };
 
@@ -201,6 +221,8 @@ impl<D: Disk> Server for Core<D> {
     ghost tally = { λ k. tally_of D.Disk k };
 
     ghost unfinished = { λ k. parts_left k.space.left };
+
+    ghost root = { λ k. k.root };
 
     ghost lasts = { λ k seed graph trail marks. RunSurvives D.Disk seed graph trail marks k.disk };
 

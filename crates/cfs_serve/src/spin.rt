@@ -6,10 +6,12 @@ ghost use Rattle.cfs_serve.specs.Spun.{drains, drawn_scripts, drawn_sources};
 ghost use Rattle.cfs_serve.specs.Whole.{AsksSessions};
 ghost use Rattle.cfs_workload.specs.Workload as workload;
 
+use crate::command::Spin;
 use crate::play::{Played, nothing, serve_scripts};
 use crate::report::Cause;
 use crate::script::Script;
 use crate::scripts::Scripts;
+use crate::service::Schedule;
 use crate::volume::new_volume;
 use cfs_base::{Failed, Gate, Sink};
 use cfs_workload::{script, scripts_have_so_many_lines};
@@ -67,28 +69,27 @@ pub(crate) fn spin<G: Gate + Sync, R: Threads + Wait + Sync>(
     rt: &R,
     alloc: Global,
     gate: &G,
-    cylinders: u32,
-    seed: u64,
-    count: u64,
+    asked: Spin,
 ) -> Played
-    requires some { 1 ≤ cylinders }
-    requires most { cylinders ≤ 1024 }
-    requires fits { 12 * count + 64 ≤ 63 * cylinders }
-    ensures { AsksSessions (new_ground cylinders seed) seed 2
-        (record { disk = None; sources = drawn_sources seed count; sinks = drains })
-        (record { disk = None; sources = drawn_sources seed count; sinks = drains })
+    ensures { AsksSessions (new_ground asked.cylinders asked.seed) asked.seed 2
+        (record { disk = None; sources = drawn_sources asked.seed asked.count; sinks = drains })
+        (record { disk = None; sources = drawn_sources asked.seed asked.count; sinks = drains })
         result.report result.ending result.trail.events }
 {
     scripts_have_so_many_lines();
-    let Some(scripts) = draw_scripts(alloc, seed, count) else {
+    let Some(scripts) = draw_scripts(alloc, asked.seed, asked.count) else {
         return nothing(alloc, Cause::Memory);
     };
     let Ok(mut sinks) = Vec::from_array(alloc, [Drain, Drain, Drain, Drain]) else {
         return nothing(alloc, Cause::Memory);
     };
-    let Some(core) = new_volume(alloc, cylinders, seed) else {
+    let Some(core) = new_volume(alloc, asked.cylinders, asked.seed) else {
         return nothing(alloc, Cause::Memory);
     };
-    let (played, _) = serve_scripts(rt, alloc, gate, core, scripts, &mut sinks, 2, true);
+    let schedule = Schedule {
+        collections: 2,
+        rests: true,
+    };
+    let (played, _) = serve_scripts(rt, alloc, gate, core, scripts, &mut sinks, schedule);
     played
 }

@@ -31,7 +31,7 @@ pub(crate) fn new_volume(alloc: Global, cylinders: u32, seed: u64) -> Option<Cor
 
 /// A volume that was not opened: what is to be told, and the disk.
 #[derive(Drop)]
-pub(crate) struct Refused<D> {
+pub(crate) struct Unopened<D> {
     pub cause: Cause,
     pub disk: D,
 }
@@ -50,7 +50,11 @@ fn told_by(why: RecoverFault) -> Cause
 }
 
 /// Opens the volume of a disk that a crash left.
-pub(crate) fn open_volume<D: Disk>(alloc: Global, disk: D, seed: u64) -> Result<Core<D>, Refused<D>>
+pub(crate) fn open_volume<D: Disk>(
+    alloc: Global,
+    disk: D,
+    seed: u64,
+) -> Result<Core<D>, Unopened<D>>
     ensures opened { IsTrue (D.honest disk) → (graph : Graph) → IsSoundAs (D.content disk) graph
         → IfOk result (IsOpenedCore D.Disk graph seed) }
     ensures begins { IfOk result (λ core. (core.words ≡ record { seed = seed; drawn = 0 }) × (core.stop ≡ None)) }
@@ -71,7 +75,7 @@ pub(crate) fn open_volume<D: Disk>(alloc: Global, disk: D, seed: u64) -> Result<
 {
     match Core::open(alloc, disk, seed) {
         Ok(core) => Ok(core),
-        Err(OpenFault { why, disk }) => Err(Refused {
+        Err(OpenFault { why, disk }) => Err(Unopened {
             cause: told_by(why),
             disk,
         }),

@@ -67,10 +67,8 @@ impl Space {
         ensures part { result ≡ option_map (λ l. left.next_part_of l) self.now.left }
         ensures near { IfSome result (left.IsPartNear (64 * length self.now.free)) }
     {
-        match &self.unfinished {
-            Some(commit) => Some(commit.part()),
-            None => None,
-        }
+        let commit = self.unfinished.as_ref()?;
+        Some(commit.part())
     }
 
     /// Whether the next block whose entry is changed is the shadow root.

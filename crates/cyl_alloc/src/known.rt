@@ -82,13 +82,13 @@ impl KnownMaps {
         let Ok(()) = disk.read(BlockNo(at), map) else {
             return Err(Trouble::Disk { tried: false });
         };
-        match check_beside(map, &self.maps[place_of(block)]) {
-            Ok(()) => Ok(()),
-            Err(_) => Err(Trouble::Damaged(Damage {
+        let Ok(()) = check_beside(map, &self.maps[place_of(block)]) else {
+            return Err(Trouble::Damaged(Damage {
                 block: at,
                 code: code::NO_ENTRY,
-            })),
-        }
+            }));
+        };
+        Ok(())
     }
 
     /// Puts an entry in place of a block's into the map that was loaded, and writes that map, which is known then.

@@ -11,7 +11,15 @@ ghost use Rattle.cfs_base.specs.Refusals.{trouble_had_tried};
 ghost use Rattle.cyl_alloc.specs.Space.{IsGoodMap};
 
 use cfs_base::{Block, BlockNo, Damage, Disk, Trouble, code};
-use cyl_map::Map;
+use cyl_map::{BlockState, Map, MapEntry};
+
+/// The entry of a Free block.
+pub const FREE: MapEntry = MapEntry {
+    state: BlockState::Free,
+    committed: false,
+    place: None,
+    owner: 0,
+};
 
 /// Reads the map that has a block's entry. `Damaged` names its map block, with code 2, which is no map.
 pub fn read_map<D: Disk>(disk: &mut D, block: u32) -> Result<Map, Trouble>
@@ -27,13 +35,13 @@ pub fn read_map<D: Disk>(disk: &mut D, block: u32) -> Result<Map, Trouble>
     let Ok(()) = disk.read(BlockNo(at), &mut content) else {
         return Err(Trouble::Disk { tried: false });
     };
-    match Map::decode(&content) {
-        Ok(map) => Ok(map),
-        Err(_) => Err(Trouble::Damaged(Damage {
+    let Ok(map) = Map::decode(&content) else {
+        return Err(Trouble::Damaged(Damage {
             block: at,
             code: code::NO_ENTRY,
-        })),
-    }
+        }));
+    };
+    Ok(map)
 }
 
 /// Whether the bytes of an entry say that the block is Free.

@@ -19,7 +19,7 @@ ghost use Rattle.cyl_alloc.specs.Space as spec;
 
 use crate::counts::Counts;
 use crate::known::KnownMaps;
-use crate::maps::{first_free, read_map};
+use crate::maps::{FREE, first_free, read_map};
 use crate::unfinished::Unfinished;
 use cfs_base::{Block, BlockNo, Damage, Disk, Need, NoMemory, Place, Refused, Trouble, code};
 use cyl_map::{BlockState, MapEntry};
@@ -65,14 +65,9 @@ impl Space {
         ensures untried { IfErr result (λ error. had_tried error ≡ false) }
         ensures reads { OnlyReads D.Disk cylinders disk.old disk.new }
     {
-        let Ok(mut counts) = Counts::zeros(alloc, cylinders) else {
-            return Err(Refused::Memory);
-        };
+        let mut counts = Counts::zeros(alloc, cylinders)?;
         for cylinder in 0..cylinders {
-            match Space::count_free(disk, cylinder) {
-                Ok(count) => counts.put(cylinder, count),
-                Err(trouble) => return Err(Refused::from(trouble)),
-            }
+            counts.put(cylinder, Space::count_free(disk, cylinder)?);
         }
         Ok(Space {
             counts,
@@ -153,10 +148,7 @@ impl Space {
         ensures reads { OnlyReads D.Disk 1 disk.old disk.new }
     {
         let mut map = Block::zero();
-        match self.least(disk, &mut map) {
-            Ok(block) => Ok(BlockNo(block)),
-            Err(error) => Err(error),
-        }
+        Ok(BlockNo(self.least(disk, &mut map)?))
     }
 
     /// Makes the least-numbered Free block Allocated, for an owner's place. Refused as `find`, and where the write of
@@ -203,23 +195,18 @@ impl Space {
         ensures enters { Enters D.Disk (spec.entered state place owner) disk.old disk.new self.old self.new result }
     {
         let mut map = Block::zero();
-        let block = match self.least(disk, &mut map) {
-            Ok(block) => block,
-            Err(error) => return Err(error),
-        };
+        let block = self.least(disk, &mut map)?;
         let entry = MapEntry {
             state,
             committed: false,
             place: Some(place),
             owner,
         };
-        match self.known.store_entry(disk, block, &mut map, entry) {
-            Ok(()) => {
-                self.took(BlockNo(block));
-                Ok(BlockNo(block))
-            }
-            Err(_) => Err(Refused::Disk { tried: true }),
-        }
+        let Ok(()) = self.known.store_entry(disk, block, &mut map, entry) else {
+            return Err(Refused::Disk { tried: true });
+        };
+        self.took(BlockNo(block));
+        Ok(BlockNo(block))
     }
 
     /// Makes a block Free that wasn't, and counts it; one that was Free is counted all the same. `Damaged` names its
@@ -249,23 +236,12 @@ impl Space {
         ensures calls { MakesAtMost D.Disk 2 1 disk.old disk.new }
     {
         let mut map = Block::zero();
-        match self.known.load_map(disk, block.0, &mut map) {
-            Ok(()) => {}
-            Err(trouble) => return Err(trouble),
-        }
-        let entry = MapEntry {
-            state: BlockState::Free,
-            committed: false,
-            place: None,
-            owner: 0,
+        self.known.load_map(disk, block.0, &mut map)?;
+        let Ok(()) = self.known.store_entry(disk, block.0, &mut map, FREE) else {
+            return Err(Trouble::Disk { tried: true });
         };
-        match self.known.store_entry(disk, block.0, &mut map, entry) {
-            Ok(()) => {
-                self.gave(block, 1);
-                Ok(())
-            }
-            Err(_) => Err(Trouble::Disk { tried: true }),
-        }
+        self.gave(block, 1);
+        Ok(())
     }
 
     /// One block of this block's cylinder is Free no more, by a write that the caller made. A count of 0 stays.
@@ -325,16 +301,13 @@ impl Space {
         let Some(cylinder) = self.counts.first() else {
             return Err(Refused::Full(Need { free: 0, need: 1 }));
         };
-        match self.known.load_map(disk, 64 * cylinder, map) {
-            Ok(()) => {}
-            Err(error) => return Err(Refused::from(error)),
-        }
-        match first_free(map) {
-            Some(entry) => Ok(64 * cylinder + entry as u32),
-            None => Err(Refused::Damaged(Damage {
+        self.known.load_map(disk, 64 * cylinder, map)?;
+        let Some(entry) = first_free(map) else {
+            return Err(Refused::Damaged(Damage {
                 block: 64 * cylinder,
                 code: code::OTHER_COUNT,
-            })),
-        }
+            }));
+        };
+        Ok(64 * cylinder + entry as u32)
     }
 }

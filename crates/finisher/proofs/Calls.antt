@@ -1,22 +1,15 @@
 -- Calls that carry on a commit: one after another, noted, after reads, and on any disk.
-use Rattle.std.proofs.Common.{◌≡◌, inl, ℕ, ◌+◌, ◌≤◌, Bool, true, false, length, List, Ok, Err, Option, Some, None, refl, sym, ◌∙◌, ap, subst}
-use Rattle.std.specs.Prelude.{IfErr, Result}
-use Rattle.std.proofs.Common.{cond}
+use Rattle.std.proofs.Common.{◌≡◌, inl, ℕ, ◌+◌, ◌≤◌, Bool, true, false, length, List, Ok, Err, Option, Some, None, refl, sym, ◌∙◌, ap, subst, cond, arith}
+use Rattle.std.specs.Prelude.{IfErr, Result, is_some, ◌<◌, ◌≤◌}
 use Rattle.intentions.proofs.Reading.{going_reads, store_reads}
 use Rattle.finisher.specs.Going.{Ends, Goes, GoesFrom, IsLeftTrouble, PartEnds}
-use Rattle.std.specs.Prelude.{is_some}
 use Rattle.cfs_base.proofs.Calls.{makes_then, reads_make, stopped_after_reads, stopped_after_try, tells_on, then_tried}
-use Rattle.cfs_base.proofs.Went.{makes_none, reads_none, went_as, went_then}
+use Rattle.cfs_base.proofs.Went.{went_as, went_then}
 use Rattle.cfs_base.specs.Went.{KnowsTries, Went}
 use Rattle.cfs_base.specs.Calls.{MakesAtMost, OnlyReads}
-use Rattle.cfs_base.specs.Disk.{Nothing}
+use Rattle.cfs_base.specs.Disk.{Nothing, Image}
 use Rattle.cfs_base.specs.Refusals.{trouble_after_try, trouble_had_tried}
-use Rattle.cyl_alloc.specs.Left.{after_next, after_part}
-use Rattle.std.specs.Prelude.{◌<◌, ◌≤◌}
-use Rattle.std.proofs.Common.{arith}
-use Rattle.std.specs.Result.{IsErrAnd}
-use Rattle.cfs_base.specs.Disk.{Image}
-use Rattle.cfs_base.specs.Refusals.{trouble_after_try}
+use Rattle.cyl_alloc.specs.Left.{after_next, after_part, LeftCommit}
 use Rattle.cfs_base.specs.Run.{Tells}
 use Rattle.cfs_base.specs.declared.disk.Disk.{Ghosts}
 use Rattle.cfs_base.specs.declared.identifier.Puid.{Puid}
@@ -31,7 +24,6 @@ use Rattle.ufs_model.specs.declared.object.Object.{Object}
 use Rattle.ufs_model.specs.Graph.{Graph}
 use Rattle.vol_image.specs.Sound.{Holds}
 use Rattle.vol_owners.specs.Account.{Drafts}
-use Rattle.cyl_alloc.specs.Left.{LeftCommit}
 use Rattle.intentions.specs.Left.{GoesOn, GoesWith, StoreWith, coming}
 
 -- ---- counts of an image are those of its Free blocks alone, whatever is left
@@ -97,21 +89,6 @@ goes_then g d0 d1 d2 k0 k1 k2 w0 w1 w2 (Err t) first second = record {
   sound = λ graph has. second.sound graph (first.goes graph has);
 }
 
--- nothing was done yet
-pub goes_begin : {D : Type 0} (g : Ghosts D) (d : D) (k : Kept) (w : Option LeftCommit) → GoesFrom g d d k k w w (Ok tt)
-goes_begin g d k w = record {
-  goes = λ graph has. has;
-  store = λ graph ds has. has;
-  comes = λ graph has. refl;
-  leaves = λ graph has. record { later = omega arith; since = λ n c le h. inl h; now = λ c h. inl h };
-  sound = λ graph has. tt;
-}
-
--- what a `?` makes of a trouble
-pub goes_passed : {D : Type 0} (g : Ghosts D) (d0 d1 : D) (k0 k1 : Kept) (w0 w1 : Option LeftCommit) (r : Result (Unit {0}) Trouble) (e : Trouble) → IsErrAnd r (λ k. k ≡ e) → GoesFrom g d0 d1 k0 k1 w0 w1 (Err e) → GoesFrom g d0 d1 k0 k1 w0 w1 r
-goes_passed g d0 d1 k0 k1 w0 w1 (Ok u) e is goes = absurd is
-goes_passed g d0 d1 k0 k1 w0 w1 (Err k) e is goes = subst (λ (x : Trouble). GoesFrom g d0 d1 k0 k1 w0 w1 (Err x)) (sym is) goes
-
 -- ---- on any disk
 
 -- a part that changes one entry is made
@@ -158,9 +135,6 @@ pub record HasMade {D : Type 0} (g : Ghosts D) (tried : Bool) (old new : D) (bef
   pub n : ℕ
   pub t : ℕ
   pub went : Went {A = Unit {0}} g n t 0 old new before after (length after.free ≡ length before.free) (IsLeftTrouble g old new) (λ e. e ≡ trouble.Disk false) (λ u. Some tried) (Ok tt)
-
-pub made_none : {D : Type 0} (g : Ghosts D) (d : D) (k : Kept) → HasMade g false d d k k
-made_none g d k = record { n = 0; t = 0; went = record { told = λ b was. was; knows = (refl, reads_none g 0 d); refused = tt; untried = tt; moves = refl; calls = makes_none g d 0 0 } }
 
 -- the same with other bounds
 pub counted : {D : Type 0} {g : Ghosts D} {n t m s r : ℕ} {old new : D} {before after : Kept} {Moves : Type 0} {Refuses Untried : Trouble → Type 0} {known : Unit {0} → Option Bool} {result : Result (Unit {0}) Trouble}
@@ -230,9 +204,10 @@ goes_told g d0 d1 k0 k1 w0 w1 r goes = record {
 pub goes_since : {D : Type 0} (g : Ghosts D) (d0 d1 : D) (k0 k1 : Kept) (w0 w1 w2 : Option LeftCommit) (t e : Trouble) → is_damage e ≡ is_damage t → GoesFrom g d0 d1 k0 k1 w0 w1 (Err t) → GoesFrom g d0 d1 k0 k1 w0 w2 (Err e)
 goes_since g d0 d1 k0 k1 w0 w1 w2 t e same goes = record { goes = λ graph has. tt; store = λ graph ds has. tt; comes = λ graph has. tt; leaves = goes.leaves; sound = λ graph has. same ∙ goes.sound graph has }
 
-pub same_damage : (t : Trouble) → is_damage (trouble_after_try t) ≡ is_damage t
-same_damage (trouble.Disk tried) = refl
-same_damage (trouble.Damaged damage) = refl
+pub since_damage : (tried : Bool) (t : Trouble) → is_damage (since_parts tried t) ≡ is_damage t
+since_damage false t = refl
+since_damage true (trouble.Disk tried) = refl
+since_damage true (trouble.Damaged damage) = refl
 
 pub some_left : (w : Option LeftCommit) (n : ℕ) → n ≡ cond (is_some w) 1 0 → 0 < n → (l : LeftCommit) × (w ≡ Some l)
 some_left None n is more = absurd (omega (arith, is, more))

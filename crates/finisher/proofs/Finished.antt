@@ -1,16 +1,12 @@
 -- A call that left a commit unfinished, and the finishing of it.
-use Rattle.std.proofs.Common.{◌≡◌, Ok, Option, Some, None, Result, IfErr, false, sym, ◌∙◌, ap, subst}
-use Rattle.block_tree.specs.Reads.{is_damage}
-use Rattle.cfs_base.specs.Run.{Leaves}
+use Rattle.std.proofs.Common.{◌≡◌, Ok, Option, Some, None, sym, ◌∙◌, ap, subst}
 use Rattle.cfs_base.specs.declared.disk.Disk.{Ghosts}
-use Rattle.cfs_base.specs.declared.refusal.Trouble.{Trouble}
 use Rattle.cyl_alloc.specs.Left.{LeftCommit}
 use Rattle.cyl_alloc.specs.Space.{Kept}
 use Rattle.finisher.specs.Going.{Goes}
 use Rattle.intentions.specs.Left.{GoesWith, StoreIs, StoreWith, coming, final_image}
 use Rattle.intentions.specs.Store.{StoreHas}
 use Rattle.ufs_model.specs.Graph.{Graph}
-use Rattle.vol_image.specs.Sound.{Holds}
 use Rattle.vol_owners.specs.Account.{Drafts}
 
 -- The store is as it was to come, on the disk as it is.
@@ -28,13 +24,3 @@ pub finished_content : {D : Type 0} (g : Ghosts D) (graph : Graph) (drafts : Dra
 finished_content g graph drafts old new before after goes store none = sym (ap (coming (g.content new)) none) ∙ goes.comes graph (going_of g graph drafts old before before.left store)
 
 -- ---- done or not
-
--- each image on the way holds all objects
-pub finished_leaves : {D : Type 0} (g : Ghosts D) (graph : Graph) (drafts : Drafts) (old new : D) (before after : Kept) (result : Result (Unit {0}) Trouble) → Goes g old new before after result → StoreIs g graph drafts old before
-    → Leaves g old new (λ c. Holds c graph)
-finished_leaves g graph drafts old new before after result goes store = goes.leaves graph (going_of g graph drafts old before before.left store)
-
--- and no damage is met
-pub finished_sound : {D : Type 0} (g : Ghosts D) (graph : Graph) (drafts : Drafts) (old new : D) (before after : Kept) (result : Result (Unit {0}) Trouble) → Goes g old new before after result → StoreIs g graph drafts old before
-    → IfErr result (λ t. is_damage t ≡ false)
-finished_sound g graph drafts old new before after result goes store = goes.sound graph (going_of g graph drafts old before before.left store)

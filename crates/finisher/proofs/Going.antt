@@ -1,20 +1,19 @@
 -- A commit that goes on, part by part.
-use Rattle.std.proofs.Common.{◌≡◌, ◌≢◌, inl, inr, ℕ, Bool, true, false, List, [], ◌∷◌, ◌++◌, length, set, Ok, Err, Option, Some, None, refl, sym, ◌∙◌, ap, subst}
+use Rattle.std.proofs.Common.{◌≡◌, ◌≢◌, inl, inr, ℕ, Bool, true, false, List, [], ◌∷◌, ◌++◌, length, set, Ok, Err, Option, Some, None, refl, sym, ◌∙◌, ap, subst, cond}
 use Rattle.std.specs.Prelude.{◌==◌, ◌%◌, IfErr, OnOk, Result}
-use Rattle.std.proofs.Common.{cond}
 use Rattle.std.proofs.lemmas.Bool.{cases_Bool}
 use Rattle.cyl_map.specs.Entry.{IsEntry}
 use Rattle.cyl_map.specs.Map.{is_free}
 use Rattle.cyl_map.specs.declared.state.BlockState.{BlockState}
 use Rattle.cyl_map.specs.declared.state.BlockState.TheVariants.{Free, Allocated, IntendAllocate, IntendDeallocate}
-use Rattle.cyl_alloc.specs.Space.{after_giving}
+use Rattle.cyl_alloc.specs.Space.{after_giving, AreCounts, Kept}
 use Rattle.cyl_alloc.proofs.Counted.{counts_content, counts_given, counts_same}
 use Rattle.vol_image.proofs.Parts.{root_placed, taken_apart}
 use Rattle.vol_image.proofs.Steps.{not_map}
 use Rattle.vol_image.specs.Run.{Carries}
 use Rattle.std.proofs.lemmas.Option.{same_Some}
 use Rattle.finisher.specs.Going.{GoesFrom}
-use Rattle.cyl_alloc.specs.Left.{after_in, after_part, block_no, next_part_in, next_part_of}
+use Rattle.cyl_alloc.specs.Left.{after_in, after_part, block_no, next_part_in, next_part_of, LeftCommit}
 use Rattle.cyl_alloc.specs.declared.part.Part.TheVariants as parts_are
 use Rattle.cyl_alloc.specs.declared.part.Part.{Part}
 use Rattle.std.specs.Option.{option_map}
@@ -27,7 +26,6 @@ use Rattle.cfs_base.specs.declared.identifier.Puid.{Puid}
 use Rattle.cfs_base.specs.declared.refusal.Trouble.{Trouble}
 use Rattle.cfs_base.specs.declared.refusal.Trouble.TheVariants as trouble
 use Rattle.cfs_base.proofs.Runs.{wider}
-use Rattle.cyl_alloc.specs.Space.{AreCounts, Kept}
 use Rattle.cyl_alloc.specs.Refusals.{IsMapTrouble}
 use Rattle.cyl_map.specs.declared.entry.MapEntry.{MapEntry}
 use Rattle.cyl_map.specs.Volume.{entry_in, with_entry}
@@ -42,13 +40,11 @@ use Rattle.intentions.proofs.Committed.{copied_settles}
 use Rattle.intentions.proofs.Courses.{carries_ended, keeps_settled, on_holds}
 use Rattle.intentions.specs.Flips.{MayFlip, flip, flipped, flips}
 use Rattle.block_tree.specs.Reads.{is_damage}
-use Rattle.intentions.proofs.Flips.{flip_is}
-use Rattle.intentions.proofs.Flips.{no_damage}
+use Rattle.intentions.proofs.Flips.{flip_is, no_damage}
 use Rattle.ufs_model.specs.declared.object.Object.{Object}
 use Rattle.ufs_model.specs.Graph.{Graph}
 use Rattle.vol_image.specs.Sound.{Holds}
 use Rattle.vol_owners.specs.Account.{Accounts, Drafts}
-use Rattle.cyl_alloc.specs.Left.{LeftCommit}
 use Rattle.vol_owners.specs.Change.{of_owners}
 use Rattle.intentions.specs.Left.{AreOpen, HasLeft, IsGoing, coming, how_for, to_flip}
 use Rattle.intentions.specs.Runs.{is_freed}
@@ -315,15 +311,6 @@ module _ (image : Image) (k : Kept) (n : ℕ) (was now : MapEntry) (counts : Are
 -- ---- which part is next
 
 module _ (l : LeftCommit) where
-  pub part_copy : (r s : BlockNo) → parts_are.Copy r s ≡ next_part_of l → (l.copied ≡ false) × (l.root ≡ r.0) × (l.shadow ≡ s.0) × (after_part l ≡ Some (record l { copied = true }))
-  part_copy r s is = at l.copied l.rest refl refl is
-    where
-      at : (b : Bool) (rest : List ℕ) → l.copied ≡ b → l.rest ≡ rest → parts_are.Copy r s ≡ next_part_in l b rest → (l.copied ≡ false) × (l.root ≡ r.0) × (l.shadow ≡ s.0) × (after_part l ≡ Some (record l { copied = true }))
-      at false rest eb er is = let r_is : r ≡ block_no l.root = cc in let s_is : s ≡ block_no l.shadow = cc in
-          (eb, sym (ap (λ (b : BlockNo). b.0) r_is), sym (ap (λ (b : BlockNo). b.0) s_is), ap (λ (b : Bool). after_in l b l.rest) eb)
-      at true [] eb er is = cc
-      at true (n ∷ ns) eb er is = cc
-
   pub part_flip : (n : BlockNo) → parts_are.Flip n ≡ next_part_of l → (ns : List ℕ) × (l.copied ≡ true) × (l.rest ≡ n.0 ∷ ns) × (after_part l ≡ Some (record l { rest = ns }))
   part_flip n is = at l.copied l.rest refl refl is
     where

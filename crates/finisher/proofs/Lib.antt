@@ -3,3 +3,4 @@ pub mod Calls
 pub mod Finished
 pub mod Runs
 pub mod AtOnce
+pub mod Passed

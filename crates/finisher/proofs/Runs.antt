@@ -1,12 +1,11 @@
 -- What is left of a commit, where each run of blocks of one map costs one read and one write.
 use Rattle.std.proofs.Common.{◌≡◌, ℕ, ◌+◌, ◌*◌, ◌/◌, ◌≤◌, Bool, true, false, List, [], ◌∷◌, ◌++◌, length, Option, Some, None, refl, sym, ◌∙◌, ap, arith, cond}
-use Rattle.std.specs.Prelude.{◌==◌}
+use Rattle.std.specs.Prelude.{◌==◌, IsSome}
 use Rattle.std.specs.List.{All}
 use Rattle.std.proofs.lemmas.Bool.{eqb-true}
 use Rattle.cfs_base.proofs.Calls.{makes_then}
 use Rattle.cfs_base.specs.Calls.{MakesAtMost}
 use Rattle.cfs_base.specs.declared.disk.Disk.{Ghosts}
-use Rattle.std.specs.Prelude.{IsSome}
 use Rattle.cyl_alloc.specs.Left.{LeftCommit, after_in, after_next, after_part, flips_in, next_part_in, next_part_of}
 use Rattle.finisher.specs.Going.{calls_left, part_calls, tries_left, part_tries}
 use Rattle.finisher.specs.Runs.{Spends, calls_by_map, tries_by_map}
@@ -38,15 +37,6 @@ one_map_most w l c is all = at l.copied refl
 
 pub makes_more : {D : Type 0} (g : Ghosts D) (old new : D) (n t m s : ℕ) → n ≤ m → t ≤ s → MakesAtMost g n t old new → MakesAtMost g m s old new
 makes_more g old new n t m s le lt is = record { later = is.later; keeps = is.keeps; same = is.same; faults = is.faults; calls = omega (arith, is.calls); tries = omega (arith, is.tries); no_fewer = is.no_fewer }
-
-pub spends_begin : {D : Type 0} (g : Ghosts D) (d : D) (w : Option LeftCommit) → Spends g d d w w
-spends_begin g d w = record {
-  calls = 0;
-  tries = 0;
-  calls_fall = omega arith;
-  tries_fall = omega arith;
-  made = record { later = omega arith; keeps = λ k c le was. was; same = record { size = refl; honesty = refl; telling = refl }; faults = omega arith; calls = omega arith; tries = omega arith; no_fewer = omega arith };
-}
 
 module _ {D : Type 0} (g : Ghosts D) (d0 d1 d2 : D) (w0 w1 : Option LeftCommit) (first : Spends g d0 d1 w0 w1) where
   pub spends_then : (w2 : Option LeftCommit) → Spends g d1 d2 w1 w2 → Spends g d0 d2 w0 w2

@@ -1,5 +1,5 @@
 //! A commit that is past its bit, carried out.
-ghost use Rattle.std.specs.Prelude.{◌≡◌, ℕ, ◌*◌, ◌/◌, ◌<◌, true, false, is_some, length, IfOk, IsErr};
+ghost use Rattle.std.specs.Prelude.{◌≡◌, ℕ, ◌*◌, ◌/◌, ◌<◌, if◌then◌else◌, is_some, length, IfOk, IsErr};
 ghost use Rattle.std.specs.Prelude.{IsSome, None, OnOk, Some};
 ghost use Rattle.std.specs.List.{All};
 ghost use Rattle.cfs_base.specs.Calls.{MakesAtMost};
@@ -37,19 +37,14 @@ pub fn step<D: Disk>(disk: &mut D, space: &mut Space) -> Result<bool, Trouble>
     let Some(part) = space.next_part() else {
         return Ok(false);
     };
-    match make(disk, space, part, space.is_shadow_next()) {
-        Ok(()) => {
-            space.part_done();
-            Ok(true)
-        }
-        Err(trouble) => Err(trouble),
-    }
+    make(disk, space, part, space.is_shadow_next())?;
+    space.part_done();
+    Ok(true)
 }
 
 /// The trouble of a call that may have made parts before.
 fn since(tried: bool, trouble: Trouble) -> Trouble
-    ensures some { tried ≡ true → result ≡ trouble_after_try trouble }
-    ensures none { tried ≡ false → result ≡ trouble }
+    ensures { result ≡ if tried then trouble_after_try trouble else trouble }
 {
     if tried { trouble.after_try() } else { trouble }
 }
@@ -70,10 +65,8 @@ fn advance<D: Disk>(disk: &mut D, space: &mut Space) -> Result<(), Trouble>
         let first = next[0];
         return flip_run(disk, space, first);
     }
-    match step(disk, space) {
-        Ok(_) => Ok(()),
-        Err(trouble) => Err(trouble),
-    }
+    step(disk, space)?;
+    Ok(())
 }
 
 /// Makes all parts that are left of the commit that is kept, with one write for the entries of blocks of one map that
@@ -95,10 +88,7 @@ pub fn finish_all<D: Disk>(disk: &mut D, space: &mut Space) -> Result<(), Troubl
 {
     let mut tried = false;
     'parts: while space.unfinished() > 0 {
-        match advance(disk, space) {
-            Ok(()) => {}
-            Err(trouble) => return Err(since(tried, trouble)),
-        }
+        advance(disk, space).map_err(|trouble| since(tried, trouble))?;
         tried = true;
     }
     Ok(())

@@ -63,13 +63,9 @@ fn flip<D: Disk>(
     ensures ends { spec.PartEnds D.Disk 2 1 disk.old disk.new space.old space.new result }
 {
     let how = how_to(is_shadow);
-    match change_entry(disk, space.known(), block, how) {
-        Ok(was) => {
-            count_freed(space, block, was, how.of(was));
-            Ok(())
-        }
-        Err(trouble) => Err(trouble),
-    }
+    let entry = change_entry(disk, space.known(), block, how)?;
+    count_freed(space, block, entry, how.of(entry));
+    Ok(())
 }
 
 /// Gives the root this content, which is the shadow root's.
@@ -91,10 +87,8 @@ fn read_shadow<D: Disk>(disk: &mut D, shadow: BlockNo, into: &mut Block) -> Resu
     ensures refused { IfErr result (λ t. (t ≡ troubles.Disk false) × HasStopped D.Disk false disk.old disk.new) }
     ensures reads { OnlyReads D.Disk 1 disk.old disk.new }
 {
-    match disk.read(shadow, into) {
-        Ok(()) => Ok(()),
-        Err(_) => Err(Trouble::Disk { tried: false }),
-    }
+    disk.read(shadow, into)
+        .map_err(|_| Trouble::Disk { tried: false })
 }
 
 /// Gives the root the content of the shadow root, which is read.
@@ -106,10 +100,8 @@ fn copy_read<D: Disk>(disk: &mut D, root: BlockNo, shadow: BlockNo) -> Result<()
     ensures ends { (space : Kept) → spec.PartEnds D.Disk 3 2 disk.old disk.new space space result }
 {
     let mut content = Block::zero();
-    match read_shadow(disk, shadow, &mut content) {
-        Ok(()) => copy(disk, root, &content),
-        Err(trouble) => Err(trouble),
-    }
+    read_shadow(disk, shadow, &mut content)?;
+    copy(disk, root, &content)
 }
 
 /// Clears the commit bit.

@@ -20,20 +20,13 @@ pub(crate) fn flip_run<D: Disk>(disk: &mut D, space: &mut Space, first: u32) -> 
     ensures ends { spec.PartEnds D.Disk 2 1 disk.old disk.new space.old space.new result }
 {
     let mut map = Block::zero();
-    match space.known().load_map(disk, first, &mut map) {
-        Ok(()) => {}
-        Err(trouble) => return Err(trouble),
-    }
+    space.known().load_map(disk, first, &mut map)?;
     let rule = Rule::Settle {
         shadow: space.shadow(),
     };
     let run = change_first(&mut map, space.next_flips(), rule, first);
-    match write_map(disk, space.known(), first, &map) {
-        Ok(()) => {
-            space.gave(BlockNo(first), run.freed);
-            space.flips_done(run.count);
-            Ok(())
-        }
-        Err(trouble) => Err(trouble),
-    }
+    write_map(disk, space.known(), first, &map)?;
+    space.gave(BlockNo(first), run.freed);
+    space.flips_done(run.count);
+    Ok(())
 }

@@ -147,14 +147,14 @@ fn serve(
     let words = words_of(alloc)?;
     let sources = sources(alloc)?;
     let sinks = sinks(alloc, signs.copy()?)?;
-    expect_form(rt, alloc, &words, None, sources.len(), sinks.len());
+    let command = expect_form(rt, alloc, &words, None, sources.len(), sinks.len());
     let bay: Bay<MemoryDisk, MemorySource, Watched> = Bay {
         disk: None,
         sources,
         sinks,
         report: Watched { signs: None },
     };
-    Ok(top(rt, alloc, &words, bay, signs).status)
+    Ok(top(rt, alloc, Some(command), bay, signs).status)
 }
 
 #[test]

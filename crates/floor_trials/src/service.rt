@@ -1,12 +1,12 @@
 //! Whole services: what is to be run, and what came of it.
 ghost use Rattle.cfs_serve.specs.Whole.{FitsVolume, HasDisk, HasPlaces};
-ghost use Rattle.cfs_serve.specs.Words.{asked_by};
-ghost use Rattle.std.specs.Prelude.{◌≡◌, option_map, true};
+ghost use Rattle.cfs_serve.specs.Commands.{asked_of};
+ghost use Rattle.std.specs.Prelude.{◌≡◌, Some, option_map, true};
 
 use crate::sink::{ALL, Taking, TrialSink};
 use cfs_base::Disk;
 use cfs_fakes::{Hold, HoldGate, MemorySource};
-use cfs_serve::{Bay, Ended, Volume, files_named, top};
+use cfs_serve::{Bay, Command, Ended, Volume, top};
 use cfs_trail::Trail;
 use std::alloc::{AllocError, Global};
 use std::process::Abort;
@@ -156,28 +156,30 @@ fn is_for(volume: &Option<Volume>, blocks: Option<u32>) -> bool
     }
 }
 
-/// The words are of a form: they name so many sources and sinks, and a volume that such a disk is for; or none, where
-/// there is no disk.
-pub fn expect_form(
+/// The command of words that are of a form: they name so many sources and sinks, and a volume that such a disk is for; or
+/// none, where there is no disk.
+pub fn expect_form<'a>(
     rt: &impl Abort,
     alloc: Global,
-    words: &[String],
+    words: &'a [String],
     blocks: Option<u32>,
     sources: usize,
     sinks: usize,
-)
-    ensures disk { HasDisk (asked_by words.now) blocks }
-    ensures places { HasPlaces (asked_by words.now) sources sinks }
+) -> Command<'a>
+    ensures disk { HasDisk (asked_of (Some result)) blocks }
+    ensures places { HasPlaces (asked_of (Some result)) sources sinks }
 {
-    match files_named(alloc, words) {
-        Ok(named) => {
-            let fits = is_for(&named.volume, blocks);
-            assert!(rt; fits);
-            assert_eq!(rt; named.sources.as_slice().len(), sources);
-            assert_eq!(rt; named.sinks.as_slice().len(), sinks);
-        }
-        Err(_) => panic!(rt; "the words are of no form"),
-    }
+    let Some(command) = Command::parse(words) else {
+        panic!(rt; "the words are of no form");
+    };
+    let Ok(named) = command.files(alloc) else {
+        panic!(rt; "memory is wanting");
+    };
+    let fits = is_for(&named.volume, blocks);
+    assert!(rt; fits);
+    assert_eq!(rt; named.sources.as_slice().len(), sources);
+    assert_eq!(rt; named.sinks.as_slice().len(), sinks);
+    command
 }
 
 fn letter(event: &Event) -> u8 {
@@ -237,14 +239,14 @@ pub fn serve<D: Disk + Send + Drop>(
     let sources = sources_of(alloc, service.seats)?;
     let sinks = sinks_of(alloc, service.seats)?;
     let blocks = blocks_of(disk);
-    expect_form(rt, alloc, &words, blocks, sources.len(), sinks.len());
+    let command = expect_form(rt, alloc, &words, blocks, sources.len(), sinks.len());
     let bay = Bay {
         disk: disk.take(),
         sources,
         sinks,
         report: TrialSink::new(alloc, service.report),
     };
-    let ended = top(rt, alloc, &words, bay, gate);
+    let ended = top(rt, alloc, Some(command), bay, gate);
     let came = came_of(alloc, &ended)?;
     *disk = ended.disk;
     Ok(came)

@@ -1,4 +1,4 @@
--- The first state has the rule; passes that are dealt and taken in keep it; and what comes out at the end.
+-- The first state has the rule; handles that are dealt and taken in keep it; and what comes out at the end.
 use Rattle.std.proofs.Common.{◌≡◌, ◌≢◌, ℕ, zero, suc, ◌+◌, ◌-◌, ◌<◌, ◌≤◌, ◌^◌, List, [], ◌∷◌, ◌++◌, length, map, set, All, sum_by, sum, refl, ap, sym, ◌∙◌, subst, arith, append_assoc, length-append, Option, Some, inl, inr, ⊎_elim}
 use Rattle.std.proofs.lemmas.List.{map-append}
 use Rattle.std.proofs.lemmas.List.Sums.{sum_by-cons, sum_by_push}
@@ -9,11 +9,11 @@ use lib.ListN.{get_elem?}
 use Rattle.atomic_table.specs.Table.{State, Splits, Joins, Final, Seen, opening}
 use Rattle.atomic_table.specs.Seated.{TableId}
 use Rattle.atomic_table.proofs.Lists.{set_else, at_snoc, at_longer}
-use Rattle.front_floor.specs.declared.view.Heard.{Heard}
+use Rattle.front_floor.specs.declared.view.LogView.{LogView}
 use Rattle.front_floor.specs.declared.view.Stand.TheVariants as stands
 use Rattle.front_floor.specs.declared.view.View.{View}
-use Rattle.front_floor.specs.Knows.{Fits, PassKnows, fresh_from, nothing}
-use Rattle.front_floor.specs.Seats.{budget, parts_of, dealer, dealt, taken_in, idle, first_pass, rest_of, Hand, Homes, IsIdle, IsKeeper, IsPass, FitsSeat, IsHome, IsServed}
+use Rattle.front_floor.specs.Knows.{Fits, HandleKnows, fresh_from, nothing}
+use Rattle.front_floor.specs.Seats.{budget, parts_of, dealer, dealt, taken_in, idle, first_pass, rest_of, Hand, Homes, IsIdle, IsKeeper, IsHandle, FitsSeat, IsHome, IsServed}
 use Rattle.front_floor.proofs.Logs.{fits_nothing}
 use Rattle.front_floor.proofs.Queue.{one_of, sum_set, each_place, home_else, idle_not}
 
@@ -58,7 +58,7 @@ module _ {M E : Type 0} (log_of : M → List E) where
   home_longer log words homes views w (inl home) = inl home
   home_longer log words homes views w (inr out) = let h = out.1 in inr (out.0, (h.0, h.1, h.2, at_longer views (w ∷ []) h.0 h.1 h.3, h.4))
 
-  -- a pass is dealt
+  -- a handle is dealt
   pub splits : (turns id : ℕ) (v : View E) → v.stand ≡ stands.Idle → 1 < v.parts → Splits (IsServed log_of turns) id v (dealer v) (dealt v)
   splits turns id v free some s k at =
       let l = dealer v in
@@ -82,7 +82,7 @@ module _ {M E : Type 0} (log_of : M → List E) where
         home = home_longer k.log s.words s.homes views r (home_else log_of k.log s s.words id v l at (idle_not v.stand free) k.home);
       }
 
-  -- a pass is taken in
+  -- a handle is taken in
   pub joins : (turns id other : ℕ) (v w : View E) → v.stand ≡ stands.Idle → w.stand ≡ stands.Idle
       → Joins (IsServed log_of turns) id v other w (taken_in v w) (idle 0 0 [])
   joins turns id other v w free free' s k at apart at' =
@@ -137,44 +137,44 @@ of_mapped f P [] all = All-nil (λ x. P (f x))
 of_mapped f P (x ∷ xs) all = All-cons (λ x. P (f x)) x xs (All-head P (f x) (map f xs) all) (of_mapped f P xs (All-tail P (f x) (map f xs) all))
 
 module _ {M E : Type 0} where
-  -- a pass, the last of those that are out, was taken in
-  pub took : (keeper new seat : Hand M E) (left : ℕ) (pass : PassKnows E) (before after : List (PassKnows E)) (all : List (Heard E))
-      → new ≡ (taken_in keeper.0 seat.0, keeper.1) → IsIdle keeper → IsPass left seat → seat.0.heard ≡ pass.heard → before ≡ after ++ pass ∷ []
-      → keeper.0.parts + length before ≡ 2 ^ 32 → map (λ (p : PassKnows E). p.heard) before ++ keeper.0.told ≡ all
-      → IsIdle new × (new.0.parts + length after ≡ 2 ^ 32) × (map (λ (p : PassKnows E). p.heard) after ++ new.0.told ≡ all)
-  took keeper new seat left pass before after all taken idle' is heard items parts told =
-      let f : PassKnows E → Heard E = λ p. p.heard in
+  -- a handle, the last of those that are out, was taken in
+  pub took : (keeper new seat : Hand M E) (left : ℕ) (handle : HandleKnows E) (before after : List (HandleKnows E)) (all : List (LogView E))
+      → new ≡ (taken_in keeper.0 seat.0, keeper.1) → IsIdle keeper → IsHandle left seat → seat.0.heard ≡ handle.heard → before ≡ after ++ handle ∷ []
+      → keeper.0.parts + length before ≡ 2 ^ 32 → map (λ (p : HandleKnows E). p.heard) before ++ keeper.0.told ≡ all
+      → IsIdle new × (new.0.parts + length after ≡ 2 ^ 32) × (map (λ (p : HandleKnows E). p.heard) after ++ new.0.told ≡ all)
+  took keeper new seat left handle before after all taken idle' is heard items parts told =
+      let f : HandleKnows E → LogView E = λ p. p.heard in
       let view : new.0 ≡ taken_in keeper.0 seat.0 = ap (λ (x : Hand M E). x.0) taken in
-      let more : new.0.told ≡ pass.heard ∷ keeper.0.told = ap (λ (x : View E). x.told) view ∙ ap (λ (h : Heard E). h ∷ keeper.0.told) heard in
+      let more : new.0.told ≡ handle.heard ∷ keeper.0.told = ap (λ (x : View E). x.told) view ∙ ap (λ (h : LogView E). h ∷ keeper.0.told) heard in
       let sum : new.0.parts ≡ keeper.0.parts + 1 = ap (λ (x : View E). x.parts) view ∙ ap (λ n. keeper.0.parts + n) is.parts in
-      let long : length before ≡ length after + 1 = ap length items ∙ length-append after (pass ∷ []) in (
+      let long : length before ≡ length after + 1 = ap length items ∙ length-append after (handle ∷ []) in (
         record { stand = ap (λ (x : View E). x.stand) view ∙ idle'.stand; nothing = ap (λ (x : Hand M E). x.1) taken ∙ idle'.nothing },
         omega (arith, sum, long, parts),
-        ap (λ (hs : List (Heard E)). map f after ++ hs) more ∙ (sym (append_assoc (map f after) (pass.heard ∷ []) keeper.0.told)
-            ∙ (ap (λ (hs : List (Heard E)). hs ++ keeper.0.told) (sym (map-append f after (pass ∷ [])) ∙ ap (map f) (sym items)) ∙ told)),
+        ap (λ (hs : List (LogView E)). map f after ++ hs) more ∙ (sym (append_assoc (map f after) (handle.heard ∷ []) keeper.0.told)
+            ∙ (ap (λ (hs : List (LogView E)). hs ++ keeper.0.told) (sym (map-append f after (handle ∷ [])) ∙ ap (map f) (sym items)) ∙ told)),
       )
 
 module _ {E : Type 0} where
   -- once all are taken in, what each had heard is told
-  pub all_heard : (log : List E) (told : List (Heard E)) (out passes : List (PassKnows E)) → out ≡ [] → map (λ (p : PassKnows E). p.heard) out ++ told ≡ map (λ (p : PassKnows E). p.heard) passes
-      → All (Fits log) told → All (λ (p : PassKnows E). Fits log p.heard) passes
-  all_heard log told out passes none same fits =
-      let is : told ≡ map (λ (p : PassKnows E). p.heard) passes = ap (λ (ps : List (PassKnows E)). map (λ (p : PassKnows E). p.heard) ps ++ told) (sym none) ∙ same in
-      of_mapped (λ (p : PassKnows E). p.heard) (Fits log) passes (subst (All (Fits log)) is fits)
+  pub all_heard : (log : List E) (told : List (LogView E)) (out handles : List (HandleKnows E)) → out ≡ [] → map (λ (p : HandleKnows E). p.heard) out ++ told ≡ map (λ (p : HandleKnows E). p.heard) handles
+      → All (Fits log) told → All (λ (p : HandleKnows E). Fits log p.heard) handles
+  all_heard log told out handles none same fits =
+      let is : told ≡ map (λ (p : HandleKnows E). p.heard) handles = ap (λ (ps : List (HandleKnows E)). map (λ (p : HandleKnows E). p.heard) ps ++ told) (sym none) ∙ same in
+      of_mapped (λ (p : HandleKnows E). p.heard) (Fits log) handles (subst (All (Fits log)) is fits)
 
-  fresh_all : (table : TableId) (n : ℕ) (budgets : List ℕ) → All (λ (p : PassKnows E). p.table ≡ table) (fresh_from table n budgets)
-  fresh_all table n [] = All-nil (λ (p : PassKnows E). p.table ≡ table)
+  fresh_all : (table : TableId) (n : ℕ) (budgets : List ℕ) → All (λ (p : HandleKnows E). p.table ≡ table) (fresh_from table n budgets)
+  fresh_all table n [] = All-nil (λ (p : HandleKnows E). p.table ≡ table)
   fresh_all table n (left ∷ budgets) =
-      All-cons (λ (p : PassKnows E). p.table ≡ table) (record { table = table; number = n; left = left; heard = nothing }) (fresh_from table (suc n) budgets) refl (fresh_all table (suc n) budgets)
+      All-cons (λ (p : HandleKnows E). p.table ≡ table) (record { table = table; number = n; left = left; heard = nothing }) (fresh_from table (suc n) budgets) refl (fresh_all table (suc n) budgets)
 
-  -- fresh passes are of the table that they were dealt from
-  pub are_fresh : (table at : TableId) (budgets : List ℕ) (passes : List (PassKnows E)) → at ≡ table → passes ≡ fresh_from at 0 budgets → All (λ (p : PassKnows E). p.table ≡ table) passes
-  are_fresh table at budgets passes same is =
-      subst (All (λ (p : PassKnows E). p.table ≡ table)) (sym (is ∙ ap (λ (t : TableId). fresh_from t 0 budgets) same)) (fresh_all table 0 budgets)
+  -- fresh handles are of the table that they were dealt from
+  pub are_fresh : (table at : TableId) (budgets : List ℕ) (handles : List (HandleKnows E)) → at ≡ table → handles ≡ fresh_from at 0 budgets → All (λ (p : HandleKnows E). p.table ≡ table) handles
+  are_fresh table at budgets handles same is =
+      subst (All (λ (p : HandleKnows E). p.table ≡ table)) (sym (is ∙ ap (λ (t : TableId). fresh_from t 0 budgets) same)) (fresh_all table 0 budgets)
 
 fresh_length : (E : Type 0) (table : TableId) (n : ℕ) (budgets : List ℕ) → length (fresh_from {E = E} table n budgets) ≡ length budgets
 fresh_length E table n [] = refl
 fresh_length E table n (left ∷ budgets) = ap (λ k. suc k) (fresh_length E table (suc n) budgets)
 
-pub keeps_all : {M E : Type 0} (at : TableId) (budgets : List ℕ) (passes : List (PassKnows E)) (me : Hand M E) → passes ≡ fresh_from at 0 budgets → IsKeeper (length budgets) me → IsKeeper (length passes) me
-keeps_all {M} {E} at budgets passes me is keeps = subst (λ n. IsKeeper n me) (sym (ap length is ∙ fresh_length E at 0 budgets)) keeps
+pub keeps_all : {M E : Type 0} (at : TableId) (budgets : List ℕ) (handles : List (HandleKnows E)) (me : Hand M E) → handles ≡ fresh_from at 0 budgets → IsKeeper (length budgets) me → IsKeeper (length handles) me
+keeps_all {M} {E} at budgets handles me is keeps = subst (λ n. IsKeeper n me) (sym (ap length is ∙ fresh_length E at 0 budgets)) keeps

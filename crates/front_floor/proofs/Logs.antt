@@ -3,7 +3,7 @@ use Rattle.std.proofs.Common.{◌≡◌, ℕ, suc, ◌+◌, ◌≤◌, ◌==◌,
 use Rattle.std.proofs.lemmas.List.{append-nil}
 use Rattle.std.specs.Prelude.{if◌then◌else◌}
 use mathlib.Core.List.{IsPrefix}
-use Rattle.front_floor.specs.declared.view.Heard.{Heard}
+use Rattle.front_floor.specs.declared.view.LogView.{LogView}
 use Rattle.front_floor.specs.Knows.{PlacesRise, Fits, Grows, nothing}
 
 pub rise_wider : (a : ℕ) (places : List ℕ) (b c : ℕ) → PlacesRise a places b → b ≤ c → PlacesRise a places c
@@ -21,7 +21,7 @@ module _ {E : Type 0} where
   pub prefix_longer : (xs ys zs : List E) → IsPrefix xs ys → IsPrefix xs (ys ++ zs)
   prefix_longer xs ys zs p = (p.0 ++ zs, sym (append_assoc xs p.0 zs) ∙ ap (λ w. w ++ zs) p.1)
 
-  pub fits_longer : (log more : List E) (heard : Heard E) → Fits log heard → Fits (log ++ more) heard
+  pub fits_longer : (log more : List E) (heard : LogView E) → Fits log heard → Fits (log ++ more) heard
   fits_longer log more heard f = record {
     begins = prefix_longer heard.seen log more f.begins;
     mine = f.mine;
@@ -40,7 +40,7 @@ module _ {E : Type 0} where
   grown_from before after added (inl g) = subst (IsPrefix before) (sym g.0) (prefix_self before)
   grown_from before after added (inr g) = subst (IsPrefix before) (sym g.1) (prefix_longer before before (g.0 ∷ []) (prefix_self before))
 
-  pub fits_grown : (before after : List E) (added : ℕ) → Grows before after added → (heard : Heard E) → Fits before heard → Fits after heard
+  pub fits_grown : (before after : List E) (added : ℕ) → Grows before after added → (heard : LogView E) → Fits before heard → Fits after heard
   fits_grown before after added g heard f =
       let p = grown_from before after added g in
       subst (λ (log : List E). Fits log heard) p.1 (fits_longer before p.0 heard f)

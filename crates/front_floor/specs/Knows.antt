@@ -1,25 +1,25 @@
--- What a pass knows, and what its calls make of it.
+-- What a handle knows, and what its calls make of it.
 use Rattle.std.specs.Prelude.{◌≡◌, ℕ, suc, ◌≤◌, ◌⊎◌, List, [], ◌∷◌, ◌++◌, length, Bool, true, false, All}
 use mathlib.Core.List.{IsPrefix}
 use Rattle.atomic_table.specs.Seated.{TableId}
-use Rattle.front_floor.specs.declared.view.Heard.{Heard}
+use Rattle.front_floor.specs.declared.view.LogView.{LogView}
 
--- the table of its front, its number, its turns that are left, and what it was told of the log
-pub record PassKnows (E : Type 0) : Type 0 where
+-- the table of its lock, its number, its turns that are left, and what it was told of the log
+pub record HandleKnows (E : Type 0) : Type 0 where
   pub table : TableId
   pub number : ℕ
   pub left : ℕ
-  pub heard : Heard E
+  pub heard : LogView E
 
--- the passes of a front
+-- the handles of a lock
 pub record Dealt (E : Type 0) : Type 0 where
   pub table : TableId
-  pub passes : List (PassKnows E)
+  pub handles : List (HandleKnows E)
 
--- each is of the front with this table
+-- each is of the lock with this table
 pub record AreOf {E : Type 0} (table : TableId) (dealt : Dealt E) : Type 0 where
   pub together : dealt.table ≡ table
-  pub all : All (λ (pass : PassKnows E). pass.table ≡ table) dealt.passes
+  pub all : All (λ (handle : HandleKnows E). handle.table ≡ table) dealt.handles
 
 -- places from a on and below b, in increasing order
 abbrev pub PlacesRise : ℕ → List ℕ → ℕ → Type 0
@@ -27,18 +27,18 @@ PlacesRise a [] b = a ≤ b
 PlacesRise a (place ∷ places) b = (a ≤ place) × PlacesRise (suc place) places b
 
 module _ {E : Type 0} where
-  abbrev pub nothing : Heard E
+  abbrev pub nothing : LogView E
   nothing = record { seen = []; mine = []; known = 0 }
 
-  -- the passes of these budgets, numbered from n
-  abbrev pub fresh_from : TableId → ℕ → List ℕ → List (PassKnows E)
+  -- the handles of these budgets, numbered from n
+  abbrev pub fresh_from : TableId → ℕ → List ℕ → List (HandleKnows E)
   fresh_from table n [] = []
   fresh_from table n (left ∷ budgets) =
       record { table = table; number = n; left = left; heard = nothing } ∷ fresh_from table (suc n) budgets
 
   -- What was heard fits the log: it begins with all that was seen, the entries that are mine stand in that part, and
   -- the length that was told is no less than it, and no more than the log's.
-  pub record Fits (log : List E) (heard : Heard E) : Type 0 where
+  pub record Fits (log : List E) (heard : LogView E) : Type 0 where
     pub begins : IsPrefix heard.seen log
     pub mine : PlacesRise 0 heard.mine (length heard.seen)
     pub told : length heard.seen ≤ heard.known
@@ -56,7 +56,7 @@ module _ {E : Type 0} where
       ⊎ ((entry : E) × (after ≡ before ++ entry ∷ []) × (new ≡ old ++ length before ∷ []))
 
   -- some turns were made, and the log was counted
-  pub record Ran (old new : PassKnows E) : Type 0 where
+  pub record Ran (old new : HandleKnows E) : Type 0 where
     pub table : new.table ≡ old.table
     pub number : new.number ≡ old.number
     pub left : new.left ≤ old.left
@@ -74,7 +74,7 @@ pub record Turns {M : Type 0} (done : M → ℕ → Bool) (turned : M → ℕ �
 -- and as much as was known of, at least. All that was seen is seen still, and at least as much as was known of. Where
 -- the turn added an entry, that is the last one seen, and its place is mine.
 pub record EntersLog {M E : Type 0} (done : M → ℕ → Bool) (turned : M → ℕ → M → Type 0) (log : M → List E) (worker : ℕ)
-    (answer : Bool) (old new : Heard E) : Type 0 where
+    (answer : Bool) (old new : LogView E) : Type 0 where
   pub before : M
   pub after : M
   pub turns : Turns done turned worker before after

@@ -15,7 +15,7 @@ use Rattle.front_floor.specs.declared.view.Stand.TheVariants as stands
 use Rattle.front_floor.specs.declared.view.View.{View}
 use Rattle.front_floor.specs.Knows.{Fits, nothing}
 
--- the seat is one of a front's table
+-- the seat is one of a lock's table
 pub record SitsAt (table seat : TableId) : Type 0 where
   pub same : seat ≡ table
   pub words : table.words ≡ 3
@@ -51,14 +51,14 @@ module _ {E : Type 0} where
   idle parts left plan =
       record { left = left; stand = stands.Idle; heard = nothing; parts = parts; plan = plan; told = [] }
 
-  -- the keeper of the front once it has dealt a pass, and that pass
+  -- the keeper of the lock once it has dealt a handle, and that handle
   abbrev pub dealer : View E → View E
   dealer v = record v { parts = v.parts - 1; plan = rest_of v.plan }
 
   abbrev pub dealt : View E → View E
   dealt v = idle 1 (first_pass v.plan) []
 
-  -- the keeper once it has taken a pass in
+  -- the keeper once it has taken a handle in
   abbrev pub taken_in : View E → View E → View E
   taken_in v w = record v { parts = v.parts + w.parts; told = w.heard ∷ v.told }
 
@@ -93,13 +93,13 @@ module _ {M E : Type 0} where
     pub stand : me.0.stand ≡ stands.Idle
     pub nothing : me.1 ≡ []
 
-  -- what a pass steps with
-  pub record IsPass (turns : ℕ) (me : Hand M E) : Type 0 where
+  -- what a handle steps with
+  pub record IsHandle (turns : ℕ) (me : Hand M E) : Type 0 where
     pub idle : IsIdle me
     pub left : me.0.left ≡ turns
     pub parts : me.0.parts ≡ 1
 
-  -- what the front is kept with while so many passes are out
+  -- what the lock is kept with while so many handles are out
   pub record IsKeeper (count : ℕ) (me : Hand M E) : Type 0 where
     pub idle : IsIdle me
     pub parts : me.0.parts + count ≡ 2 ^ 32
@@ -128,7 +128,7 @@ module _ {M E : Type 0} (log_of : M → List E) where
   Steps count k v n w = (m : M) × (v.1 ≡ (0, Some m) ∷ []) × Counted m k v n w
   Steps pass_on k v n w = w ≡ (record v.0 { stand = stands.Idle }, [])
   Steps tell k v n w = (v.0.heard.known ≤ n) × (w ≡ (record v.0 { heard = record v.0.heard { known = n } }, v.1))
-  Steps take_in k v n w = (pass : View E) × (w ≡ (taken_in v.0 pass, v.1))
+  Steps take_in k v n w = (handle : View E) × (w ≡ (taken_in v.0 handle, v.1))
 
   -- Seats stand in a queue, in the order of their tickets. One that waits has its place there. One that holds has
   -- the place that is served, and the machine is out.

@@ -1,18 +1,18 @@
 //! A machine that threads enter by tickets, and whose log anybody counts without waiting. The layer above uses what
-//! a pass knows of the log after each call, and that the machine which is taken out is of the type that was put in,
-//! whose log begins with what each pass saw.
+//! a handle knows of the log after each call, and that the machine which is taken out is of the type that was put in,
+//! whose log begins with what each handle saw.
 #![tactic(auto)]
 
-mod desk;
-mod front;
-mod pass;
+mod handle;
+mod lock;
 mod rest;
 mod rule;
 mod steps;
+mod threads;
 mod turn;
 mod view;
 
-pub use desk::run_desk;
-pub use front::{Desk, Front, FrontFault};
-pub use pass::{Pass, Passes};
+pub use handle::{WorkerHandle, WorkerHandles};
+pub use lock::{LockFault, TicketLock, Workplace};
 pub use rest::make_all_turns;
+pub use threads::run_workers;

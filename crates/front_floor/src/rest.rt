@@ -1,8 +1,8 @@
 //! All turns of a machine.
 ghost use Rattle.std.specs.Prelude.{◌≡◌, ℕ, ◌-◌, ◌<◌, ◌^◌, true, length, slice_index, sum, IfErr, IfOk};
 
-use crate::desk::run_desk;
-use crate::front::{Desk, Front, FrontFault};
+use crate::lock::{LockFault, TicketLock, Workplace};
+use crate::threads::run_workers;
 use cfs_base::{Gate, Logged, NoMemory};
 use cfs_floor::make_turns_left;
 use std::alloc::Global;
@@ -22,7 +22,7 @@ fn budgets_of<M: Logged>(alloc: Global, machine: &M) -> Result<Vec<u64>, NoMemor
     Ok(budgets)
 }
 
-/// Whether a front can deal these budgets.
+/// Whether a lock can deal these budgets.
 fn can_deal(budgets: &[u64]) -> bool
     ensures some { result ≡ true → 0 < length budgets.now }
     ensures few { result ≡ true → length budgets.now < 2 ^ 32 }
@@ -47,19 +47,19 @@ fn make_turns_beside<M: Logged + Send, G: Gate + Sync, R: Threads + Wait + Sync>
     alloc: Global,
     gate: &G,
     machine: M,
-) -> Result<M, FrontFault<M>>
+) -> Result<M, LockFault<M>>
     ensures machine { IfErr result (λ fault. fault.machine ≡ machine) }
 {
     let Ok(budgets) = budgets_of(alloc, &machine) else {
-        return Err(FrontFault { machine });
+        return Err(LockFault { machine });
     };
     if !can_deal(budgets.as_slice()) {
         return Ok(machine);
     }
-    match Front::new(alloc, machine, budgets.as_slice()) {
-        Ok(Desk { front, mut passes }) => {
-            run_desk(rt, &front, gate, &mut passes);
-            Ok(front.close(passes))
+    match TicketLock::new(alloc, machine, budgets.as_slice()) {
+        Ok(Workplace { lock, mut handles }) => {
+            run_workers(rt, &lock, gate, &mut handles);
+            Ok(lock.close(handles))
         }
         Err(fault) => Err(fault),
     }
@@ -73,7 +73,7 @@ pub fn make_all_turns<M: Logged + Send, G: Gate + Sync, R: Threads + Wait + Sync
     alloc: Global,
     gate: &G,
     machine: M,
-) -> Result<M, FrontFault<M>>
+) -> Result<M, LockFault<M>>
     ensures done { IfOk result (λ made. (w : ℕ) → M.done made w ≡ true) }
     ensures machine { IfErr result (λ fault. fault.machine ≡ machine) }
 {

@@ -1,4 +1,4 @@
-//! The rule of a front, and what each kind of step tells the seat that makes it.
+//! The rule of a lock, and what each kind of step tells the seat that makes it.
 use crate::view::View;
 use atomic_table::{Join, Play, Seat, Shared, Split, TableRule};
 use cfs_base::Logged;
@@ -7,12 +7,12 @@ use std::marker::PhantomData;
 /// The rule. It is told the budgets when the table is made.
 pub struct Ticketed<M: Logged>(PhantomData<M>);
 
-/// The words and the slot of a front. The machine is in a box, so that a turn moves a pointer out of the slot and back,
+/// The words and the slot of a lock. The machine is in a box, so that a turn moves a pointer out of the slot and back,
 /// however large the machine is.
-pub type Words<M> = Shared<Option<Box<M>>, View<<M as Logged>::Entry>, Vec<u64>, Ticketed<M>>;
+pub type SharedRows<M> = Shared<Option<Box<M>>, View<<M as Logged>::Entry>, Vec<u64>, Ticketed<M>>;
 
 /// What a thread makes steps with.
-pub type Place<M> = Seat<Option<Box<M>>, View<<M as Logged>::Entry>>;
+pub type RowSeat<M> = Seat<Option<Box<M>>, View<<M as Logged>::Entry>>;
 
 impl<M: Logged> TableRule<Option<Box<M>>, View<M::Entry>, Vec<u64>> for Ticketed<M> {
     ghost use Rattle.std.specs.Prelude.{sum, ◌^◌};
@@ -23,9 +23,9 @@ impl<M: Logged> TableRule<Option<Box<M>>, View<M::Entry>, Vec<u64>> for Ticketed
     ghost first = { λ budgets. idle (2 ^ 32) 0 budgets.items };
 }
 
-pub struct Draw;
+pub struct DrawTicket;
 
-impl<M: Logged> Play<Option<Box<M>>, View<M::Entry>> for Draw {
+impl<M: Logged> Play<Option<Box<M>>, View<M::Entry>> for DrawTicket {
     ghost use Rattle.front_floor.specs.Seats.{Steps, draw, log_in};
 
     ghost then = { λ s v n w. Steps (log_in M.log) draw s.first v n w };
@@ -63,7 +63,7 @@ impl<M: Logged> Play<Option<Box<M>>, View<M::Entry>> for Tell {
     ghost then = { λ s v n w. Steps (log_in M.log) tell s.first v n w };
 }
 
-/// A pass is dealt.
+/// A handle is dealt.
 pub struct Deal;
 
 impl<E> Split<View<E>> for Deal {
@@ -74,7 +74,7 @@ impl<E> Split<View<E>> for Deal {
     ghost right = { dealt };
 }
 
-/// A pass is taken in.
+/// A handle is taken in.
 pub struct TakeIn;
 
 impl<E> Join<View<E>> for TakeIn {

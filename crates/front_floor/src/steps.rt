@@ -5,13 +5,13 @@ ghost use Rattle.front_floor.specs.Seats.{IsIdle, Looked, SitsAt, Steps, log_in}
 ghost use Rattle.front_floor.specs.Seats as kinds;
 ghost use Rattle.front_floor.specs.declared.view.Stand.TheVariants as stands;
 
-use crate::rule::{Count, Deal, Draw, Look, PassOn, Place, TakeIn, Tell, Words};
+use crate::rule::{Count, Deal, DrawTicket, Look, PassOn, RowSeat, SharedRows, TakeIn, Tell};
 use cfs_base::Logged;
 use std::sync::Wait;
 use std::thread;
 
 /// Gives a new seat the first budget of those that the keeper has to deal.
-pub fn deal<M: Logged>(words: &Words<M>, keeper: &mut Place<M>) -> Place<M>
+pub fn deal<M: Logged>(words: &SharedRows<M>, keeper: &mut RowSeat<M>) -> RowSeat<M>
     requires table { SitsAt words.now.table_id keeper.old.table_id }
     requires idle { IsIdle keeper.old.me }
     requires parts { 1 < keeper.old.me.0.parts }
@@ -23,7 +23,7 @@ pub fn deal<M: Logged>(words: &Words<M>, keeper: &mut Place<M>) -> Place<M>
 }
 
 /// Draws a ticket.
-pub fn draw<M: Logged>(words: &Words<M>, seat: &mut Place<M>) -> u64
+pub fn draw<M: Logged>(words: &SharedRows<M>, seat: &mut RowSeat<M>) -> u64
     requires table { SitsAt words.now.table_id seat.old.table_id }
     requires idle { IsIdle seat.old.me }
     requires left { 0 < seat.old.me.0.left }
@@ -31,11 +31,16 @@ pub fn draw<M: Logged>(words: &Words<M>, seat: &mut Place<M>) -> u64
     ensures table { seat.new.table_id ≡ seat.old.table_id }
     ensures step { Steps (log_in M.log) kinds.draw 1 seat.old.me result seat.new.me }
 {
-    words.fetch_add::<Draw>(seat, 0, 1)
+    words.fetch_add::<DrawTicket>(seat, 0, 1)
 }
 
 /// Looks until the ticket is served: then the seat has the machine.
-pub fn wait_for_turn<M: Logged, R: Wait>(rt: &R, words: &Words<M>, seat: &mut Place<M>, ticket: u64)
+pub fn wait_for_turn<M: Logged, R: Wait>(
+    rt: &R,
+    words: &SharedRows<M>,
+    seat: &mut RowSeat<M>,
+    ticket: u64,
+)
     requires table { SitsAt words.now.table_id seat.old.table_id }
     requires waits { seat.old.me.0.stand ≡ stands.Waits ticket }
     ensures table { seat.new.table_id ≡ seat.old.table_id }
@@ -51,7 +56,7 @@ pub fn wait_for_turn<M: Logged, R: Wait>(rt: &R, words: &Words<M>, seat: &mut Pl
 }
 
 /// Takes the machine out of the slot.
-pub fn take<M: Logged>(words: &Words<M>, seat: &mut Place<M>) -> Box<M>
+pub fn take<M: Logged>(words: &SharedRows<M>, seat: &mut RowSeat<M>) -> Box<M>
     requires table { SitsAt words.now.table_id seat.old.table_id }
     requires has { (m : _) × (seat.old.me.1 ≡ (0, Some m) ∷ []) }
     ensures table { seat.new.table_id ≡ seat.old.table_id }
@@ -65,7 +70,7 @@ pub fn take<M: Logged>(words: &Words<M>, seat: &mut Place<M>) -> Box<M>
 }
 
 /// Puts the machine back into the slot.
-pub fn give<M: Logged>(words: &Words<M>, seat: &mut Place<M>, machine: Box<M>)
+pub fn give<M: Logged>(words: &SharedRows<M>, seat: &mut RowSeat<M>, machine: Box<M>)
     requires table { SitsAt words.now.table_id seat.old.table_id }
     requires empty { seat.old.me.1 ≡ (0, None) ∷ [] }
     ensures table { seat.new.table_id ≡ seat.old.table_id }
@@ -79,7 +84,7 @@ pub fn give<M: Logged>(words: &Words<M>, seat: &mut Place<M>, machine: Box<M>)
 }
 
 /// Counts what was added to the log.
-pub fn count<M: Logged>(words: &Words<M>, seat: &mut Place<M>, added: u64) -> u64
+pub fn count<M: Logged>(words: &SharedRows<M>, seat: &mut RowSeat<M>, added: u64) -> u64
     requires table { SitsAt words.now.table_id seat.old.table_id }
     requires grown { (own : _) × (m : _) × (seat.old.me.0.stand ≡ stands.Holds own)
         × (seat.old.me.1 ≡ (0, Some m) ∷ []) × Grows own (log_in M.log m) added × (length (log_in M.log m) < 2 ^ 64) }
@@ -90,7 +95,7 @@ pub fn count<M: Logged>(words: &Words<M>, seat: &mut Place<M>, added: u64) -> u6
 }
 
 /// Lets the next ticket be served.
-pub fn pass_on<M: Logged>(words: &Words<M>, seat: &mut Place<M>) -> u64
+pub fn pass_on<M: Logged>(words: &SharedRows<M>, seat: &mut RowSeat<M>) -> u64
     requires table { SitsAt words.now.table_id seat.old.table_id }
     requires counted { (m : _) × (seat.old.me.0.stand ≡ stands.Holds (log_in M.log m))
         × (seat.old.me.1 ≡ (0, Some m) ∷ []) }
@@ -101,7 +106,7 @@ pub fn pass_on<M: Logged>(words: &Words<M>, seat: &mut Place<M>) -> u64
 }
 
 /// Tells how long the log is.
-pub fn tell<M: Logged>(words: &Words<M>, seat: &mut Place<M>) -> u64
+pub fn tell<M: Logged>(words: &SharedRows<M>, seat: &mut RowSeat<M>) -> u64
     requires table { SitsAt words.now.table_id seat.old.table_id }
     requires idle { IsIdle seat.old.me }
     ensures table { seat.new.table_id ≡ seat.old.table_id }
@@ -111,14 +116,14 @@ pub fn tell<M: Logged>(words: &Words<M>, seat: &mut Place<M>) -> u64
 }
 
 /// Takes a seat in, and remembers what it had heard.
-pub fn take_in<M: Logged>(words: &Words<M>, keeper: &mut Place<M>, pass: Place<M>)
+pub fn take_in<M: Logged>(words: &SharedRows<M>, keeper: &mut RowSeat<M>, handle: RowSeat<M>)
     requires table { SitsAt words.now.table_id keeper.old.table_id }
-    requires pass { pass.table_id ≡ words.now.table_id }
+    requires handle { handle.table_id ≡ words.now.table_id }
     requires idle { IsIdle keeper.old.me }
-    requires pass_idle { IsIdle pass.me }
+    requires pass_idle { IsIdle handle.me }
     ensures table { keeper.new.table_id ≡ keeper.old.table_id }
     ensures step { Steps (log_in M.log) kinds.take_in 0 keeper.old.me 0 keeper.new.me }
-    ensures taken { keeper.new.me ≡ (kinds.taken_in keeper.old.me.0 pass.me.0, keeper.old.me.1) }
+    ensures taken { keeper.new.me ≡ (kinds.taken_in keeper.old.me.0 handle.me.0, keeper.old.me.1) }
 {
-    words.join_seat::<TakeIn>(keeper, pass);
+    words.join_seat::<TakeIn>(keeper, handle);
 }

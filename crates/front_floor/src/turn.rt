@@ -3,7 +3,7 @@ ghost use Rattle.std.specs.Prelude.{◌≡◌, ℕ, ◌-◌, ◌<◌, ◌^◌, l
 ghost use Rattle.front_floor.specs.Knows.{EntersLog, Grows, Turns};
 ghost use Rattle.front_floor.specs.Seats.{IsIdle, SitsAt};
 
-use crate::rule::{Place, Words};
+use crate::rule::{RowSeat, SharedRows};
 use crate::steps::{count, draw, give, pass_on, take, wait_for_turn};
 use cfs_base::Logged;
 use std::sync::Wait;
@@ -24,8 +24,8 @@ fn turn_counted<M: Logged>(machine: &mut M, worker: u32) -> (bool, u64)
 /// Waits until it is the seat's turn, and makes it. Answers whether the worker is done.
 pub fn make_turn<M: Logged, R: Wait>(
     rt: &R,
-    words: &Words<M>,
-    seat: &mut Place<M>,
+    words: &SharedRows<M>,
+    seat: &mut RowSeat<M>,
     worker: u32,
 ) -> bool
     requires table { SitsAt words.now.table_id seat.old.table_id }
@@ -43,7 +43,7 @@ pub fn make_turn<M: Logged, R: Wait>(
     let mut machine = take(words, seat);
     let (done, added) = turn_counted(&mut *machine, worker);
     give(words, seat, machine);
-    let _known = count(words, seat, added);
-    let _served = pass_on(words, seat);
+    count(words, seat, added);
+    pass_on(words, seat);
     done
 }

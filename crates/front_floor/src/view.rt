@@ -2,10 +2,10 @@
 use std::collections::LinkedList;
 
 /// What was heard of the log.
-pub struct Heard<E> {
+pub struct LogView<E> {
     /// The log as the last turn left it.
     pub seen: LinkedList<E>,
-    /// The places in it of the entries that turns of this pass added.
+    /// The places in it of the entries that turns of this handle added.
     pub mine: LinkedList<u64>,
     /// A length of the log that was told.
     pub known: u64,
@@ -25,11 +25,11 @@ pub struct View<E> {
     /// The turns that it may still make.
     pub left: u64,
     pub stand: Stand<E>,
-    pub heard: Heard<E>,
-    /// Its parts of the front, of which there are 2^32 in all.
+    pub heard: LogView<E>,
+    /// Its parts of the lock, of which there are 2^32 in all.
     pub parts: u64,
     /// The budgets that it has still to deal.
     pub plan: LinkedList<u64>,
-    /// What the passes that it took in had heard.
-    pub told: LinkedList<Heard<E>>,
+    /// What the handles that it took in had heard.
+    pub told: LinkedList<LogView<E>>,
 }

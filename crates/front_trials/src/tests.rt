@@ -1,10 +1,10 @@
-//! Two workers on a front.
+//! Two workers on a lock.
 ghost use Rattle.std.specs.Prelude.{◌≡◌, ◌≤◌};
 
 use crate::{Diary, Watch};
 use cfs_base::NoMemory;
 use cfs_fakes::{OpenGate, Turns};
-use front_floor::{Desk, Front, FrontFault, Pass, make_all_turns, run_desk};
+use front_floor::{LockFault, TicketLock, WorkerHandle, Workplace, make_all_turns, run_workers};
 use std::alloc::Global;
 use std::process::Abort;
 use std::sync::Wait;
@@ -34,40 +34,44 @@ fn expect_counts(rt: &impl Abort, diary: &Diary, first: usize, second: usize) {
     );
 }
 
-/// Makes two turns of a pass. Answers after which of them its worker was done.
-fn enter_twice(rt: &impl Wait, front: &Front<Diary>, pass: &mut Pass<Diary>) -> (bool, bool)
-    requires of { pass.old.table ≡ front.now }
-    requires left { 2 ≤ pass.old.left }
-    ensures of { pass.new.table ≡ pass.old.table }
+/// Makes two turns of a handle. Answers after which of them its worker was done.
+fn enter_twice(
+    rt: &impl Wait,
+    lock: &TicketLock<Diary>,
+    handle: &mut WorkerHandle<Diary>,
+) -> (bool, bool)
+    requires of { handle.old.table ≡ lock.now }
+    requires left { 2 ≤ handle.old.left }
+    ensures of { handle.new.table ≡ handle.old.table }
 {
-    let first = front.enter(rt, pass);
-    let second = front.enter(rt, pass);
+    let first = lock.enter(rt, handle);
+    let second = lock.enter(rt, handle);
     (first, second)
 }
 
 #[test]
 fn every_turn_is_counted(rt: HostRuntime) -> Result<(), NoMemory> {
-    match Front::new(rt.alloc(), diary(rt.alloc(), None), &[3, 2]) {
-        Ok(Desk { front, mut passes }) => {
-            run_desk(&rt, &front, &OpenGate, &mut passes);
-            assert_eq!(rt; front.status(passes.at(0)), 5);
-            expect_counts(&rt, &front.close(passes), 3, 2);
+    match TicketLock::new(rt.alloc(), diary(rt.alloc(), None), &[3, 2]) {
+        Ok(Workplace { lock, mut handles }) => {
+            run_workers(&rt, &lock, &OpenGate, &mut handles);
+            assert_eq!(rt; lock.status(handles.at(0)), 5);
+            expect_counts(&rt, &lock.close(handles), 3, 2);
             Ok(())
         }
-        Err(FrontFault { machine: _ }) => Err(NoMemory),
+        Err(LockFault { machine: _ }) => Err(NoMemory),
     }
 }
 
 #[test]
-fn turns_of_another_pass_are_counted(rt: HostRuntime) -> Result<(), NoMemory> {
-    match Front::new(rt.alloc(), diary(rt.alloc(), None), &[3, 2]) {
-        Ok(Desk { front, mut passes }) => {
-            assert!(rt; enter_twice(&rt, &front, passes.at(1)) == (false, true));
-            assert_eq!(rt; front.status(passes.at(0)), 2);
-            expect_counts(&rt, &front.close(passes), 0, 2);
+fn turns_of_another_worker_are_counted(rt: HostRuntime) -> Result<(), NoMemory> {
+    match TicketLock::new(rt.alloc(), diary(rt.alloc(), None), &[3, 2]) {
+        Ok(Workplace { lock, mut handles }) => {
+            assert!(rt; enter_twice(&rt, &lock, handles.at(1)) == (false, true));
+            assert_eq!(rt; lock.status(handles.at(0)), 2);
+            expect_counts(&rt, &lock.close(handles), 0, 2);
             Ok(())
         }
-        Err(FrontFault { machine: _ }) => Err(NoMemory),
+        Err(LockFault { machine: _ }) => Err(NoMemory),
     }
 }
 
@@ -81,6 +85,6 @@ fn a_status_is_answered_while_another_makes_its_turn(rt: HostRuntime) -> Result<
             expect_counts(&rt, &made, 3, 2);
             Ok(())
         }
-        Err(FrontFault { machine: _ }) => Err(NoMemory),
+        Err(LockFault { machine: _ }) => Err(NoMemory),
     }
 }

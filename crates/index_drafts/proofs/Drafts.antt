@@ -33,33 +33,34 @@ abbrev pub filled_with : Puid → Result (Option Swap) Refused → Result Puid R
 filled_with id (Ok put) = Ok id
 filled_with id (Err e) = Err (after_try e)
 
-module _ {D : Type 0} {g : Ghosts D} {d0 d1 : D} {k0 : Kept} {was : Drafting} (i : IndexView g d0 k0 was) (slot n : ℕ) {root : roots.Root} {made : Object} {word : ℕ} (words : root.word ≡ word) (objects : bare_object root ≡ made) (bare : IsBare root) (reads : OnlyReads g 1 d0 d1)
+module _ {D : Type 0} {g : Ghosts D} {d0 d1 : D} {k0 : Kept} {was : Drafting} (i : IndexView g d0 k0 was) (slot n : ℕ) (root : roots.Root) (bare : IsBare root) (reads : OnlyReads g 1 d0 d1)
     (found : Tells g d0 → AreCounts (g.content d0) k0 → IsLeastFree (g.content d0) n) (d2 : D) (k2 : Kept) where
   abbrev graph : Graph
   graph = i.view.graph
 
   abbrev new : Puid
-  new = puid_at n word
+  new = puid_at n root.word
+
+  abbrev made : Object
+  made = bare_object root
 
   abbrev pub Makes : Result (Unit {0}) Refused → Type 0
-  Makes r = (h : Graph) (ds : Drafts) → StoreHas g h ds d1 k0 → IsLeastFree (g.content d1) n → IsBare root → GoesHolding g h (MakesAlone g h ds (puid_at n root.word) (bare_object root) d1 d2 k2) d1 d2 r
+  Makes r = (h : Graph) (ds : Drafts) → StoreHas g h ds d1 k0 → IsLeastFree (g.content d1) n → IsBare root → GoesHolding g h (MakesAlone g h ds new made d1 d2 k2) d1 d2 r
 
   least : IsLeastFree (g.content d0) n
   least = found i.view.store.carries.tells i.view.store.counts
 
   alone : (r : Result (Unit {0}) Refused) → Makes r → GoesHolding g graph (MakesAlone g graph i.view.ds new made d1 d2 k2) d1 d2 r
-  alone r makes = subst (λ (o : Object). GoesHolding g graph (MakesAlone g graph i.view.ds new o d1 d2 k2) d1 d2 r) objects
-      (subst (λ (w : ℕ). GoesHolding g graph (MakesAlone g graph i.view.ds (puid_at n w) (bare_object root) d1 d2 k2) d1 d2 r) words
-      (makes graph i.view.ds (view_reads i.view reads).store (subst (λ (a : Image). IsLeastFree a n) (sym reads.content) least) bare))
+  alone r makes = makes graph i.view.ds (view_reads i.view reads).store (subst (λ (a : Image). IsLeastFree a n) (sym reads.content) least) bare
 
   abbrev P : Image → Type 0
-  P c = Holds c graph ⊎ ((b : ℕ) × IsLeastFree (g.content d0) b × Holds c (with_object graph (puid_at b word) made))
+  P c = Holds c graph ⊎ ((b : ℕ) × IsLeastFree (g.content d0) b × Holds c (with_object graph (puid_at b root.word) made))
 
   leaves2 : (r : Result (Unit {0}) Refused) → Makes r → Leaves g d0 d2 P
   leaves2 r makes = then g d0 d1 d2 P _ (read_leaves reads) (alone r makes).leaves (λ c h. inl h)
 
   -- the object isn't made
-  pub made_not : (e : Refused) → Makes (Err e) → CreateEnds i slot made word d2 k2 was (Err e)
+  pub made_not : (e : Refused) → Makes (Err e) → CreateEnds i slot made root.word d2 k2 was (Err e)
   made_not e makes = record { done = tt; leaves = leaves2 (Err e) makes; sound = (alone (Err e) makes).sound }
 
   -- it is, and the draft stands beside it
@@ -76,13 +77,13 @@ module _ {D : Type 0} {g : Ghosts D} {d0 d1 : D} {k0 : Kept} {was : Drafting} (i
     then2 = record { graph = with_object graph new made; ds = i.view.ds; id = i.view.id; object = i.view.object; draft = i.view.draft; store = is.store; at = there; opened = i.view.opened }
 
     module _ {d3 : D} {k3 : Kept} {now : Drafting} where
-      pub filled_or_not : (r : Result (Option Swap) Refused) → ((v : DraftView g d2 k2 was) → GoesTo g v.graph (FillsIfIndex v slot (Some new) d3 k3 now) d2 d3 r) → IfOk r (λ put. put ≡ None → Some new ≡ None) → CreateEnds i slot made word d3 k3 now (filled_with new r)
+      pub filled_or_not : (r : Result (Option Swap) Refused) → ((v : DraftView g d2 k2 was) → GoesTo g v.graph (FillsIfIndex v slot (Some new) d3 k3 now) d2 d3 r) → IfOk r (λ put. put ≡ None → Some new ≡ None) → CreateEnds i slot made root.word d3 k3 now (filled_with new r)
       filled_or_not r fills empty = by r (fills then2) empty
         where
           images : Leaves g d2 d3 (λ c. Holds c (with_object graph new made)) → Leaves g d0 d3 P
           images left = then g d0 d2 d3 P _ (leaves2 (Ok tt) makes) left (λ c h. inr (n, least, h))
 
-          by : (q : Result (Option Swap) Refused) → GoesTo g (with_object graph new made) (FillsIfIndex then2 slot (Some new) d3 k3 now) d2 d3 q → IfOk q (λ put. put ≡ None → Some new ≡ None) → CreateEnds i slot made word d3 k3 now (filled_with new q)
+          by : (q : Result (Option Swap) Refused) → GoesTo g (with_object graph new made) (FillsIfIndex then2 slot (Some new) d3 k3 now) d2 d3 q → IfOk q (λ put. put ≡ None → Some new ≡ None) → CreateEnds i slot made root.word d3 k3 now (filled_with new q)
           by (Err e) goes none = record { done = tt; leaves = images goes.leaves; sound = still_sound true e goes.sound }
           by (Ok put) goes none =
               let f = goes.done i.index i.is in

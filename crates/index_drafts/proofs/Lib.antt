@@ -2,4 +2,5 @@ pub mod Words
 mod Added
 mod Drafts
 mod Makings
+mod Passed
 mod Roots

@@ -1,6 +1,6 @@
 -- The calls in which an object is made, one after another.
 use Rattle.leaf_changes.specs.Tops.{Top}
-use Rattle.index_drafts.proofs.Words.{◌≡◌, inl, inr, ℕ, ◌<◌, IsTrue, List, length, set, true, false, Ok, Err, refl, sym, ◌∙◌, ap, subst, arith, Accounts, AreCounts, BlockNo, ChangesOnly, EndsCall, Enters, EntryWritten, Frames, Ghosts, GoesHolding, Graph, HasImage, HasStopped, HasTried, Holds, IfErr, Image, IsClaimed, IsErrAnd, IsLeastFree, IsLoose, IsDraftRefusal, IsSettled, Kept, Leaves, MakesAtMost, OnErr, Refused, Result, StoreHas, Trouble, WritesDraftBlock, after_try, as_refused, bare_object, both_ways, cases_lt, carries_settled, counts_content, ends_then, framed_carries, framed_holds, frames_begin, frames_content, free_is, has_met_damage, left_now, length-with_entry, loose_stays, map_in_image, map_of, map_with, puid_at, not_map, of_owner, refused_by, rises-with_object, root_spelling, then, tried_then, wider, with_entry, with_object, then_written, written_framed, Drafts}
+use Rattle.index_drafts.proofs.Words.{◌≡◌, inl, inr, ℕ, ◌<◌, IsTrue, List, length, set, true, false, Ok, Err, sym, ◌∙◌, ap, subst, arith, Accounts, AreCounts, BlockNo, ChangesOnly, EndsCall, Enters, EntryWritten, Frames, Ghosts, GoesHolding, Graph, HasImage, HasStopped, HasTried, Holds, IfErr, Image, IsClaimed, IsErrAnd, IsLeastFree, IsLoose, IsDraftRefusal, IsSettled, Kept, Leaves, MakesAtMost, OnErr, Refused, Result, StoreHas, Trouble, WritesDraftBlock, after_try, as_refused, bare_object, both_ways, cases_lt, carries_settled, counts_content, ends_then, framed_carries, framed_holds, frames_begin, frames_content, free_is, has_met_damage, left_now, length-with_entry, loose_stays, map_in_image, map_of, map_with, puid_at, not_map, of_owner, refused_by, rises-with_object, root_spelling, then, tried_then, wider, with_entry, with_object, then_written, written_framed, Drafts}
 use Rattle.block_tree.specs.declared.root.Root as roots
 use Rattle.cfs_base.specs.declared.refusal.Refused.TheVariants as refusals
 use Rattle.cyl_alloc.proofs.Takes.{takes_none}
@@ -10,10 +10,6 @@ use Rattle.special_files.specs.Creates.{IsBare, Spells}
 use Rattle.index_drafts.proofs.Roots.{account, below, claim, entered, entered_framed, fresh, loose, only, written}
 
 -- ---- what a `?` hands on
-
-pub passed_on : {A : Type 0} (P : Result A Refused → Type 0) (r : Result A Refused) (e : Refused) → IsErrAnd r (λ x. x ≡ e) → P (Err e) → P r
-passed_on P (Ok x) e is p = absurd is
-passed_on P (Err x) e is p = subst (λ (y : Refused). P (Err y)) (sym is) p
 
 pub stops : {D A : Type 0} {g : Ghosts D} {graph : Graph} {P : Type 0} {d0 d : D} (r : Result A Refused) (e : Refused) → IsErrAnd r (λ x. x ≡ e) → Leaves g d0 d (λ c. Holds c graph) → has_met_damage e ≡ false → GoesHolding g graph P d0 d r
 stops (Ok x) e is leaves sound = absurd is

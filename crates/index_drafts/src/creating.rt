@@ -6,7 +6,7 @@ ghost use Rattle.index_drafts.specs.Creates as spec;
 ghost use Rattle.intentions.specs.Store.{StoreHas};
 ghost use Rattle.leaf_changes.specs.Tops.{still_top};
 ghost use Rattle.special_files.specs.Committing.{puid_at};
-ghost use Rattle.special_files.specs.Creates.{IsBare, MayBeMade, made_of};
+ghost use Rattle.special_files.specs.Creates.{IsBare};
 ghost use Rattle.special_files.specs.Ends.{EndsCall};
 ghost use Rattle.special_files.specs.Refusal.{is_full_refusal};
 ghost use Rattle.special_files.specs.View.{GoesHolding};
@@ -16,10 +16,10 @@ ghost use Rattle.vol_owners.specs.Account.{Drafts};
 
 use crate::draft::IndexDraft;
 use block_tree::Root;
-use cfs_base::{BlockNo, Disk, Kind, Place, Puid, Refused};
+use cfs_base::{BlockNo, Disk, Place, Puid, Refused};
 use cyl_alloc::Space;
 use intentions::barrier;
-use special_files::{Draft, bare_root, least, write_root};
+use special_files::{Draft, least, write_root};
 
 /// Makes the least-numbered Free block the root of a new object: it is Allocated and written, and then both outlast a
 /// crash. Until then the block is nobody's, as recovery sees it.
@@ -48,10 +48,10 @@ fn make_at<D: Disk>(
     Ok(())
 }
 
-/// Makes an object, and puts its identifier into a slot of a draft, which is an index's, whatever stood there. The
-/// object is there at once, with the least-numbered Free block as its root, and an abort of the draft leaves it there.
-/// A file is of size 0; an index has 8 bytes a slot, one slot or more, and the fill byte 0. `Full` exactly where fewer
-/// blocks are Free than 1 more than `put_in` takes, and the floor; nothing was done then. `Damaged` as in `put_in`, and
+/// Makes the object with this root, which is a `bare_root`, and puts its identifier into a slot of a draft, which is an
+/// index's, whatever stood there. The object is there at once, with its root at the least-numbered Free block, and an
+/// abort of the draft leaves it there. `Full` exactly where fewer blocks are Free than 1 more than `put_in` takes, and
+/// the floor; nothing was done then. `Damaged` as in `put_in`, and
 /// it names block 0, with code 2, where that map is Free by what it says itself. Refused once the object is there it
 /// answers `Disk` that had tried: the object may be there then, and its identifier in no slot. Takes no memory.
 pub fn create_in<D: Disk>(
@@ -59,39 +59,34 @@ pub fn create_in<D: Disk>(
     disk: &mut D,
     space: &mut Space,
     slot: u64,
-    kind: Kind,
-    fill: u8,
-    size: u64,
-    word: u32,
+    root: &Root,
     floor: u32,
 ) -> Result<Puid, Refused>
     requires on_disk { draft.old.at < D.blocks disk.old }
     requires size { D.blocks disk.old ≡ 64 * length space.old.free }
     requires within { 8 * slot + 8 ≤ draft.old.root.size }
-    requires made { MayBeMade kind fill size }
-    ensures { spec.CreatesIn D.Disk slot (made_of kind fill size) word floor disk.old disk.new space.old space.new
-        draft.old draft.new result }
+    requires root { IsBare root.now }
+    ensures { spec.CreatesIn D.Disk slot (bare_object root.now) root.now.word floor disk.old disk.new space.old
+        space.new draft.old draft.new result }
 {
     space.has_room(1 + draft.slot_takes(slot), floor)?;
-    let root = bare_root(kind, fill, size, word);
     let block = least(disk, space)?;
-    make_at(disk, space, block, &root)?;
+    make_at(disk, space, block, root)?;
     let made = Puid {
         block: block.0,
-        word,
+        word: root.word,
     };
-    match draft.fill(disk, space, slot, Some(made)) {
-        Ok(_) => {}
-        Err(error) => return Err(error.after_try()),
-    }
+    draft
+        .fill(disk, space, slot, Some(made))
+        .map_err(Refused::after_try)?;
     Ok(made)
 }
 
 impl IndexDraft {
-    /// Makes an object, and puts its identifier into a slot, whatever stood there. The object is there at once, with
-    /// the least-numbered Free block as its root, and an abort of the draft leaves it there. A file is of size 0; an
-    /// index has 8 bytes a slot, one slot or more, and the fill byte 0. `Full` exactly where fewer blocks are Free than
-    /// 1 more than `retain` takes, and the floor; nothing was done then. `Damaged` as in `retain`, and it names block
+    /// Makes the object with this root, which is a `bare_root`, and puts its identifier into a slot, whatever stood
+    /// there. The object is there at once, with its root at the least-numbered Free block, and an abort of the draft
+    /// leaves it there. `Full` exactly where fewer blocks are Free than 1 more than `retain` takes, and the floor;
+    /// nothing was done then. `Damaged` as in `retain`, and it names block
     /// 0, with code 2, where that map is Free by what it says itself. Refused once the object is there it answers
     /// `Disk` that had tried: the object may be there then, and its identifier in no slot. Takes no memory.
     pub fn create<D: Disk>(
@@ -99,29 +94,16 @@ impl IndexDraft {
         disk: &mut D,
         space: &mut Space,
         slot: u64,
-        kind: Kind,
-        fill: u8,
-        size: u64,
-        word: u32,
+        root: &Root,
         floor: u32,
     ) -> Result<Puid, Refused>
         requires on_disk { self.old.at < D.blocks disk.old }
         requires size { D.blocks disk.old ≡ 64 * length space.old.free }
         requires within { 8 * slot + 8 ≤ self.old.root.size }
-        requires made { MayBeMade kind fill size }
-        ensures { spec.CreatesIn D.Disk slot (made_of kind fill size) word floor disk.old disk.new space.old space.new
-            self.old self.new result }
+        requires root { IsBare root.now }
+        ensures { spec.CreatesIn D.Disk slot (bare_object root.now) root.now.word floor disk.old disk.new space.old
+            space.new self.old self.new result }
     {
-        create_in(
-            &mut self.draft,
-            disk,
-            space,
-            slot,
-            kind,
-            fill,
-            size,
-            word,
-            floor,
-        )
+        create_in(&mut self.draft, disk, space, slot, root, floor)
     }
 }

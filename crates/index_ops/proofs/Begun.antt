@@ -74,9 +74,12 @@ module _ {D : Type 0} {g : Ghosts D} {d0 : D} {k0 : Kept} {at : ℕ} {was : Draf
 -- ---- on any disk
 
 -- the same answer of a commit after calls that had tried something
+abbrev pub since : Trouble → Refused
+since t = refused_by (trouble_after_try t)
+
 abbrev pub after_commit : {A : Type 0} → A → Result (Unit {0}) Trouble → Result A Refused
 after_commit x (Ok u) = Ok x
-after_commit x (Err t) = Err (refused_by (trouble_after_try t))
+after_commit x (Err t) = Err (since t)
 
 pub sound_by : (t : Trouble) → is_damage t ≡ false → has_met_damage (refused_by (trouble_after_try t)) ≡ false
 sound_by (trouble.Disk tried) is = refl

@@ -3,3 +3,4 @@ mod Indices
 mod Begun
 mod Filling
 mod Making
+mod Passed

@@ -50,10 +50,7 @@ pub(crate) fn begin<D: Disk>(
     ensures space { space.new ≡ space.old }
     ensures reads { OnlyReads D.Disk 1 disk.old disk.new }
 {
-    let draft = match Draft::begin_direct(room, disk, space, index) {
-        Ok(draft) => draft,
-        Err(error) => return Err(error),
-    };
+    let draft = Draft::begin_direct(room, disk, space, index)?;
     if draft.size() < 8 * slot + 8 {
         return Err(short(index));
     }
@@ -87,29 +84,21 @@ fn put<D: Disk>(
     ensures bit { OnOk result (IsAtBit D.Disk disk.old disk.new space.new.left) }
     ensures calls { MakesAtMost D.Disk 20 11 disk.old disk.new }
 {
-    let mut draft = match begin(room, disk, space, index, slot) {
-        Ok(draft) => draft,
-        Err(error) => return Err(error),
+    let mut draft = begin(room, disk, space, index, slot)?;
+    let Some(swap) = draft.fill(disk, space, slot, what)? else {
+        return settle(disk);
     };
-    let swap = match draft.fill(disk, space, slot, what) {
-        Ok(Some(swap)) => swap,
-        Ok(None) => return settle(disk),
-        Err(error) => return Err(error),
-    };
-    match draft.commit_swap(disk, space, swap) {
-        Ok(()) => Ok(()),
-        Err(trouble) => Err(Refused::from(trouble.after_try())),
-    }
+    draft
+        .commit_swap(disk, space, swap)
+        .map_err(|trouble| Refused::from(trouble.after_try()))
 }
 
 /// Makes durable what is there.
 fn settle<D: Disk>(disk: &mut D) -> Result<(), Refused>
     ensures { spec.SettlesDisk D.Disk disk.old disk.new result }
 {
-    match barrier(disk) {
-        Ok(()) => Ok(()),
-        Err(trouble) => Err(Refused::from(trouble)),
-    }
+    barrier(disk)?;
+    Ok(())
 }
 
 /// Puts an identifier of an object that the disk holds into a slot of the index at a block, whatever stood there, as
@@ -138,10 +127,8 @@ pub fn retain<D: Disk>(
     ensures fills { 3 + 4 ≤ sum space.old.free
         → spec.PutsSlot D.Disk index.0 slot (Some id) disk.old disk.new space.old space.new result }
 {
-    match space.has_room(3, 4) {
-        Ok(()) => put(room, disk, space, index, slot, Some(id)),
-        Err(error) => Err(error),
-    }
+    space.has_room(3, 4)?;
+    put(room, disk, space, index, slot, Some(id))
 }
 
 /// Empties a slot of the index at a block, as one commit. It takes 3 blocks, of those that are left for it, and is

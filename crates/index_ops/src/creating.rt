@@ -8,7 +8,7 @@ ghost use Rattle.cyl_alloc.specs.Space.{IsLeastFree};
 ghost use Rattle.index_ops.specs.Changes.{HasSlot, IsIndexRefusal};
 ghost use Rattle.index_ops.specs.Creates as spec;
 ghost use Rattle.special_files.specs.Committing.{IsAtBit, IsNoted, puid_at};
-ghost use Rattle.special_files.specs.Creates.{IsBare, IsOpenMap, MayBeMade, made_of};
+ghost use Rattle.special_files.specs.Creates.{IsBare, IsOpenMap};
 ghost use Rattle.special_files.specs.Drafting.{begun_at};
 ghost use Rattle.special_files.specs.Refusal.{IsDraftRefusal, is_full_refusal, top_of};
 ghost use Rattle.ufs_model.specs.Limits.{most_slots};
@@ -20,9 +20,9 @@ ghost use Rattle.vol_image.specs.Reading.{bare_object};
 
 use crate::changing::begin;
 use block_tree::Root;
-use cfs_base::{BlockNo, Disk, Kind, Puid, Refused};
+use cfs_base::{BlockNo, Disk, Puid, Refused};
 use cyl_alloc::Space;
-use special_files::{Draft, Room, bare_root, least};
+use special_files::{Draft, Room, least};
 
 /// Makes the object with this root at a Free block, fills the slot with it, and commits both.
 fn make_at<D: Disk>(
@@ -55,18 +55,14 @@ fn make_at<D: Disk>(
     ensures bit { OnOk result (IsAtBit D.Disk disk.old disk.new space.new.left) }
     ensures calls { MakesAtMost D.Disk 22 13 disk.old disk.new }
 {
-    let swap = match draft.create(disk, space, slot, block, root) {
-        Ok(swap) => swap,
-        Err(error) => return Err(error),
-    };
-    let made = Puid {
+    let swap = draft.create(disk, space, slot, block, root)?;
+    draft
+        .commit_swap(disk, space, swap)
+        .map_err(|trouble| Refused::from(trouble.after_try()))?;
+    Ok(Puid {
         block: block.0,
         word: root.word,
-    };
-    match draft.commit_swap(disk, space, swap) {
-        Ok(()) => Ok(made),
-        Err(trouble) => Err(Refused::from(trouble.after_try())),
-    }
+    })
 }
 
 /// Makes an object with this root, and puts its identifier into a slot of the index at a block.
@@ -96,31 +92,22 @@ fn make<D: Disk>(
     ensures bit { OnOk result (IsAtBit D.Disk disk.old disk.new space.new.left) }
     ensures calls { MakesAtMost D.Disk 24 13 disk.old disk.new }
 {
-    let draft = match begin(room, disk, space, index, slot) {
-        Ok(draft) => draft,
-        Err(error) => return Err(error),
-    };
-    match least(disk, space) {
-        Ok(block) => make_at(draft, disk, space, slot, block, root),
-        Err(error) => Err(error),
-    }
+    let draft = begin(room, disk, space, index, slot)?;
+    let block = least(disk, space)?;
+    make_at(draft, disk, space, slot, block, root)
 }
 
-/// Makes an object, and puts its identifier into a slot of the index at a block, whatever stood there, as one commit.
-/// The object's root is the least-numbered Free block. A file is of size 0; an index has 8 bytes a slot, one slot or
-/// more, and the fill byte 0. `Full` where fewer than 4 blocks are Free beside the 4 that are left for deletes; no
-/// device call was made then. `Damaged` as in `retain`, and it names block 0, with code 2, where that map is Free by
-/// what it says itself.
+/// Makes the object with this root, a `bare_root`, and puts its identifier into a slot of the index at a block,
+/// whatever stood there, as one commit. Its block is the least-numbered Free one. `Full` where fewer than 4 blocks are
+/// Free beside the 4 that are left for deletes; no device call was made then. `Damaged` as in `retain`, and it names
+/// block 0, with code 2, where that map is Free by what it says itself.
 pub fn create<D: Disk>(
     room: Room,
     disk: &mut D,
     space: &mut Space,
     index: BlockNo,
     slot: u64,
-    kind: Kind,
-    fill: u8,
-    size: u64,
-    word: u32,
+    root: &Root,
 ) -> Result<Puid, Refused>
     requires some { index.0 ≢ 0 }
     requires on_disk { index.0 < D.blocks disk.old }
@@ -128,24 +115,15 @@ pub fn create<D: Disk>(
     // No commit is unfinished.
     requires left { space.old.left ≡ None }
     requires few { slot < most_slots }
-    requires made { MayBeMade kind fill size }
+    requires root { IsBare root.now }
     // Full exactly where 4 and 4 blocks aren't Free; nothing was done then.
     ensures full { sum space.old.free < 4 + 4
         → (result ≡ Err (refusals.Full (record { free = sum space.old.free; need = 4 })))
         × (disk.new ≡ disk.old) × (space.new ≡ space.old) }
     ensures makes { 4 + 4 ≤ sum space.old.free
-        → spec.PutsObject D.Disk index.0 slot (made_of kind fill size) word disk.old disk.new space.old space.new
+        → spec.PutsObject D.Disk index.0 slot (bare_object root.now) root.now.word disk.old disk.new space.old space.new
         result }
 {
-    match space.has_room(4, 4) {
-        Ok(()) => make(
-            room,
-            disk,
-            space,
-            index,
-            slot,
-            &bare_root(kind, fill, size, word),
-        ),
-        Err(error) => Err(error),
-    }
+    space.has_room(4, 4)?;
+    make(room, disk, space, index, slot, root)
 }

@@ -35,10 +35,8 @@ fn leaf_content<D: Disk>(
     ensures reads { OnlyReads D.Disk 2 disk.old disk.new }
 {
     let mut content = Block::zero();
-    match read_leaf(disk, root, leaf, &mut content) {
-        Ok(()) => Ok(content),
-        Err(fault) => Err(fault.in_tree(index)),
-    }
+    read_leaf(disk, root, leaf, &mut content).map_err(|fault| fault.in_tree(index))?;
+    Ok(content)
 }
 
 /// How many slots the index has that is shown at a block. `Damaged` names the block, with code 3, which is no root
@@ -53,10 +51,8 @@ pub fn slots<D: Disk>(disk: &mut D, index: BlockNo) -> Result<u64, Trouble>
         → StoreIs D.Disk graph ds disk.new space }
     ensures reads { OnlyReads D.Disk 1 disk.old disk.new }
 {
-    match read_root(disk, index) {
-        Ok(root) => Ok(root.size / 8),
-        Err(trouble) => Err(trouble),
-    }
+    let root = read_root(disk, index)?;
+    Ok(root.size / 8)
 }
 
 /// What a slot of the index that is shown at a block holds: None where it is empty. The slot is one of the index.
@@ -72,12 +68,7 @@ pub fn retrieve<D: Disk>(disk: &mut D, index: BlockNo, slot: u64) -> Result<Opti
         → StoreIs D.Disk graph ds disk.new space }
     ensures reads { OnlyReads D.Disk 3 disk.old disk.new }
 {
-    let root = match read_root(disk, index) {
-        Ok(root) => root,
-        Err(trouble) => return Err(trouble),
-    };
-    match leaf_content(disk, index, &root, (slot / 64) as u32) {
-        Ok(content) => Ok(slot_at(&content, (slot % 64) as usize)),
-        Err(trouble) => Err(trouble),
-    }
+    let root = read_root(disk, index)?;
+    let content = leaf_content(disk, index, &root, (slot / 64) as u32)?;
+    Ok(slot_at(&content, (slot % 64) as usize))
 }

@@ -10,3 +10,4 @@ pub mod Drafts
 mod Words
 pub mod Loaded
 pub mod Runs
+mod Passed

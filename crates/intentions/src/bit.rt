@@ -36,10 +36,7 @@ pub fn barrier<D: Disk>(disk: &mut D) -> Result<(), Trouble>
     ensures made { HasTried D.Disk disk.old disk.new }
     ensures calls { MakesAtMost D.Disk 1 1 disk.old disk.new }
 {
-    match disk.barrier() {
-        Ok(()) => Ok(()),
-        Err(_) => Err(Trouble::Disk { tried: true }),
-    }
+    disk.barrier().map_err(|_| Trouble::Disk { tried: true })
 }
 
 /// Puts another entry in place of the one that was read, with a barrier before and one after.

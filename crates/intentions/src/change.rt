@@ -4,6 +4,7 @@ ghost use Rattle.cyl_map.specs.Entry.{IsEntry};
 ghost use Rattle.intentions.specs.Entries as spec;
 
 use cfs_base::Place;
+use cyl_alloc::maps::FREE;
 use cyl_map::{BlockState, MapEntry};
 
 /// A change of an entry. Where it doesn't fit an entry, that stays as it is.
@@ -22,14 +23,6 @@ pub enum Change {
     /// An intention is taken back: the block becomes Free, or Allocated.
     Undo,
 }
-
-/// The entry of a Free block.
-const FREE: MapEntry = MapEntry {
-    state: BlockState::Free,
-    committed: false,
-    place: None,
-    owner: 0,
-};
 
 /// The same entry in another state.
 fn restated(entry: MapEntry, state: BlockState) -> MapEntry

@@ -64,10 +64,9 @@ pub(crate) fn put_entry<D: Disk>(
         (map_with (D.content disk.old) block.0 entry)) }
     ensures calls { MakesAtMost D.Disk 1 1 disk.old disk.new }
 {
-    match known.store_entry(disk, block.0, map, entry) {
-        Ok(()) => Ok(()),
-        Err(_) => Err(Trouble::Disk { tried: true }),
-    }
+    known
+        .store_entry(disk, block.0, map, entry)
+        .map_err(|_| Trouble::Disk { tried: true })
 }
 
 /// Changes the entry of a block, and gives the one that it had.
@@ -87,10 +86,8 @@ pub fn change_entry<D: Disk>(
     let mut map = Block::zero();
     let entry = read_entry(disk, known, block, &mut map)?;
     let now = how.of(entry);
-    match put_entry(disk, known, block, &mut map, now) {
-        Ok(()) => Ok(entry),
-        Err(trouble) => Err(trouble),
-    }
+    put_entry(disk, known, block, &mut map, now)?;
+    Ok(entry)
 }
 
 /// Changes the entry of a block in its map, which is in memory, and gives the one that it had.

@@ -53,10 +53,7 @@ pub struct Run {
 fn is_free(entry: MapEntry) -> bool
     ensures { result ≡ maps.is_free entry }
 {
-    match entry.state {
-        BlockState::Free => true,
-        BlockState::Allocated | BlockState::IntendAllocate | BlockState::IntendDeallocate => false,
-    }
+    matches!(entry.state, BlockState::Free)
 }
 
 /// Whether a block became Free.
@@ -119,8 +116,7 @@ pub fn write_map<D: Disk>(
     requires spells { maps.SpellsMap map.now }
     ensures { spec.WritesMap D.Disk (map_of block) map.now disk.old disk.new result }
 {
-    match known.store_map(disk, block, map) {
-        Ok(()) => Ok(()),
-        Err(_) => Err(Trouble::Disk { tried: true }),
-    }
+    known
+        .store_map(disk, block, map)
+        .map_err(|_| Trouble::Disk { tried: true })
 }

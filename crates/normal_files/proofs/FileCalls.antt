@@ -29,6 +29,8 @@ use Rattle.cfs_base.specs.declared.kind.Kind.TheVariants as kinds
 use Rattle.leaf_changes.specs.Tops.{disk_top, Top, IsFarRoot, root_top}
 use Rattle.leaf_changes.proofs.Tops.{far_block}
 use Rattle.cfs_base.specs.Run.{Tells}
+use Rattle.cfs_base.specs.Refusals.{trouble_after_try}
+use Rattle.cfs_base.proofs.Went.{told_as}
 
 -- all of a file, after calls that only read
 pub near_after : {D : Type 0} {n : ℕ} (g : Ghosts D) (old mid : D) (at : ℕ) (root : roots.Root) (f : File) → length (g.content old) ≡ g.blocks old → at < g.blocks old → OnlyReads g n old mid → IsRootBlock (block_at (g.content old) at) root → IsFileAt (g.content old) at f
@@ -236,6 +238,14 @@ module _ {D : Type 0} {g : Ghosts D} {r : ℕ} {root : roots.Root} {start : D} {
           none (Ok y) is = shrunk_entries z now new k1 is
           none (Err e) is = tt
 
+-- the same told as after a try
+pub later_ends : {D : Type 0} {g : Ghosts D} {block : ℕ} {root : roots.Root} {disk new : D} {kept after : Kept} {to : File} (v : FileView g block root disk kept) (P : Type 0) (result : Result (Unit {0}) Trouble)
+    → Becomes v to new after result × OnOk result P × IfErr result (λ t. is_damage t ≡ false)
+    → Becomes v to new after (told_as trouble_after_try result) × OnOk (told_as trouble_after_try result) P × IfErr (told_as trouble_after_try result) (λ t. is_damage t ≡ false)
+later_ends v P (Ok x) all = all
+later_ends v P (Err (trouble.Disk tried)) all = (record { done = tt; images = all.0.images }, tt, refl)
+later_ends v P (Err (trouble.Damaged damage)) all = (record { done = tt; images = all.0.images }, tt, all.2)
+
 -- ---- why it is refused
 
 pub read_troubled : {D : Type 0} (g : Ghosts D) (at : Top) (old new : D) (t : Trouble) → IsTrouble g at old new t → IsShrinkTrouble g at old new t
@@ -246,10 +256,10 @@ pub stop_troubled : {D : Type 0} (g : Ghosts D) (at : Top) (old new : D) (t : Tr
 stop_troubled g at old new (trouble.Disk tried) is = is
 stop_troubled g at old new (trouble.Damaged damage) is = absurd is
 
-pub drop_troubled : {D : Type 0} (g : Ghosts D) (at : Top) (old new : D) {n t : ℕ} {mid : D} {k0 k1 : Kept} (result : Result (Unit {0}) Trouble) → HasBegun g old mid → FollowsStart g at n t mid new k0 k1 result → IfErr result (IsShrinkTrouble g at old new)
+pub drop_troubled : {D : Type 0} (g : Ghosts D) (at : Top) (old new : D) {n t : ℕ} {mid : D} {k0 k1 : Kept} (result : Result (Unit {0}) Trouble) → HasBegun g old mid → FollowsStart g at n t mid new k0 k1 result → IfErr result (λ e. IsShrinkTrouble g at old new (trouble_after_try e))
 drop_troubled g at old new (Ok v) begun follows = tt
-drop_troubled g at old new (Err (trouble.Disk tried)) begun follows = follows.refused.1 old begun
-drop_troubled g at old new (Err (trouble.Damaged damage)) begun follows = inr (follows.refused.1 old begun)
+drop_troubled g at old new (Err (trouble.Disk tried)) begun follows = follows.refused old begun
+drop_troubled g at old new (Err (trouble.Damaged damage)) begun follows = inr (follows.refused old begun)
 
 -- of a call that follows calls that only read
 pub shrink_refused : {D : Type 0} {n : ℕ} (g : Ghosts D) (at : Top) (floor : ℕ) (old mid new : D) → OnlyReads g n old mid → (kept : Kept) (t : Trouble) → IsShrinkTrouble g at mid new t → IsResizeRefusal g at floor old new kept (refused_by t)

@@ -1,14 +1,12 @@
 -- Blocks given back, one after another.
-use Rattle.normal_files.proofs.Words.{◌≡◌, ◌≢◌, ◌⊎◌, inl, inr, ℕ, ◌+◌, ◌*◌, ◌<◌, ◌≤◌, false, IsTrue, Ok, Err, List, length, set, Some, refl, sym, ◌∙◌, ap, subst, arith, Result, both_ways, cases_eq, false_from_ne_true, same_Some, OnlyReads, Image, IsSameDisk, Written, block_at, trouble_after_try, Leaves, left_now, Ghosts, Puid, Place, Leaf, Node, Root, ShadowRoot, Trouble, makes_then, tried_then, AreCounts, Kept, unheld_entry, IsEntry, entry_in, is_free_entry, is_free_in, map_of, map_with, with_entry, MapEntry, block_at-with_entry, entry_in-with_entry_other, entry_in-with_entry_same, map_in_image, same_or_not, Graph, Frames, IsTaken, part_at, stands_for, IsPlaced, placed, shadow_entry, stays, tried, wrote, frames_entry, ChangesOnly, IsOpenTo, of_owner, is_taken, changes_entry, changes_then, free_unowned, taken_of, leaf_pointers}
-use Rattle.normal_files.specs.Frees.{Drops, FollowsStart, FreesBlock, HasBegun, IsDropped, IsFreed, IsFreeing, FreedLeaf, FreedNode, IsDropTrouble, NoMap, OfFile, StaysCounted}
+use Rattle.normal_files.proofs.Words.{◌≡◌, ◌≢◌, ◌⊎◌, inl, inr, ℕ, ◌+◌, ◌*◌, ◌<◌, ◌≤◌, false, IsTrue, Ok, Err, List, length, set, Some, refl, sym, ◌∙◌, ap, subst, arith, Result, both_ways, cases_eq, false_from_ne_true, same_Some, OnlyReads, Image, IsSameDisk, Written, block_at, Leaves, left_now, Ghosts, Puid, Place, Leaf, Node, Root, ShadowRoot, Trouble, makes_then, tried_then, AreCounts, Kept, unheld_entry, IsEntry, entry_in, is_free_entry, is_free_in, map_of, map_with, with_entry, MapEntry, block_at-with_entry, entry_in-with_entry_other, entry_in-with_entry_same, map_in_image, same_or_not, Graph, Frames, IsTaken, part_at, stands_for, IsPlaced, placed, shadow_entry, stays, tried, wrote, frames_entry, ChangesOnly, IsOpenTo, of_owner, is_taken, changes_entry, changes_then, free_unowned, taken_of, leaf_pointers}
+use Rattle.normal_files.specs.Frees.{Drops, FollowsStart, FreesBlock, HasBegun, IsDropped, IsFreed, IsFreeing, FreedLeaf, FreedNode, StaysCounted}
 use Rattle.normal_files.specs.Laid.{leaf_of, node_of}
 use Rattle.normal_files.proofs.Amid.{taken_open}
 use Rattle.normal_files.proofs.Among.{places_differ}
 use Rattle.normal_files.proofs.Places.{leaf_no_node, leaf_no_shadow, node_no_shadow, one_leaf, one_node}
-use Rattle.cfs_base.specs.declared.refusal.Trouble.TheVariants as trouble
 use Rattle.block_tree.specs.declared.root.Root as roots
 use Rattle.leaf_changes.specs.Tops.{Top}
-use Rattle.normal_files.proofs.Refusals.{damage_as}
 use Rattle.cfs_base.proofs.Went.{went_as, went_then}
 
 -- ---- on any disk
@@ -36,20 +34,7 @@ follows_on g at n t m s k r old mid new k0 k1 k2 result few fewer one two = went
   where
     both : (x : Result (Unit {0}) Trouble) → FollowsStart g at m s mid new k1 k2 x → FollowsStart g at (n + m) (t + s) old new k0 k2 x
     both (Ok tt) last = went_then (λ (e : Trouble). e) stays_then tt tt refl one last
-    both (Err e) last = went_then (λ (x : Trouble). x) stays_then (λ why. (why.0, λ start begun. why.1 start (begun_on begun one))) (λ none. absurd (last.refused.0 none)) tt one last
-
--- of another root at the block, which leads past the disk where this one does, with more calls
-pub follows_as : {D : Type 0} (g : Ghosts D) {at now : Top} {n t : ℕ} (most tries : ℕ) (old new : D) (k0 k1 : Kept) (result : Result (Unit {0}) Trouble) → at.block ≡ now.block → ((size : ℕ) → at.IsFar size → now.IsFar size) → n ≤ most → t ≤ tries → FollowsStart g at n t old new k0 k1 result → FollowsStart g now most tries old new k0 k1 result
-follows_as g {at} {now} most tries old new k0 k1 result same on few fewer is = went_as most tries most (λ moves. moves) (λ e why. (why.0, λ start begun. by start e (why.1 start begun))) (λ e none. none) (λ x none. none) is few fewer few
-  where
-    by : (start : _) (e : Trouble) → IsDropTrouble g at start new e → IsDropTrouble g now start new e
-    by start (trouble.Disk tried) why = why
-    by start (trouble.Damaged damage) (NoMap code map bad) = NoMap code map bad
-    by start (trouble.Damaged damage) (OfFile mid tells content size why) = OfFile mid tells content size (damage_as g same mid (on (g.blocks mid)) damage why)
-
-pub not_untried : (t : Trouble) → trouble_after_try t ≢ trouble.Disk false
-not_untried (trouble.Disk tried) same = cc
-not_untried (trouble.Damaged damage) same = cc
+    both (Err e) last = went_then (λ (x : Trouble). x) stays_then (λ why start begun. why start (begun_on begun one)) (λ none. absurd none) tt one last
 
 -- ---- one block of the file
 

@@ -1,5 +1,5 @@
 -- Blocks given back by calls in a row.
-use Rattle.normal_files.proofs.Words.{◌≡◌, ◌≢◌, inl, inr, ℕ, ◌+◌, ◌-◌, ◌*◌, ◌<◌, ◌≤◌, false, IsTrue, Ok, Err, List, length, get_or, refl, sym, ◌∙◌, ap, subst, arith, ◌==◌, if◌then◌else◌, OnOk, Result, cases_eq, ne_eqb, OnlyReads, Image, trouble_after_try, trouble_had_tried, Tells, Ghosts, Puid, Trouble, reads_make, still_tells, stopped_after_try, Kept, Graph, tried, not_map, leaves_in, leaf_pointers, node_pointers, leaf_limit, IsNear, leaves_at, is_damage}
+use Rattle.normal_files.proofs.Words.{◌≡◌, ◌≢◌, inl, inr, ℕ, ◌+◌, ◌-◌, ◌*◌, ◌<◌, ◌≤◌, false, IsTrue, Ok, Err, List, length, get_or, refl, sym, ◌∙◌, ap, subst, arith, ◌==◌, if◌then◌else◌, OnOk, Result, cases_eq, ne_eqb, OnlyReads, Image, trouble_after_try, Tells, Ghosts, Puid, Trouble, reads_make, still_tells, stopped_after_try, Kept, Graph, tried, not_map, leaves_in, leaf_pointers, node_pointers, leaf_limit, IsNear, leaves_at, is_damage}
 use Rattle.normal_files.specs.Frees.{Drops, FollowsStart, FreesBlock, FreesTo, GivesEnd, GivesLeaves, GivesNode, GivesNodes, HasBegun, IsDropTrouble, IsFreed, IsFreeing, OfFile}
 use Rattle.normal_files.specs.Cuts.{cut_place, last_node}
 use Rattle.normal_files.specs.Laid.{leaf_of, node_of}
@@ -9,7 +9,7 @@ use Rattle.block_tree.specs.Along.{way_leaves}
 use Rattle.normal_files.specs.declared.cut.End.{End}
 use Rattle.cfs_base.proofs.Went.{makes_within}
 use Rattle.normal_files.proofs.Trees.{same_leaves}
-use Rattle.normal_files.proofs.Freed.{follows_on, not_untried, freeing_on, IsNext, any_leaves, any_on, next_leaf, none_leaf, next_node, none_node}
+use Rattle.normal_files.proofs.Freed.{follows_on, freeing_on, IsNext, any_leaves, any_on, next_leaf, none_leaf, next_node, none_node}
 use Rattle.cfs_base.specs.declared.refusal.Trouble.TheVariants as trouble
 use Rattle.block_tree.specs.declared.root.Root as roots
 use Rattle.leaf_changes.specs.Tops.{Top}
@@ -104,16 +104,12 @@ module _ {D : Type 0} (g : Ghosts D) (root : roots.Root) (n : ℕ) (old mid : D)
         }
 
   -- the read was refused
-  pub node_unread : (leaf node to_leaf to_node : ℕ) (t : Trouble) → (IsTrue (g.honest old) → length (g.content old) ≡ g.blocks old) → (Tells g old → IsNear (g.blocks old) (g.content old) (node_of root n) → is_damage t ≡ false) → FreesTo g root (GivesNode n) leaf node to_leaf to_node old mid k0 k0 (Err (trouble_after_try t))
+  pub node_unread : (leaf node to_leaf to_node : ℕ) (t : Trouble) → (IsTrue (g.honest old) → length (g.content old) ≡ g.blocks old) → (Tells g old → IsNear (g.blocks old) (g.content old) (node_of root n) → is_damage t ≡ false) → FreesTo g root (GivesNode n) leaf node to_leaf to_node old mid k0 k0 (Err t)
   node_unread leaf node to_leaf to_node t sized sound = record {
     on = λ a b graph id next keep start drops given was. tt;
     leaves = λ a b graph id next keep start drops given was. (freeing_on g a b graph id root next keep start drops 1 leaf node old mid k0 reads was).within.leaves;
-    sound = λ a b graph id next keep start drops given was. still t (sound was.within.tells (node_near a b graph id next keep start drops given leaf node was (sized was.within.tells.honest)));
+    sound = λ a b graph id next keep start drops given was. sound was.within.tells (node_near a b graph id next keep start drops given leaf node was (sized was.within.tells.honest));
   }
-    where
-      still : (x : Trouble) → is_damage x ≡ false → is_damage (trouble_after_try x) ≡ false
-      still (trouble.Disk tried) is = refl
-      still (trouble.Damaged damage) is = is
 
   -- what is freed of it then
   pub after_read : (leaves : List ℕ) (leaf node to_leaf to_node : ℕ) (new : D) (k1 : Kept) (result : Result (Unit {0}) Trouble) → (Tells g old → leaves ≡ leaves_at (g.content old) (node_of root n))
@@ -131,12 +127,12 @@ module _ {D : Type 0} (g : Ghosts D) (root : roots.Root) (n : ℕ) (old mid : D)
   read_follows at m t most tries new k1 result few fewer follows = follows_on g at 1 0 m t most tries {first = at} old mid new k0 k0 k1 result (omega (arith, few)) (omega (arith, fewer))
       (record { told = reads.told; knows = tt; refused = tt; untried = tt; moves = record { cylinders = refl; left = refl }; calls = reads_make g old mid 1 reads }) follows
 
-  pub unread_follows : (at : Top) (most tries : ℕ) (t : Trouble) → 1 ≤ most → IsTrouble g at old mid t → trouble_had_tried t ≡ false → FollowsStart g at most tries old mid k0 k0 (Err (trouble_after_try t))
-  unread_follows at most tries t few is untried = record {
+  pub unread_follows : (at : Top) (most tries : ℕ) (t : Trouble) → 1 ≤ most → IsTrouble g at old mid t → FollowsStart g at most tries old mid k0 k0 (Err t)
+  unread_follows at most tries t few is = record {
     told = tt;
     knows = tt;
-    refused = (not_untried t, λ start begun. by t is start begun);
-    untried = λ none. absurd (not_untried t none);
+    refused = λ start begun. by t is start begun;
+    untried = λ none. absurd none;
     moves = record { cylinders = refl; left = refl };
     calls = makes_within g old mid 1 0 most tries few (omega arith) (reads_make g old mid 1 reads);
   }

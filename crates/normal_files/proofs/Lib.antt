@@ -10,6 +10,7 @@ pub mod Patched
 pub mod Amid
 pub mod Come
 pub mod Places
+mod Passed
 mod PutParts
 pub mod Owned
 pub mod NeedOf

@@ -1,5 +1,5 @@
 -- One refusal told as another.
-use Rattle.normal_files.proofs.Words.{◌≡◌, ◌+◌, ℕ, Ok, Err, false, refl, sym, subst, arith, IfErr, Result, IsErrAnd, OnlyReads, Tells, reads_then, stopped_after_reads, tells_on, Ghosts, Damage, Trouble, Image, leaf_pointers, is_damage, HasStoppedBy, ap, Far, FarLeaf, IsNodeTrouble, IsRootTrouble, ◌∙◌}
+use Rattle.normal_files.proofs.Words.{◌≡◌, ◌+◌, ℕ, false, refl, subst, arith, OnlyReads, Tells, reads_then, stopped_after_reads, tells_on, Ghosts, Damage, Trouble, Image, leaf_pointers, is_damage, HasStoppedBy, ap, Far, FarLeaf, IsNodeTrouble, IsRootTrouble, ◌∙◌}
 use Rattle.normal_files.specs.Refusal.{IsDamage, IsTrouble, FarNode, FarRoot, NoRoot}
 use Rattle.block_tree.specs.Along.{FarBelow, FarTop, IsWayTrouble}
 use Rattle.block_tree.specs.declared.root.Root as roots
@@ -9,11 +9,6 @@ use Rattle.block_tree.specs.declared.root.Root.{Root}
 use Rattle.cfs_base.specs.Disk.{block_at}
 use Rattle.leaf_changes.specs.Tops.{IsFarBlock, Top, root_top}
 use Rattle.cfs_base.specs.declared.refusal.Trouble.TheVariants as trouble
-
--- what a `?` makes of a trouble
-pub passed : {A : Type 0} (P : Trouble → Type 0) (r : Result A Trouble) (t : Trouble) → IsErrAnd r (λ e. e ≡ t) → P t → IfErr r P
-passed P (Ok x) t is p = tt
-passed P (Err e) t is p = subst P (sym is) p
 
 -- ---- blocks that were read
 

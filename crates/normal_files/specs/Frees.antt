@@ -6,6 +6,7 @@ use Rattle.block_tree.specs.Pointers.{leaf_pointers, node_pointers}
 use Rattle.cfs_base.specs.Calls.{HasStopped}
 use Rattle.cfs_base.specs.Codes.{no_entry}
 use Rattle.cfs_base.specs.Disk.{Image, Written, block_at}
+use Rattle.cfs_base.specs.Refusals.{trouble_after_try}
 use Rattle.cfs_base.specs.Run.{Leaves, Tells, left_now}
 use Rattle.cfs_base.specs.Went.{Went}
 use Rattle.cfs_base.specs.declared.disk.Disk.{Ghosts}
@@ -65,17 +66,17 @@ pub record StaysCounted (before after : Kept) : Type 0 where
   pub cylinders : length after.free ≡ length before.free
   pub left : after.left ≡ before.left
 
--- the trouble of a call that follows such a start, in which a write had been tried
+-- the trouble of a call that follows such a start, once it is told as one after a try
 abbrev pub FollowsTrouble : {D : Type 0} → Ghosts D → Top → D → D → Trouble → Type 0
 FollowsTrouble {D = D} g at old new e =
-    (e ≢ trouble.Disk false) × ((start : D) → HasBegun g start old → IsDropTrouble g at start new e)
+    (start : D) → HasBegun g start old → IsDropTrouble g at start new (trouble_after_try e)
 
 -- at most n device calls are made, t of them writes, after such a start
 abbrev pub FollowsStart : {D : Type 0} → Ghosts D → Top → (n t : ℕ) → D → D → Kept → Kept → Result (Unit {0}) Trouble
     → Type 0
 FollowsStart g at n t old new before after result =
     Went g n t n old new before after (StaysCounted before after) (FollowsTrouble g at old new)
-    (λ e. e ≡ trouble.Disk false) (λ done. None) result
+    (λ e. ⊥) (λ done. None) result
 
 -- one block becomes Free; 0 is none
 pub record FreesBlock {D : Type 0} (g : Ghosts D) (block : ℕ) (old new : D) (before after : Kept)

@@ -21,6 +21,15 @@ use cfs_base::{Block, BlockNo, Disk, Place, Refused};
 use cyl_alloc::Space;
 use leaf_changes::patch_leaf;
 
+/// Bytes that are written into the file with this root, from an offset on.
+#[derive(Clone, Copy)]
+pub(crate) struct Patch<'a> {
+    pub at: BlockNo,
+    pub root: &'a Root,
+    pub offset: u64,
+    pub bytes: &'a [u8],
+}
+
 /// The block of a leaf that was taken, and that of its node.
 #[derive(Clone, Copy)]
 pub(crate) struct Taken {
@@ -55,41 +64,39 @@ fn take_node<D: Disk>(
     space.claim(disk, Place::Node(number as u16), at.0)
 }
 
-/// Takes a block for a leaf, and after it one for its node where that has none, and writes the leaf.
-fn take_leaf<D: Disk>(
-    disk: &mut D,
-    space: &mut Space,
-    at: BlockNo,
-    leaf: u32,
-    held: bool,
-    block: u32,
-    content: &Block,
-) -> Result<Taken, Refused>
-    requires size { D.blocks disk.old ≡ 64 * length space.old.free }
-    requires some { at.0 ≢ 0 }
-    requires below { leaf < leaf_limit }
-    ensures takes { (offset : ℕ) (bytes : List ℕ)
-        → spec.TakesBlocks D.Disk at.0 offset bytes disk.old disk.new space.old space.new
-        result (λ a c taken. spec.TakesLeaf a c at.0 leaf held block taken.leaf taken.node content.now) }
-    ensures near { block < D.blocks disk.old → IfOk result (λ taken. taken.node < D.blocks disk.old) }
-    ensures kept { held ≡ true → IfOk result (λ taken. taken.node ≡ block) }
-    ensures ends { Finishes D.Disk 5 3 (spec.leaf_takes held) disk.old disk.new space.old space.new result (λ taken.
-        true) }
-{
-    let leaf_block = match space.claim(disk, Place::Leaf(leaf as u16), at.0) {
-        Ok(block) => block,
-        Err(error) => return Err(error),
-    };
-    let node = match take_node(disk, space, at, leaf / LEAVES as u32, held, block) {
-        Ok(node) => node,
-        Err(error) => return Err(error.after_try()),
-    };
-    match write_block(disk, leaf_block.0, content) {
-        Ok(()) => Ok(Taken {
+impl Patch<'_> {
+    /// Takes a block for an absent leaf, and after it one for its node where that has none, and writes the leaf.
+    fn take_leaf<D: Disk>(
+        &self,
+        disk: &mut D,
+        space: &mut Space,
+        leaf: u32,
+        held: bool,
+        block: u32,
+    ) -> Result<Taken, Refused>
+        requires size { D.blocks disk.old ≡ 64 * length space.old.free }
+        requires some { self.now.at.0 ≢ 0 }
+        requires below { leaf < leaf_limit }
+        ensures takes { spec.TakesBlocks D.Disk self.now.at.0 self.now.offset self.now.bytes.now disk.old disk.new
+            space.old space.new result (λ a c taken.
+            spec.TakesLeaf a c self.now.at.0 leaf held block taken.leaf taken.node
+            (spec.fresh_content self.now.root.now.fill leaf self.now.offset self.now.bytes.now)) }
+        ensures near { block < D.blocks disk.old → IfOk result (λ taken. taken.node < D.blocks disk.old) }
+        ensures kept { held ≡ true → IfOk result (λ taken. taken.node ≡ block) }
+        ensures ends { Finishes D.Disk 5 3 (spec.leaf_takes held) disk.old disk.new space.old space.new result (λ taken.
+            true) }
+    {
+        let leaf_block = space.claim(disk, Place::Leaf(leaf as u16), self.at.0)?;
+        let node = take_node(disk, space, self.at, leaf / LEAVES as u32, held, block).map_err(
+            Refused::after_try,
+        )?;
+        let mut content = Block::of([self.root.fill; 512]);
+        patch_leaf(&mut content, leaf, self.offset, self.bytes);
+        write_block(disk, leaf_block.0, &content)?;
+        Ok(Taken {
             leaf: leaf_block.0,
             node: node.0,
-        }),
-        Err(trouble) => Err(Refused::from(trouble.after_try())),
+        })
     }
 }
 
@@ -99,56 +106,44 @@ impl Part {
         &self,
         disk: &mut D,
         space: &mut Space,
-        at: BlockNo,
-        fill: u8,
+        patch: &Patch<'_>,
         leaf: u32,
-        offset: u64,
-        bytes: &[u8],
-        had: u32,
         next: Next,
     ) -> Result<Next, Refused>
         requires size { D.blocks disk.old ≡ 64 * length space.old.free }
-        requires some { at.0 ≢ 0 }
+        requires some { patch.now.at.0 ≢ 0 }
         requires read { IsReadPart (D.blocks disk.old) self.now }
         requires from { self.now.leaves.from ≤ leaf }
         requires to { leaf < self.now.leaves.to }
         requires way { IsToNode leaf next.way }
         ensures takes { (d : D) (kept : Kept)
-            → spec.TakesBlocks D.Disk at.0 offset bytes.now d disk.old kept space.old (Ok next)
-            (λ a c now. spec.HasTaken a c at.0 fill offset bytes.now self.now had leaf (plan_of self.now.number now))
-            → spec.TakesBlocks D.Disk at.0 offset bytes.now d disk.new kept space.new result
-            (λ a c now. spec.HasTaken a c at.0 fill offset bytes.now self.now had (leaf + 1)
-            (plan_of self.now.number now)) }
+            → spec.TakesBlocks D.Disk patch.now.at.0 patch.now.offset patch.now.bytes.now d disk.old kept space.old
+            (Ok next) (λ a c now.
+            spec.HasTaken a c patch.now.at.0 patch.now.root.now.fill patch.now.offset patch.now.bytes.now
+            self.now (node_of patch.now.root.now self.now.number) leaf (plan_of self.now.number now))
+            → spec.TakesBlocks D.Disk patch.now.at.0 patch.now.offset patch.now.bytes.now d disk.new kept space.new
+            result (λ a c now.
+            spec.HasTaken a c patch.now.at.0 patch.now.root.now.fill patch.now.offset patch.now.bytes.now
+            self.now (node_of patch.now.root.now self.now.number) (leaf + 1) (plan_of self.now.number now)) }
         ensures near { node_of next.root self.now.number < D.blocks disk.old
             → IfOk result (λ more. node_of more.root self.now.number < D.blocks disk.old) }
         ensures way { IfOk result (λ more. IsToNode leaf more.way) }
-        ensures root { (lead : roots.Root) → node_of lead self.now.number ≡ had
+        ensures root { (lead : roots.Root)
+            → node_of lead self.now.number ≡ node_of patch.now.root.now self.now.number
             → next.root ≡ linked_root lead self.now.number (plan_of self.now.number next)
             → IfOk result (λ more. more.root ≡ linked_root lead self.now.number (plan_of self.now.number more)) }
-        ensures ends { spec.Passes D.Disk had (way_leaves self.now.way) leaf next disk.old disk.new space.old space.new
-            result }
+        ensures ends { spec.Passes D.Disk (node_of patch.now.root.now self.now.number) (way_leaves self.now.way) leaf
+            next disk.old disk.new space.old space.new result }
         ensures size { D.blocks disk.new ≡ D.blocks disk.old }
         ensures cylinders { length space.new.free ≡ length space.old.free }
         ensures left { space.new.left ≡ space.old.left }
     {
-        let block = self.block(leaf);
-        if block != 0 {
+        if self.block(leaf) != 0 {
             return Ok(next);
         }
-        let mut content = Block::of([fill; 512]);
-        patch_leaf(&mut content, leaf, offset, bytes);
-        match take_leaf(
-            disk,
-            space,
-            at,
-            leaf,
-            next.is_held(had),
-            next.block(self.number),
-            &content,
-        ) {
-            Ok(taken) => Ok(next.with(leaf, taken)),
-            Err(error) => Err(error),
-        }
+        let held = next.is_held(patch.root.nodes[self.number as usize]);
+        let taken = patch.take_leaf(disk, space, leaf, held, next.block(self.number))?;
+        Ok(next.with(leaf, taken))
     }
 
     /// Takes each of the leaves that is absent, in increasing order. The root that is to lead to them leads to the node
@@ -157,47 +152,42 @@ impl Part {
         &self,
         disk: &mut D,
         space: &mut Space,
-        at: BlockNo,
-        root: &Root,
+        patch: &Patch<'_>,
         lead: Root,
-        offset: u64,
-        bytes: &[u8],
     ) -> Result<Next, Refused>
         requires size { D.blocks disk.old ≡ 64 * length space.old.free }
-        requires some { at.0 ≢ 0 }
+        requires some { patch.now.at.0 ≢ 0 }
         requires read { IsReadPart (D.blocks disk.old) self.now }
         requires near { self.now.leaves.from < self.now.leaves.to
-            → node_of root.now self.now.number < D.blocks disk.old }
-        requires stays { node_of root.now self.now.number ≢ 0
-            → node_of lead self.now.number ≡ node_of root.now self.now.number }
+            → node_of patch.now.root.now self.now.number < D.blocks disk.old }
+        requires stays { node_of patch.now.root.now self.now.number ≢ 0
+            → node_of lead self.now.number ≡ node_of patch.now.root.now self.now.number }
         requires leads { self.now.leaves.from < self.now.leaves.to
-            → node_of lead self.now.number ≡ node_of root.now self.now.number }
-        ensures takes { spec.TakesBlocks D.Disk at.0 offset bytes.now disk.old disk.new space.old space.new result
-            (λ a c next.
-            spec.HasTaken a c at.0 root.now.fill offset bytes.now self.now (node_of root.now self.now.number)
-            self.now.leaves.to (plan_of self.now.number next)) }
+            → node_of lead self.now.number ≡ node_of patch.now.root.now self.now.number }
+        ensures takes { spec.TakesBlocks D.Disk patch.now.at.0 patch.now.offset patch.now.bytes.now disk.old disk.new
+            space.old space.new result (λ a c next.
+            spec.HasTaken a c patch.now.at.0 patch.now.root.now.fill patch.now.offset patch.now.bytes.now self.now
+            (node_of patch.now.root.now self.now.number) self.now.leaves.to (plan_of self.now.number next)) }
         ensures near { IfOk result (λ next. next.grown ≡ true
             → node_of next.root self.now.number < D.blocks disk.old) }
         ensures root { IfOk result (λ next.
             next.root ≡ linked_root lead self.now.number (plan_of self.now.number next)) }
         ensures ends { Finishes D.Disk (5 * (self.now.leaves.to - self.now.leaves.from))
-            (3 * (self.now.leaves.to - self.now.leaves.from)) (part_need root.now self.now)
+            (3 * (self.now.leaves.to - self.now.leaves.from)) (part_need patch.now.root.now self.now)
             disk.old disk.new space.old space.new result (λ next. next.grown) }
         ensures size { D.blocks disk.new ≡ D.blocks disk.old }
         ensures cylinders { length space.new.free ≡ length space.old.free }
         ensures left { space.new.left ≡ space.old.left }
     {
-        let had = root.nodes[self.number as usize];
         let mut next = Next {
             way: self.way,
             root: lead,
             grown: false,
         };
         for leaf in self.leaves.from..self.leaves.to {
-            match self.take_one(disk, space, at, root.fill, leaf, offset, bytes, had, next) {
-                Ok(more) => next = more,
-                Err(error) => return Err(refused(next.grown, error)),
-            }
+            next = self
+                .take_one(disk, space, patch, leaf, next)
+                .map_err(|error| refused(next.grown, error))?;
         }
         Ok(next)
     }
@@ -207,48 +197,39 @@ impl Part {
         &self,
         disk: &mut D,
         space: &mut Space,
-        at: BlockNo,
-        root: &Root,
+        patch: &Patch<'_>,
         lead: Root,
-        offset: u64,
-        bytes: &[u8],
     ) -> Result<Next, Refused>
         requires size { D.blocks disk.old ≡ 64 * length space.old.free }
-        requires some { at.0 ≢ 0 }
+        requires some { patch.now.at.0 ≢ 0 }
         requires read { IsReadPart (D.blocks disk.old) self.now }
         requires near { self.now.leaves.from < self.now.leaves.to
-            → node_of root.now self.now.number < D.blocks disk.old }
-        requires stays { node_of root.now self.now.number ≢ 0
-            → node_of lead self.now.number ≡ node_of root.now self.now.number }
+            → node_of patch.now.root.now self.now.number < D.blocks disk.old }
+        requires stays { node_of patch.now.root.now self.now.number ≢ 0
+            → node_of lead self.now.number ≡ node_of patch.now.root.now self.now.number }
         requires leads { self.now.leaves.from < self.now.leaves.to
-            → node_of lead self.now.number ≡ node_of root.now self.now.number }
-        ensures takes { spec.TakesBlocks D.Disk at.0 offset bytes.now disk.old disk.new space.old space.new result
-            (λ a c next.
-            spec.HasTaken a c at.0 root.now.fill offset bytes.now self.now (node_of root.now self.now.number)
-            self.now.leaves.to (plan_of self.now.number next)
-            × spec.IsWhole c (node_of root.now self.now.number) (plan_of self.now.number next)) }
+            → node_of lead self.now.number ≡ node_of patch.now.root.now self.now.number }
+        ensures takes { spec.TakesBlocks D.Disk patch.now.at.0 patch.now.offset patch.now.bytes.now disk.old disk.new
+            space.old space.new result (λ a c next.
+            spec.HasTaken a c patch.now.at.0 patch.now.root.now.fill patch.now.offset patch.now.bytes.now self.now
+            (node_of patch.now.root.now self.now.number) self.now.leaves.to (plan_of self.now.number next)
+            × spec.IsWhole c (node_of patch.now.root.now self.now.number) (plan_of self.now.number next)) }
         ensures near { IfOk result (λ next. next.grown ≡ true
             → node_of next.root self.now.number < D.blocks disk.old) }
         ensures root { IfOk result (λ next.
             next.root ≡ linked_root lead self.now.number (plan_of self.now.number next)) }
         ensures ends { Finishes D.Disk (5 * (self.now.leaves.to - self.now.leaves.from) + 1)
-            (3 * (self.now.leaves.to - self.now.leaves.from) + 1) (part_need root.now self.now)
+            (3 * (self.now.leaves.to - self.now.leaves.from) + 1) (part_need patch.now.root.now self.now)
             disk.old disk.new space.old space.new result (λ next. next.grown) }
         ensures size { D.blocks disk.new ≡ D.blocks disk.old }
         ensures cylinders { length space.new.free ≡ length space.old.free }
         ensures left { space.new.left ≡ space.old.left }
     {
-        let next = match self.take_leaves(disk, space, at, root, lead, offset, bytes) {
-            Ok(next) => next,
-            Err(error) => return Err(error),
-        };
-        let new = next.is_new(root.nodes[self.number as usize]);
-        if !new {
+        let next = self.take_leaves(disk, space, patch, lead)?;
+        if !next.is_new(patch.root.nodes[self.number as usize]) {
             return Ok(next);
         }
-        match write_block(disk, next.block(self.number), &way_node(&next.way).encode()) {
-            Ok(()) => Ok(next),
-            Err(trouble) => Err(Refused::from(trouble.after_try())),
-        }
+        write_block(disk, next.block(self.number), &way_node(&next.way).encode())?;
+        Ok(next)
     }
 }

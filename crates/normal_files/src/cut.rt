@@ -14,6 +14,8 @@ ghost use Rattle.leaf_changes.specs.Tops.{root_top};
 ghost use Rattle.normal_files.specs.Cuts as spec;
 ghost use Rattle.normal_files.specs.Refusal.{IsTrouble};
 
+use crate::flush::flush;
+use crate::in_place::write_block;
 use crate::lowest::way_node;
 use block_tree::{LEAVES, Node, Root, Way, node_of, read_block};
 use cfs_base::{Block, BlockNo, Disk, Trouble};
@@ -94,10 +96,7 @@ fn cut_content<D: Disk>(disk: &mut D, block: u32, size: u64, fill: u8) -> Result
     ensures untried { IfErr result (λ trouble. trouble_had_tried trouble ≡ false) }
     ensures reads { OnlyReads D.Disk 1 disk.old disk.new }
 {
-    let mut content = match read_block(disk, block, fill) {
-        Ok(content) => content,
-        Err(trouble) => return Err(trouble),
-    };
+    let mut content = read_block(disk, block, fill)?;
     cut_leaf(&mut content, size, fill);
     Ok(content)
 }
@@ -121,15 +120,9 @@ pub(crate) fn read_end<D: Disk>(
     ensures reads { OnlyReads D.Disk 2 disk.old disk.new }
 {
     let mut way = Way::new();
-    let last = match way.get(disk, at, root, last_leaf(size)) {
-        Ok(block) => block,
-        Err(trouble) => return Err(trouble),
-    };
+    let last = way.get(disk, at, root, last_leaf(size))?;
     let cut = cut_block(size, last);
-    let content = match cut_content(disk, cut, size, root.fill) {
-        Ok(content) => content,
-        Err(trouble) => return Err(trouble),
-    };
+    let content = cut_content(disk, cut, size, root.fill)?;
     let place = cut_place(size);
     let kept = kept_block(way_node(&way), place, root.nodes[last_node(size) as usize]);
     let mut next = way;
@@ -159,10 +152,7 @@ fn put_at<D: Disk>(disk: &mut D, block: u32, content: &Block) -> Result<(), Trou
     if block == 0 {
         return Ok(());
     }
-    match disk.write(BlockNo(block), content) {
-        Ok(()) => Ok(()),
-        Err(_) => Err(Trouble::Disk { tried: true }),
-    }
+    write_block(disk, block, content)
 }
 
 /// Cuts the leaf in which a file is to end, and writes the last node that it keeps. Both outlast a crash then.
@@ -178,16 +168,7 @@ pub(crate) fn trim<D: Disk>(disk: &mut D, end: &End) -> Result<(), Trouble>
     ensures stopped { IfErr result (HasStoppedBy D.Disk disk.old disk.new) }
     ensures calls { MakesAtMost D.Disk 3 3 disk.old disk.new }
 {
-    match put_at(disk, end.cut, &end.content) {
-        Ok(()) => {}
-        Err(trouble) => return Err(trouble),
-    }
-    match put_at(disk, end.kept, &way_node(&end.next).encode()) {
-        Ok(()) => {}
-        Err(trouble) => return Err(trouble),
-    }
-    match disk.barrier() {
-        Ok(()) => Ok(()),
-        Err(_) => Err(Trouble::Disk { tried: true }),
-    }
+    put_at(disk, end.cut, &end.content)?;
+    put_at(disk, end.kept, &way_node(&end.next).encode())?;
+    flush(disk)
 }

@@ -16,8 +16,5 @@ pub(crate) fn flush<D: Disk>(disk: &mut D) -> Result<(), Trouble>
     ensures failed { IfErr result (λ t. t ≡ troubles.Disk true) }
     ensures ends { ComesOrStops D.Disk 1 1 disk.old disk.new result (λ done. true) }
 {
-    match disk.barrier() {
-        Ok(()) => Ok(()),
-        Err(_) => Err(Trouble::Disk { tried: true }),
-    }
+    disk.barrier().map_err(|_| Trouble::Disk { tried: true })
 }

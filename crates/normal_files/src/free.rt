@@ -1,8 +1,9 @@
 //! Blocks that a file no longer has, given back.
-ghost use Rattle.std.specs.Prelude.{◌≡◌, ◌+◌, ◌*◌, ◌<◌, ◌≤◌, ◌==◌, if◌then◌else◌, length};
+ghost use Rattle.std.specs.Prelude.{ℕ, ◌≡◌, ◌+◌, ◌*◌, ◌<◌, ◌≤◌, ◌==◌, if◌then◌else◌, length};
 ghost use Rattle.std.specs.List.{All};
 ghost use Rattle.block_tree.specs.Pointers.{leaf_limit, leaf_pointers, node_pointers, size_limit};
-ghost use Rattle.leaf_changes.specs.Tops.{root_top, still_top};
+ghost use Rattle.block_tree.specs.declared.root.Root as roots;
+ghost use Rattle.leaf_changes.specs.Tops.{root_top};
 ghost use Rattle.normal_files.specs.Cuts.{IsReadEnd, last_node as node_at};
 ghost use Rattle.normal_files.specs.Frees as spec;
 ghost use Rattle.normal_files.specs.Limits as limits;
@@ -15,46 +16,40 @@ use cfs_base::{BlockNo, Disk, Trouble};
 use cyl_alloc::Space;
 
 /// Frees a block, unless it is 0.
-fn free<D: Disk>(disk: &mut D, space: &mut Space, at: BlockNo, block: u32) -> Result<(), Trouble>
+fn free<D: Disk>(disk: &mut D, space: &mut Space, block: u32) -> Result<(), Trouble>
     requires size { D.blocks disk.old ≡ 64 * length space.old.free }
     requires on_disk { block < D.blocks disk.old }
     ensures frees { spec.FreesBlock D.Disk block disk.old disk.new space.old space.new result }
-    ensures follows { spec.FollowsStart D.Disk (still_top at.0) limits.free_calls limits.free_tries disk.old disk.new
-        space.old space.new result }
+    ensures follows { (at : ℕ) (root : roots.Root) → spec.FollowsStart D.Disk (root_top at root) limits.free_calls
+        limits.free_tries disk.old disk.new space.old space.new result }
+    ensures size { (D.blocks disk.new ≡ D.blocks disk.old) × (length space.new.free ≡ length space.old.free) }
 {
     if block == 0 {
         return Ok(());
     }
-    match space.release(disk, BlockNo(block)) {
-        Ok(()) => Ok(()),
-        Err(trouble) => Err(trouble.after_try()),
-    }
+    space.release(disk, BlockNo(block))?;
+    Ok(())
 }
 
 /// Frees the leaves of a node from a place on.
 fn free_leaves<D: Disk>(
     disk: &mut D,
     space: &mut Space,
-    at: BlockNo,
-    root: &Root,
     node: &Node,
-    number: u32,
     from: u32,
 ) -> Result<(), Trouble>
     requires size { D.blocks disk.old ≡ 64 * length space.old.free }
     requires near { All (λ leaf. leaf < D.blocks disk.old) node.now.leaves }
     requires from { from ≤ leaf_pointers.count }
-    ensures frees { spec.FreesTo D.Disk root.now (spec.GivesLeaves root.now node.now.leaves number from)
-        (leaf_pointers.count * number + from) number
+    ensures frees { (root : roots.Root) (number : ℕ) → spec.FreesTo D.Disk root
+        (spec.GivesLeaves root node.now.leaves number from) (leaf_pointers.count * number + from) number
         (leaf_pointers.count * number + leaf_pointers.count) number disk.old disk.new space.old space.new result }
-    ensures follows { spec.FollowsStart D.Disk (still_top at.0) limits.free_leaves_calls limits.free_leaves_tries
-        disk.old disk.new space.old space.new result }
+    ensures follows { (at : ℕ) (root : roots.Root) → spec.FollowsStart D.Disk (root_top at root)
+        limits.free_leaves_calls limits.free_leaves_tries disk.old disk.new space.old space.new result }
+    ensures size { (D.blocks disk.new ≡ D.blocks disk.old) × (length space.new.free ≡ length space.old.free) }
 {
     for place in from..LEAVES as u32 {
-        match free(disk, space, at, node.leaves[place as usize]) {
-            Ok(()) => {}
-            Err(trouble) => return Err(trouble),
-        }
+        free(disk, space, node.leaves[place as usize])?;
     }
     Ok(())
 }
@@ -77,15 +72,9 @@ fn free_node<D: Disk>(
         disk.old disk.new space.old space.new result }
 {
     let block = root.nodes[number as usize];
-    let node = match read_node(disk, block, at) {
-        Ok(node) => node,
-        Err(trouble) => return Err(trouble.after_try()),
-    };
-    match free_leaves(disk, space, at, root, &node, number, 0) {
-        Ok(()) => {}
-        Err(trouble) => return Err(trouble),
-    }
-    free(disk, space, at, block)
+    let node = read_node(disk, block, at)?;
+    free_leaves(disk, space, &node, 0)?;
+    free(disk, space, block)
 }
 
 /// Frees the nodes from one on, with their leaves.
@@ -105,10 +94,7 @@ fn free_nodes<D: Disk>(
         disk.old disk.new space.old space.new result }
 {
     for number in from..NODES as u32 {
-        match free_node(disk, space, at, root, number) {
-            Ok(()) => {}
-            Err(trouble) => return Err(trouble),
-        }
+        free_node(disk, space, at, root, number)?;
     }
     Ok(())
 }
@@ -142,21 +128,7 @@ pub(crate) fn free_past<D: Disk>(
         disk.old disk.new space.old space.new result }
 {
     let last = last_node(size);
-    match free_leaves(
-        disk,
-        space,
-        at,
-        root,
-        way_node(&end.way),
-        last,
-        cut_place(size),
-    ) {
-        Ok(()) => {}
-        Err(trouble) => return Err(trouble),
-    }
-    match free(disk, space, at, gone_block(end, root.nodes[last as usize])) {
-        Ok(()) => {}
-        Err(trouble) => return Err(trouble),
-    }
+    free_leaves(disk, space, way_node(&end.way), cut_place(size))?;
+    free(disk, space, gone_block(end, root.nodes[last as usize]))?;
     free_nodes(disk, space, at, root, last + 1)
 }

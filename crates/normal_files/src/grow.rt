@@ -10,7 +10,7 @@ ghost use Rattle.normal_files.specs.View.{FileView};
 ghost use Rattle.ufs_model.specs.Object.{resized};
 
 use crate::flush::flush;
-use crate::in_place::{after, write_block};
+use crate::in_place::write_block;
 use block_tree::Root;
 use cfs_base::{BlockNo, Disk, Trouble};
 
@@ -30,12 +30,7 @@ pub(crate) fn grow<D: Disk>(
 {
     let mut next = *root;
     next.size = size;
-    match write_block(disk, at.0, &next.encode()) {
-        Ok(()) => {}
-        Err(trouble) => return Err(trouble),
-    }
-    match flush(disk) {
-        Ok(()) => Ok(()),
-        Err(trouble) => Err(after(true, trouble)),
-    }
+    write_block(disk, at.0, &next.encode())?;
+    flush(disk)?;
+    Ok(())
 }

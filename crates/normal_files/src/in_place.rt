@@ -26,10 +26,8 @@ pub(crate) fn write_block<D: Disk>(disk: &mut D, block: u32, content: &Block) ->
     ensures writes { WritesBlock D.Disk 1 block content.now disk.old disk.new result }
     ensures failed { IfErr result (λ t. t ≡ troubles.Disk true) }
 {
-    match disk.write(BlockNo(block), content) {
-        Ok(()) => Ok(()),
-        Err(_) => Err(Trouble::Disk { tried: true }),
-    }
+    disk.write(BlockNo(block), content)
+        .map_err(|_| Trouble::Disk { tried: true })
 }
 
 /// A leaf with the bytes that are written into it. It is read only where they leave some of it.
@@ -129,10 +127,8 @@ impl Part {
         if block == 0 {
             return Ok(false);
         }
-        match put_leaf(disk, block, leaf, offset, bytes) {
-            Ok(()) => Ok(true),
-            Err(trouble) => Err(trouble),
-        }
+        put_leaf(disk, block, leaf, offset, bytes)?;
+        Ok(true)
     }
 
     /// Writes bytes into each of the leaves that is held. Gives whether a write was tried.
@@ -150,10 +146,10 @@ impl Part {
     {
         let mut tried = false;
         for leaf in self.leaves.from..self.leaves.to {
-            match self.put_one(disk, leaf, offset, bytes) {
-                Ok(now) => tried = either(tried, now),
-                Err(trouble) => return Err(after(tried, trouble)),
-            }
+            let now = self
+                .put_one(disk, leaf, offset, bytes)
+                .map_err(|trouble| after(tried, trouble))?;
+            tried = either(tried, now);
         }
         Ok(tried)
     }

@@ -1,7 +1,8 @@
 //! Pointers to the leaves that were taken.
-ghost use Rattle.std.specs.Prelude.{◌≡◌, ◌<◌, true, set, IfOk, OnOk};
+ghost use Rattle.std.specs.Prelude.{◌≡◌, ◌<◌, true, set, IfErr, IfOk, OnOk};
 ghost use Rattle.block_tree.specs.Pointers.{node_pointers};
 ghost use Rattle.cfs_base.specs.Run.{IsSettled, Leaves as LeavesOf};
+ghost use Rattle.cfs_base.specs.declared.refusal.Trouble.TheVariants as troubles;
 ghost use Rattle.normal_files.specs.Laid.{node_of};
 ghost use Rattle.normal_files.specs.Links.{linked_image, linked_root};
 ghost use Rattle.normal_files.specs.Plans.{plan_of};
@@ -26,6 +27,7 @@ pub(crate) fn write_through<D: Disk>(
         × IsSettled D.Disk disk.new) }
     ensures images { IsSettled D.Disk disk.old
         → LeavesOf D.Disk disk.old disk.new (λ c. c ≡ set (D.content disk.old) block content.now) }
+    ensures failed { IfErr result (λ t. t ≡ troubles.Disk true) }
     ensures ends { ComesOrStops D.Disk 2 2 disk.old disk.new result (λ done. true) }
 {
     match write_block(disk, block, content) {

@@ -67,10 +67,7 @@ impl Part {
         let leaves = touched.of_node(number);
         let mut way = Way::new();
         if leaves.from < leaves.to {
-            match way.get(disk, at, root, leaves.from) {
-                Ok(_) => {}
-                Err(trouble) => return Err(trouble),
-            }
+            way.get(disk, at, root, leaves.from)?;
         }
         Ok(Part {
             number,

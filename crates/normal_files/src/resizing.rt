@@ -46,22 +46,12 @@ pub fn resize<D: Disk>(
     ensures left { space.new.left ≡ space.old.left }
     ensures calls { MakesAtMost D.Disk in_place_resize_calls in_place_resize_tries disk.old disk.new }
 {
-    match space.has_room(0, floor) {
-        Ok(()) => {}
-        Err(error) => return Err(error),
-    }
-    let root = match read_root(disk, at) {
-        Ok(root) => root,
-        Err(trouble) => return Err(Refused::from(trouble)),
-    };
+    space.has_room(0, floor)?;
+    let root = read_root(disk, at)?;
     if root.size <= size {
-        return match grow(disk, at, &root, size) {
-            Ok(()) => Ok(()),
-            Err(trouble) => Err(Refused::from(trouble)),
-        };
+        grow(disk, at, &root, size)?;
+        return Ok(());
     }
-    match shrink(disk, space, at, &root, size) {
-        Ok(()) => Ok(()),
-        Err(trouble) => Err(Refused::from(trouble)),
-    }
+    shrink(disk, space, at, &root, size)?;
+    Ok(())
 }

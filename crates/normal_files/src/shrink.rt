@@ -13,7 +13,6 @@ ghost use Rattle.ufs_model.specs.Object.{resized};
 
 use crate::cut::{read_end, trim};
 use crate::free::free_past;
-use crate::in_place::after;
 use crate::link::write_through;
 use block_tree::Root;
 use cfs_base::{BlockNo, Disk, Trouble};
@@ -43,18 +42,9 @@ pub(crate) fn shrink<D: Disk>(
     ensures left { space.new.left ≡ space.old.left }
     ensures calls { MakesAtMost D.Disk shrink_calls shrink_tries disk.old disk.new }
 {
-    let end = match read_end(disk, at, root, size) {
-        Ok(end) => end,
-        Err(trouble) => return Err(trouble),
-    };
+    let end = read_end(disk, at, root, size)?;
     let content = end.root.encode();
-    match trim(disk, &end) {
-        Ok(()) => {}
-        Err(trouble) => return Err(trouble),
-    }
-    match write_through(disk, at.0, &content) {
-        Ok(()) => {}
-        Err(trouble) => return Err(after(true, trouble)),
-    }
-    free_past(disk, space, at, root, &end, size)
+    trim(disk, &end)?;
+    write_through(disk, at.0, &content)?;
+    free_past(disk, space, at, root, &end, size).map_err(Trouble::after_try)
 }

@@ -10,7 +10,7 @@ ghost use Rattle.normal_files.specs.Plans.{plan_of};
 ghost use Rattle.normal_files.specs.Steps.{ComesOrStops};
 ghost use Rattle.normal_files.specs.Takes as spec;
 
-use crate::absent::refused;
+use crate::absent::{Patch, refused};
 use crate::in_place::after;
 use crate::link::link;
 use crate::next::Next;
@@ -67,11 +67,17 @@ pub(crate) fn take_both<D: Disk>(
     ensures cylinders { length space.new.free ≡ length space.old.free }
     ensures left { space.new.left ≡ space.old.left }
 {
-    let first = match low.take(disk, space, at, root, *root, offset, bytes) {
+    let patch = Patch {
+        at,
+        root,
+        offset,
+        bytes,
+    };
+    let first = match low.take(disk, space, &patch, *root) {
         Ok(next) => next,
         Err(error) => return Err(error),
     };
-    match high.take(disk, space, at, root, first.root, offset, bytes) {
+    match high.take(disk, space, &patch, first.root) {
         Ok(second) => Ok(Both {
             low: first,
             high: second,

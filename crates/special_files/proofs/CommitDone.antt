@@ -1,9 +1,8 @@
 -- A commit from the release of what is dropped to the end.
 use Rattle.std.proofs.Common.{◌≡◌, inl, inr, ⊎_elim, ℕ, ◌≤◌, true, false, List, [], ◌∷◌, length, set, Ok, Some, refl, sym, ◌∙◌, ap, subst, arith, Option}
 use Rattle.special_files.proofs.Words.{AreCounts, Decided, Carries, ChangesBit, ChangesOnly, Flips, Frame, Ghosts, Graph, HasItsBlocks, Holds, IfErr, Image, IsEntered, IsMapTrouble, IsOldOrNew, IsOn, IsReady, IsSettled, Keeps, Kept, Leaves, MakesAtMost, MayFlip, Object, Puid, Release, Result, SetBit, Trouble, bit_set, block_at, carries_framed, entry_in, false_from_ne_true, flipped, flips, frames_hold, in_image, is_damage, is_fixed, is_free_in, is_meant_for, is_owned_by, is_taken, keeps_frame, puid_at, not_label, not_map, of_owners, option_to_list, reserved, root_placed, same_or_not, taken_apart, the_entry, then, tree_in, trouble_after_try, wider, with_bit, with_entry, with_object}
-use Rattle.intentions.proofs.Flips.{flip_is, flipped_append}
+use Rattle.intentions.proofs.Flips.{flip_is, flipped_append, no_damage}
 use Rattle.special_files.proofs.commit.CommitRoles.{none_meant, now_has, only_owners}
-use Rattle.intentions.proofs.Flips.{no_damage}
 use Rattle.intentions.specs.Left.{AreOpen, coming, copied_if, final_image, plan}
 use Rattle.intentions.proofs.Courses.{on_holds}
 use Rattle.special_files.proofs.commit.CommitOpens.{plan_open}

@@ -1,8 +1,7 @@
 -- What is left of a commit just past its bit.
 use Rattle.std.proofs.Common.{◌≡◌, inl, inr, ℕ, Bool, true, false, List, [], ◌∷◌, ◌++◌, length, set, Option, Some, None, refl, sym, ◌∙◌, ap, subst}
-use Rattle.std.specs.Prelude.{◌==◌, IsSome, option_to_list}
+use Rattle.std.specs.Prelude.{◌==◌, IsSome, option_to_list, ◌<◌}
 use Rattle.std.proofs.lemmas.Bool.{cases_Bool, eq-eqb, false_from_ne_true}
-use Rattle.std.specs.Prelude.{◌<◌}
 use Rattle.std.specs.List.{All}
 use Rattle.std.proofs.lemmas.List.Elements.{All-append, All-cons, All-nil}
 use Rattle.std.proofs.lemmas.Option.{same_Some}

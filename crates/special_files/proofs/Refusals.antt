@@ -1,7 +1,7 @@
 -- One refusal told as another.
 use Rattle.std.proofs.Common.{◌≡◌, ℕ, Ok, Err, false, refl, sym, ◌∙◌, ap, subst}
 use Rattle.block_tree.specs.Reads.{IsPast}
-use Rattle.special_files.proofs.Words.{Damage, FarNode, FarRoot, Far, FarLeaf, Ghosts, IfErr, Image, IsDraftDamage, IsErrAnd, IsFarRoot, IsNodeTrouble, IsRootBlock, IsRootTrouble, block_at, IsDraftRefusal, IsDraftTrouble, Kept, NoMap, NoRoot, OnOk, OnlyReads, OpenMap, OtherCount, Refused, Result, Tells, Top, Trouble, is_damage, has_met_damage, miscounted_as, refused_by, still_top, stopped_after_reads, tells_on}
+use Rattle.special_files.proofs.Words.{Damage, FarNode, FarRoot, Far, FarLeaf, Ghosts, IfErr, Image, IsDraftDamage, IsFarRoot, IsNodeTrouble, IsRootBlock, IsRootTrouble, block_at, IsDraftRefusal, IsDraftTrouble, Kept, NoMap, NoRoot, OnOk, OnlyReads, OpenMap, OtherCount, Refused, Result, Tells, Top, Trouble, is_damage, has_met_damage, miscounted_as, refused_by, still_top, stopped_after_reads, tells_on}
 use Rattle.block_tree.specs.declared.root.Root as roots
 use Rattle.cfs_base.specs.declared.refusal.Refused.TheVariants as refused
 use Rattle.cfs_base.specs.declared.refusal.Trouble.TheVariants as trouble
@@ -13,15 +13,6 @@ on_ok (Err e) f p = tt
 pub if_err : {A E : Type 0} (r : Result A E) {P Q : E → Type 0} → ((e : E) → P e → Q e) → IfErr r P → IfErr r Q
 if_err (Ok x) f p = tt
 if_err (Err e) f p = f e p
-
--- what a `?` makes of a trouble: a refusal, or the same trouble
-pub told : {A : Type 0} (P : Refused → Type 0) (r : Result A Refused) (t : Trouble) → IsErrAnd r (λ e. e ≡ refused_by t) → P (refused_by t) → IfErr r P
-told P (Ok x) t is p = tt
-told P (Err e) t is p = subst P (sym is) p
-
-pub passed : {A : Type 0} (P : Trouble → Type 0) (r : Result A Trouble) (t : Trouble) → IsErrAnd r (λ e. e ≡ t) → P t → IfErr r P
-passed P (Ok x) t is p = tt
-passed P (Err e) t is p = subst P (sym is) p
 
 module _ {D : Type 0} (g : Ghosts D) (at : Top) (floor : ℕ) (old new : D) (kept : Kept) where
   pub refusal_of : (t : Trouble) → IsDraftTrouble g at old new kept t → IsDraftRefusal g at floor old new kept (refused_by t)

@@ -1,6 +1,6 @@
 -- What a way to a leaf of a draft has read.
-use Rattle.std.proofs.Common.{◌≡◌, ℕ, zero, suc, ◌/◌, ◌%◌, ◌<◌, List, get_or, Ok, Err, ◌∙◌, ap, subst, arith}
-use Rattle.special_files.proofs.Words.{All, Damage, FarNode, FarRoot, Ghosts, HasNode, Image, IsDraftTrouble, IsSafeIn, Kept, OnOk, Result, Trouble, Way, leaf_pointers, leaves_at, way_leaves, node_number, path_to, root_top, slice_index}
+use Rattle.std.proofs.Common.{◌≡◌, ℕ, zero, suc, ◌/◌, ◌%◌, ◌<◌, List, get_or, ◌∙◌, ap, subst, arith}
+use Rattle.special_files.proofs.Words.{All, Damage, FarNode, FarRoot, Ghosts, HasNode, Image, IsDraftTrouble, IsSafeIn, Kept, Trouble, Way, leaf_pointers, leaves_at, way_leaves, node_number, path_to, root_top, slice_index}
 use Rattle.block_tree.specs.Along.{FarBelow, FarTop, IsTo, IsWay, IsWayTrouble}
 use Rattle.block_tree.specs.Path.{no_node}
 use Rattle.block_tree.specs.declared.root.Root as roots
@@ -55,8 +55,3 @@ pub way_refused : {D : Type 0} (g : Ghosts D) (at : ℕ) (root : roots.Root) (ol
 way_refused g at root old new kept (trouble.Disk tried) size same is = is.1
 way_refused g at root old new kept (trouble.Damaged damage) size same (FarTop k is past) = FarRoot (ap (λ (d : Damage). d.code) is) (ap (λ (d : Damage). d.block) is) (rw size (k, past))
 way_refused g at root old new kept (trouble.Damaged damage) size same (FarBelow code far) = FarNode code (λ tells. rw (size, same) (far tells))
-
--- what holds whatever the result
-pub ok_if : {A E : Type 0} (r : Result A E) {P : Type 0} → P → OnOk r P
-ok_if (Ok x) p = p
-ok_if (Err e) p = tt

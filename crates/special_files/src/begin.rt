@@ -90,10 +90,8 @@ impl Draft {
     {
         space.has_room(1, floor)?;
         let root = read_root(disk, at)?;
-        match space.intend(disk, Place::ShadowRoot, at.0) {
-            Ok(shadow) => Ok(room.draft(at, Some(shadow), root)),
-            Err(error) => Err(error),
-        }
+        let shadow = space.intend(disk, Place::ShadowRoot, at.0)?;
+        Ok(room.draft(at, Some(shadow), root))
     }
 
     /// Begins a draft without a shadow root, which `commit` claims. Nothing is written. `Damaged` names the root block,

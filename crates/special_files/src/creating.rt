@@ -1,5 +1,5 @@
 //! An object made beside a draft of an index.
-ghost use Rattle.std.specs.Prelude.{◌≡◌, ◌≢◌, ◌⊎◌, ℕ, ◌+◌, ◌*◌, ◌<◌, ◌≤◌, false, length, sum, None, IfErr, IfOk};
+ghost use Rattle.std.specs.Prelude.{◌≡◌, ◌≢◌, ◌⊎◌, ℕ, ◌+◌, ◌*◌, ◌<◌, ◌≤◌, false, length, sum, None, Some, IfErr, IfOk};
 ghost use Rattle.std.specs.Prelude.{OnOk};
 ghost use Rattle.block_tree.specs.Root.{root_spelling};
 ghost use Rattle.cfs_base.specs.Calls.{HasTried, OnlyReads};
@@ -8,8 +8,10 @@ ghost use Rattle.cfs_base.specs.declared.kind.Place.TheVariants as places;
 ghost use Rattle.cyl_alloc.specs.Space.{AreCounts, IsLeastFree, intended};
 ghost use Rattle.cyl_map.specs.Volume.{with_entry};
 ghost use Rattle.intentions.specs.Store.{StoreHas};
+ghost use Rattle.leaf_changes.specs.Bytes.{IsSlot};
 ghost use Rattle.leaf_changes.specs.Tops.{still_top};
 ghost use Rattle.special_files.specs.Calls.{WritesDraftBlock};
+ghost use Rattle.special_files.specs.Committing.{puid_at};
 ghost use Rattle.special_files.specs.Creates as spec;
 ghost use Rattle.special_files.specs.Ends.{EndsCall};
 ghost use Rattle.special_files.specs.Refusal.{IsDraftRefusal, has_met_damage, is_full_refusal};
@@ -20,6 +22,7 @@ ghost use Rattle.vol_owners.specs.Account.{Drafts};
 
 use crate::draft::Draft;
 use crate::fill::Swap;
+use crate::leaf::write_own;
 use block_tree::{NODES, Root};
 use cfs_base::{BlockNo, Damage, Disk, Kind, Place, Puid, Refused, code};
 use cyl_alloc::Space;
@@ -55,10 +58,7 @@ pub fn least<D: Disk>(disk: &mut D, space: &Space) -> Result<BlockNo, Refused>
         → IfErr result (λ e. has_met_damage e ≡ false) }
     ensures reads { OnlyReads D.Disk 1 disk.old disk.new }
 {
-    let block = match space.find(disk) {
-        Ok(block) => block,
-        Err(error) => return Err(error),
-    };
+    let block = space.find(disk)?;
     if block.0 == 0 {
         return Err(Refused::Damaged(Damage {
             block: 0,
@@ -80,13 +80,9 @@ fn claim_root<D: Disk>(disk: &mut D, space: &mut Space, block: BlockNo) -> Resul
     ensures spare { IfErr result (λ e. is_full_refusal e ≡ false) }
     ensures ends { (at : ℕ) → EndsCall D.Disk (still_top at) 0 2 1 1 disk.old disk.new space.old space.new result }
 {
-    match intend_claim(disk, block, Place::Root, block.0) {
-        Ok(()) => {
-            space.took(block);
-            Ok(())
-        }
-        Err(trouble) => Err(Refused::from(trouble)),
-    }
+    intend_claim(disk, block, Place::Root, block.0)?;
+    space.took(block);
+    Ok(())
 }
 
 /// Writes the root of a new object.
@@ -95,10 +91,7 @@ pub fn write_root<D: Disk>(disk: &mut D, block: BlockNo, root: &Root) -> Result<
     ensures writes { WritesDraftBlock D.Disk block.0 (root_spelling root.now) disk.old disk.new result }
     ensures spelled { spec.Spells root.now }
 {
-    match disk.write(block, &root.encode()) {
-        Ok(()) => Ok(()),
-        Err(_) => Err(Refused::Disk { tried: true }),
-    }
+    write_own(disk, block, &root.encode())
 }
 
 /// Claims the root of a new object, and writes it.
@@ -119,16 +112,21 @@ fn make_root<D: Disk>(
     ensures spare { IfErr result (λ e. is_full_refusal e ≡ false) }
     ensures ends { (at : ℕ) → EndsCall D.Disk (still_top at) 0 3 2 1 disk.old disk.new space.old space.new result }
 {
-    match claim_root(disk, space, block) {
-        Ok(()) => write_root(disk, block, root),
-        Err(error) => Err(error),
-    }
+    claim_root(disk, space, block)?;
+    write_root(disk, block, root)
 }
 
-/// A word has 32 bits. Does nothing.
-fn fits(word: u32)
-    ensures { word < 4294967296 }
-{}
+/// The identifier of an object with this root block.
+fn puid_of(block: BlockNo, word: u32) -> Puid
+    requires { block.0 ≢ 0 }
+    ensures value { result ≡ puid_at block.0 word }
+    ensures slot { IsSlot (Some result) }
+{
+    Puid {
+        block: block.0,
+        word,
+    }
+}
 
 impl Draft {
     /// Makes an object with this root at a block, the least-numbered Free one, and puts its identifier into a slot of
@@ -154,20 +152,13 @@ impl Draft {
         ensures call { spec.MakesBesideCall D.Disk slot block.0 disk.old disk.new space.old space.new self.old self.new
             result }
     {
-        match make_root(disk, space, block, root) {
-            Ok(()) => {}
-            Err(error) => return Err(error),
-        }
+        make_root(disk, space, block, root)?;
         self.adopt(block);
-        fits(root.word);
-        let made = Puid {
-            block: block.0,
-            word: root.word,
+        let made = puid_of(block, root.word);
+        let filled = self.fill(disk, space, slot, Some(made));
+        let Some(swap) = filled.map_err(Refused::after_try)? else {
+            unreachable!()
         };
-        match self.fill(disk, space, slot, Some(made)) {
-            Ok(Some(swap)) => Ok(swap),
-            Ok(None) => unreachable!(),
-            Err(error) => Err(error.after_try()),
-        }
+        Ok(swap)
     }
 }

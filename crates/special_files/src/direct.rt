@@ -47,10 +47,9 @@ fn claim_shadow<D: Disk>(disk: &mut D, space: &mut Space, at: BlockNo) -> Result
     ensures enters { Enters D.Disk (intended ShadowRoot at.0) disk.old disk.new space.old space.new
         (spec.as_refused result) }
 {
-    match space.intend(disk, Place::ShadowRoot, at.0) {
-        Ok(block) => Ok(block),
-        Err(error) => Err(trouble_of(error)),
-    }
+    space
+        .intend(disk, Place::ShadowRoot, at.0)
+        .map_err(trouble_of)
 }
 
 /// Commits a draft of these parts, which takes and drops these blocks: its shadow root is claimed and written.

@@ -56,10 +56,7 @@ impl Draft {
         }
         put_slot(&mut content, place, what);
         let was = way.end(&self.root);
-        match self.put_leaf(disk, space, &mut way, leaf, &content) {
-            Ok(()) => {}
-            Err(error) => return Err(error),
-        }
+        self.put_leaf(disk, space, &mut way, leaf, &content)?;
         let is = way.end(&self.root);
         Ok(Some(Swap { leaf, was, is }))
     }

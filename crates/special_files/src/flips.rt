@@ -22,10 +22,8 @@ pub(crate) fn flip<D: Disk>(
     requires fits { FitsEntry how }
     ensures flips { spec.Flips D.Disk 2 1 (record { block = block.0; how = how } ∷ []) disk.old disk.new result }
 {
-    match change_entry(disk, known, block, how) {
-        Ok(_) => Ok(()),
-        Err(trouble) => Err(trouble.after_try()),
-    }
+    change_entry(disk, known, block, how).map_err(Trouble::after_try)?;
+    Ok(())
 }
 
 /// Changes the entries of the first of these blocks that lie in one map, by one read and one write of it, where a write
@@ -43,15 +41,12 @@ fn flip_run<D: Disk>(
 {
     let first = blocks[0];
     let mut map = Block::zero();
-    match known.load_map(disk, first, &mut map) {
-        Ok(()) => {}
-        Err(trouble) => return Err(trouble.after_try()),
-    }
+    known
+        .load_map(disk, first, &mut map)
+        .map_err(Trouble::after_try)?;
     let run = change_first(&mut map, blocks, Rule::Alike(how), first);
-    match write_map(disk, known, first, &map) {
-        Ok(()) => Ok(run.count),
-        Err(trouble) => Err(trouble),
-    }
+    write_map(disk, known, first, &map)?;
+    Ok(run.count)
 }
 
 /// Changes the entries of all these blocks, with one write for those of one map that stand together.
@@ -69,10 +64,7 @@ pub(crate) fn flip_all<D: Disk>(
 {
     let mut done = 0;
     while done < blocks.len() {
-        match flip_run(disk, known, &blocks[done..], how) {
-            Ok(count) => done += count,
-            Err(trouble) => return Err(trouble),
-        }
+        done += flip_run(disk, known, &blocks[done..], how)?;
     }
     Ok(())
 }

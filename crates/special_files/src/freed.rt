@@ -88,51 +88,59 @@ fn list_node(list: &mut Blocks, leaves: &Flags, block: u32, node: &Node, number:
     }
 }
 
+/// A draft, beside the lists that it keeps.
+#[derive(Drop)]
+pub(crate) struct DraftParts<'a> {
+    pub at: BlockNo,
+    pub root: &'a Root,
+    pub leaves: &'a Flags,
+    pub nodes: &'a Flags,
+}
+
 /// Lists the fresh leaves from one on, and the fresh nodes that have no leaf before it.
 pub(crate) fn list_from<D: Disk>(
     disk: &mut D,
-    at: BlockNo,
-    root: &Root,
-    leaves: &Flags,
-    nodes: &Flags,
+    parts: &DraftParts<'_>,
     way: &Way,
     from: u32,
     list: &mut Blocks,
 ) -> Result<(), Trouble>
     requires some { 0 < D.blocks disk.old }
-    requires leaf_flags { length leaves.now ≡ leaf_limit }
-    requires node_flags { length nodes.now ≡ node_pointers.count }
+    requires leaf_flags { length parts.now.leaves.now ≡ leaf_limit }
+    requires node_flags { length parts.now.nodes.now ≡ node_pointers.count }
     requires limit { from ≤ leaf_limit }
-    requires safe { IsSafeIn (D.blocks disk.old) root.now way.now }
+    requires safe { IsSafeIn (D.blocks disk.old) parts.now.root.now way.now }
     ensures listed { (space : Kept) (was : Drafting) (v : DraftView D.Disk disk.old space was)
-        → spec.HasParts was root.now leaves.now nodes.now → IsWay (D.content disk.old) root.now way.now
+        → spec.HasParts was parts.now.root.now parts.now.leaves.now parts.now.nodes.now
+        → IsWay (D.content disk.old) parts.now.root.now way.now
         → OnOk result (spec.AreShed (D.content disk.old) v.id (opened_as was v.draft) from list.new) }
     // On any disk there are no more than a draft has room for, and each is a block of the disk.
     ensures room { OnOk result (length list.new ≤ blocks_limit) }
     ensures on_disk { OnOk result (All (λ n. n < D.blocks disk.old) list.new) }
     ensures refused { (kept : Kept)
-        → IfErr result (IsDraftTrouble D.Disk (root_top at.0 root.now) disk.old disk.new kept) }
+        → IfErr result (IsDraftTrouble D.Disk (root_top parts.now.at.0 parts.now.root.now) disk.old disk.new kept) }
     ensures untried { IfErr result (λ trouble. trouble_had_tried trouble ≡ false) }
     ensures sound { (space : Kept) (was : Drafting) (v : DraftView D.Disk disk.old space was)
-        → spec.HasParts was root.now leaves.now nodes.now → IsWay (D.content disk.old) root.now way.now
+        → spec.HasParts was parts.now.root.now parts.now.leaves.now parts.now.nodes.now
+        → IsWay (D.content disk.old) parts.now.root.now way.now
         → IfErr result (λ trouble. is_damage trouble ≡ false) }
     // Where no node is fresh there is none, and nothing is read.
-    ensures none { ((n : ℕ) → get_or nodes.now n false ≡ false)
+    ensures none { ((n : ℕ) → get_or parts.now.nodes.now n false ≡ false)
         → (result ≡ Ok tt) × (list.new ≡ []) × (disk.new ≡ disk.old) }
     ensures reads { OnlyReads D.Disk node_pointers.count disk.old disk.new }
 {
     list.clear();
     for number in from / LEAVES as u32..NODES as u32 {
-        if nodes.has(number) {
-            let node = match node_again(disk, at, root, way, number) {
+        if parts.nodes.has(number) {
+            let node = match node_again(disk, parts.at, parts.root, way, number) {
                 Ok(node) => node,
                 Err(trouble) => return Err(trouble),
             };
             let place = from.saturating_sub(LEAVES as u32 * number);
             list_node(
                 list,
-                leaves,
-                root.nodes[number as usize],
+                parts.leaves,
+                parts.root.nodes[number as usize],
                 &node,
                 number,
                 place,

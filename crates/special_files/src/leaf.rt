@@ -24,10 +24,8 @@ pub(crate) fn write_own<D: Disk>(
     requires { block.0 < D.blocks disk.old }
     ensures { spec.WritesDraftBlock D.Disk block.0 content.now disk.old disk.new result }
 {
-    match disk.write(block, content) {
-        Ok(()) => Ok(()),
-        Err(_) => Err(Refused::Disk { tried: true }),
-    }
+    disk.write(block, content)
+        .map_err(|_| Refused::Disk { tried: true })
 }
 
 impl Draft {

@@ -33,10 +33,8 @@ impl Draft {
             (leaves_below (D.content disk.old) self.now.root leaf)) }
         ensures turns { TurnsTo D.Disk self.now leaf 2 disk.old disk.new way.old way.new result }
     {
-        match self.turn_to(disk, way, leaf) {
-            Ok(block) => read_block(disk, block, self.root.fill),
-            Err(trouble) => Err(trouble),
-        }
+        let block = self.turn_to(disk, way, leaf)?;
+        read_block(disk, block, self.root.fill)
     }
 
     /// Reads a part of a file, from an offset in bytes on. `Damaged` names the root block, or a node, with code 4,
@@ -55,10 +53,8 @@ impl Draft {
         prove!(self.root.size <= SIZE_LIMIT);
         let mut way = Way::new();
         for leaf in (offset / 512) as u32..leaves_in(offset + into.len() as u64) {
-            match self.leaf_bytes(disk, &mut way, leaf) {
-                Ok(content) => read_part(&content, leaf, offset, into),
-                Err(trouble) => return Err(trouble),
-            }
+            let content = self.leaf_bytes(disk, &mut way, leaf)?;
+            read_part(&content, leaf, offset, into);
         }
         Ok(())
     }

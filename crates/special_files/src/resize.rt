@@ -8,10 +8,8 @@ ghost use Rattle.special_files.specs.Drafting.{shadow_need};
 ghost use Rattle.special_files.specs.Leaves.{leaves_below};
 ghost use Rattle.special_files.specs.Nodes.{IsRead, IsSafe, TurnsTo};
 ghost use Rattle.special_files.specs.Puts.{CutsLeaf, LeafCall};
-ghost use Rattle.special_files.specs.Shed.{IsFullFor, ResizesIfFile, sized};
+ghost use Rattle.special_files.specs.Shed.{sized};
 ghost use Rattle.special_files.specs.View.{GoesHolding, DraftView};
-ghost use Rattle.ufs_model.specs.declared.object.File.{File};
-ghost use Rattle.ufs_model.specs.declared.object.Object.TheVariants as objects;
 ghost use Rattle.vol_image.specs.Reading.{leaf_content};
 
 use crate::draft::Draft;
@@ -21,34 +19,19 @@ use cyl_alloc::Space;
 use leaf_changes::cut_leaf;
 
 impl Draft {
-    /// Sets the size to no less than it is. The disk isn't touched; what it holds gives the draft its meaning.
-    pub(crate) fn grow<D: Disk>(
-        &mut self,
-        _disk: &D,
-        space: &Space,
-        size: u64,
-        floor: u32,
-    ) -> Result<(), Refused>
-        requires more { self.old.root.size ≤ size }
-        requires limit { size ≤ size_limit }
-        ensures resized { (v : DraftView D.Disk _disk.now space.now self.old)
-            → OnOk result (ResizesIfFile v size floor _disk.now space.now self.new) }
-        ensures full { (v : DraftView D.Disk _disk.now space.now self.old) (f : File) → v.draft.object ≡ objects.File f
-            → IfErr result (IsFullFor size floor v.draft space.now self.old) }
-        ensures only_size { OnOk result (self.new ≡ sized self.old size) }
-        // It takes the shadow root alone.
-        ensures short { IfErr result (λ e.
+    /// Sets the size to no less than it is, which takes the shadow root alone.
+    pub(crate) fn grow(&mut self, space: &Space, size: u64, floor: u32) -> Result<(), Refused>
+        requires { size ≤ size_limit }
+        ensures done { OnOk result ((self.new ≡ sized self.old size)
+            × (shadow_need self.old + floor ≤ sum space.now.free)) }
+        ensures full { IfErr result (λ e.
             (e ≡ refused.Full (record { free = sum space.now.free; need = shadow_need self.old }))
             × (sum space.now.free < shadow_need self.old + floor)) }
         ensures kept { IfErr result (λ e. self.new ≡ self.old) }
     {
-        match space.has_room(self.shadow_need(), floor) {
-            Ok(()) => {
-                self.root.size = size;
-                Ok(())
-            }
-            Err(full) => Err(full),
-        }
+        space.has_room(self.shadow_need(), floor)?;
+        self.root.size = size;
+        Ok(())
     }
 
     /// The content of the leaf in which a file of this size ends, with fill bytes from its end on.
@@ -62,10 +45,7 @@ impl Draft {
             (leaf_content self.now.root.fill (leaves_below (D.content disk.old) self.now.root (size / 512)))) }
         ensures turns { TurnsTo D.Disk self.now (size / 512) 2 disk.old disk.new way.old way.new result }
     {
-        let mut content = match self.leaf_bytes(disk, way, (size / 512) as u32) {
-            Ok(content) => content,
-            Err(trouble) => return Err(trouble),
-        };
+        let mut content = self.leaf_bytes(disk, way, (size / 512) as u32)?;
         cut_leaf(&mut content, size, self.root.fill);
         Ok(content)
     }
@@ -89,9 +69,7 @@ impl Draft {
         ensures calls { LeafCall D.Disk 8 (size / 512)
             disk.old disk.new space.old space.new self.old self.new way.new result }
     {
-        match self.cut_bytes(disk, way, size) {
-            Ok(content) => self.put_leaf(disk, space, way, (size / 512) as u32, &content),
-            Err(trouble) => Err(Refused::from(trouble)),
-        }
+        let content = self.cut_bytes(disk, way, size)?;
+        self.put_leaf(disk, space, way, (size / 512) as u32, &content)
     }
 }

@@ -14,7 +14,7 @@ ghost use Rattle.ufs_model.specs.declared.object.Object.TheVariants as objects;
 
 use crate::draft::{Draft, after};
 use crate::flips::give_all;
-use crate::freed::{list_from, undo_listed};
+use crate::freed::{DraftParts, list_from, undo_listed};
 use crate::leaf::write_own;
 use block_tree::{LEAVES, Node, Root, SIZE_LIMIT, Way};
 use cfs_base::{BlockNo, Disk, Refused};
@@ -174,16 +174,13 @@ impl Draft {
             disk.old disk.new space.new self.old self.new) disk.old disk.new result }
         ensures calls { spec.DropCall D.Disk from disk.old disk.new space.old space.new self.old self.new result }
     {
-        match list_from(
-            disk,
-            self.at,
-            &self.root,
-            &self.leaves,
-            &self.nodes,
-            way,
-            from,
-            &mut self.taken,
-        ) {
+        let parts = DraftParts {
+            at: self.at,
+            root: &self.root,
+            leaves: &self.leaves,
+            nodes: &self.nodes,
+        };
+        match list_from(disk, &parts, way, from, &mut self.taken) {
             Ok(()) => {}
             Err(trouble) => return Err(Refused::from(trouble)),
         }
@@ -320,7 +317,7 @@ impl Draft {
         ensures grown { self.old.root.size ≤ size → (disk.new ≡ disk.old) × (space.new ≡ space.old) }
     {
         if self.root.size <= size {
-            return self.grow(disk, space, size, floor);
+            return self.grow(space, size, floor);
         }
         self.shrink(disk, space, size, floor)
     }

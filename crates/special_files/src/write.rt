@@ -19,6 +19,13 @@ use cfs_base::{Block, Disk, Refused, Trouble};
 use cyl_alloc::Space;
 use leaf_changes::{leaves_in, patch_leaf};
 
+/// Bytes that are written at an offset.
+#[derive(Drop)]
+struct Patch<'a> {
+    offset: u64,
+    bytes: &'a [u8],
+}
+
 impl Draft {
     /// How many blocks it takes to write these leaves, with the shadow root that a commit takes.
     fn need_to_write(&self, from: u32, to: u32) -> u32
@@ -43,33 +50,26 @@ impl Draft {
         disk: &mut D,
         way: &mut Way,
         leaf: u32,
-        offset: u64,
-        bytes: &[u8],
+        patch: &Patch<'_>,
     ) -> Result<Block, Trouble>
         requires below { leaf < leaf_limit }
-        requires end { offset + length bytes.now ≤ size_limit }
+        requires end { patch.now.offset + length patch.now.bytes.now ≤ size_limit }
         requires some { 0 < D.blocks disk.old }
         requires safe { IsSafe (D.blocks disk.old) self.now way.old }
         ensures bytes { (kept : Kept) (v : DraftView D.Disk disk.old kept self.now)
             → IsRead (D.content disk.old) self.now way.old
-            → IfOk result (λ content. content ≡ changes.patched leaf offset bytes.now
+            → IfOk result (λ content. content ≡ changes.patched leaf patch.now.offset patch.now.bytes.now
             (leaf_content self.now.root.fill (leaves_below (D.content disk.old) self.now.root leaf))) }
         ensures turns { TurnsTo D.Disk self.now leaf 2 disk.old disk.new way.old way.new result }
     {
         let start = 512 * leaf as u64;
         let mut content = Block::zero();
-        if offset <= start && start + 512 <= offset + bytes.len() as u64 {
-            match self.turn_to(disk, way, leaf) {
-                Ok(_) => {}
-                Err(trouble) => return Err(trouble),
-            }
+        if patch.offset <= start && start + 512 <= patch.offset + patch.bytes.len() as u64 {
+            self.turn_to(disk, way, leaf)?;
         } else {
-            match self.leaf_bytes(disk, way, leaf) {
-                Ok(was) => content = was,
-                Err(trouble) => return Err(trouble),
-            }
+            content = self.leaf_bytes(disk, way, leaf)?;
         }
-        patch_leaf(&mut content, leaf, offset, bytes);
+        patch_leaf(&mut content, leaf, patch.offset, patch.bytes);
         Ok(content)
     }
 
@@ -80,26 +80,25 @@ impl Draft {
         space: &mut Space,
         way: &mut Way,
         leaf: u32,
-        offset: u64,
-        bytes: &[u8],
+        patch: &Patch<'_>,
     ) -> Result<(), Refused>
         requires size { D.blocks disk.old ≡ 64 * length space.old.free }
         requires below { leaf < leaf_limit }
-        requires end { offset + length bytes.now ≤ size_limit }
+        requires end { patch.now.offset + length patch.now.bytes.now ≤ size_limit }
         requires some { 0 < D.blocks disk.old }
         requires safe { IsSafe (D.blocks disk.old) self.old way.old }
         ensures goes { (v : DraftView D.Disk disk.old space.old self.old)
             → IsRead (D.content disk.old) self.old way.old
-            → leaf < spec.leaves_in self.old.root.size → offset + length bytes.now ≤ self.old.root.size
-            → GoesHolding D.Disk v.graph (PutsLeaf D.Disk v.graph v.ds v.id leaf (changes.patched leaf offset bytes.now
+            → leaf < spec.leaves_in self.old.root.size
+            → patch.now.offset + length patch.now.bytes.now ≤ self.old.root.size
+            → GoesHolding D.Disk v.graph (PutsLeaf D.Disk v.graph v.ds v.id leaf
+            (changes.patched leaf patch.now.offset patch.now.bytes.now
             (leaf_content self.old.root.fill (leaves_below (D.content disk.old) self.old.root leaf)))
             disk.old disk.new space.new self.old self.new way.new) disk.old disk.new result }
         ensures calls { LeafCall D.Disk 8 leaf disk.old disk.new space.old space.new self.old self.new way.new result }
     {
-        match self.patched(disk, way, leaf, offset, bytes) {
-            Ok(content) => self.put_leaf(disk, space, way, leaf, &content),
-            Err(trouble) => Err(Refused::from(trouble)),
-        }
+        let content = self.patched(disk, way, leaf, patch)?;
+        self.put_leaf(disk, space, way, leaf, &content)
     }
 
     /// Writes bytes of a file within its size, at an offset in bytes. `Full` where fewer blocks are Free than the write
@@ -124,16 +123,12 @@ impl Draft {
         prove!(self.root.size <= SIZE_LIMIT);
         let from = (offset / 512) as u32;
         let to = leaves_in(offset + bytes.len() as u64);
-        match space.has_room(self.need_to_write(from, to), floor) {
-            Ok(()) => {}
-            Err(full) => return Err(full),
-        }
+        space.has_room(self.need_to_write(from, to), floor)?;
+        let patch = Patch { offset, bytes };
         let mut way = Way::new();
         for leaf in from..to {
-            match self.write_leaf(disk, space, &mut way, leaf, offset, bytes) {
-                Ok(()) => {}
-                Err(error) => return Err(after(leaf > from, error)),
-            }
+            self.write_leaf(disk, space, &mut way, leaf, &patch)
+                .map_err(|error| after(leaf > from, error))?;
         }
         Ok(())
     }

@@ -12,7 +12,7 @@ use cyl_alloc::Space;
 use file_ops::{read, read_root, resize, write};
 use finisher::{finish_all, step};
 use index_ops::{create, delete, retain, retrieve};
-use special_files::{Draft, Room};
+use special_files::{Draft, Room, bare_root};
 use std::alloc::Global;
 use std::test::Fail;
 use vol_format::format_volume;
@@ -122,7 +122,8 @@ impl Volume {
         }
         let (disk, space) = (&mut self.disk, &mut self.space);
         let room = Room::new(alloc)?;
-        create(room, disk, space, BlockNo(2), slot, kind, fill, size, word)?;
+        let root = bare_root(kind, fill, size, word);
+        create(room, disk, space, BlockNo(2), slot, &root)?;
         self.finish()
     }
 

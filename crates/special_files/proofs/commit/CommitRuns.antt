@@ -1,7 +1,7 @@
 -- Entries changed by one call after another.
 use Rattle.std.proofs.Common.{◌≡◌, inl, ℕ, zero, suc, ◌+◌, ◌≤◌, false, true, List, [], ◌∷◌, ◌++◌, length, take, drop, get_or, set, Ok, Err, Some, refl, sym, ◌∙◌, ap, subst, arith, ◌*◌, ◌<◌}
 use Rattle.std.proofs.Math.Seq.{take-add}
-use Rattle.special_files.proofs.Words.{Change, ChangesEntry, Course, CommitFails, Flip, Flips, FlipsRun, Ghosts, Image, IsBadMap, IsCourse, IsErrAnd, IsMapTrouble, IsOn, Keeps, Kept, Leaves, MakesAtMost, MapEntry, MayFlip, NoMap, Nothing, OnlyReads, Result, Tells, Trouble, Written, changed_entry, entry_in, flipped, flips, is_damage, left_now, makes_then, map_in_image, map_of, reads_make, some_entry, still_tells, stopped_after_reads, take-append-drop, take_more, tells_on, then, trouble_after_try, trouble_had_tried, wider, Top, still_top}
+use Rattle.special_files.proofs.Words.{Change, ChangesEntry, Course, CommitFails, Flip, Flips, FlipsRun, Ghosts, Image, IsBadMap, IsCourse, IsMapTrouble, IsOn, Keeps, Kept, Leaves, MakesAtMost, MapEntry, MayFlip, NoMap, Nothing, OnlyReads, Result, Tells, Trouble, Written, changed_entry, entry_in, flipped, flips, is_damage, left_now, makes_then, map_in_image, map_of, reads_make, some_entry, still_tells, stopped_after_reads, take-append-drop, take_more, tells_on, then, trouble_after_try, trouble_had_tried, wider, Top, still_top}
 use Rattle.std.proofs.lemmas.List.{drop-drop, drop_more}
 use Rattle.cfs_base.specs.declared.refusal.Trouble.TheVariants as trouble
 use Rattle.cfs_base.proofs.Calls.{failed_since}
@@ -241,8 +241,3 @@ module _ {D : Type 0} (g : Ghosts D) (how : Change) (blocks : List ℕ) (i k : �
 -- by blocks
 pub by_length : {D : Type 0} (g : Ghosts D) (blocks : List ℕ) (xs : List Flip) (old new : D) (r : Result (Unit {0}) Trouble) → Flips g (2 * runs blocks) (runs blocks) xs old new r → Flips g (2 * length blocks) (length blocks) xs old new r
 by_length g blocks xs old new r is = more_calls g old new (2 * runs blocks) (runs blocks) (2 * length blocks) (length blocks) xs r (omega (arith, runs_most blocks)) (runs_most blocks) is
-
--- what a `?` makes of a trouble
-pub flips_passed : {D : Type 0} (g : Ghosts D) (n t : ℕ) (xs : List Flip) (old new : D) (r : Result (Unit {0}) Trouble) (e : Trouble) → IsErrAnd r (λ k. k ≡ e) → Flips g n t xs old new (Err e) → Flips g n t xs old new r
-flips_passed g n t xs old new (Ok u) e is flips = absurd is
-flips_passed g n t xs old new (Err k) e is flips = subst (λ (x : Trouble). Flips g n t xs old new (Err x)) (sym is) flips

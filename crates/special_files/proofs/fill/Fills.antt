@@ -1,6 +1,6 @@
 -- A slot of an index in a draft, filled or emptied.
 use Rattle.std.proofs.Common.{◌≡◌, ◌⊎◌, inl, inr, ℕ, ◌+◌, ◌-◌, ◌*◌, ◌/◌, ◌%◌, ◌<◌, ◌≤◌, Bool, true, false, cond, List, [], ◌∷◌, length, get_or, set, replicate, Option, Some, None, Ok, Err, refl, sym, ◌∙◌, ap, subst, arith}
-use Rattle.special_files.proofs.Words.{IsTo, Draft, DraftBecomes, DraftView, Drafting, Drafts, Fill, FillCall, FillsDraft, FillsSlot, FitsLeaf, Ghosts, GivesIndex, HasDraft, Held, Image, Index, IsDraftTrouble, IsErrAnd, IsNearSwap, IsOpen, IsRead, IsSlot, Kept, LeafCall, LeavesFit, Way, Object, OnlyReads, Overwrite, Puid, PutsLeaf, Refused, Result, SetsFresh, StaysBut, Swap, Trouble, branches, bytes_held, changed_object, draft_in, drafts_with, empty_stays, filled, filled_draft, fresh_after, fresh_of, get_or-replicate, held_levels, index_to_leaves, is_empty_already, is_none, is_some, leaf_content, leaves_below, leaves_in, merged, ne_eqb, no_drafts, opened_as, range_with_len, refused_by, root_spelling, same_object, same_slot, slot_fit, slot_in, slot_object, slot_of, top_of, touched, tree_in, with_opened, with_slot, within, ◌&&◌, ◌==◌, way_leaves, leaf_limit, leaf_pointers}
+use Rattle.special_files.proofs.Words.{IsTo, Draft, DraftBecomes, DraftView, Drafting, Drafts, Fill, FillCall, FillsDraft, FillsSlot, FitsLeaf, Ghosts, GivesIndex, HasDraft, Held, Image, Index, IsNearSwap, IsOpen, IsRead, IsSlot, Kept, LeafCall, LeavesFit, Way, Object, OnlyReads, Overwrite, Puid, PutsLeaf, Refused, SetsFresh, StaysBut, Swap, branches, bytes_held, changed_object, draft_in, drafts_with, empty_stays, filled, filled_draft, fresh_after, fresh_of, get_or-replicate, held_levels, index_to_leaves, is_empty_already, is_none, is_some, leaf_content, leaves_below, leaves_in, merged, ne_eqb, no_drafts, opened_as, range_with_len, root_spelling, same_object, same_slot, slot_fit, slot_in, slot_object, slot_of, touched, tree_in, with_opened, with_slot, within, ◌&&◌, ◌==◌, way_leaves, leaf_limit, leaf_pointers}
 use Rattle.std.proofs.lemmas.Bool.{eq-eqb}
 use Rattle.block_tree.specs.declared.root.Root as roots
 use Rattle.ufs_model.specs.declared.object.Object.TheVariants as objects
@@ -10,7 +10,7 @@ use Rattle.special_files.proofs.PutStore.{the_draft}
 use Rattle.special_files.proofs.Endings.{ends_as, ends_err}
 use Rattle.special_files.proofs.fill.Swapped.{is_swapped}
 use Rattle.special_files.proofs.View.{draft_of, view_reads}
-use Rattle.special_files.proofs.WriteLeaf.{becomes_since, leaf_stopped}
+use Rattle.special_files.proofs.WriteLeaf.{becomes_since}
 use Rattle.special_files.proofs.write.Writes.{becomes_as, becomes_begin}
 
 -- ---- a leaf of a slot
@@ -200,9 +200,3 @@ module _ {D : Type 0} {g : Ghosts D} {d0 d1 : D} {k0 k1 : Kept} {was now : Draft
   -- it was refused
   pub fill_refused : {e : Refused} → LeafCall g 8 (slot / 64) d0 d1 k0 k1 was now read (Err e) → FillCall g slot what d0 d1 k0 k1 was now (Err e)
   fill_refused {e} calls = record { stays = calls.stays; near = λ equal. tt; ends = ends_err calls.ends; tried = tt; spared = tt; empty = tt; kept = calls.kept; room = calls.room }
-
--- the leaf couldn't be read: the result that a `?` made of a trouble
-pub fill_stopped : {D : Type 0} {g : Ghosts D} {d0 d1 : D} {kept : Kept} {was : Drafting} (read : Way) (slot : ℕ) (what : Option Puid) → OnlyReads g 2 d0 d1 → (result : Result (Option Swap) Refused) (t : Trouble) → IsErrAnd result (λ e. e ≡ refused_by t) → IsDraftTrouble g (top_of was) d0 d1 kept t
-    → FillCall g slot what d0 d1 kept kept was was result
-fill_stopped read slot what reads (Ok x) t is refused = absurd is
-fill_stopped read slot what reads (Err e) t is refused = fill_refused slot what (leaf_stopped reads read 8 t e is (omega arith) refused)

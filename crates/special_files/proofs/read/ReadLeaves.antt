@@ -1,6 +1,6 @@
 -- What is read of a draft's leaves.
-use Rattle.std.proofs.Common.{◌≡◌, ℕ, zero, suc, Ok, Err, ◌+◌, ◌-◌, ◌*◌, ◌/◌, ◌<◌, ◌≤◌, List, [], ◌∷◌, length, refl, sym, ◌∙◌, ap, subst, arith, slice_range}
-use Rattle.special_files.proofs.Words.{AreBlocks, Drafting, File, Ghosts, IfOk, Image, IsNear, IsNearTree, IsRead, IsReadTo, IsSafe, IsTree, Way, Object, OnlyReads, Result, Tells, block_at, bytes_in, content_is, file_to_leaves, held, held_at, leaf_content, leaves_at, leaves_in, leaves_below, length-overlaid, pointer_to_node, read_all, read_more, reads_then, root_spelling, tree_in, tree_of, with_leaf_copied, leaf_block, leaf_pointers, zeros}
+use Rattle.std.proofs.Common.{◌≡◌, ℕ, zero, suc, ◌+◌, ◌-◌, ◌*◌, ◌/◌, ◌<◌, ◌≤◌, List, [], ◌∷◌, length, refl, sym, ◌∙◌, ap, subst, arith, slice_range}
+use Rattle.special_files.proofs.Words.{AreBlocks, Drafting, File, Ghosts, Image, IsNear, IsNearTree, IsRead, IsReadTo, IsSafe, IsTree, Way, Object, OnlyReads, Tells, block_at, bytes_in, content_is, file_to_leaves, held, held_at, leaf_content, leaves_at, leaves_in, leaves_below, length-overlaid, pointer_to_node, read_all, read_more, reads_then, root_spelling, tree_in, tree_of, with_leaf_copied, leaf_block, leaf_pointers, zeros}
 use Rattle.ufs_model.specs.declared.object.Object.TheVariants as objects
 use Rattle.block_tree.specs.declared.root.Root as roots
 use Rattle.special_files.proofs.Fresh.{read_leaf_is}
@@ -16,11 +16,6 @@ block_content image fill (suc v) blocks below = content_is fill (held_at image (
 -- a leaf of this block, read
 pub leaf_read_is : (image : Image) (root : roots.Root) (leaf n : ℕ) → AreBlocks image → n ≡ leaf_block image (root_spelling root) leaf → n < length image → bytes_in image root.fill n ≡ leaf_content root.fill (leaves_below image root leaf)
 leaf_read_is image root leaf n blocks is below = sym (block_content image root.fill n blocks below) ∙ ap (λ (v : ℕ). leaf_content root.fill (held_at image v)) is
-
--- what a result is, told otherwise
-pub if_ok_is : {A E : Type 0} (r : Result A E) (x y : A) → x ≡ y → IfOk r (λ z. z ≡ x) → IfOk r (λ z. z ≡ y)
-if_ok_is (Ok z) x y same is = is ∙ same
-if_ok_is (Err e) x y same is = tt
 
 -- ---- leaf after leaf
 

@@ -17,6 +17,7 @@ use Rattle.cfs_core.specs.Kernel.{Kernel, Handle}
 use Rattle.cfs_core.specs.Handles.{root_at}
 use Rattle.cfs_core.specs.StandsFor.{HasCollection, CoreServes}
 use Rattle.cfs_core.proofs.DraftRoots.{draft_root}
+use Rattle.finisher.proofs.Passed.{is_passed}
 use Rattle.cfs_core.proofs.collecting.mark.Goals as goal
 
 pub returns-then-has_rescue : goal.returns-then-has_rescue
@@ -75,8 +76,8 @@ drafted g k s serves l there marks e first =
     let i = grey_index s (colours_in l) (waiting_in l) e marking.0 first in
     draft_root g k s serves e.id i.0 i.1
 
-pub returns-in-Ok : goal.returns-in-Ok
-returns-in-Ok g c = λ kept.
+pub returns-in-Some : goal.returns-in-Some
+returns-in-Some g c = λ kept.
     let k = c.args.collector.now in
     let d = c.args.disk.now in
     let handles = c.args.handles.now.handles in
@@ -88,7 +89,7 @@ returns-in-Ok g c = λ kept.
     (λ core here s serves.
     let root = drafted g.D.Disk (with_parts core d kept c.args.directory.now k) s serves k refl c.requires.marks
     first.0 first.1 in
-    c.in-Ok.ensures.keeps s _ first.0 root.0 (served g.D.Disk core d kept c.args.directory.now k s serves k) first.1
+    c.in_ok-scan.ensures.keeps s _ first.0 root.0 (served g.D.Disk core d kept c.args.directory.now k s serves k) first.1
     (subst (λ (r : Option Root). IsDraftRoot (g.D.Disk.content d) s first.0.id r root.0)
     (root_here handles core.handles here c.in-Some.id first.0.id first.2 _ c.root_on.ensures) root.1)
     serves.collecting.collects)
@@ -96,26 +97,25 @@ returns-in-Ok g c = λ kept.
     (λ core moves. record {
       moves = moves;
       due = (c.requires.marks, taken, grey_some k.marks.grey first.0 first.1);
-      counted = (c.in-Ok.ensures.steps, c.scan.ensures.added, refl);
+      counted = (c.in_ok-scan.ensures.steps, c.scan.ensures.added, refl);
       sweeps = λ s serves. tt;
       over = λ s serves. tt;
       goes = λ kept. marks_on (g.D.Disk.blocks d) core.collections k c.scan.new.self steps.Scanned c.requires.marks
-          c.scan.ensures.phase c.in-Ok.ensures.less (refl, refl);
+          c.scan.ensures.phase c.in_ok-scan.ensures.less (refl, refl);
     })
 
-pub returns-in-Err : goal.returns-in-Err
-returns-in-Err g c = λ kept.
+pub returns-in_err-scan : goal.returns-in_err-scan
+returns-in_err-scan g c = λ kept.
     let k = c.args.collector.now in
     let d = c.args.disk.now in
     let handles = c.args.handles.now.handles in
-    let t = c.in-Err.trouble in
+    let t = c.in_err-scan.field-0.0 in
     let draft = option_copied c.root_on.result in
     let first = first_is k c.in-Some.id (sym c.in-Some.is ∙ c.next_index.ensures) in
-    let why = c.in-Err.ensures.refused first.0 first.1 in
-    subst (λ e. StepsSo g.D.Disk d c.scan.new.disk kept kept c.args.directory.now c.args.directory.now handles k c.scan.new.self
-    (Err e)) (sym c.from.ensures)
+    let why = c.in_err-scan.ensures.refused first.0 first.1 in
+    rw (is_passed _ _ c.from_residual.ensures.1)
     (steps_failed g.D.Disk d kept c.args.directory.now handles k c.scan.new.self c.scan.ensures.volume 4 c.scan.new.disk
-    c.scan.ensures.reads (omega arith) c.requires.marks c.in-Err.ensures.same (refused_by t)
+    c.scan.ensures.reads (omega arith) c.requires.marks c.in_err-scan.ensures.same (refused_by t)
     (λ core here. scan_cause g.D.Disk (with_parts core d kept c.args.directory.now k)
     (with_parts core c.scan.new.disk kept c.args.directory.now c.scan.new.self) first.0.id draft t
     (k, first.0, refl, first.1, refl)
@@ -125,11 +125,11 @@ returns-in-Err g c = λ kept.
     let root = drafted g.D.Disk (with_parts core d kept c.args.directory.now k) s serves k refl c.requires.marks
     first.0 first.1 in
     scan_calm g.D.Disk d c.scan.new.disk draft _ t why
-    (c.in-Err.ensures.sound s _ first.0 root.0 (served g.D.Disk core d kept c.args.directory.now k s serves k) first.1
+    (c.in_err-scan.ensures.sound s _ first.0 root.0 (served g.D.Disk core d kept c.args.directory.now k s serves k) first.1
     (subst (λ (r : Option Root). IsDraftRoot (g.D.Disk.content d) s first.0.id r root.0)
     (root_here handles core.handles here c.in-Some.id first.0.id first.2 draft c.root_on.ensures) root.1)
     serves.collecting.collects)
-    c.in-Err.ensures.untried))
+    c.in_err-scan.ensures.untried))
 
 pub condemn-ids-requires-clause-read : goal.condemn-ids-requires-clause-read
 condemn-ids-requires-clause-read g c = none_first c.args.collector.now (sym c.next_index.ensures ∙ c.in_default.is)

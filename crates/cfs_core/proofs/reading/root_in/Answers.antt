@@ -1,13 +1,17 @@
 use Rattle.ufs_model.specs.declared.object.Object.TheVariants as objects
 use Rattle.cfs_core.proofs.Calm.{calm_trouble, told_never}
+use Rattle.finisher.proofs.Passed.{is_passed}
+use Rattle.std.proofs.Common.{refl}
 use Rattle.cfs_core.proofs.reading.root_in.Goals as goal
 
-pub returns-in-Ok-clause-exact : goal.returns-in-Ok-clause-exact
-returns-in-Ok-clause-exact g c = λ f knows. (c.in-Ok.ensures.size knows.view f knows.is).size_is
+pub returns-clause-exact : goal.returns-clause-exact
+returns-clause-exact g c = λ f knows. (c.in_ok-read_root.ensures.size knows.view f knows.is).size_is
 
-pub returns-in-Err-clause-calm : goal.returns-in-Err-clause-calm
-returns-in-Err-clause-calm g c = calm_trouble g.D.Disk objects.File 1 c.args.file.0 c.args.disk.now c.read_root.new.disk c.in-Err.trouble c.from.result c.from.ensures c.read_root.ensures.reads
-    (λ f knows. (c.in-Err.ensures.size knows.view f knows.is).sound) c.in-Err.ensures.untried c.in-Err.ensures.refused
+pub returns-in_err-read_root-clause-calm : goal.returns-in_err-read_root-clause-calm
+returns-in_err-read_root-clause-calm g c =
+    rw (is_passed _ _ c.from_residual.ensures.1) (calm_trouble g.D.Disk objects.File 1 c.args.file.0 c.args.disk.now c.read_root.new.disk c.in_err-read_root.field-0.0 _ refl c.read_root.ensures.reads
+    (λ f knows. (c.in_err-read_root.ensures.size knows.view f knows.is).sound) c.in_err-read_root.ensures.untried c.in_err-read_root.ensures.refused)
 
-pub returns-in-Err-clause-never : goal.returns-in-Err-clause-never
-returns-in-Err-clause-never g c = told_never c.in-Err.trouble c.from.result c.from.ensures
+pub returns-in_err-read_root-clause-never : goal.returns-in_err-read_root-clause-never
+returns-in_err-read_root-clause-never g c =
+    rw (is_passed _ _ c.from_residual.ensures.1) (told_never c.in_err-read_root.field-0.0 _ refl)

@@ -56,19 +56,19 @@ pub take_sinks-requires-clause-room : goal.take_sinks-requires-clause-room
 take_sinks-requires-clause-room g c =
     let made = c.in-Some.ensures in
     let after = c.serve_ports-played in
-    let count = same_count g.D.Disk c.args.core c.args.collections c.in-Some.ports.items after.result.1.items after.result.0.report after.result.0.ending after.result.0.trail.events after.result.0.trail.moments after.result.2 after.ensures in
+    let count = same_count g.D.Disk c.args.core c.args.schedule.collections c.in-Some.ports.items after.result.1.items after.result.0.report after.result.0.ending after.result.0.trail.events after.result.0.trail.moments after.result.2 after.ensures in
     omega (arith, as_many c.in-Some.ports.items after.result.1.items c.args.scripts.scripts.items made.lines count, c.requires.count, made.room)
 
 pub returns-clause-served : goal.returns-clause-served
 returns-clause-served g c =
     let made = c.in-Some.ensures in
     let after = c.serve_ports-played in
-    serves g.D.Disk c.args.core c.args.collections c.in-Some.ports.items after.result.1.items after.result.0.report after.result.0.ending after.result.0.trail.events after.result.0.trail.moments after.result.2
+    serves g.D.Disk c.args.core c.args.schedule.collections c.in-Some.ports.items after.result.1.items after.result.0.report after.result.0.ending after.result.0.trail.events after.result.0.trail.moments after.result.2
     c.args.scripts.scripts.items (map g.K.Sink.intake c.args.sinks.now.items) (map g.K.Sink.intake c.take_sinks.new.sinks.items) made.lines made.sinks c.take_sinks.ensures after.ensures
 
 pub returns-clause-count : goal.returns-clause-count
 returns-clause-count g c =
     let after = c.serve_ports-played in
-    let count = same_count g.D.Disk c.args.core c.args.collections c.in-Some.ports.items after.result.1.items after.result.0.report after.result.0.ending after.result.0.trail.events after.result.0.trail.moments after.result.2 after.ensures in
+    let count = same_count g.D.Disk c.args.core c.args.schedule.collections c.in-Some.ports.items after.result.1.items after.result.0.report after.result.0.ending after.result.0.trail.events after.result.0.trail.moments after.result.2 after.ensures in
     same_length g.K.Sink.intake (λ (p : PortReading). p.sink) c.take_sinks.new.sinks.items after.result.1.items c.take_sinks.ensures
     ∙ as_many c.in-Some.ports.items after.result.1.items c.args.scripts.scripts.items c.in-Some.ensures.lines count ∙ c.requires.count

@@ -1,6 +1,6 @@
 use Rattle.std.proofs.Common.{◌≡◌, ◌≤◌, ℕ, List, [], ◌∷◌, length, map, slice_get, Some, ap, refl, sym, subst, arith, ◌∙◌}
 use Rattle.cfs_serve.proofs.Cited.{HasScript, HaveScripts, Supply, drain, drains, drawn_scripts, drawn_sources, new_ground, option_map, slice_get-map, source_of}
-use Rattle.cfs_serve.proofs.Journals.{some_same}
+use Rattle.cfs_serve.proofs.Logs.{some_same}
 use Rattle.cfs_serve.proofs.Spinning.{Lines, Short, drawn_lines, few_bytes}
 use Rattle.cfs_serve.proofs.Volumes.{never_rose, script_run}
 use Rattle.cfs_serve.proofs.spin.spin.Goals as goal
@@ -29,9 +29,9 @@ all_drains (a ∷ b ∷ c ∷ d ∷ e ∷ xs) is = absurd (omega (arith, is))
 
 pub returns : goal.returns
 returns g c =
-    let seed = c.args.seed in
-    let count = c.args.count in
-    let few : count ≤ 5370 = omega (arith, c.requires.most, c.requires.fits) in
+    let seed = c.args.asked.seed in
+    let count = c.args.asked.count in
+    let few : count ≤ 5370 = omega (arith, c.args.asked.sized.1, c.args.asked.fits) in
     let law = c.scripts_have_so_many_lines.ensures in
     let new = c.in-Some-new_volume.ensures in
     let result = c.serve_scripts-played.result in
@@ -42,6 +42,6 @@ returns g c =
       sources = refl;
       sinks = refl;
       run = script_run _ c.in-Some-new_volume.core (drawn_scripts seed count) (drawn_sources seed count) (drawn_sources seed count) drains drains result.0.report result.0.ending result.0.trail.events result.0.trail.moments result.1
-          (new_ground c.args.cylinders seed) seed 2 ⊥ (have law.lines law.short seed count few) (λ u. u) (ap (λ w. w.seed) new.words) new.size (λ graph is. rw is new.stands) never_rose
+          (new_ground c.args.asked.cylinders seed) seed 2 ⊥ (have law.lines law.short seed count few) (λ u. u) (ap (λ w. w.seed) new.words) new.size (λ graph is. rw is new.stands) never_rose
           (rw (c.in-Some.ensures.scripts, before, after) at c.serve_scripts-played.ensures.served);
     }

@@ -7,11 +7,11 @@ pub join_seat-requires : goal.join_seat-requires
 join_seat-requires g c =
     let words = c.args.words.now in
     let keeper = c.args.keeper.now in
-    let pass = c.args.pass in
+    let handle = c.args.handle in
     let at = c.requires.table in (
       at.same,
-      c.requires.pass,
+      c.requires.handle,
       c.requires.pass_idle.nothing,
       omega (arith, at.words),
-      joins (log_in g.M.Logged.log) (sum words.key.items) keeper.id pass.id keeper.me.0 pass.me.0 c.requires.idle.stand c.requires.pass_idle.stand,
+      joins (log_in g.M.Logged.log) (sum words.key.items) keeper.id handle.id keeper.me.0 handle.me.0 c.requires.idle.stand c.requires.pass_idle.stand,
     )

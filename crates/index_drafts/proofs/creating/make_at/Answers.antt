@@ -1,7 +1,8 @@
 use Rattle.index_drafts.proofs.Words.{Ok, Err, ap, EndsCall, Trouble, enters_ends, find_sound, has_met_damage, refused_by}
 use Rattle.cfs_base.proofs.Runs.{on}
-use Rattle.index_drafts.proofs.Makings.{all_ends, barrier_ends, barrier_stops, claim_leaves, made, passed_on, stops, write_leaves, write_stops, wrote}
+use Rattle.index_drafts.proofs.Makings.{all_ends, barrier_ends, barrier_stops, claim_leaves, made, stops, write_leaves, write_stops, wrote}
 use Rattle.leaf_changes.specs.Tops.{still_top}
+use Rattle.index_drafts.proofs.Passed.{passed}
 use Rattle.index_drafts.proofs.creating.make_at.Goals as goal
 
 pub returns-in_err-claim-clause-makes : goal.returns-in_err-claim-clause-makes
@@ -20,7 +21,7 @@ pub returns-in_err-write_root-clause-ends : goal.returns-in_err-write_root-claus
 returns-in_err-write_root-clause-ends g c = λ at.
     let enters = c.in_ok-claim.ensures.enters in
     let claims = enters_ends (still_top at) enters in
-    passed_on (EndsCall g.D.Disk (still_top at) 0 4 3 1 c.args.disk.now c.write_root.new.disk c.args.space.now c.claim.new.self) _ _ c.from_residual-in_err-write_root.ensures.1 (write_stops claims enters.made _ c.in_err-write_root.ensures.writes)
+    passed (EndsCall g.D.Disk (still_top at) 0 4 3 1 c.args.disk.now c.write_root.new.disk c.args.space.now c.claim.new.self) _ _ c.from_residual-in_err-write_root.ensures.1 (write_stops claims enters.made _ c.in_err-write_root.ensures.writes)
 
 -- ---- it is, and then the barrier
 
@@ -35,7 +36,7 @@ returns-in_err-barrier-clause-ends g c = λ at.
     let enters = c.in_ok-claim.ensures.enters in
     let last = c.in_err-barrier.ensures in
     let claims = enters_ends (still_top at) enters in
-    passed_on (EndsCall g.D.Disk (still_top at) 0 4 3 1 c.args.disk.now c.barrier.new.disk c.args.space.now c.claim.new.self) _ _ c.from_residual-in_err-barrier.ensures.1
+    passed (EndsCall g.D.Disk (still_top at) 0 4 3 1 c.args.disk.now c.barrier.new.disk c.args.space.now c.claim.new.self) _ _ c.from_residual-in_err-barrier.ensures.1
     (barrier_stops claims enters.made c.in_ok-write_root.ensures.writes _ last.refused (barrier_ends (Err _) last.told last.refused last.stopped last.calls))
 
 pub returns-clause-makes : goal.returns-clause-makes

@@ -1,10 +1,10 @@
-use Rattle.normal_files.proofs.Words.{◌≡◌, ℕ, ◌+◌, ◌-◌, ◌*◌, ◌/◌, ◌≤◌, false, List, length, sym, ◌∙◌, ap, subst, arith, slice_range, Image, block_at, reads_then, reads_within, IsReadTo, leaf_block, leaf_in, tree_in, leaves_in, length-overlaid, node_levels, read_more, root_spelling, is_damage, with_leaf_copied}
+use Rattle.normal_files.proofs.Words.{◌≡◌, ℕ, ◌+◌, ◌-◌, ◌*◌, ◌/◌, ◌≤◌, List, length, sym, ◌∙◌, ap, subst, arith, slice_range, Image, block_at, reads_then, reads_within, IsReadTo, leaf_block, leaf_in, tree_in, leaves_in, length-overlaid, node_levels, read_more, root_spelling, with_leaf_copied}
 use Rattle.block_tree.specs.Along.{IsNearTree, IsTo, IsWay, IsWayWithin}
-use Rattle.normal_files.specs.Refusal.{IsTrouble}
 use Rattle.normal_files.proofs.LeafReads.{leaf_is_read, part_is, read_before, read_on, reads_leaf, reads_touched}
-use Rattle.normal_files.proofs.Refusals.{passed, stopped_is, stopped_undamaged, tells_after, trouble_after_reads, way_refused}
+use Rattle.normal_files.proofs.Refusals.{stopped_is, stopped_undamaged, tells_after, trouble_after_reads, way_refused}
 use Rattle.normal_files.proofs.Trees.{near_tree}
 use Rattle.ufs_model.specs.declared.object.Object.TheVariants as objects
+use Rattle.normal_files.proofs.Passed.{is_passed}
 use Rattle.normal_files.proofs.reading.read.Goals as goal
 use Rattle.leaf_changes.specs.Tops.{root_top}
 
@@ -18,7 +18,7 @@ get-requires g c = record {
 pub returns-in_err-block-clause-refused : goal.returns-in_err-block-clause-refused
 returns-in_err-block-clause-refused g c =
     let t = c.in_err-block.field-0.0 in
-    passed (IsTrouble g.D.Disk (root_top c.args.at.0 c.args.root.now) c.args.disk.now c.get.new.disk) c.from_residual.result t c.from_residual.ensures.1
+    rw (is_passed c.from_residual.result t c.from_residual.ensures.1)
     (trouble_after_reads g.D.Disk (root_top c.args.at.0 c.args.root.now) c.args.disk.now c.loop-leaf.disk c.get.new.disk _ t c.loop-leaf.invariant.reads (way_refused g.D.Disk c.args.at.0 c.args.root.now c.loop-leaf.disk c.get.new.disk t c.in_err-block.ensures.refused))
 
 pub returns-in_err-block-clause-sound : goal.returns-in_err-block-clause-sound
@@ -29,7 +29,7 @@ returns-in_err-block-clause-sound g c = λ f tells file rooted.
     let size = g.met.D.Disk.sized d tells.honest in
     let reads = c.loop-leaf.invariant.reads in
     let is = near_tree image (block_at image c.args.at.0) c.args.root.now rooted (length image) file.owner file.root (objects.File f) file.tree (omega (arith, c.requires.on_disk, size)) in
-    passed (λ t. is_damage t ≡ false) c.from_residual.result c.in_err-block.field-0.0 c.from_residual.ensures.1
+    rw (is_passed c.from_residual.result c.in_err-block.field-0.0 c.from_residual.ensures.1)
     (c.in_err-block.ensures.sound (tells_after g.D.Disk d mid reads tells) (subst (λ (i : Image). IsWay i c.args.root.now c.loop-leaf.way) (sym reads.content) (c.loop-leaf.invariant.way tells))
     (subst (λ (s : ℕ). IsNearTree s (g.D.Disk.content mid) (root_spelling c.args.root.now)) (size ∙ sym reads.same.size)
     (subst (λ (i : Image). IsNearTree (length image) i (root_spelling c.args.root.now)) (sym reads.content) is)))
@@ -40,12 +40,12 @@ returns-in_err-content-clause-refused g c =
     let one = c.in_ok-block.ensures.reads 0 (omega arith) (λ d none. absurd (omega (arith, none))) in
     let before = read_before (c.args.offset / 512) c.loop-leaf.leaf in
     let both = reads_then g.D.Disk c.args.disk.now c.loop-leaf.disk c.get.new.disk before node_levels (before + node_levels) c.loop-leaf.invariant.reads one (omega arith) in
-    passed (IsTrouble g.D.Disk (root_top c.args.at.0 c.args.root.now) c.args.disk.now c.read_block.new.disk) c.from_residual-in_err-content.result t c.from_residual-in_err-content.ensures.1
+    rw (is_passed c.from_residual-in_err-content.result t c.from_residual-in_err-content.ensures.1)
     (trouble_after_reads g.D.Disk (root_top c.args.at.0 c.args.root.now) c.args.disk.now c.get.new.disk c.read_block.new.disk _ t both (stopped_is g.D.Disk (root_top c.args.at.0 c.args.root.now) c.get.new.disk c.read_block.new.disk t c.in_err-content.ensures.refused))
 
 pub returns-in_err-content-clause-sound : goal.returns-in_err-content-clause-sound
 returns-in_err-content-clause-sound g c = λ f tells file rooted.
-    passed (λ t. is_damage t ≡ false) c.from_residual-in_err-content.result c.in_err-content.field-0.0 c.from_residual-in_err-content.ensures.1
+    rw (is_passed c.from_residual-in_err-content.result c.in_err-content.field-0.0 c.from_residual-in_err-content.ensures.1)
     (stopped_undamaged g.D.Disk c.get.new.disk c.read_block.new.disk c.in_err-content.field-0.0 c.in_err-content.ensures.refused)
 
 pub returns-clause-read : goal.returns-clause-read

@@ -1,6 +1,7 @@
 use Rattle.std.proofs.Common.{◌+◌, ◌*◌, ◌++◌, length, arith}
-use Rattle.special_files.proofs.Words.{Undo, flips, number_if, option_to_list, undoing}
-use Rattle.special_files.proofs.commit.CommitRuns.{flips_passed, flips_stop, flips_then}
+use Rattle.special_files.proofs.Words.{Undo, flips, number_if, option_to_list}
+use Rattle.finisher.proofs.Passed.{is_passed}
+use Rattle.special_files.proofs.commit.CommitRuns.{flips_stop, flips_then}
 use Rattle.special_files.proofs.abort.undo_all.Goals as goal
 
 pub flip_made-requires-clause-on_disk : goal.flip_made-requires-clause-on_disk
@@ -15,7 +16,7 @@ returns-in_err-flip_all g c =
     let s = option_to_list (number_if c.args.shadow) in
     let made = option_to_list (number_if c.args.created) in
     record {
-      flips = flips_passed g.D.Disk (2 * nt + (2 + 2)) (nt + (1 + 1)) (undoing c.args.taken.now (number_if c.args.shadow) (number_if c.args.created)) c.args.disk.now c.flip_all.new.disk _ _ c.from_residual.ensures.1
+      flips = rw (is_passed _ _ c.from_residual.ensures.1)
           (flips_stop g.D.Disk c.args.disk.now c.flip_all.new.disk (2 * nt) nt (2 * nt + (2 + 2)) (nt + (1 + 1)) (flips Undo c.args.taken.now) (flips Undo s ++ flips Undo made) _ (omega arith) (omega arith) c.in_err-flip_all.ensures.flips);
     }
 
@@ -25,7 +26,7 @@ returns-in_err-flip_made g c =
     let s = option_to_list (number_if c.args.shadow) in
     let made = option_to_list (number_if c.args.created) in
     record {
-      flips = flips_passed g.D.Disk (2 * nt + (2 + 2)) (nt + (1 + 1)) (undoing c.args.taken.now (number_if c.args.shadow) (number_if c.args.created)) c.args.disk.now c.flip_made.new.disk _ _ c.from_residual-in_err-flip_made.ensures.1
+      flips = rw (is_passed _ _ c.from_residual-in_err-flip_made.ensures.1)
           (flips_then g.D.Disk (flips Undo c.args.taken.now) (flips Undo s ++ flips Undo made) c.args.disk.now c.flip_all.new.disk c.flip_made.new.disk (2 * nt) nt (2 + 2) (1 + 1) c.in_ok-flip_all.ensures.flips _
           (flips_stop g.D.Disk c.flip_all.new.disk c.flip_made.new.disk 2 1 (2 + 2) (1 + 1) (flips Undo s) (flips Undo made) _ (omega arith) (omega arith) c.in_err-flip_made.ensures.flips));
     }

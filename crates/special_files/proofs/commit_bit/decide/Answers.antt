@@ -2,7 +2,7 @@ use Rattle.std.proofs.Common.{◌≡◌, ◌+◌, ◌*◌, false, length, Ok, Er
 use Rattle.special_files.proofs.Words.{CommitFails, Trouble, is_damage, makes_then, puid_at, still_top}
 use Rattle.special_files.proofs.CommitDone.{bit_leaves, bit_put, bit_sound, leaves_then, makes_more, release_leaves, release_sound}
 use Rattle.special_files.proofs.commit.CommitRuns.{fails_after, map_fails}
-use Rattle.special_files.proofs.Refusals.{passed}
+use Rattle.finisher.proofs.Passed.{is_passed}
 use Rattle.intentions.specs.Runs.{runs}
 use Rattle.special_files.proofs.commit_bit.decide.Goals as goal
 
@@ -13,11 +13,11 @@ pub returns-in_err-flip_all-clause-leaves : goal.returns-in_err-flip_all-clause-
 returns-in_err-flip_all-clause-leaves g c = λ graph full word was o s taken created run ready. release_leaves g.D.Disk c.args.disk.now run ready c.flip_all.new.disk _ _ _ c.flip_all.ensures.flips
 
 pub returns-in_err-flip_all-clause-sound : goal.returns-in_err-flip_all-clause-sound
-returns-in_err-flip_all-clause-sound g c = λ graph full word was o s taken created run ready. passed (λ t. is_damage t ≡ false) _ _ c.from_residual.ensures.1
+returns-in_err-flip_all-clause-sound g c = λ graph full word was o s taken created run ready. rw (is_passed _ _ c.from_residual.ensures.1)
     (release_sound g.D.Disk c.args.disk.now run ready c.flip_all.new.disk _ _ _ c.in_err-flip_all.ensures.flips)
 
 pub returns-in_err-flip_all-clause-fails : goal.returns-in_err-flip_all-clause-fails
-returns-in_err-flip_all-clause-fails g c = λ kept. passed (CommitFails g.D.Disk (still_top c.args.at.0) c.args.disk.now c.flip_all.new.disk kept) _ _ c.from_residual.ensures.1 (c.in_err-flip_all.ensures.flips.fails c.args.at.0 kept)
+returns-in_err-flip_all-clause-fails g c = λ kept. rw (is_passed _ _ c.from_residual.ensures.1) (c.in_err-flip_all.ensures.flips.fails c.args.at.0 kept)
 
 pub returns-in_err-flip_all-clause-calls : goal.returns-in_err-flip_all-clause-calls
 returns-in_err-flip_all-clause-calls g c =

@@ -1,13 +1,15 @@
-use Rattle.std.proofs.Common.{Err, sym, subst}
-use Rattle.special_files.proofs.Words.{Flips, MapEntry, Trouble}
+use Rattle.finisher.proofs.Passed.{mapped_err, mapped_ok, passed}
+use Rattle.special_files.proofs.Words.{Flips, MapEntry, trouble_after_try}
 use Rattle.special_files.proofs.commit.CommitRuns.{one, one_done, one_failed}
 use Rattle.special_files.proofs.flips.flip.Goals as goal
 
-pub returns-in-Ok : goal.returns-in-Ok
-returns-in-Ok g c = record { flips = one_done g.D.Disk c.args.block.0 c.args.how c.args.disk.now c.change_entry.new.disk _ c.in-Ok.ensures.changes }
+pub returns : goal.returns
+returns g c = record { flips = one_done g.D.Disk c.args.block.0 c.args.how c.args.disk.now c.change_entry.new.disk _ (rw (mapped_ok _ _ _ c.in_ok-map_err.ensures.cases) at c.change_entry.ensures.changes) }
 
-pub returns-in-Err : goal.returns-in-Err
-returns-in-Err g c = record {
-  flips = subst (λ (t : Trouble). Flips g.D.Disk 2 1 (one c.args.block.0 c.args.how) c.args.disk.now c.change_entry.new.disk (Err t)) (sym c.after_try.ensures)
-      (one_failed g.D.Disk c.args.block.0 c.args.how c.args.disk.now c.change_entry.new.disk MapEntry c.requires.on_disk c.in-Err.trouble c.in-Err.ensures.changes);
-}
+pub returns-in_err-map_err : goal.returns-in_err-map_err
+returns-in_err-map_err g c =
+    let was = mapped_err trouble_after_try _ _ c.in_err-map_err.ensures.cases in
+    record {
+      flips = passed (Flips g.D.Disk 2 1 (one c.args.block.0 c.args.how) c.args.disk.now c.change_entry.new.disk) _ _ (rw was.2 at c.from_residual.ensures.1)
+          (one_failed g.D.Disk c.args.block.0 c.args.how c.args.disk.now c.change_entry.new.disk MapEntry c.requires.on_disk was.0 (rw was.1 at c.change_entry.ensures.changes));
+    }

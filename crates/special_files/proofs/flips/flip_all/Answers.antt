@@ -1,6 +1,7 @@
 use Rattle.std.proofs.Common.{◌≡◌, ℕ, ◌*◌, List, length, Ok, subst, ap, arith, length-drop}
 use Rattle.std.proofs.lemmas.List.{drop_all, take_all, take_rest}
 use Rattle.intentions.specs.Runs.{runs}
+use Rattle.finisher.proofs.Passed.{is_passed}
 use Rattle.special_files.proofs.commit.CommitRuns.{by_length, no_flips, run_fail, run_on}
 use Rattle.special_files.proofs.Words.{Flips, flips}
 use Rattle.special_files.proofs.flips.flip_all.Goals as goal
@@ -12,18 +13,18 @@ pub loop-done-preserved : goal.loop-done-preserved
 loop-done-preserved g c =
     let ns = c.args.blocks.now in
     let was = c.loop-done.invariant in
-    let made = rw take_rest at c.in-Ok.ensures in
+    let made = rw take_rest at c.in_ok-done.ensures in
     record {
       within = omega (arith, made.0, length-drop c.loop-done.done ns, was.within);
-      so_far = run_on g.D.Disk c.args.how ns c.loop-done.done was.so_far.0 c.args.disk.now c.loop-done.disk c.flip_run.new.disk was.so_far.2 was.so_far.1 c.in-Ok.count made;
+      so_far = run_on g.D.Disk c.args.how ns c.loop-done.done was.so_far.0 c.args.disk.now c.loop-done.disk c.flip_run.new.disk was.so_far.2 was.so_far.1 c.in_ok-done.field-0 made;
     }
 
-pub returns-in-Err : goal.returns-in-Err
-returns-in-Err g c =
-    let ns = c.args.blocks.now in
+pub returns-in_err-done : goal.returns-in_err-done
+returns-in_err-done g c = rw (is_passed _ _ c.from_residual.ensures.1)
+    (let ns = c.args.blocks.now in
     let was = c.loop-done.invariant in
-    let all = run_fail g.D.Disk c.args.how ns c.loop-done.done was.so_far.0 c.args.disk.now c.loop-done.disk c.flip_run.new.disk was.so_far.2 was.so_far.1 c.loop-done-test.true c.in-Err.trouble (rw take_rest at c.in-Err.ensures) in
-    record { flips = by_length g.D.Disk ns (flips c.args.how ns) c.args.disk.now c.flip_run.new.disk _ all; by_map = all.calls }
+    let all = run_fail g.D.Disk c.args.how ns c.loop-done.done was.so_far.0 c.args.disk.now c.loop-done.disk c.flip_run.new.disk was.so_far.2 was.so_far.1 c.loop-done-test.true c.in_err-done.field-0.0 (rw take_rest at c.in_err-done.ensures) in
+    record { flips = by_length g.D.Disk ns (flips c.args.how ns) c.args.disk.now c.flip_run.new.disk _ all; by_map = all.calls })
 
 pub returns : goal.returns
 returns g c =

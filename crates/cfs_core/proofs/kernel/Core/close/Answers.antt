@@ -15,6 +15,8 @@ use Rattle.cfs_core.proofs.Joined.{tries_since, tries_unfinished}
 use Rattle.cfs_core.proofs.Granted.{close_goes, close_none}
 use Rattle.cfs_core.proofs.Readied.{ready_at, sized_taken, sized_with}
 use Rattle.cfs_core.proofs.Handled.{grants_with, none_taken}
+use Rattle.cfs_core.proofs.Words.{refused_by}
+use Rattle.finisher.proofs.Passed.{is_passed}
 use Rattle.cfs_core.proofs.kernel.Core.close.Goals as goal
 
 is_none_of : (o : Option handles.Grant) → is_some o ≡ false → o ≡ None
@@ -58,13 +60,13 @@ returns-then-is_none-2 g c =
 
 -- ---- with one
 
-pub returns-in-Err : goal.returns-in-Err
-returns-in-Err g c =
+pub returns-in_err-tried : goal.returns-in_err-tried
+returns-in_err-tried g c =
     let k : Kernel _ = record { disk = c.self.inside.disk; root = c.self.inside.root; directory = c.self.inside.directory; space = c.self.inside.space; words = c.self.inside.words; handles = c.self.inside.handles.handles; collections = c.self.inside.collections; stop = c.self.inside.stop } in
     let request = asks.Close c.args.grant c.args.commit in
-    subst (λ x. Tries g.D.Disk x (record k { disk = c.finish.new.disk; space = c.finish.new.space }) c.args.who request (Err c.from.result)) c.self.view_is
-    (tries_unfinished g.D.Disk g.met.D.Disk.left_sized g.met.D.Disk.sized k c.finish.new.disk c.finish.new.space c.in-Err.trouble c.in-Err.ensures request c.args.who c.from.result c.from.ensures
-    (goes_on g.D.Disk k c.args.who c.args.grant c.args.commit (subst (λ o. IsSome o) c.find.ensures (is_some_of c.find.result (c.is_none.ensures ∙ ap not c.if-is_none.false))) (λ s. c.table_follows_the_model.ensures.found s c.args.who c.args.grant)))
+    rw (is_passed _ _ c.from_residual.ensures.1) (subst (λ x. Tries g.D.Disk x (record k { disk = c.finish.new.disk; space = c.finish.new.space }) c.args.who request (Err (refused_by c.in_err-tried.field-0.0))) c.self.view_is
+    (tries_unfinished g.D.Disk g.met.D.Disk.left_sized g.met.D.Disk.sized k c.finish.new.disk c.finish.new.space c.in_err-tried.field-0.0 c.in_err-tried.ensures request c.args.who _ refl
+    (goes_on g.D.Disk k c.args.who c.args.grant c.args.commit (subst (λ o. IsSome o) c.find.ensures (is_some_of c.find.result (c.is_none.ensures ∙ ap not c.if-is_none.false))) (λ s. c.table_follows_the_model.ensures.found s c.args.who c.args.grant))))
 
 pub invariant_of-self-in-Some : goal.invariant_of-self-in-Some
 invariant_of-self-in-Some g c =
@@ -77,7 +79,7 @@ end-requires g c = record {
   taken = ap (have_draft (is_at c.args.grant.draw)) c.take-2.ensures.handles ∙ none_taken c.args.grant.draw c.self.inside.handles.handles;
   found = subst (λ gs. IsSome (session_grant gs c.args.who c.args.grant)) (sym (ap grants_in c.take-2.ensures.handles ∙ grants_with c.args.grant.draw None c.self.inside.handles.handles))
       (subst (λ o. IsSome o) c.find.ensures (is_some_of c.find.result (c.is_none.ensures ∙ ap not c.if-is_none.false)));
-  left = c.in-Ok.ensures.done;
+  left = c.in_ok-tried.ensures.done;
 }
 
 pub returns : goal.returns
@@ -86,6 +88,6 @@ returns g c =
     let k : Kernel _ = record { disk = c.self.inside.disk; root = c.self.inside.root; directory = c.self.inside.directory; space = c.self.inside.space; words = c.self.inside.words; handles = c.self.inside.handles.handles; collections = c.self.inside.collections; stop = c.self.inside.stop } in
     let request = asks.Close c.args.grant c.args.commit in
     let now = c.end.ensures.tries k.handles c.take-2.ensures.handles (sym c.take-2.ensures.draft ∙ c.in-Some.is) in
-    let joined = tries_since G k c.finish.new.disk c.finish.new.space c.in-Ok.tried c.in-Ok.ensures g.met.D.Disk.left_sized g.met.D.Disk.sized c.end.new.self now.went.size request c.end.result c.end.ensures.told (never_of c.end.result c.end.ensures.never) c.args.who
+    let joined = tries_since G k c.finish.new.disk c.finish.new.space c.in_ok-tried.tried c.in_ok-tried.ensures g.met.D.Disk.left_sized g.met.D.Disk.sized c.end.new.self now.went.size request c.end.result c.end.ensures.told (never_of c.end.result c.end.ensures.never) c.args.who
     (goes_on G k c.args.who c.args.grant c.args.commit (subst (λ o. IsSome o) c.find.ensures (is_some_of c.find.result (c.is_none.ensures ∙ ap not c.if-is_none.false))) (λ s. c.table_follows_the_model.ensures.found s c.args.who c.args.grant)) now in
     subst (λ x. Tries G x c.end.new.self c.args.who request c.since.result) c.self.view_is (subst (λ r. Tries G k c.end.new.self c.args.who request r) (sym c.since.ensures) joined)

@@ -4,12 +4,12 @@ use Rattle.cfs_core.specs.Kernel.{grants_in}
 use Rattle.cfs_core.proofs.Ways.{named_of}
 use Rattle.cfs_core.proofs.kernel.Core.goes_to.Goals as goal
 
-pub returns-in-Some : goal.returns-in-Some
-returns-in-Some g c = λ s serves.
+pub returns-in_ok-find-in-Through : goal.returns-in_ok-find-in-Through
+returns-in_ok-find-in-Through g c = λ s serves.
     let found = c.find.ensures ∙ ap (λ gs. session_grant gs c.args.who c.in-Through.grant) (ap (λ k. grants_in k.handles) c.self.view_is ∙ serves.front.grants) ∙ c.table_follows_the_model.ensures.found s c.args.who c.in-Through.grant in
-    ap (option_map (λ x. x.id)) (sym c.in-Some.is) ∙ named_of c.find.result (grant_of s c.args.who c.in-Through.grant) found ∙ ap (named s c.args.who) (sym c.in-Through.is)
+    ap (option_map (λ x. x.id)) (sym c.in_ok-find-in-Through.was) ∙ named_of c.find.result (grant_of s c.args.who c.in-Through.grant) found ∙ ap (named s c.args.who) (sym c.in-Through.is)
 
-pub returns-in-None : goal.returns-in-None
-returns-in-None g c = λ s serves.
+pub returns-in_err-find-in-Through : goal.returns-in_err-find-in-Through
+returns-in_err-find-in-Through g c = rw c.from_residual.ensures (λ s serves.
     let found = c.find.ensures ∙ ap (λ gs. session_grant gs c.args.who c.in-Through.grant) (ap (λ k. grants_in k.handles) c.self.view_is ∙ serves.front.grants) ∙ c.table_follows_the_model.ensures.found s c.args.who c.in-Through.grant in
-    ap (option_map (λ x. x.id)) (sym c.in-None.is) ∙ named_of c.find.result (grant_of s c.args.who c.in-Through.grant) found ∙ ap (named s c.args.who) (sym c.in-Through.is)
+    ap (option_map (λ x. x.id)) (sym c.in_err-find-in-Through.was) ∙ named_of c.find.result (grant_of s c.args.who c.in-Through.grant) found ∙ ap (named s c.args.who) (sym c.in-Through.is))

@@ -9,17 +9,19 @@ use Rattle.cfs_core.specs.Kernel.{Kernel}
 use Rattle.cfs_core.proofs.Joined.{done_decides, done_never, tries_on_since, tries_on_unfinished}
 use Rattle.cfs_core.proofs.Putting.{tries_full, tries_put, tries_want_on}
 use Rattle.cfs_core.proofs.Refusing.{retain_need, retain_out}
+use Rattle.cfs_core.proofs.Words.{refused_by}
+use Rattle.finisher.proofs.Passed.{is_passed}
 use Rattle.cfs_core.proofs.kernel.Core.put.Goals as goal
 
-pub returns-in-Err : goal.returns-in-Err
-returns-in-Err g c = λ to. tries_want_on g.D.Disk g.met.D.Disk.left_sized g.met.D.Disk.sized c.args.self.now c.args.index c.args.slot (asks.Retain to c.args.slot c.args.id) c.in-Err.refused c.in-Err.ensures
+pub returns-in_err-room : goal.returns-in_err-room
+returns-in_err-room g c = λ to. rw (is_passed _ _ c.from_residual.ensures.1) (tries_want_on g.D.Disk g.met.D.Disk.left_sized g.met.D.Disk.sized c.args.self.now c.args.index c.args.slot (asks.Retain to c.args.slot c.args.id) c.in_err-room.field-0.0 c.in_err-room.ensures)
 
-pub returns-in-Err-finish : goal.returns-in-Err-finish
-returns-in-Err-finish g c = λ to.
+pub returns-in_err-tried : goal.returns-in_err-tried
+returns-in_err-tried g c = λ to.
     let k : Kernel _ = record { disk = c.self.inside.disk; root = c.self.inside.root; directory = c.self.inside.directory; space = c.self.inside.space; words = c.self.inside.words; handles = c.self.inside.handles.handles; collections = c.self.inside.collections; stop = c.self.inside.stop } in
     let request = asks.Retain to c.args.slot c.args.id in
-    subst (λ x. TriesOn g.D.Disk x (record k { disk = c.finish.new.disk; space = c.finish.new.space }) c.args.index c.args.slot request (Err c.from.result)) c.self.view_is
-    (tries_on_unfinished g.D.Disk g.met.D.Disk.left_sized g.met.D.Disk.sized k c.finish.new.disk c.finish.new.space c.in-Err-finish.trouble c.in-Err-finish.ensures request c.args.index c.args.slot c.from.result c.from.ensures)
+    rw (is_passed _ _ c.from_residual-in_err-tried.ensures.1) (subst (λ x. TriesOn g.D.Disk x (record k { disk = c.finish.new.disk; space = c.finish.new.space }) c.args.index c.args.slot request (Err (refused_by c.in_err-tried.field-0.0))) c.self.view_is
+    (tries_on_unfinished g.D.Disk g.met.D.Disk.left_sized g.met.D.Disk.sized k c.finish.new.disk c.finish.new.space c.in_err-tried.field-0.0 c.in_err-tried.ensures request c.args.index c.args.slot _ refl))
 
 pub returns : goal.returns
 returns g c = λ to.
@@ -49,6 +51,6 @@ returns g c = λ to.
       | inl few ↦ (λ is. let no = sym (c.retain-ended.ensures.full few).0 ∙ is in cc)
       | inr enough ↦ (λ is. rw is at (c.retain-ended.ensures.fills enough).refused)
     ] in
-    let joined = tries_on_since g.D.Disk k d1 k1 c.in-Ok-finish.tried c.in-Ok-finish.ensures g.met.D.Disk.left_sized g.met.D.Disk.sized new size request (done_or ended) (done_decides ended) (done_never ended never) c.args.index c.args.slot now in
+    let joined = tries_on_since g.D.Disk k d1 k1 c.in_ok-tried.tried c.in_ok-tried.ensures g.met.D.Disk.left_sized g.met.D.Disk.sized new size request (done_or ended) (done_decides ended) (done_never ended never) c.args.index c.args.slot now in
     subst (λ x. TriesOn g.D.Disk x new c.args.index c.args.slot request c.since.result) c.self.view_is
-    (subst (λ r. TriesOn g.D.Disk k new c.args.index c.args.slot request r) (sym (c.since.ensures ∙ ap (since c.in-Ok-finish.tried) c.done.ensures)) joined)
+    (subst (λ r. TriesOn g.D.Disk k new c.args.index c.args.slot request r) (sym (c.since.ensures ∙ ap (since c.in_ok-tried.tried) c.done.ensures)) joined)

@@ -18,14 +18,16 @@ use Rattle.cfs_core.proofs.Reached.{of_file, resize_goes, resize_range}
 use Rattle.cfs_core.proofs.Readied.{all_on_disk, sized_put}
 use Rattle.cfs_core.proofs.Refilled.{tries_redrafted}
 use Rattle.cfs_core.proofs.Views.{FindsGrant}
+use Rattle.cfs_core.proofs.Words.{refused_by}
+use Rattle.finisher.proofs.Passed.{is_passed}
 use Rattle.cfs_core.proofs.kernel.Core.resize_draft.Goals as goal
 
 within : (size : ℕ) → size ≤ most_bytes → nat_lt most_bytes size ≡ false
 within size less = grind (arith, nat_tests)
 
 pub returns-then-size-gt-MOST_BYTES : goal.returns-then-size-gt-MOST_BYTES
-returns-then-size-gt-MOST_BYTES g c = tries_refusal g.D.Disk g.met.D.Disk.left_sized g.met.D.Disk.sized c.args.self.now c.args.who (asks.Resize (Through c.args.grant) c.args.size) replies.Range tt
-    (λ s serves. resize_range g.D.Disk c.args.who c.args.grant (λ s. c.table_follows_the_model.ensures.found s c.args.who c.args.grant) c.args.self.now c.requires s serves c.args.size (lt-ltb most_bytes c.args.size c.if-size-gt-MOST_BYTES.true))
+returns-then-size-gt-MOST_BYTES g c = λ who drafted. tries_refusal g.D.Disk g.met.D.Disk.left_sized g.met.D.Disk.sized c.args.self.now who (asks.Resize (Through c.args.grant) c.args.size) replies.Range tt
+    (λ s serves. resize_range g.D.Disk who c.args.grant (λ s. c.table_follows_the_model.ensures.found s who c.args.grant) c.args.self.now drafted s serves c.args.size (lt-ltb most_bytes c.args.size c.if-size-gt-MOST_BYTES.true))
 
 pub resize-ended-requires-clause-has : goal.resize-ended-requires-clause-has
 resize-ended-requires-clause-has g c = record { drafting = c.requires.drafting; has = ap (λ x. drafting_at x.handles c.args.grant.draw) c.self.view_is ∙ c.requires.has; within = omega arith }
@@ -33,14 +35,14 @@ resize-ended-requires-clause-has g c = record { drafting = c.requires.drafting; 
 pub resize-ended-requires-clause-on_disk : goal.resize-ended-requires-clause-on_disk
 resize-ended-requires-clause-on_disk g c = all_on_disk c.self.invariant c.args.grant.draw _ c.finish.ensures.ends.calls.same.size
 
-pub returns-in-Err : goal.returns-in-Err
-returns-in-Err g c =
+pub returns-in_err-tried : goal.returns-in_err-tried
+returns-in_err-tried g c = λ who drafted.
     let k : Kernel _ = record { disk = c.self.inside.disk; root = c.self.inside.root; directory = c.self.inside.directory; space = c.self.inside.space; words = c.self.inside.words; handles = c.self.inside.handles.handles; collections = c.self.inside.collections; stop = c.self.inside.stop } in
-    let drafted : IsDrafted k AFile c.args.who c.args.grant = subst (λ x. IsDrafted x AFile c.args.who c.args.grant) (sym c.self.view_is) c.requires in
+    let drafted : IsDrafted k AFile who c.args.grant = subst (λ x. IsDrafted x AFile who c.args.grant) (sym c.self.view_is) drafted in
     let request = asks.Resize (Through c.args.grant) c.args.size in
-    subst (λ x. Tries g.D.Disk x (record k { disk = c.finish.new.disk; space = c.finish.new.space }) c.args.who request (Err c.from.result)) c.self.view_is
-    (tries_unfinished g.D.Disk g.met.D.Disk.left_sized g.met.D.Disk.sized k c.finish.new.disk c.finish.new.space c.in-Err.trouble c.in-Err.ensures request c.args.who c.from.result c.from.ensures
-    (λ s serves. resize_goes g.D.Disk c.args.who c.args.grant (λ s. c.table_follows_the_model.ensures.found s c.args.who c.args.grant) k drafted s serves c.args.size (within c.args.size (omega (arith, c.if-size-gt-MOST_BYTES.false)))))
+    rw (is_passed _ _ c.from_residual.ensures.1) (subst (λ x. Tries g.D.Disk x (record k { disk = c.finish.new.disk; space = c.finish.new.space }) who request (Err (refused_by c.in_err-tried.field-0.0))) c.self.view_is
+    (tries_unfinished g.D.Disk g.met.D.Disk.left_sized g.met.D.Disk.sized k c.finish.new.disk c.finish.new.space c.in_err-tried.field-0.0 c.in_err-tried.ensures request who _ refl
+    (λ s serves. resize_goes g.D.Disk who c.args.grant (λ s. c.table_follows_the_model.ensures.found s who c.args.grant) k drafted s serves c.args.size (within c.args.size (omega (arith, c.if-size-gt-MOST_BYTES.false))))))
 
 pub invariant_of-self-2 : goal.invariant_of-self-2
 invariant_of-self-2 g c =
@@ -48,18 +50,18 @@ invariant_of-self-2 g c =
     sized_put c.self.invariant c.args.grant.draw c.resize-ended.new.self.handles done done.so.stays c.resize-ended.new.disk c.resize-ended.new.space (done.so.calls.same.size ∙ c.finish.ensures.ends.calls.same.size) (done.so.cylinders ∙ c.finish.ensures.ends.moves)
 
 pub returns : goal.returns
-returns g c =
+returns g c = λ who drafted.
     let k : Kernel _ = record { disk = c.self.inside.disk; root = c.self.inside.root; directory = c.self.inside.directory; space = c.self.inside.space; words = c.self.inside.words; handles = c.self.inside.handles.handles; collections = c.self.inside.collections; stop = c.self.inside.stop } in
-    let drafted : IsDrafted k AFile c.args.who c.args.grant = subst (λ x. IsDrafted x AFile c.args.who c.args.grant) (sym c.self.view_is) c.requires in
+    let drafted : IsDrafted k AFile who c.args.grant = subst (λ x. IsDrafted x AFile who c.args.grant) (sym c.self.view_is) drafted in
     let request = asks.Resize (Through c.args.grant) c.args.size in
     let change = SetSize c.args.size in
     let new : Kernel _ = record k { disk = c.resize-ended.new.disk; space = c.resize-ended.new.space; handles = c.resize-ended.new.self.handles } in
-    let law : FindsGrant c.args.who c.args.grant = λ s. c.table_follows_the_model.ensures.found s c.args.who c.args.grant in
-    subst (λ x. Tries g.D.Disk x new c.args.who request c.since.result) c.self.view_is (subst (λ r. Tries g.D.Disk k new c.args.who request r) (sym (c.since.ensures ∙ ap (since c.in-Ok.tried) c.done.ensures))
-    (tries_where (tries_redrafted g.D.Disk g.met.D.Disk.left_sized g.met.D.Disk.sized k c.finish.new.disk c.finish.new.space c.in-Ok.tried c.in-Ok.ensures c.self.invariant.ready c.args.who c.args.grant change request (has_grant drafted law) refl c.resize-ended.new.disk c.resize-ended.new.space c.resize-ended.result
+    let law : FindsGrant who c.args.grant = λ s. c.table_follows_the_model.ensures.found s who c.args.grant in
+    subst (λ x. Tries g.D.Disk x new who request c.since.result) c.self.view_is (subst (λ r. Tries g.D.Disk k new who request r) (sym (c.since.ensures ∙ ap (since c.in_ok-tried.tried) c.done.ensures))
+    (tries_where (tries_redrafted g.D.Disk g.met.D.Disk.left_sized g.met.D.Disk.sized k c.finish.new.disk c.finish.new.space c.in_ok-tried.tried c.in_ok-tried.ensures c.self.invariant.ready who c.args.grant change request (has_grant drafted law) refl c.resize-ended.new.disk c.resize-ended.new.space c.resize-ended.result
     c.resize-ended.new.self.handles c.resize-ended.ensures)
     (λ s serves. record {
-      alters = file_alters s c.args.who c.args.grant request change (resize_changes (Through c.args.grant) c.args.size) refl;
-      of_it = of_file g.D.Disk c.args.who c.args.grant law k drafted s serves;
-      goes = resize_goes g.D.Disk c.args.who c.args.grant law k drafted s serves c.args.size (within c.args.size (omega (arith, c.if-size-gt-MOST_BYTES.false)));
+      alters = file_alters s who c.args.grant request change (resize_changes (Through c.args.grant) c.args.size) refl;
+      of_it = of_file g.D.Disk who c.args.grant law k drafted s serves;
+      goes = resize_goes g.D.Disk who c.args.grant law k drafted s serves c.args.size (within c.args.size (omega (arith, c.if-size-gt-MOST_BYTES.false)));
     })))

@@ -16,6 +16,8 @@ use Rattle.cfs_core.proofs.Filed.{tries_filed}
 use Rattle.cfs_core.proofs.Joined.{left_none, tries_unfinished}
 use Rattle.cfs_core.proofs.Refusing.{resize_goes, resize_range}
 use Rattle.leaf_changes.specs.Tops.{disk_top}
+use Rattle.cfs_core.proofs.Words.{refused_by}
+use Rattle.finisher.proofs.Passed.{is_passed}
 use Rattle.cfs_core.proofs.kernel.Core.resize_object.Goals as goal
 
 above : (size : ℕ) → most_bytes < size → nat_lt most_bytes size ≡ true
@@ -35,21 +37,21 @@ returns-then-size-gt-MOST_BYTES g c =
     let f = (c.in-Ok.ensures.reached request (record { to = refl; each = λ s who. refl })).0 s serves in
     resize_range 0 s c.args.who c.args.to c.in-Ok.there.0 f.0 c.args.size f.1 (above c.args.size (omega (arith, c.if-size-gt-MOST_BYTES.true))))
 
-pub returns-in-Err-room_for : goal.returns-in-Err-room_for
-returns-in-Err-room_for g c =
+pub returns-in_err-room : goal.returns-in_err-room
+returns-in_err-room g c =
     let k = c.args.self.now in
-    tries_want g.D.Disk g.met.D.Disk.left_sized g.met.D.Disk.sized 0 k k (reads_none g.D.Disk 0 k.disk) refl c.args.who (asks.Resize c.args.to c.args.size) c.in-Err-room_for.refused c.in-Err-room_for.ensures.wants
+    rw (is_passed _ _ c.from_residual.ensures.1) (tries_want g.D.Disk g.met.D.Disk.left_sized g.met.D.Disk.sized 0 k k (reads_none g.D.Disk 0 k.disk) refl c.args.who (asks.Resize c.args.to c.args.size) c.in_err-room.field-0.0 c.in_err-room.ensures.wants)
 
-pub returns-in-Err-finish : goal.returns-in-Err-finish
-returns-in-Err-finish g c =
+pub returns-in_err-tried : goal.returns-in_err-tried
+returns-in_err-tried g c =
     let k : Kernel _ = record { disk = c.self.inside.disk; root = c.self.inside.root; directory = c.self.inside.directory; space = c.self.inside.space; words = c.self.inside.words; handles = c.self.inside.handles.handles; collections = c.self.inside.collections; stop = c.self.inside.stop } in
     let request = asks.Resize c.args.to c.args.size in
     let reach = subst (λ x. ReachesAll g.D.Disk objects.File x c.args.who request c.in-Ok.there.0) (sym c.self.view_is) (c.in-Ok.ensures.reached request (record { to = refl; each = λ s who. refl })) in
-    subst (λ x. Tries g.D.Disk x (record k { disk = c.finish.new.disk; space = c.finish.new.space }) c.args.who request (Err c.from.result)) c.self.view_is
-    (tries_unfinished g.D.Disk g.met.D.Disk.left_sized g.met.D.Disk.sized k c.finish.new.disk c.finish.new.space c.in-Err-finish.trouble c.in-Err-finish.ensures request c.args.who c.from.result c.from.ensures
+    rw (is_passed _ _ c.from_residual-in_err-tried.ensures.1) (subst (λ x. Tries g.D.Disk x (record k { disk = c.finish.new.disk; space = c.finish.new.space }) c.args.who request (Err (refused_by c.in_err-tried.field-0.0))) c.self.view_is
+    (tries_unfinished g.D.Disk g.met.D.Disk.left_sized g.met.D.Disk.sized k c.finish.new.disk c.finish.new.space c.in_err-tried.field-0.0 c.in_err-tried.ensures request c.args.who _ refl
     (λ s serves.
     let r = reach.0 s serves in
-    resize_goes k.words.seed s c.args.who c.args.to c.in-Ok.there.0 r.0 c.args.size r.1 (within c.args.size (omega (arith, c.if-size-gt-MOST_BYTES.false)))))
+    resize_goes k.words.seed s c.args.who c.args.to c.in-Ok.there.0 r.0 c.args.size r.1 (within c.args.size (omega (arith, c.if-size-gt-MOST_BYTES.false))))))
 
 pub returns : goal.returns
 returns g c =
@@ -61,9 +63,9 @@ returns g c =
     let new : Kernel _ = record k { disk = c.resize-ended.new.disk; space = c.resize-ended.new.space } in
     let changes = c.resize-ended.ensures.changes in
     let less : c.args.size ≤ most_bytes = omega (arith, c.if-size-gt-MOST_BYTES.false) in
-    let done = tries_filed G g.met.D.Disk.left_sized g.met.D.Disk.sized k 0 k.disk (reads_none G 0 k.disk) d1 c.finish.new.space c.in-Ok-finish.tried c.in-Ok-finish.ensures 0 d1 (reads_none G 0 d1) c.in-Ok.there.0 request c.args.who reach
+    let done = tries_filed G g.met.D.Disk.left_sized g.met.D.Disk.sized k 0 k.disk (reads_none G 0 k.disk) d1 c.finish.new.space c.in_ok-tried.tried c.in_ok-tried.ensures 0 d1 (reads_none G 0 d1) c.in-Ok.there.0 request c.args.who reach
     c.resize-ended.new.disk c.resize-ended.new.space c.in-Ok.there.1 (SetSize c.args.size) (resize_changes c.args.to c.args.size) c.resize-ended.result
     (disk_top G c.in-Ok.there.0.block d1) refl changes.ends (λ told tells. changes)
-    (λ none size far. subst (λ (x : _). (disk_top G c.in-Ok.there.0.block x).IsFar size) (c.in-Ok-finish.ensures.none (left_none k.space.left (sym c.in-Ok-finish.ensures.told ∙ none))).0 far) (λ some size far. far) (λ special wanted. (rw wanted at (c.resize-ended.ensures.memory (c.in-Ok-room_for.ensures.room special))) refl)
+    (λ none size far. subst (λ (x : _). (disk_top G c.in-Ok.there.0.block x).IsFar size) (c.in_ok-tried.ensures.none (left_none k.space.left (sym c.in_ok-tried.ensures.told ∙ none))).0 far) (λ some size far. far) (λ special wanted. (rw wanted at (c.resize-ended.ensures.memory (c.in_ok-room.ensures.room special))) refl)
     (λ s f serves r shut. (c.in-Ok.ensures.kind s f (subst (λ x. ServesIs G x s) c.self.view_is serves) r.there, less, resize_goes k.words.seed s c.args.who c.args.to c.in-Ok.there.0 f c.args.size r (within c.args.size less))) in
-    subst (λ x. Tries G x new c.args.who request c.since.result) c.self.view_is (subst (λ r. Tries G k new c.args.who request r) (sym (c.since.ensures ∙ ap (since c.in-Ok-finish.tried) c.done.ensures)) done)
+    subst (λ x. Tries G x new c.args.who request c.since.result) c.self.view_is (subst (λ r. Tries G k new c.args.who request r) (sym (c.since.ensures ∙ ap (since c.in_ok-tried.tried) c.done.ensures)) done)

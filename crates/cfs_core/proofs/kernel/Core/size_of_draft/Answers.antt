@@ -10,7 +10,7 @@ use Rattle.cfs_core.proofs.Reached.{tries_size}
 use Rattle.cfs_core.proofs.kernel.Core.size_of_draft.Goals as goal
 
 pub returns : goal.returns
-returns g c =
+returns g c = λ who drafted.
     let k = c.args.self.now in
-    let drafted : IsDrafted k AFile c.args.who c.args.grant = drafted_as c.requires c.in-Some.draft.now (ap (λ x. drafting_at x.handles c.args.grant.draw) (sym c.self.view_is) ∙ sym c.draft.ensures ∙ ap option_copied c.in-Some.is) in
-    subst (λ n. Tries g.D.Disk k k c.args.who (asks.Size (Through c.args.grant)) (Ok (replies.Number n))) (sym c.size.ensures) (tries_size g.D.Disk g.met.D.Disk.left_sized g.met.D.Disk.sized c.args.who c.args.grant (λ s. c.table_follows_the_model.ensures.found s c.args.who c.args.grant) k drafted)
+    let drafted : IsDrafted k AFile who c.args.grant = drafted_as drafted c.in-Some.draft.now (ap (λ x. drafting_at x.handles c.args.grant.draw) (sym c.self.view_is) ∙ sym c.draft.ensures ∙ ap option_copied c.in-Some.is) in
+    subst (λ n. Tries g.D.Disk k k who (asks.Size (Through c.args.grant)) (Ok (replies.Number n))) (sym c.size.ensures) (tries_size g.D.Disk g.met.D.Disk.left_sized g.met.D.Disk.sized who c.args.grant (λ s. c.table_follows_the_model.ensures.found s who c.args.grant) k drafted)

@@ -16,8 +16,8 @@ loop-cylinder-preserved g c =
           (λ j less. ap (λ (l : List ℕ). get_or l j 0) put ∙ get_or-set_other c.loop-cylinder.counts at j _ 0 (λ (e : j ≡ at). absurd (omega arith)) ∙ before.counts tells j less)
           (ap (λ (l : List ℕ). get_or l at 0) put
           ∙ get_or-set_same c.loop-cylinder.counts at _ 0 (omega (arith, before.size, c.loop-cylinder-test.true))
-          ∙ c.in-Ok-count_free.ensures.counted (tells_on g.D.Disk c.args.disk.now c.loop-cylinder.disk c.loop-cylinder.disk at before.reads tells)
+          ∙ c.in_ok-count_free.ensures.counted (tells_on g.D.Disk c.args.disk.now c.loop-cylinder.disk c.loop-cylinder.disk at before.reads tells)
           ∙ ap (λ (i : Image). free_in_cylinder i at) before.reads.content);
       whole = λ tells. below_more (λ (j : ℕ). IsGoodMap image (64 * j)) at (before.whole tells)
-          (subst (λ (i : Image). IsGoodMap i (64 * at)) before.reads.content (c.in-Ok-count_free.ensures.whole (tells_on g.D.Disk c.args.disk.now c.loop-cylinder.disk c.loop-cylinder.disk at before.reads tells)));
+          (subst (λ (i : Image). IsGoodMap i (64 * at)) before.reads.content (c.in_ok-count_free.ensures.whole (tells_on g.D.Disk c.args.disk.now c.loop-cylinder.disk c.loop-cylinder.disk at before.reads tells)));
     }

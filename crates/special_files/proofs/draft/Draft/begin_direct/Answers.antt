@@ -5,9 +5,7 @@ use Rattle.special_files.proofs.View.{read_leaves, read_refused}
 use Rattle.special_files.proofs.draft.Draft.begin_direct.Goals as goal
 
 pub returns-in_err-root-clause-begins : goal.returns-in_err-root-clause-begins
-returns-in_err-root-clause-begins g c = λ v.
-    let own = own_root v in
-    read_refused c.in_err-root.ensures.reads _ _ c.from_residual.ensures.1 (c.in_err-root.ensures.sound own.0 v.store.carries.tells own.1)
+returns-in_err-root-clause-begins g c = λ v. let own = own_root v in read_refused c.in_err-root.ensures.reads _ _ c.from_residual.ensures.1 (c.in_err-root.ensures.sound own.0 v.store.carries.tells own.1)
 
 pub returns-clause-begins : goal.returns-clause-begins
 returns-clause-begins g c = λ v.

@@ -1,7 +1,7 @@
-use Rattle.std.proofs.Common.{◌≡◌, ◌%◌, List, ℕ, false, sym, ◌∙◌, ap, arith, rules}
+use Rattle.std.proofs.Common.{◌%◌, List, ℕ, sym, ◌∙◌, ap, arith, rules}
 use Rattle.special_files.proofs.Ways.{way_of_none}
-use Rattle.special_files.proofs.Words.{IsDraftTrouble, index_to_leaves, is_damage, leaves_below, slot_in, top_of}
-use Rattle.special_files.proofs.Refusals.{passed}
+use Rattle.special_files.proofs.Words.{index_to_leaves, leaves_below, slot_in}
+use Rattle.finisher.proofs.Passed.{is_passed}
 use Rattle.special_files.proofs.View.{seen_tree}
 use Rattle.special_files.proofs.draft.Draft.slot.Goals as goal
 
@@ -20,9 +20,9 @@ pub returns-in_err-content : goal.returns-in_err-content
 returns-in_err-content g c =
     let turns = c.in_err-content.ensures.turns in
     record {
-      looks = λ v. record { found = search rules; sound = passed (λ t. is_damage t ≡ false) _ _ c.from_residual.ensures.1 (turns.sound (seen_tree v) (way_of_none (g.D.Disk.content c.args.disk.now) c.args.self.now.root c.new-way.result c.new-way.ensures)) };
+      looks = λ v. record { found = search rules; sound = rw (is_passed _ _ c.from_residual.ensures.1) (turns.sound (seen_tree v) (way_of_none (g.D.Disk.content c.args.disk.now) c.args.self.now.root c.new-way.result c.new-way.ensures)) };
       call = record {
-        refused = λ kept. passed (IsDraftTrouble g.D.Disk (top_of c.args.self.now) c.args.disk.now c.leaf_bytes.new.disk kept) _ _ c.from_residual.ensures.1 (turns.refused kept);
+        refused = λ kept. rw (is_passed _ _ c.from_residual.ensures.1) (turns.refused kept);
         untried = search rules;
         reads = turns.reads;
       };

@@ -1,0 +1,42 @@
+-- What a command asks for, in the words of the definitions.
+use Rattle.std.specs.Prelude.{map, string_bytes, false, Option, Some, None}
+use Rattle.cfs_serve.specs.declared.command.Command.{Command}
+use Rattle.cfs_serve.specs.declared.command.Command.TheVariants as commands
+use Rattle.cfs_serve.specs.declared.command.Format as formats
+use Rattle.cfs_serve.specs.declared.command.Play.{Play}
+use Rattle.cfs_serve.specs.declared.command.Serve.{Serve}
+use Rattle.cfs_serve.specs.declared.command.Spin as spins
+use Rattle.cfs_serve.specs.Words.{Asked, Audits, Format, Formats, InFile, InMemory, Nothing, Serves, Service, Shows, Spin, Spins, files_in}
+
+abbrev pub format_of : formats.Format → Format
+format_of f = record { volume = f.volume.now; cylinders = f.cylinders; seed = f.seed; pair = f.pair }
+
+abbrev pub played_service : Play → Service
+played_service p = record {
+  volume = InMemory p.cylinders;
+  seed = p.seed;
+  collections = p.collections;
+  sessions = files_in (map string_bytes p.files.now);
+  traced = p.traced;
+}
+
+abbrev pub served_service : Serve → Service
+served_service s = record {
+  volume = InFile s.volume.now s.pair;
+  seed = s.seed;
+  collections = s.collections;
+  sessions = files_in (map string_bytes s.files.now);
+  traced = false;
+}
+
+abbrev pub spin_of : spins.Spin → Spin
+spin_of s = record { cylinders = s.cylinders; seed = s.seed; count = s.count }
+
+abbrev pub asked_of : Option Command → Asked
+asked_of (Some (commands.Page page)) = Shows page
+asked_of (Some (commands.Format format)) = Formats (format_of format)
+asked_of (Some (commands.Audit trail)) = Audits trail.now
+asked_of (Some (commands.Play play)) = Serves (played_service play)
+asked_of (Some (commands.Spin spin)) = Spins (spin_of spin)
+asked_of (Some (commands.Serve serve)) = Serves (served_service serve)
+asked_of None = Nothing
