@@ -8,12 +8,14 @@ BLOCK = 512
 CYLINDER = 64
 LARGEST = 7864320
 NORMAL, SPECIAL, INDEX = 1, 2, 3
-NOWHERE, ROOT, SHADOW, NODE, LEAF = range(5)
+NOWHERE, ROOT, SHADOW, NODE, LEAF, SPAN = range(6)
 RESERVED = (1, NOWHERE, 0, 0)
+FREE = (0, NOWHERE, 0, 0)
 
 
 def is_entry(first, place, number, owner):
-    """Whether a map may have this entry: its first byte, place, number of node or leaf, and owner."""
+    """Whether a map may have this entry: its first byte, its second, the two after it, and its owner. The second byte
+    tells the place; that of a leaf has in its high half what of the leaf's number is past sixteen bits."""
     if place == NOWHERE:
         return first in (0, 1) and number == 0 and owner == 0
     if owner == 0:
@@ -22,7 +24,8 @@ def is_entry(first, place, number, owner):
         return first in (0x01, 0x02, 0x81, 0x82) and number == 0
     if place == SHADOW:
         return first in (1, 2) and number == 0
-    return first in (1, 2, 3) and (place == NODE and number < 120 or place == LEAF and number < 15360)
+    return first in (1, 2, 3) and (
+        place == NODE and number < 8192 or place % 16 == LEAF or place == SPAN and number < 64)
 
 
 @dataclass
@@ -82,14 +85,14 @@ class Volume:
         if self.blocks < 3 or label[:4] != b'CFS1':
             return 'not-volume'
         version, self.cylinders, two, self.word = struct.unpack_from('>IIII', label, 4)
-        if version != 1:
+        if version not in (1, 2):
             return 'version %d' % version
         if not 1 <= self.cylinders <= 65536 or two != 2 or any(label[20:]):
             return 'not-volume'
         return None
 
     def maps(self):
-        """Reads the maps: all entries, None for what is none, and what stands for each root block."""
+        """Reads the maps: all entries, Free for what is none, and what stands for each root block."""
         self.entries = []
         self.standing = defaultdict(list)
         if self.blocks != CYLINDER * self.cylinders:
@@ -105,53 +108,56 @@ class Volume:
                     self.faults.add((at, 5))
                 if entry[:2] == (2, SHADOW) and good:
                     self.standing[entry[3]].append(at)
-                self.entries.append(entry if good else None)
+                self.entries.append(entry if good else FREE)
 
     def has_entry(self, at, place, number, owner):
         """Whether the entry tells of this place, whatever its state."""
-        return self.entries[at] is None or self.entries[at][1:] == (place, number, owner)
+        return self.entries[at][1:] == (place, number, owner)
 
-    def sources(self, at):
-        """The blocks that the object with this root block may be read from: one, but for several shadow roots."""
+    def shown(self, at):
+        """The block that the object with this root block is read from, and the root in it; None where it can't be
+        read. What is wrong with its root and with each of its shadow roots."""
         root = root_of(self.block(at))
-        has_bit = self.entries[at] is not None and self.entries[at][0] >= 0x80
-        if not has_bit or not self.standing[at]:
-            return [(at, root)]
-        if len(self.standing[at]) > 1:
-            self.faults.add((at, 7))
-        good = []
-        for shadow in self.standing[at]:
+        if root is None:
+            self.faults.add((at, 3))
+        has_bit = self.entries[at][0] >= 0x80 and self.entries[at][1:] == (ROOT, 0, at)
+        standing = self.standing[at] if has_bit else []
+        good = {at: root}
+        for shadow in standing:
             stands = root_of(self.block(shadow))
-            if stands is None or (stands.kind, stands.word) != (root.kind, root.word):
+            if stands is None or root is not None and (stands.kind, stands.word) != (root.kind, root.word):
                 self.faults.add((shadow, 3))
             else:
-                good.append((shadow, stands))
-        return good
+                good[shadow] = stands
+        if len(standing) > 1:
+            self.faults.add((at, 7))
+        source = standing[0] if len(standing) == 1 else at
+        return None if root is None or source not in good else (source, good[source])
 
     def walk(self):
         """Reads all that can be reached from block 2."""
         root = root_of(self.block(2))
-        if root is None:
-            self.faults.add((2, 3))
-            return
-        if root.word != self.word:
+        if root is not None and root.word != self.word:
             self.faults.add((1, 6))
-        seen = {2}
+        self.reached = {2}
         waiting = [2]
         while waiting:
             at = waiting.pop()
             if not self.has_entry(at, ROOT, 0, at):
                 self.faults.add((at, 5))
-            for source, root in self.sources(at):
-                if at == 2 and (root.kind, root.size) != (INDEX, 512):
-                    self.faults.add((2, 6))
-                    continue
-                self.objects[at] = self.tree(at, source, root)
-                if root.kind == INDEX:
-                    for next in self.named(self.objects[at]):
-                        if next not in seen:
-                            seen.add(next)
-                            waiting.append(next)
+            shown = self.shown(at)
+            if shown is None:
+                continue
+            source, root = shown
+            if at == 2 and (root.kind, root.size) != (INDEX, 512):
+                self.faults.add((2, 6))
+                continue
+            self.objects[at] = self.tree(at, source, root)
+            if root.kind == INDEX:
+                for next in self.named(self.objects[at]):
+                    if next not in self.reached:
+                        self.reached.add(next)
+                        waiting.append(next)
 
     def tree(self, at, source, root):
         """The object with this root, and what is wrong in its tree."""
@@ -196,9 +202,7 @@ class Volume:
                 self.faults.add((leaf, 6))
                 continue
             root = root_of(self.block(block))
-            if root is None:
-                self.faults.add((block, 3))
-            elif root.word != word:
+            if root is not None and root.word != word:
                 self.faults.add((leaf, 6))
             else:
                 yield block
@@ -211,12 +215,13 @@ class Volume:
 
     def held(self):
         """The blocks of the rooted objects."""
-        return {block for at, found in self.objects.items()
-                for block in (at, *found.nodes.values(), *found.leaves.values())}
+        return self.reached | {block for found in self.objects.values()
+                               for block in (*found.nodes.values(), *found.leaves.values())}
 
     def room(self):
         """Counts what the rooted objects leave."""
-        self.free = 63 * self.cylinders - 1 - len(self.held())
+        fixed = {1, *range(0, self.blocks, CYLINDER)}
+        self.free = self.blocks - len(fixed | self.held())
         if self.free < 4:
             self.faults.add((0, 11))
 

@@ -1,7 +1,7 @@
 -- The tree of a root as the calls walk it: a pointer of the root, and then one of a node.
-use Rattle.std.proofs.Common.{◌≡◌, ◌≢◌, replicate, ℕ, zero, suc, ◌+◌, ◌/◌, ◌%◌, ◌<◌, ◌^◌, List, [], ◌∷◌, ◌++◌, length, take, get_or, refl, sym, ◌∙◌, ap, subst, arith, None}
+use Rattle.std.proofs.Common.{◌≡◌, ◌≢◌, replicate, ℕ, zero, suc, ◌+◌, ◌/◌, ◌%◌, ◌<◌, ◌^◌, List, [], ◌∷◌, ◌++◌, length, take, get_or, refl, sym, ◌∙◌, ap, subst, arith}
 use Rattle.block_tree.specs.Reads.{holder_block}
-use Rattle.block_tree.specs.Tree.{LeadsPast, pointer_at}
+use Rattle.block_tree.specs.Tree.{LeadsPast}
 use Rattle.block_tree.proofs.Words.{Image, IsLeafPointer, IsPast, Level, PastAbove, PastOn, Pointer, Root, block_at, bytes_in, div-one, end_of, get_or-map-range_with_len, leaf_block, leaf_bytes, leaf_pointers, levels_of, node_pointers, number_at, path_to, pointer, pointers_of, root_spelling, tree_of}
 use Rattle.block_tree.proofs.Numbers.{number_back}
 
@@ -32,40 +32,6 @@ leaf_is image root leaf = ap (tree_of image root) (path_is root leaf)
 pub node_block : (image : Image) (root : List ℕ) (k : ℕ) → tree_of image root (k ∷ []) ≡ pointer node_pointers root k
 unfolding levels_of
 node_block image root k = refl
-
--- a pointer of the root
-abbrev pub root_pointer : ℕ → Pointer
-root_pointer block = record { holder = None; block = block }
-
--- the pointers above a leaf: the one to its node
-pub past_is : (image : Image) (size : ℕ) (root : List ℕ) (leaf : ℕ) (p : Pointer) → PastAbove image size root leaf p → (p ≡ root_pointer (pointer node_pointers root (leaf / leaf_pointers.count))) × IsPast size p.block
-past_is image size root leaf p past = on past.past.path past.past.k past.past.rest (past.past.on ∙ path_is root leaf) past.above past.past.is past.past.past
-  where
-    on : (path : List ℕ) (k : ℕ) (rest : List ℕ) → path ++ k ∷ rest ≡ leaf / leaf_pointers.count ∷ leaf % leaf_pointers.count ∷ [] → rest ≢ [] → p ≡ pointer_at image root path k → IsPast size p.block
-        → (p ≡ root_pointer (pointer node_pointers root (leaf / leaf_pointers.count))) × IsPast size p.block
-    on [] k rest is more at past = (at ∙ ap (pointer_at image root []) (let e = is in cc) ∙ ap root_pointer (node_block image root (leaf / leaf_pointers.count)), past)
-    on (a ∷ []) k [] is more at past = absurd (more refl)
-    on (a ∷ []) k (b ∷ rest) is more at past = cc
-    on (a ∷ b ∷ []) k rest is more at past = cc
-    on (a ∷ b ∷ c ∷ path) k rest is more at past = cc
-
-pub is_past : (image : Image) (size : ℕ) (root : List ℕ) (leaf block : ℕ) → block ≡ pointer node_pointers root (leaf / leaf_pointers.count) → IsPast size block → PastAbove image size root leaf (root_pointer block)
-is_past image size root leaf block is past = record {
-  past = record {
-    path = [];
-    k = leaf / leaf_pointers.count;
-    rest = leaf % leaf_pointers.count ∷ [];
-    on = sym (path_is root leaf);
-    is = ap root_pointer (is ∙ sym (node_block image root (leaf / leaf_pointers.count)));
-    past = past;
-  };
-  above = λ none. cc;
-}
-
-pub none_past : (image : Image) (size : ℕ) (root : List ℕ) (leaf n : ℕ) → n ≡ pointer node_pointers root (leaf / leaf_pointers.count) → ¬ IsPast size n → (p : Pointer) → ¬ PastAbove image size root leaf p
-none_past image size root leaf n is none p past =
-    let to = past_is image size root leaf p past in
-    none (subst (IsPast size) (ap (λ (p : Pointer). p.block) to.0 ∙ sym is) to.1)
 
 -- ---- a leaf's bytes
 

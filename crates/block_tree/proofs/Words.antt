@@ -7,10 +7,10 @@ pub use Rattle.block_tree.specs.Reads.{IsFault, IsPast, leaves_at}
 pub use Rattle.block_tree.specs.Root.{Fits, IsFill, IsFirstBadByte, IsGoodRoot, IsRootBlock, IsSize, kind_code}
 unfoldable pub use Rattle.block_tree.specs.Root.{root_spelling}
 pub use Rattle.block_tree.specs.Follow.{PastFrom, first_pointer, next_pointer, pointer_below, pointer_from}
-pub use Rattle.block_tree.specs.Step.{IsFirstSet, IsPastFrom, IsStep, IsStepped, NoneHeld, NoneSet, SomeHeld, SomeSet}
-pub use Rattle.block_tree.specs.Tree.{AreQuiet, HasNoDeadEnd, IsLeafPointer, PastAbove, PastOn, bytes_in, end_of, leaves_with_blocks, leaf_block, leaf_bytes, leaf_count, pointer, tree_of}
+pub use Rattle.block_tree.specs.Step.{IsFirstSet, IsPlaced, IsStepped, NoneHeld, NoneSet, SomeHeld, SomeSet}
+pub use Rattle.block_tree.specs.Tree.{AreQuiet, EachLeaf, HasNoDeadEnd, HasNearPath, IsLeafPointer, PastAbove, PastOn, bytes_in, end_of, leaves_with_blocks, leaf_block, leaf_bytes, leaf_count, pointer, tree_of}
 unfoldable pub use Rattle.block_tree.specs.Tree.{levels_of, path_to}
-pub use Rattle.block_tree.specs.Walk.{IsFirstHeld, IsFirstOf, IsFirstPast, IsLaterIn}
+pub use Rattle.block_tree.specs.Walk.{IsFirstHeld, IsFirstPast}
 pub use Rattle.block_tree.specs.declared.fault.TreeFault.{TreeFault}
 pub use Rattle.block_tree.specs.declared.follow.Pointer.{Pointer}
 pub use Rattle.block_tree.specs.declared.node.Node.{Node}
@@ -18,6 +18,7 @@ pub use Rattle.block_tree.specs.declared.root.BadRoot.{BadRoot}
 pub use Rattle.block_tree.specs.declared.root.Root.{Root}
 pub use Rattle.block_tree.specs.declared.root.TheConstants.{SIZE_LIMIT}
 pub use Rattle.block_tree.specs.declared.step.HeldStep.{HeldStep}
+pub use Rattle.block_tree.specs.declared.step.LeafStep.{LeafStep}
 pub use Rattle.block_tree.specs.declared.walk.HeldLeaf.{HeldLeaf}
 pub use Rattle.cfs_base.proofs.Calls.{failed_after, reads_then, reads_within, stopped_after_reads, tells_on}
 pub use Rattle.cfs_base.specs.Calls.{OnlyReads}

@@ -1,18 +1,21 @@
--- One step over the held leaves of a tree: the next of them, and whether another follows.
-use Rattle.std.specs.Prelude.{◌≡◌, ◌≢◌, ◌⊎◌, ℕ, zero, suc, ◌+◌, ◌*◌, ◌%◌, ◌<◌, ◌≤◌, true, false, List, []}
-use Rattle.std.specs.Prelude.{◌∷◌, ◌++◌, length, get_or, Option, Some, None}
+-- One step over the held leaves of a tree: the next of them, and where the one after it is to be sought.
+use Rattle.std.specs.Prelude.{◌≡◌, ◌≢◌, ℕ, zero, suc, ◌+◌, ◌*◌, ◌/◌, ◌%◌, ◌<◌, ◌≤◌, List, []}
+use Rattle.std.specs.Prelude.{◌∷◌, ◌++◌, length, get_or, Option, Some, None, IfSome}
 use Rattle.cfs_base.specs.Disk.{Image}
 use Rattle.block_tree.specs.declared.follow.Pointer.{Pointer}
 use Rattle.block_tree.specs.declared.step.HeldStep.{HeldStep}
+use Rattle.block_tree.specs.declared.step.LeafStep.{LeafStep}
+use Rattle.block_tree.specs.declared.walk.HeldLeaf.{HeldLeaf}
+use Rattle.block_tree.specs.Reads.{leaves_at}
 use Rattle.block_tree.specs.Follow.{PastFrom, first_pointer, pointer_below}
-use Rattle.block_tree.specs.Pointers.{Level, width}
-use Rattle.block_tree.specs.Tree.{end_of, leaf_count, leaf_block, PastAbove, path_to}
+use Rattle.block_tree.specs.Pointers.{Level, leaf_pointers, levels_below, node_levels, node_pointers, pointers_of, width}
+use Rattle.block_tree.specs.Tree.{EachLeaf, end_of, leaf_block, leaf_count, path_to}
 
 -- ---- over leaves whose blocks a function gives
 
 -- no leaf from one on up to another is held
 abbrev pub NoneOf : (ℕ → ℕ) → ℕ → ℕ → Type 0
-NoneOf block from to = (leaf : ℕ) → from ≤ leaf → leaf < to → block leaf ≡ 0
+NoneOf block from to = EachLeaf from to (λ leaf. block leaf ≡ 0)
 
 -- some leaf from one on is, of so many
 pub record SomeOf (block : ℕ → ℕ) (count from : ℕ) : Type 0 where
@@ -21,19 +24,45 @@ pub record SomeOf (block : ℕ → ℕ) (count from : ℕ) : Type 0 where
   pub inside : leaf < count
   pub held : block leaf ≢ 0
 
--- the first leaf from one on that is held; another follows, or none does
-pub record IsStepOf (block : ℕ → ℕ) (count from : ℕ) (step : HeldStep) : Type 0 where
+-- the first leaf from one on that is held
+pub record IsNextLeaf (block : ℕ → ℕ) (count from : ℕ) (held : HeldLeaf) : Type 0 where
+  pub on : from ≤ held.leaf
+  pub inside : held.leaf < count
+  pub block_is : block held.leaf ≡ held.block
+  pub is_held : held.block ≢ 0
+  pub before : NoneOf block from held.leaf
+
+-- up to where the next is to be sought, or to the end
+abbrev pub upto : (count : ℕ) → Option ℕ → ℕ
+upto count None = count
+upto count (Some n) = n
+
+-- what is found of the leaves up to another: the first that is held, and else none is
+abbrev pub IsFoundOf : (ℕ → ℕ) → (from : ℕ) → Option HeldStep → (to : ℕ) → Type 0
+IsFoundOf block from (Some step) to = IsNextLeaf block to from step.held × NoneOf block (step.held.leaf + 1) to
+IsFoundOf block from None to = NoneOf block from to
+
+-- What a step tells of the leaves from one on: what is held of those before the one at which the next is to be sought.
+pub record IsSteppedOf (block : ℕ → ℕ) (count from : ℕ) (step : LeafStep) : Type 0 where
+  pub found : IsFoundOf block from step.found (upto count step.next)
+  pub most : upto count step.next ≤ count
+
+-- it finds one, if there is one
+abbrev pub IsSureStep : LeafStep → Type 0
+IsSureStep step = step.found ≡ None → step.next ≡ None
+
+-- a leaf from one on, of so many, and its block
+pub record IsHeldAmong (count from : ℕ) (step : HeldStep) : Type 0 where
   pub on : from ≤ step.held.leaf
   pub inside : step.held.leaf < count
-  pub block_is : block step.held.leaf ≡ step.held.block
   pub is_held : step.held.block ≢ 0
-  pub before : NoneOf block from step.held.leaf
-  pub follows : step.follows ≡ true → SomeOf block count (step.held.leaf + 1)
-  pub last : step.follows ≡ false → NoneOf block (step.held.leaf + 1) count
 
-abbrev pub IsSteppedOf : (ℕ → ℕ) → (count from : ℕ) → Option HeldStep → Type 0
-IsSteppedOf block count from (Some step) = IsStepOf block count from step
-IsSteppedOf block count from None = NoneOf block from count
+-- On any disk what is found is a leaf from one on, and the next is sought past that one; where none is found, at the
+-- first leaf of a node.
+pub record IsStepWithin (count from : ℕ) (step : LeafStep) : Type 0 where
+  pub found : IfSome step.found (IsHeldAmong count from)
+  pub next : IfSome step.next (λ n. (from < n) × (n < count))
+  pub turns : step.found ≡ None → IfSome step.next (λ n. n % leaf_pointers.count ≡ 0)
 
 -- ---- in a tree
 
@@ -43,18 +72,8 @@ NoneHeld image root from to = NoneOf (leaf_block image root) from to
 abbrev pub SomeHeld : Image → List ℕ → ℕ → Type 0
 SomeHeld image root from = SomeOf (leaf_block image root) (leaf_count root) from
 
-abbrev pub IsStep : Image → List ℕ → ℕ → HeldStep → Type 0
-IsStep image root from step = IsStepOf (leaf_block image root) (leaf_count root) from step
-
-abbrev pub IsStepped : Image → List ℕ → ℕ → Option HeldStep → Type 0
+abbrev pub IsStepped : Image → List ℕ → ℕ → LeafStep → Type 0
 IsStepped image root from step = IsSteppedOf (leaf_block image root) (leaf_count root) from step
-
--- a pointer above some leaf from one on is past the end
-pub record IsPastFrom (image : Image) (size : ℕ) (root : List ℕ) (from : ℕ) (p : Pointer) : Type 0 where
-  pub leaf : ℕ
-  pub on : from ≤ leaf
-  pub inside : leaf < leaf_count root
-  pub past : PastAbove image size root leaf p
 
 -- ---- in lists of pointers
 
@@ -91,23 +110,38 @@ NoDeadEndFrom image levels n =
 abbrev pub NoDeadEndBelow : Image → List Level → List ℕ → Type 0
 NoDeadEndBelow image levels pointers = (k : ℕ) → NoDeadEndFrom image levels (get_or pointers k 0)
 
--- the same of a part of them: where nothing is found, none from one on up to another is held
-abbrev pub IsSteppedIn : (ℕ → ℕ) → (count from to : ℕ) → Option HeldStep → Type 0
-IsSteppedIn block count from to (Some step) = IsStepOf block count from step
-IsSteppedIn block count from to None = NoneOf block from to
+-- A leaf from which on a step is made: where the pointer above it is set, at each level, some leaf from it on is held
+-- below that.
+abbrev pub IsPlacedBelow : Image → (height : ℕ) → List ℕ → ℕ → Type 0
+IsPlacedBelow image zero pointers from = Unit {0}
+IsPlacedBelow image (suc h) pointers from =
+    let w = width (levels_below (suc h)) in
+    let p = get_or pointers (from / w) 0 in
+    p ≢ 0 → SomeOf (block_below image (Some p) (leaves_at image p) (levels_below h)) w (from % w)
+    × IsPlacedBelow image h (leaves_at image p) (from % w)
+
+-- and some leaf from it on is held
+abbrev pub IsPlacedAmong : Image → (height : ℕ) → Option ℕ → List ℕ → (count : ℕ) → ℕ → Type 0
+IsPlacedAmong image h holder pointers count from =
+    SomeOf (block_below image holder pointers (levels_below h)) count from × IsPlacedBelow image h pointers from
 
 -- the leaf's pointer is the tree's
 abbrev pub IsThere : Image → Option ℕ → List ℕ → List Level → HeldStep → Type 0
 IsThere image holder pointers levels step =
     record { holder = step.holder; block = step.held.block } ≡ pointer_below image holder pointers levels step.held.leaf
 
--- a leaf from one on, of so many, and its block
-pub record IsHeldAmong (count from : ℕ) (step : HeldStep) : Type 0 where
-  pub on : from ≤ step.held.leaf
-  pub inside : step.held.leaf < count
-  pub is_held : step.held.block ≢ 0
+-- no pointer above a leaf is past the end
+abbrev pub HasNearPathBelow : Image → (size : ℕ) → Option ℕ → List ℕ → List Level → ℕ → Type 0
+HasNearPathBelow image size holder pointers levels leaf =
+    (p : Pointer) → ¬ PastFrom image levels size (first_pointer holder pointers levels leaf)
+    (path_to levels (leaf % width levels)) p
 
--- a pointer above some leaf from one on is past the end
+-- the leaf is absent, and no pointer above it is past the end
+abbrev pub IsQuietBelow : Image → (size : ℕ) → Option ℕ → List ℕ → List Level → ℕ → Type 0
+IsQuietBelow image size holder pointers levels leaf =
+    (block_below image holder pointers levels leaf ≡ 0) × HasNearPathBelow image size holder pointers levels leaf
+
+-- the first pointer above a leaf from one on that is past the end: all leaves before that one are quiet
 pub record IsPastBelow (image : Image) (size : ℕ) (holder : Option ℕ) (pointers : List ℕ) (levels : List Level)
     (from : ℕ) (p : Pointer) : Type 0 where
   pub leaf : ℕ
@@ -115,22 +149,41 @@ pub record IsPastBelow (image : Image) (size : ℕ) (holder : Option ℕ) (point
   pub inside : leaf < length pointers * width levels
   pub past : PastFrom image levels size (first_pointer holder pointers levels leaf)
       (path_to levels (leaf % width levels)) p
+  pub before : EachLeaf from leaf (IsQuietBelow image size holder pointers levels)
 
--- a step below the pointer at a place, as one below all of them, each above so many leaves
-pub record IsAbove (pointers : List ℕ) (place width : ℕ) (below step : HeldStep) : Type 0 where
-  pub leaf : step.held.leaf ≡ place * width + below.held.leaf
-  pub block : step.held.block ≡ below.held.block
-  pub holder : step.holder ≡ below.holder
-  pub follows : step.follows ≡ true → (below.follows ≡ true) ⊎ SomeSet pointers (place + 1)
-  pub last : step.follows ≡ false → (below.follows ≡ false) × NoneSet pointers (place + 1)
+-- what a step tells, of so many leaves
+pub record IsStepBelow (image : Image) (size : ℕ) (holder : Option ℕ) (pointers : List ℕ) (h count from : ℕ)
+    (step : LeafStep) : Type 0 where
+  pub stepped : IsSteppedOf (block_below image holder pointers (levels_below h)) count from step
+  pub followed : EachLeaf from (upto count step.next) (HasNearPathBelow image size holder pointers (levels_below h))
+  pub there : IfSome step.found (IsThere image holder pointers (levels_below h))
+  pub sure : NoDeadEndBelow image (levels_below h) pointers → IsPlacedBelow image h pointers from → IsSureStep step
+  -- from where the next is to be sought a step can be made
+  pub sought : NoDeadEndBelow image (levels_below h) pointers
+      → IfSome step.next (IsPlacedAmong image h holder pointers count)
 
--- at most so many nodes are read where the pointers stand so many levels of nodes above the leaves: at each level the
--- first that is there, and where it leads to none from a leaf on the next
-abbrev pub step_reads : ℕ → ℕ
-step_reads zero = 0
-step_reads (suc height) = 2 * step_reads height + 2
+-- the first leaf below the next pointer after a place that is set, each above so many leaves
+abbrev pub IsLaterBase : List ℕ → (place width : ℕ) → Option ℕ → Type 0
+IsLaterBase pointers place width (Some n) = (k : ℕ) × IsFirstSet pointers (place + 1) (Some k) × (n ≡ k * width)
+IsLaterBase pointers place width None = NoneSet pointers (place + 1)
 
--- and at most so many below one of the pointers
-abbrev pub reads_in : ℕ → ℕ
-reads_in zero = 0
-reads_in (suc height) = step_reads height + 1
+-- a step below the pointer whose first leaf this is, as one below all of them
+abbrev pub found_at : ℕ → Option HeldStep → Option HeldStep
+found_at base None = None
+found_at base (Some step) = Some (record {
+  held = record { leaf = base + step.held.leaf; block = step.held.block };
+  holder = step.holder;
+})
+
+abbrev pub sought_at : ℕ → (later : Option ℕ) → Option ℕ → Option ℕ
+sought_at base later None = later
+sought_at base later (Some n) = Some (base + n)
+
+abbrev pub step_at : ℕ → (later : Option ℕ) → LeafStep → LeafStep
+step_at base later below = record { found = found_at base below.found; next = sought_at base later below.next }
+
+-- ---- below a root
+
+-- a leaf from which on a step is made in a tree
+abbrev pub IsPlaced : Image → List ℕ → ℕ → Type 0
+IsPlaced image root from = IsPlacedBelow image node_levels (pointers_of node_pointers root) from

@@ -112,11 +112,19 @@ pub record LeadsPast (image : Image) (size : ℕ) (root : List ℕ) (r block : �
   pub at : block ≡ holder_block r (holder_at image root path)
   pub past : IsPast size (tree_of image root (path ++ k ∷ []))
 
--- the leaf is absent, and no pointer on its path is past the end
+-- none is
+abbrev pub HasNearPath : Image → (size : ℕ) → List ℕ → ℕ → Type 0
+HasNearPath image size root leaf = (p : Pointer) → ¬ PastAbove image size root leaf p
+
+-- the leaf is absent, and no pointer above it is past the end
 pub record IsQuiet (image : Image) (size : ℕ) (root : List ℕ) (leaf : ℕ) : Type 0 where
   pub absent : leaf_block image root leaf ≡ 0
-  pub followed : (p : Pointer) → ¬ PastAbove image size root leaf p
+  pub followed : HasNearPath image size root leaf
 
--- all leaves from one on up to another are quiet
+-- each leaf from one on up to another has P
+abbrev pub EachLeaf : (from to : ℕ) → (ℕ → Type 0) → Type 0
+EachLeaf from to P = (leaf : ℕ) → from ≤ leaf → leaf < to → P leaf
+
+-- all of them are quiet
 abbrev pub AreQuiet : Image → ℕ → List ℕ → ℕ → ℕ → Type 0
-AreQuiet image size root from to = (leaf : ℕ) → from ≤ leaf → leaf < to → IsQuiet image size root leaf
+AreQuiet image size root from to = EachLeaf from to (IsQuiet image size root)

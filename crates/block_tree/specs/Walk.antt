@@ -1,10 +1,9 @@
 -- What a walk over the held leaves finds.
-use Rattle.std.specs.Prelude.{◌≡◌, ◌≢◌, ℕ, ◌/◌, ◌%◌, ◌<◌, ◌≤◌, List, Option, Some, None}
+use Rattle.std.specs.Prelude.{◌≡◌, ◌≢◌, ℕ, ◌<◌, ◌≤◌, List, Option, Some, None}
 use Rattle.cfs_base.specs.Disk.{Image}
 use Rattle.block_tree.specs.declared.follow.Pointer.{Pointer}
 use Rattle.block_tree.specs.declared.walk.HeldLeaf.{HeldLeaf}
-use Rattle.block_tree.specs.Pointers.{leaf_pointers}
-use Rattle.block_tree.specs.Tree.{leaf_block, leaf_count, PastAbove, AreQuiet}
+use Rattle.block_tree.specs.Tree.{AreQuiet, HasNearPath, PastAbove, leaf_block, leaf_count}
 
 -- the first leaf from one on that is held; nothing before it stops the walk
 pub record IsFirstHeld (image : Image) (size : ℕ) (root : List ℕ) (from : ℕ) (held : HeldLeaf) : Type 0 where
@@ -13,7 +12,7 @@ pub record IsFirstHeld (image : Image) (size : ℕ) (root : List ℕ) (from : �
   pub block : leaf_block image root held.leaf ≡ held.block
   pub is_held : held.block ≢ 0
   pub before : AreQuiet image size root from held.leaf
-  pub followed : (p : Pointer) → ¬ PastAbove image size root held.leaf p
+  pub followed : HasNearPath image size root held.leaf
 
 -- what is found from a leaf on: the first that is held, or that all are quiet
 abbrev pub IsFound : Image → ℕ → List ℕ → ℕ → Option HeldLeaf → Type 0
@@ -27,19 +26,3 @@ pub record IsFirstPast (image : Image) (size : ℕ) (root : List ℕ) (from : �
   pub inside : leaf < leaf_count root
   pub past : PastAbove image size root leaf p
   pub before : AreQuiet image size root from leaf
-
--- ---- within one node
-
--- a leaf of the same node as another, not before it, whose pointer is this block
-pub record IsLaterIn (from : ℕ) (held : HeldLeaf) : Type 0 where
-  pub on : from ≤ held.leaf
-  pub same_node : held.leaf / leaf_pointers.count ≡ from / leaf_pointers.count
-  pub is_held : held.block ≢ 0
-
--- the first leaf of a node with these pointers, from one on, whose pointer isn't 0
-abbrev pub IsFirstOf : (ℕ → ℕ) → ℕ → Option HeldLeaf → Type 0
-IsFirstOf pointer from (Some held) =
-    (pointer (held.leaf % leaf_pointers.count) ≡ held.block)
-    × ((place : ℕ) → from % leaf_pointers.count ≤ place → place < held.leaf % leaf_pointers.count → pointer place ≡ 0)
-IsFirstOf pointer from None =
-    (place : ℕ) → from % leaf_pointers.count ≤ place → place < leaf_pointers.count → pointer place ≡ 0

@@ -1,5 +1,5 @@
 //! One step over the held leaves of a tree.
-ghost use Rattle.std.specs.Prelude.{◌≡◌, ◌≢◌, ℕ, ◌+◌, ◌*◌, ◌/◌, ◌^◌, ◌<◌, ◌≤◌, length, get_or, IfErr, IfOk};
+ghost use Rattle.std.specs.Prelude.{◌≡◌, ◌≢◌, ℕ, ◌+◌, ◌*◌, ◌^◌, ◌<◌, ◌≤◌, length, get_or, IfErr, IfOk};
 ghost use Rattle.std.specs.Prelude.{IfSome, IsFalse, IsTrue};
 ghost use Rattle.cfs_base.specs.Calls.{OnlyReads};
 ghost use Rattle.cfs_base.specs.Disk.{Image};
@@ -8,10 +8,10 @@ ghost use Rattle.block_tree.specs.Pointers.{leaf_limit, levels_below, node_level
 ghost use Rattle.block_tree.specs.Pointers.{width as width_of};
 ghost use Rattle.block_tree.specs.Reads.{IsFault};
 ghost use Rattle.block_tree.specs.Root.{root_spelling};
-ghost use Rattle.block_tree.specs.Step.{IsAbove, IsFirstSet, IsPastBelow, IsPastFrom, IsStepped, IsSteppedIn};
-ghost use Rattle.block_tree.specs.Step.{IsSteppedOf, IsThere, IsHeldAmong, NoDeadEndBelow, NoneHeld, NoneSet, SomeHeld};
-ghost use Rattle.block_tree.specs.Step.{SomeSet, block_below, reads_in, step_reads};
-ghost use Rattle.block_tree.specs.Tree.{HasNoDeadEnd, IsLeafPointer, leaf_count};
+ghost use Rattle.block_tree.specs.Step.{IsFirstSet, IsLaterBase, IsPastBelow, IsPlaced, IsStepBelow, IsStepped, IsSureStep};
+ghost use Rattle.block_tree.specs.Step.{IsStepWithin, NoneHeld, NoneSet, SomeHeld, SomeSet, step_at, upto};
+ghost use Rattle.block_tree.specs.Tree.{EachLeaf, HasNoDeadEnd, HasNearPath, IsLeafPointer, leaf_count};
+ghost use Rattle.block_tree.specs.Walk.{IsFirstPast};
 
 use crate::fault::TreeFault;
 use crate::follow::{Pointer, node_at};
@@ -21,12 +21,19 @@ use crate::root::{NODE_LEVELS, NODES, Root};
 use crate::walk::HeldLeaf;
 use cfs_base::Disk;
 
-/// A held leaf, the node that has the pointer to it, which is none where the root has it, and whether another follows.
+/// A held leaf, and the node that has the pointer to it, which is none where the root has it.
 #[derive(Clone, Copy, Debug, PartialEq, Eq)]
 pub struct HeldStep {
     pub held: HeldLeaf,
     pub holder: Option<u32>,
-    pub follows: bool,
+}
+
+/// What a step finds: a held leaf, if there is one, and the leaf from which on the next is to be sought, if there may be
+/// one.
+#[derive(Clone, Copy, Debug, PartialEq, Eq)]
+pub struct LeafStep {
+    pub found: Option<HeldStep>,
+    pub next: Option<u32>,
 }
 
 impl HeldStep {
@@ -68,76 +75,44 @@ fn has_set(pointers: &[u32], from: usize) -> bool
     any
 }
 
-/// A step among the leaves below one pointer, of which each is above so many, as one among the leaves below all.
-fn above(pointers: &[u32], place: usize, width: u32, below: HeldStep) -> HeldStep
-    requires inside { below.held.leaf < width }
+/// The first leaf below the next pointer after a place that is set.
+fn later(pointers: &[u32], place: usize, width: u32) -> Option<u32>
+    requires some { 0 < width }
     requires place { place < length pointers.now }
     requires few { length pointers.now * width ≤ leaf_limit }
-    ensures { IsAbove pointers.now place width below result }
+    ensures { IsLaterBase pointers.now place width result }
 {
-    HeldStep {
-        held: HeldLeaf {
-            leaf: place as u32 * width + below.held.leaf,
-            block: below.held.block,
-        },
-        holder: below.holder,
-        follows: below.follows || has_set(pointers, place + 1),
+    match first_set(pointers, place + 1) {
+        Some(next) => Some(next as u32 * width),
+        None => None,
     }
 }
 
-/// The step from a leaf on, which finds only a leaf below the same pointer. The pointers stand so many levels of nodes
-/// above the leaves, each above so many of them.
-#[cycle(levels)]
-fn step_in<D: Disk>(
-    disk: &mut D,
-    pointers: &[u32],
-    holder: Option<u32>,
-    height: usize,
-    width: u32,
-    from: u32,
-) -> Result<Option<HeldStep>, TreeFault>
-    requires width { width ≡ width_of (levels_below height) }
-    requires few { length pointers.now * width ≤ leaf_limit }
-    requires set { get_or pointers.now (from / width) 0 ≢ 0 }
-    ensures step { Tells D.Disk disk.old
-        → NoDeadEndBelow (D.content disk.old) (levels_below height) pointers.now → IfOk result
-        (IsSteppedIn (block_below (D.content disk.old) holder pointers.now (levels_below height))
-        (length pointers.now * width) from ((from / width + 1) * width)) }
-    ensures there { Tells D.Disk disk.old → IfOk result (λ step. IfSome step
-        (IsThere (D.content disk.old) holder pointers.now (levels_below height))) }
-    ensures within { IfOk result (λ step. IfSome step (IsHeldAmong (length pointers.now * width) from)) }
-    ensures refused { IfErr result (IsFault D.Disk disk.old disk.new
-        (IsPastBelow (D.content disk.old) (D.blocks disk.old) holder pointers.now (levels_below height) from)) }
-    ensures reads { OnlyReads D.Disk (reads_in height) disk.old disk.new }
+/// A step among the leaves below one pointer, of which this is the first, as one among the leaves below all.
+fn above(base: u32, later: Option<u32>, below: LeafStep) -> LeafStep
+    requires found { IfSome below.found (λ step. base + step.held.leaf < leaf_limit) }
+    requires next { IfSome below.next (λ next. base + next < leaf_limit) }
+    ensures { result ≡ step_at base later below }
 {
-    let place = (from / width) as usize;
-    let block = pointers[place];
-    if height == 0 {
-        // The pointer leads to the only leaf below it.
-        let step = HeldStep {
-            held: HeldLeaf { leaf: 0, block },
-            holder,
-            follows: false,
-        };
-        return Ok(Some(above(pointers, place, width, step)));
-    }
-    let node = node_at(disk, Pointer { holder, block })?;
-    let narrower = width / LEAVES as u32;
-    match step_below(
-        disk,
-        &node.leaves,
-        Some(block),
-        height - 1,
-        narrower,
-        from % width,
-    )? {
-        Some(step) => Ok(Some(above(pointers, place, width, step))),
-        None => Ok(None),
-    }
+    let found = match below.found {
+        Some(step) => Some(HeldStep {
+            held: HeldLeaf {
+                leaf: base + step.held.leaf,
+                block: step.held.block,
+            },
+            holder: step.holder,
+        }),
+        None => None,
+    };
+    let next = match below.next {
+        Some(next) => Some(base + next),
+        None => later,
+    };
+    LeafStep { found, next }
 }
 
-/// The first held leaf not below the given one, and whether another follows, of those below pointers.
-#[cycle(levels)]
+/// The first held leaf not below the given one, of those below pointers, which stand so many levels of nodes above the
+/// leaves, each above so many of them; and where the next is to be sought.
 fn step_below<D: Disk>(
     disk: &mut D,
     pointers: &[u32],
@@ -145,55 +120,72 @@ fn step_below<D: Disk>(
     height: usize,
     width: u32,
     from: u32,
-) -> Result<Option<HeldStep>, TreeFault>
+) -> Result<LeafStep, TreeFault>
     requires width { width ≡ width_of (levels_below height) }
     requires few { length pointers.now * width ≤ leaf_limit }
-    ensures step { Tells D.Disk disk.old
-        → NoDeadEndBelow (D.content disk.old) (levels_below height) pointers.now → IfOk result
-        (IsSteppedOf (block_below (D.content disk.old) holder pointers.now (levels_below height))
-        (length pointers.now * width) from) }
-    ensures there { Tells D.Disk disk.old → IfOk result (λ step. IfSome step
-        (IsThere (D.content disk.old) holder pointers.now (levels_below height))) }
-    ensures within { IfOk result (λ step. IfSome step (IsHeldAmong (length pointers.now * width) from)) }
+    ensures step { Tells D.Disk disk.old → IfOk result
+        (IsStepBelow (D.content disk.old) (D.blocks disk.old) holder pointers.now height (length pointers.now * width)
+        from) }
+    ensures within { IfOk result (IsStepWithin (length pointers.now * width) from) }
     ensures refused { IfErr result (IsFault D.Disk disk.old disk.new
         (IsPastBelow (D.content disk.old) (D.blocks disk.old) holder pointers.now (levels_below height) from)) }
-    ensures reads { OnlyReads D.Disk (step_reads height) disk.old disk.new }
+    ensures reads { OnlyReads D.Disk height disk.old disk.new }
     ensures fit { (k : ℕ) → get_or pointers.now k 0 < 2 ^ 32 }
 {
-    let Some(first) = first_set(pointers, (from / width) as usize) else {
-        return Ok(None);
+    let Some(place) = first_set(pointers, (from / width) as usize) else {
+        return Ok(LeafStep {
+            found: None,
+            next: None,
+        });
     };
-    let start = from.max(first as u32 * width);
-    if let Some(step) = step_in(disk, pointers, holder, height, width, start)? {
-        return Ok(Some(step));
+    let base = place as u32 * width;
+    let later = later(pointers, place, width);
+    let block = pointers[place];
+    if height == 0 {
+        // The pointer leads to the only leaf below it.
+        let held = HeldLeaf { leaf: 0, block };
+        let step = LeafStep {
+            found: Some(HeldStep { held, holder }),
+            next: None,
+        };
+        return Ok(above(base, later, step));
     }
-    let Some(second) = first_set(pointers, first + 1) else {
-        return Ok(None);
-    };
-    step_in(disk, pointers, holder, height, width, second as u32 * width)
+    let node = node_at(disk, Pointer { holder, block })?;
+    let below = step_below(
+        disk,
+        &node.leaves,
+        Some(block),
+        height - 1,
+        width / LEAVES as u32,
+        from.max(base) % width,
+    )?;
+    Ok(above(base, later, below))
 }
 
-/// The first held leaf not below the given one, and whether another follows; of a tree with a node that leads to no
-/// leaf it may tell of fewer than are held. Makes at most 2 device calls for one level of nodes, and with each level
-/// more twice as many and 2. `BadPointer` where the pointer to a node above a leaf from there on leads past the disk:
-/// it names that block, and the node that has the pointer, none where the root has it. `Disk` where a read fails.
-pub fn step_held<D: Disk>(
-    disk: &mut D,
-    root: &Root,
-    from: u32,
-) -> Result<Option<HeldStep>, TreeFault>
-    ensures step { Tells D.Disk disk.old → HasNoDeadEnd (D.content disk.old) (root_spelling root.now)
-        → IfOk result (IsStepped (D.content disk.old) (root_spelling root.now) from) }
+/// The first held leaf not below the given one, if it is found, and where the next is to be sought: at that leaf where the
+/// same node leads to it, else at the first leaf of the next block that may hold one. Where none is found none is held
+/// before that. Makes one device call for each level of nodes at most. In a tree without a dead end a step that begins
+/// at 0, or where one before it said (`IsPlaced`), finds a leaf if there is one. `BadPointer` where the pointer to a node
+/// above a leaf from there on leads past the disk: it names that block, and the node that has the pointer, none where
+/// the root has it. `Disk` where a read fails.
+pub fn step_held<D: Disk>(disk: &mut D, root: &Root, from: u32) -> Result<LeafStep, TreeFault>
+    ensures step { Tells D.Disk disk.old → IfOk result (IsStepped (D.content disk.old) (root_spelling root.now) from) }
+    ensures followed { Tells D.Disk disk.old → IfOk result (λ step. EachLeaf from
+        (upto (leaf_count (root_spelling root.now)) step.next)
+        (HasNearPath (D.content disk.old) (D.blocks disk.old) (root_spelling root.now))) }
+    ensures sure { Tells D.Disk disk.old → HasNoDeadEnd (D.content disk.old) (root_spelling root.now)
+        → IsPlaced (D.content disk.old) (root_spelling root.now) from → IfOk result IsSureStep }
+    ensures sought { Tells D.Disk disk.old → HasNoDeadEnd (D.content disk.old) (root_spelling root.now)
+        → IfOk result (λ step. IfSome step.next (λ n. IsPlaced (D.content disk.old) (root_spelling root.now) n
+        × SomeHeld (D.content disk.old) (root_spelling root.now) n)) }
     // Whatever nodes lead to no leaf, the leaf that is found is the tree's.
-    ensures there { Tells D.Disk disk.old → IfOk result (λ step. IfSome step (λ s.
+    ensures there { Tells D.Disk disk.old → IfOk result (λ step. IfSome step.found (λ s.
         IsLeafPointer (D.content disk.old) (root_spelling root.now) s.held.leaf
         (record { holder = s.holder; block = s.held.block }))) }
-    ensures within { IfOk result (λ step. IfSome step (λ s. (s.held.leaf < leaf_limit) × (s.held.block ≢ 0))) }
-    // Whatever disk it is, no leaf below the given one is found.
-    ensures on { IfOk result (λ step. IfSome step (λ s. from ≤ s.held.leaf)) }
+    ensures within { IfOk result (IsStepWithin leaf_limit from) }
     ensures refused { IfErr result (IsFault D.Disk disk.old disk.new
-        (IsPastFrom (D.content disk.old) (D.blocks disk.old) (root_spelling root.now) from)) }
-    ensures reads { OnlyReads D.Disk (step_reads node_levels) disk.old disk.new }
+        (IsFirstPast (D.content disk.old) (D.blocks disk.old) (root_spelling root.now) from)) }
+    ensures reads { OnlyReads D.Disk node_levels disk.old disk.new }
 {
     let width = LEAF_LIMIT / NODES as u32;
     step_below(disk, &root.nodes, None, NODE_LEVELS as usize, width, from)

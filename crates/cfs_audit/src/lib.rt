@@ -4,8 +4,7 @@
 #![tactic(auto)]
 
 mod cut;
-mod laws;
+pub mod laws;
 mod trail;
 
-pub use laws::texts_have_one_verdict;
 pub use trail::{Verdict, audit};

@@ -5,5 +5,6 @@ pub mod Calls
 pub mod Went
 pub mod Refusals
 pub mod Codes
+pub mod Places
 pub mod Log
 pub mod Replay

@@ -1,4 +1,6 @@
 //! The kinds of object, how an object is opened, and what a block is to its object.
+ghost use Rattle.std.specs.Prelude.{◌≡◌, ◌≢◌, ◌^◌, ◌<◌};
+ghost use Rattle.cfs_base.specs.Places.{place_up};
 
 /// What an object is.
 #[derive(Clone, Copy, Debug, PartialEq, Eq)]
@@ -25,11 +27,27 @@ pub enum Mode {
     Writing,
 }
 
-/// What a block is to the object that owns it. Nodes and leaves are numbered from 0.
+/// What a block is to the object that owns it. Leaves, nodes and spans are numbered from 0: leaf n lies below node
+/// n / 128, and where the object is wide, that node below the span of its number / 128.
 #[derive(Clone, Copy, Debug, PartialEq, Eq)]
 pub enum Place {
     Root,
     ShadowRoot,
     Node(u16),
-    Leaf(u16),
+    Leaf(u32),
+    Span(u16),
+}
+
+impl Place {
+    /// The place on a level above the leaves, 0 being theirs, with this number.
+    pub fn up(level: usize, number: u32) -> Place
+        requires { level ≢ 0 → number < 2 ^ 16 }
+        ensures { result ≡ place_up level number }
+    {
+        match level {
+            0 => Place::Leaf(number),
+            1 => Place::Node(number as u16),
+            _ => Place::Span(number as u16),
+        }
+    }
 }

@@ -144,6 +144,7 @@ shadow_entry states.IntendAllocate committed None owner r in_table is = cc
 shadow_entry states.IntendAllocate committed (Some places.Root) owner r in_table is = cc
 shadow_entry states.IntendAllocate committed (Some (places.Node n)) owner r in_table is = cc
 shadow_entry states.IntendAllocate committed (Some (places.Leaf n)) owner r in_table is = cc
+shadow_entry states.IntendAllocate committed (Some (places.Span n)) owner r in_table is = cc
 shadow_entry states.IntendAllocate true (Some places.ShadowRoot) owner r in_table is = let no : false ≡ true = in_table.in_table in cc
 shadow_entry states.IntendAllocate false (Some places.ShadowRoot) owner r in_table is = let same : owner ≡ r = grind (arith, nat_tests) in ap (intended places.ShadowRoot) same
 

@@ -4,7 +4,7 @@ use Rattle.cfs_core.proofs.Words.{Draft, Drafting, Ghosts, Grant, HasDraft, Inde
 use Rattle.block_tree.specs.declared.root.Root.{Root}
 use Rattle.block_tree.specs.Root.{root_spelling}
 use Rattle.collector_steps.specs.Scan.{IsDraftRoot}
-use Rattle.open_table.specs.declared.grant.Grant as handles
+use Rattle.open_table.specs.declared.grant.OpenGrant as handles
 use Rattle.ufs_model.specs.declared.object.Object.TheVariants as objects
 use Rattle.ufs_model.specs.State.{draft_at, object_in}
 use Rattle.vol_image.specs.Seen.{tree_in}
@@ -28,7 +28,7 @@ Opens ds id own (Some root) None = ⊥
 Opens ds id own None (Some o) = ⊥
 
 module _ (s : State) (ds : Drafts) (id : Puid) (own : Object) (at : object_at s.graph id ≡ Some own) where
-  one : (grant : handles.Grant) (drafting : Drafting) (d : Draft) → grant.id ≡ id → IsDraftOf ds grant drafting d → is_open_so (object_at s.graph id) (Some d) ≡ true → IsOpenedCore ds id own drafting.root d.object
+  one : (grant : handles.OpenGrant) (drafting : Drafting) (d : Draft) → grant.id ≡ id → IsDraftOf ds grant drafting d → is_open_so (object_at s.graph id) (Some d) ≡ true → IsOpenedCore ds id own drafting.root d.object
   one grant drafting d same is so = record {
     opened = opened_as drafting d;
     only = subst (λ (k : Puid). ds k ≡ Some (opened_as drafting d)) same is.is_open.alone;
@@ -45,7 +45,7 @@ module _ (s : State) (ds : Drafts) (id : Puid) (own : Object) (at : object_at s.
       let here : x.grant ≡ bare y = cc in
       let rest : map (λ (z : Handle). z.grant) xs ≡ map bare grants = cc in
       let two = and_parts (is_grant_in s.graph y) (list_all (is_grant_in s.graph) grants) all in
-      let ids : x.grant.id ≡ y.id = ap (λ (z : handles.Grant). z.id) here in
+      let ids : x.grant.id ≡ y.id = ap (λ (z : handles.OpenGrant). z.id) here in
       step (same_puid id x.grant.id) refl (ap (same_puid id) (sym ids)) ids x.drafting y.draft drafts.0 two.0 (opens xs grants rest drafts.1 two.1)
     where
       step : (b : Bool) → same_puid id x.grant.id ≡ b → same_puid id y.id ≡ same_puid id x.grant.id → x.grant.id ≡ y.id → (o : Option Drafting) (p : Option Draft) → HasDraftOf ds x o p → is_open_so (object_at s.graph y.id) p ≡ true

@@ -2,7 +2,7 @@
 use Rattle.std.proofs.Common.{◌≡◌, ◌⊎◌, inl, inr, ℕ, List, [], ◌∷◌, ◌++◌, Bool, true, false, cond, not, ◌&&◌, ◌||◌, Option, Some, None, refl, sym, ◌∙◌, ap, subst, arith, ◌==◌, filter, find, map, nat_lt, is_some, is_none}
 use Rattle.std.proofs.Math.Path.{fun_ext}
 use Rattle.cfs_core.proofs.Words.{and_parts, are_granted, differs, Draft, Drafting, Drafts, draws_of, eq-eqb, eqb-true, Grant, is_grant, is_normal, is_reading, IsOpen, list_all, list_all-append, list_any, may_share, nat_tests, numbers_rise, Opened, opened_as, or_from, or_parts, Puid, same_puid, Tuid, with_again, with_draft, with_draft_if, with_here, with_opened, without_draft, without_with}
-use Rattle.open_table.specs.declared.grant.Grant as handles
+use Rattle.open_table.specs.declared.grant.OpenGrant as handles
 use Rattle.open_table.specs.Grants as tables
 use Rattle.vol_owners.proofs.Drafts.{each_draft, with_others}
 use Rattle.cfs_core.specs.Kernel.{Handle, grants_in}
@@ -57,7 +57,7 @@ core_has_none id (handle ∷ ss) (x ∷ grants) table none =
     let head : handle.grant ≡ bare x = cc in
     let tail : grants_in ss ≡ map bare grants = cc in
     let two = draft_parts id x grants none in
-    at handle.drafting x.draft (λ some. ap (λ (e : handles.Grant). same_puid id e.id) head ∙ two.0 some) (core_has_none id ss grants tail two.1)
+    at handle.drafting x.draft (λ some. ap (λ (e : handles.OpenGrant). same_puid id e.id) head ∙ two.0 some) (core_has_none id ss grants tail two.1)
   where
     at : (o : Option Drafting) (d : Option Draft) → (is_some d ≡ true → same_puid id handle.grant.id ≡ false) → drafts_of_handles ss grants id ≡ None → with_opened_if handle.grant.id (opened_if o d) (drafts_of_handles ss grants) id ≡ None
     at None d other rest = rest
@@ -115,7 +115,7 @@ drafts_beside id d ss2 ts2 gs2 hs2 is (z ∷ ss1) (y ∷ gs1) table none =
     let tail : grants_in ss1 ≡ map bare gs1 = cc in
     let two = draft_parts id y gs1 none in
     ap (with_opened_if z.grant.id (opened_if z.drafting y.draft)) (drafts_beside id d ss2 ts2 gs2 hs2 is ss1 gs1 tail two.1)
-    ∙ swap z.drafting y.draft (λ some. differs id z.grant.id (ap (λ (e : handles.Grant). same_puid id e.id) head ∙ two.0 some))
+    ∙ swap z.drafting y.draft (λ some. differs id z.grant.id (ap (λ (e : handles.OpenGrant). same_puid id e.id) head ∙ two.0 some))
   where
     rest : Drafts
     rest = drafts_of_handles (ss1 ++ ss2) (gs1 ++ gs2)
@@ -147,7 +147,7 @@ others_have id e ds (handle ∷ ss) (x ∷ grants) table none are =
     let head : handle.grant ≡ bare x = cc in
     let tail : grants_in ss ≡ map bare grants = cc in
     let two = draft_parts id x grants none in
-    (one handle.drafting x.draft (λ some. differs id handle.grant.id (ap (λ (g : handles.Grant). same_puid id g.id) head ∙ two.0 some)) are.0, others_have id e ds ss grants tail two.1 are.1)
+    (one handle.drafting x.draft (λ some. differs id handle.grant.id (ap (λ (g : handles.OpenGrant). same_puid id g.id) head ∙ two.0 some)) are.0, others_have id e ds ss grants tail two.1 are.1)
   where
     one : (drafting : Option Drafting) (d : Option Draft) → (is_some d ≡ true → same_puid handle.grant.id id ≡ false) → HasDraftOf ds handle drafting d → HasDraftOf (with_draft_if id e ds) handle drafting d
     one None None other has = tt
@@ -197,7 +197,7 @@ module _ (who : ℕ) (t : Tuid) where
       let head : handle.grant ≡ bare y = cc in
       let tail : grants_in ss ≡ map bare grants = cc in
       let two = and_parts (nat_lt t.draw y.tuid.draw) (list_all (nat_lt t.draw) (draws_of grants)) above in
-      or_from (is_drawn t.draw handle) _ (ap (λ (e : handles.Grant). t.draw == e.tuid.draw) head ∙ apart t.draw y.tuid.draw two.0) (later_none ss grants tail two.1)
+      or_from (is_drawn t.draw handle) _ (ap (λ (e : handles.OpenGrant). t.draw == e.tuid.draw) head ∙ apart t.draw y.tuid.draw two.0) (later_none ss grants tail two.1)
     where
       apart : (a b : ℕ) → nat_lt a b ≡ true → (a == b) ≡ false
       apart a b less = grind (arith, nat_tests)
@@ -265,7 +265,7 @@ module _ (who : ℕ) (t : Tuid) where
               second = p.1.second;
               here = p.1.here;
               mine = p.1.mine;
-              none_first = or_from (is_drawn t.draw handle) _ (ap (λ (e : handles.Grant). t.draw == e.tuid.draw) head ∙ ap (λ n. n == y.tuid.draw) draw ∙ apart y.tuid.draw x.tuid.draw less) p.1.none_first;
+              none_first = or_from (is_drawn t.draw handle) _ (ap (λ (e : handles.OpenGrant). t.draw == e.tuid.draw) head ∙ ap (λ n. n == y.tuid.draw) draw ∙ apart y.tuid.draw x.tuid.draw less) p.1.none_first;
               none_second = p.1.none_second;
             },
           )
@@ -279,7 +279,7 @@ module _ (who : ℕ) (t : Tuid) where
       let head : handle.grant ≡ bare y = cc in
       let tail : grants_in ss ≡ map bare grants = cc in
       let two = or_parts (is_drawn t.draw handle) (list_any (is_drawn t.draw) ss) none in
-      or_from (is_grant who t y) _ (apart y (ap (λ (e : handles.Grant). t.draw == e.tuid.draw) (sym head) ∙ two.0)) (not_mine ss grants tail two.1)
+      or_from (is_grant who t y) _ (apart y (ap (λ (e : handles.OpenGrant). t.draw == e.tuid.draw) (sym head) ∙ two.0)) (not_mine ss grants tail two.1)
     where
       apart : (z : Grant) → (t.draw == z.tuid.draw) ≡ false → is_grant who t z ≡ false
       apart z other = grind (arith, nat_tests)
@@ -290,14 +290,14 @@ module _ (who : ℕ) (t : Tuid) where
   none_these [] none = refl
   none_these (handle ∷ ss) none = (let two = or_parts (is_drawn t.draw handle) (list_any (is_drawn t.draw) ss) none in or_from (tables.is_session_grant who t handle.grant) _ (apart handle.grant two.0) (none_these ss two.1))
     where
-      apart : (g : handles.Grant) → (t.draw == g.tuid.draw) ≡ false → tables.is_session_grant who t g ≡ false
+      apart : (g : handles.OpenGrant) → (t.draw == g.tuid.draw) ≡ false → tables.is_session_grant who t g ≡ false
       apart g other = grind (arith, nat_tests)
 
   -- ---- what has become of the drafts
 
   module _ (ss : List Handle) (grants : List Grant) (handle : Handle) (x : Grant) (p : Place ss grants handle x) where
     pub drawn : is_drawn t.draw handle ≡ true
-    drawn = eq-eqb t.draw handle.grant.tuid.draw (same_draw x p.mine ∙ ap (λ (e : handles.Grant). e.tuid.draw) (sym p.here))
+    drawn = eq-eqb t.draw handle.grant.tuid.draw (same_draw x p.mine ∙ ap (λ (e : handles.OpenGrant). e.tuid.draw) (sym p.here))
 
     mine : tables.is_session_grant who t handle.grant ≡ true
     mine = ap (tables.is_session_grant who t) p.here ∙ p.mine
@@ -347,7 +347,7 @@ module _ (who : ℕ) (t : Tuid) where
 
         module _ (alone : are_granted grants ≡ true) where
           beside : (draft_at p.gs1 id ≡ None) × (draft_at p.gs2 id ≡ None)
-          beside = subst (λ (e : handles.Grant). (draft_at p.gs1 e.id ≡ None) × (draft_at p.gs2 e.id ≡ None)) (sym p.here) (none_beside x p.gs2 p.gs1 (subst (λ zs. are_granted zs ≡ true) p.grants_are alone))
+          beside = subst (λ (e : handles.OpenGrant). (draft_at p.gs1 e.id ≡ None) × (draft_at p.gs2 e.id ≡ None)) (sym p.here) (none_beside x p.gs2 p.gs1 (subst (λ zs. are_granted zs ≡ true) p.grants_are alone))
 
           whole : ds ≡ drafts_of_handles (p.ss1 ++ handle ∷ p.ss2) (p.gs1 ++ x ∷ p.gs2)
           whole = ap (λ zs. drafts_of_handles zs grants) p.handles_are ∙ ap (drafts_of_handles (p.ss1 ++ handle ∷ p.ss2)) p.grants_are

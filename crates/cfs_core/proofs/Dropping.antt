@@ -1,7 +1,7 @@
 -- A grant of a session that leaves is dropped.
 use Rattle.std.proofs.Common.{◌≡◌, ◌⊎◌, inl, inr, ℕ, List, [], ◌∷◌, Bool, true, false, cond, not, Option, Some, None, refl, sym, ◌∙◌, ap, subst, arith, ◌==◌, filter}
 use Rattle.cfs_core.proofs.Words.{closed, Drafting, Ghosts, Grant, grant_of, Holds, is_grant, next, outcome_legal, Puid, State, Tuid, without_session-without_grant}
-use Rattle.open_table.specs.declared.grant.Grant as handles
+use Rattle.open_table.specs.declared.grant.OpenGrant as handles
 use Rattle.open_table.specs.Grants as tables
 use Rattle.ufs_model.specs.declared.asked.Event.TheVariants as events
 use Rattle.ufs_model.specs.declared.asked.Reply.TheVariants as replies
@@ -29,7 +29,7 @@ use Rattle.cfs_core.proofs.Serving.{none_more, running, nothing_left}
 
 -- ---- lists
 
-pub grants_but : (test : handles.Grant → Bool) (ss : List Handle) → grants_in (handles_but test ss) ≡ filter (λ e. not (test e)) (grants_in ss)
+pub grants_but : (test : handles.OpenGrant → Bool) (ss : List Handle) → grants_in (handles_but test ss) ≡ filter (λ e. not (test e)) (grants_in ss)
 grants_but test [] = refl
 grants_but test (handle ∷ ss) = elim (test handle.grant) as (λ b. grants_in (cond (not b) (handle ∷ handles_but test ss) (handles_but test ss)) ≡ cond (not b) (handle.grant ∷ filter (λ e. not (test e)) (grants_in ss)) (filter (λ e. not (test e)) (grants_in ss))) [
   | true ↦ grants_but test ss

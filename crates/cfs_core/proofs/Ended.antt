@@ -6,7 +6,7 @@ use Rattle.cfs_base.specs.declared.kind.FileKind.TheVariants as file_kinds
 use Rattle.cfs_base.specs.declared.refusal.Trouble.TheVariants as troubles
 use Rattle.cyl_alloc.specs.Left.{LeftCommit}
 use Rattle.open_table.specs.Grants as tables
-use Rattle.open_table.specs.declared.grant.Grant as handles
+use Rattle.open_table.specs.declared.grant.OpenGrant as handles
 use Rattle.ufs_model.specs.declared.asked.Event.TheVariants as events
 use Rattle.ufs_model.specs.declared.asked.Reply.TheVariants as replies
 use Rattle.ufs_model.specs.declared.asked.Request.TheVariants as asks
@@ -87,7 +87,7 @@ module _ {D : Type 0} (g : Ghosts D) (k : Kernel D) (s : State) (serves : CoreSe
   takes = omega (arith, taken_with s.graph ds id object None serves.store.ordered held.there, ap draft_blocks_if (open_in g k s serves who t was held).alone)
 
   owners : (commit : Bool) → owners_of s who (asks.Close t commit) replies.Done ≡ id.block ∷ []
-  owners commit = rw held.found (ap (λ (e : handles.Grant). e.id.block ∷ []) (sym held.place.here))
+  owners commit = rw held.found (ap (λ (e : handles.OpenGrant). e.id.block ∷ []) (sym held.place.here))
 
   -- nothing is owed but the outcome
   owed : (commit : Bool) → Owes k.words.seed s who (asks.Close t commit) (g.content k.disk) (sum k.space.free) replies.Done
@@ -160,7 +160,7 @@ module _ {D : Type 0} (g : Ghosts D) (k : Kernel D) (s : State) (serves : CoreSe
     h = with_object s.graph id before.object
 
     graph_is : (closed s who t true).graph ≡ h
-    graph_is = committed_by s.graph (grant_of s who t) held.x before held.found held.draft_was ∙ ap (λ (e : handles.Grant). with_object s.graph e.id before.object) (sym held.place.here)
+    graph_is = committed_by s.graph (grant_of s who t) held.x before held.found held.draft_was ∙ ap (λ (e : handles.OpenGrant). with_object s.graph e.id before.object) (sym held.place.here)
 
     few : graph_blocks h ≤ graph_blocks s.graph + fresh
     unfolding fresh

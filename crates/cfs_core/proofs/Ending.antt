@@ -3,7 +3,7 @@ use Rattle.std.proofs.Common.{◌≡◌, inr, ℕ, List, length, Bool, Option, S
 use Rattle.cfs_core.proofs.Words.{Drafting, Ghosts, Image, IsDraftTrouble, Kept, NoGrant, refused_by, Request, State, Trouble, Tuid, MakesAtMost}
 use Rattle.cfs_base.specs.declared.refusal.Trouble.TheVariants as troubles
 use Rattle.open_table.specs.Grants as tables
-use Rattle.open_table.specs.declared.grant.Grant as handles
+use Rattle.open_table.specs.declared.grant.OpenGrant as handles
 use Rattle.ufs_model.specs.declared.asked.Reply.TheVariants as replies
 use Rattle.ufs_model.specs.declared.asked.Request.TheVariants as asks
 use Rattle.cfs_core.specs.Calls.{IsCause, TriesWith}
@@ -25,9 +25,9 @@ trouble_cause g old new request at here size draw was there same (troubles.Disk 
 trouble_cause g old new request at here size draw was there same (troubles.Damaged damage) is = told_of_draft g old new request at here damage size draw was there same is
 
 -- the grant that is found is closed
-pub closed_handles : (who : ℕ) (t : Tuid) (r : Result handles.Grant NoGrant) (old new : List Handle) → IsSome (tables.session_grant (grants_in old) who t) → OnOk r (new ≡ handles_but (tables.is_session_grant who t) old) → OnErr r (tables.session_grant (grants_in old) who t ≡ None) → new ≡ handles_but (tables.is_session_grant who t) old
+pub closed_handles : (who : ℕ) (t : Tuid) (r : Result handles.OpenGrant NoGrant) (old new : List Handle) → IsSome (tables.session_grant (grants_in old) who t) → OnOk r (new ≡ handles_but (tables.is_session_grant who t) old) → OnErr r (tables.session_grant (grants_in old) who t ≡ None) → new ≡ handles_but (tables.is_session_grant who t) old
 closed_handles who t (Ok x) old new some done none = done
-closed_handles who t (Err e) old new some done none = let no = subst (λ (o : Option handles.Grant). IsSome o) none some in cc
+closed_handles who t (Err e) old new some done none = let no = subst (λ (o : Option handles.OpenGrant). IsSome o) none some in cc
 
 module _ {D : Type 0} (g : Ghosts D) (left_sized : (d : D) (t : ℕ) (c : Image) → g.left_since d t c → length c ≡ g.blocks d) (sized : (d : D) → IsTrue (g.honest d) → length (g.content d) ≡ g.blocks d)
     (k : Kernel D) (who : ℕ) (t : Tuid) (was : Drafting) (drafting : drafting_at k.handles t.draw ≡ Some was) (bare : was.created ≡ None) (the : (s : State) → CoreServes g k s → IsHeld g k s who t was)

@@ -4,7 +4,7 @@ use Rattle.std.proofs.lemmas.Option.{same_Some}
 use Rattle.cfs_core.proofs.Words.{draft_of, Drafting, Ghosts, Grant, grant_of, has_met_damage, Image, Kind, object_at, object_kind, OnlyReads, Refused, Request, State, Tuid, Wanted, Through}
 use Rattle.open_table.specs.Grants as tables
 use Rattle.cyl_alloc.specs.Left.{LeftCommit}
-use Rattle.open_table.specs.declared.grant.Grant as handles
+use Rattle.open_table.specs.declared.grant.OpenGrant as handles
 use Rattle.puid_space.specs.Directory.{directory_kind}
 use Rattle.special_files.proofs.Refusals.{damage_as}
 use Rattle.special_files.specs.Committing.{FarRoots, draft_top}
@@ -24,7 +24,7 @@ use Rattle.cfs_core.proofs.Serving.{kind_there}
 use Rattle.cfs_core.proofs.Views.{FindsGrant, IsHeld, draft_seen, has_it, held_in, so, the_same}
 
 module _ {D : Type 0} {w : Option LeftCommit} (g : Ghosts D) (who : ℕ) (t : Tuid) (law : FindsGrant who t) (k : Kernel D) (was : Drafting) (s : State) (serves : ServesWith g k s w) (held : IsHeld g k s who t was)
-    (grant : handles.Grant) (found : tables.session_grant (grants_in k.handles) who t ≡ Some grant) where
+    (grant : handles.OpenGrant) (found : tables.session_grant (grants_in k.handles) who t ≡ Some grant) where
   -- the kind of its object is listed
   listed : directory_kind k.directory.named grant.id ≡ Some (object_kind held.object)
   listed =

@@ -1,7 +1,7 @@
 -- What is handled: grants with the drafts that are held for their draws.
 use Rattle.std.proofs.Common.{◌≡◌, ℕ, suc, ◌+◌, List, [], ◌∷◌, ◌++◌, drop, slice_get, add-one, rules, Bool, true, false, cond, not, ◌||◌, ◌&&◌, Option, Some, None, Result, Ok, Err, is_some, refl, sym, ◌∙◌, ap, subst, arith, ◌≤◌, ◌==◌, IsOk, OnErr, OnOk, filter}
 use Rattle.cfs_core.proofs.Words.{and_right, Drafting, eq-eqb, eqb-true, false_from_ne_true, list_any, list_any-append, nat_tests, or_from, or_parts, same_tuid, true≢false, Tuid}
-use Rattle.open_table.specs.declared.grant.Grant.{Grant}
+use Rattle.open_table.specs.declared.grant.OpenGrant.{OpenGrant}
 use Rattle.open_table.specs.Grants.{is_session_grant}
 use Rattle.cfs_core.specs.Kernel.{Handle, grants_in}
 use Rattle.cfs_core.specs.Handles.{AreOfGrants, ChangesHeld, HoldsDraft, drafting_at, have_draft, is_at, is_drawn, handled, handles_but, root_at, with_drafting}
@@ -13,28 +13,28 @@ use Rattle.cfs_base.specs.declared.identifier.Puid.{Puid}
 pub alike : (a b : Puid) → ((a.block == b.block) && (a.word == b.word)) ≡ same_puid a b
 alike a b = search rules
 
-at_place : (gs : List Grant) (place : ℕ) (g : Grant) → slice_get gs place ≡ Some g → drop place gs ≡ g ∷ drop (place + 1) gs
+at_place : (gs : List OpenGrant) (place : ℕ) (g : OpenGrant) → slice_get gs place ≡ Some g → drop place gs ≡ g ∷ drop (place + 1) gs
 at_place gs place g here = rw add-one (drop-cons gs place g (slice_get_within gs place g here) ∙ ap (λ x. x ∷ drop (suc place) gs) (get_or_from_slice_get gs place g g here))
 
 module _ (held : ℕ → Option Drafting) where
   -- a grant on another object, or with no draft, is passed
-  pub root_passed : (gs : List Grant) (place : ℕ) (g : Grant) (id : Puid) → slice_get gs place ≡ Some g → (same_puid id g.id && is_some (held g.tuid.draw)) ≡ false
+  pub root_passed : (gs : List OpenGrant) (place : ℕ) (g : OpenGrant) (id : Puid) → slice_get gs place ≡ Some g → (same_puid id g.id && is_some (held g.tuid.draw)) ≡ false
       → root_at (handled held (drop place gs)) id ≡ root_at (handled held (drop (place + 1) gs)) id
   root_passed gs place g id here is = ap (λ xs. root_at (handled held xs) id) (at_place gs place g here) ∙ rw is refl
 
-  pub root_found : (gs : List Grant) (place : ℕ) (g : Grant) (id : Puid) (d : Drafting) → slice_get gs place ≡ Some g → same_puid id g.id ≡ true → held g.tuid.draw ≡ Some d
+  pub root_found : (gs : List OpenGrant) (place : ℕ) (g : OpenGrant) (id : Puid) (d : Drafting) → slice_get gs place ≡ Some g → same_puid id g.id ≡ true → held g.tuid.draw ≡ Some d
       → root_at (handled held (drop place gs)) id ≡ Some d.root
   root_found gs place g id d here same has = ap (λ xs. root_at (handled held xs) id) (at_place gs place g here) ∙ rw (same, has) refl
 
-  pub handled_grants : (gs : List Grant) → grants_in (handled held gs) ≡ gs
+  pub handled_grants : (gs : List OpenGrant) → grants_in (handled held gs) ≡ gs
   handled_grants [] = refl
   handled_grants (g ∷ gs) = ap (λ rest. g ∷ rest) (handled_grants gs)
 
-  pub handled_push : (gs : List Grant) (g : Grant) → held g.tuid.draw ≡ None → handled held (gs ++ g ∷ []) ≡ handled held gs ++ record { grant = g; drafting = None } ∷ []
+  pub handled_push : (gs : List OpenGrant) (g : OpenGrant) → held g.tuid.draw ≡ None → handled held (gs ++ g ∷ []) ≡ handled held gs ++ record { grant = g; drafting = None } ∷ []
   handled_push [] g none = rw none refl
   handled_push (x ∷ gs) g none = ap (λ rest. record { grant = x; drafting = held x.tuid.draw } ∷ rest) (handled_push gs g none)
 
-  pub handled_but : (test : Grant → Bool) (gs : List Grant) → handled held (filter (λ g. not (test g)) gs) ≡ handles_but test (handled held gs)
+  pub handled_but : (test : OpenGrant → Bool) (gs : List OpenGrant) → handled held (filter (λ g. not (test g)) gs) ≡ handles_but test (handled held gs)
   handled_but test [] = refl
   handled_but test (g ∷ gs) = elim (test g) as (λ b. handled held (cond (not b) (g ∷ filter (λ x. not (test x)) gs) (filter (λ x. not (test x)) gs))
       ≡ cond (not b) (record { grant = g; drafting = held g.tuid.draw } ∷ handles_but test (handled held gs)) (handles_but test (handled held gs))) [
@@ -42,12 +42,12 @@ module _ (held : ℕ → Option Drafting) where
         | false ↦ ap (λ rest. record { grant = g; drafting = held g.tuid.draw } ∷ rest) (handled_but test gs)
       ]
 
-  pub any_drawn : (draw : ℕ) (gs : List Grant) → list_any (is_drawn draw) (handled held gs) ≡ list_any (λ g. draw == g.tuid.draw) gs
+  pub any_drawn : (draw : ℕ) (gs : List OpenGrant) → list_any (is_drawn draw) (handled held gs) ≡ list_any (λ g. draw == g.tuid.draw) gs
   any_drawn draw [] = refl
   any_drawn draw (g ∷ gs) = ap (λ b. (draw == g.tuid.draw) || b) (any_drawn draw gs)
 
   -- the draft that is held for a draw is that of its handle
-  held_at : (gs : List Grant) (draw : ℕ) → (list_any (λ g. draw == g.tuid.draw) gs ≡ false → held draw ≡ None) → held draw ≡ drafting_at (handled held gs) draw
+  held_at : (gs : List OpenGrant) (draw : ℕ) → (list_any (λ g. draw == g.tuid.draw) gs ≡ false → held draw ≡ None) → held draw ≡ drafting_at (handled held gs) draw
   held_at [] draw none = none refl
   held_at (g ∷ gs) draw none = at (λ rest. held_at gs draw rest) (draw == g.tuid.draw) refl
     where
@@ -56,8 +56,8 @@ module _ (held : ℕ → Option Drafting) where
       at later true is = rw is (ap held (eqb-true draw g.tuid.draw is))
       at later false is = rw is (later (λ other. none (rw (is, other) refl)))
 
-  module _ (test : Grant → Bool) (draw : ℕ) (d : Drafting) (is : held draw ≡ Some d) where
-    of_left : (xs : List Grant) → have_draft test (handled held xs) ≡ false → list_any (λ g. draw == g.tuid.draw) (filter (λ g. not (test g)) xs) ≡ false → list_any (λ g. draw == g.tuid.draw) xs ≡ false
+  module _ (test : OpenGrant → Bool) (draw : ℕ) (d : Drafting) (is : held draw ≡ Some d) where
+    of_left : (xs : List OpenGrant) → have_draft test (handled held xs) ≡ false → list_any (λ g. draw == g.tuid.draw) (filter (λ g. not (test g)) xs) ≡ false → list_any (λ g. draw == g.tuid.draw) xs ≡ false
     of_left [] none left = refl
     of_left (x ∷ xs) none left = one (of_left xs parts.1) (test x) refl
       where
@@ -73,7 +73,7 @@ module _ (held : ℕ → Option Drafting) where
         one rest false stays = (let two = or_parts (draw == x.tuid.draw) _ (rw stays at left) in or_from (draw == x.tuid.draw) _ two.0 (rest two.1))
 
   -- what is held is of a grant that is left, where none that goes has a draft
-  pub none_held : (test : Grant → Bool) (gs : List Grant) → have_draft test (handled held gs) ≡ false → AreOfGrants held gs → AreOfGrants held (filter (λ g. not (test g)) gs)
+  pub none_held : (test : OpenGrant → Bool) (gs : List OpenGrant) → have_draft test (handled held gs) ≡ false → AreOfGrants held gs → AreOfGrants held (filter (λ g. not (test g)) gs)
   none_held test gs bare all draw other = at (held draw) refl
     where
       at : (o : Option Drafting) → held draw ≡ o → held draw ≡ None
@@ -82,7 +82,7 @@ module _ (held : ℕ → Option Drafting) where
 
 module _ (draw : ℕ) (what : Option Drafting) (before after : ℕ → Option Drafting) (puts : (q : ℕ) → after q ≡ cond (draw == q) what (before q)) where
   -- a draft is held for one draw, or none, and all others as they were
-  pub handled_put : (gs : List Grant) → handled after gs ≡ with_drafting draw what (handled before gs)
+  pub handled_put : (gs : List OpenGrant) → handled after gs ≡ with_drafting draw what (handled before gs)
   handled_put [] = refl
   handled_put (g ∷ gs) = rw (puts g.tuid.draw, handled_put gs) (at (draw == g.tuid.draw))
     where
@@ -92,7 +92,7 @@ module _ (draw : ℕ) (what : Option Drafting) (before after : ℕ → Option Dr
       at false = refl
 
 -- the drafts of a table, seen as its handles
-module _ (held : ℕ → Option Drafting) (gs : List Grant) (handles : List Handle) (view : handled held gs ≡ handles) (all : AreOfGrants held gs) (draw : ℕ) where
+module _ (held : ℕ → Option Drafting) (gs : List OpenGrant) (handles : List Handle) (view : handled held gs ≡ handles) (all : AreOfGrants held gs) (draw : ℕ) where
   pub held_here : held draw ≡ drafting_at handles draw
   held_here = held_at held gs draw (all draw) ∙ ap (λ hs. drafting_at hs draw) view
 
@@ -108,14 +108,14 @@ module _ (held : ℕ → Option Drafting) (gs : List Grant) (handles : List Hand
   changes_held after was now is puts so = record { was = was; has = sym held_here ∙ is; now = now; with_it = handled_put draw (Some now) held after puts gs ∙ ap (with_drafting draw (Some now)) view; so = so }
 
 -- where nothing is held for a draw that no grant has, and something for a new grant
-module _ (g : Grant) (what : Option Drafting) (before after : ℕ → Option Drafting) (puts : (q : ℕ) → after q ≡ cond (g.tuid.draw == q) what (before q)) where
-  pub handled_open : (gs : List Grant) → list_any (λ x. g.tuid.draw == x.tuid.draw) gs ≡ false → handled after (gs ++ g ∷ []) ≡ handled before gs ++ record { grant = g; drafting = what } ∷ []
+module _ (g : OpenGrant) (what : Option Drafting) (before after : ℕ → Option Drafting) (puts : (q : ℕ) → after q ≡ cond (g.tuid.draw == q) what (before q)) where
+  pub handled_open : (gs : List OpenGrant) → list_any (λ x. g.tuid.draw == x.tuid.draw) gs ≡ false → handled after (gs ++ g ∷ []) ≡ handled before gs ++ record { grant = g; drafting = what } ∷ []
   handled_open [] new = rw (puts g.tuid.draw, eq-eqb g.tuid.draw g.tuid.draw refl) refl
   handled_open (x ∷ gs) new =
       let two = or_parts (g.tuid.draw == x.tuid.draw) (list_any (λ y. g.tuid.draw == y.tuid.draw) gs) new in
       rw (puts x.tuid.draw, two.0, handled_open gs two.1) refl
 
-  pub of_grants_open : (gs : List Grant) → AreOfGrants before gs → AreOfGrants after (gs ++ g ∷ [])
+  pub of_grants_open : (gs : List OpenGrant) → AreOfGrants before gs → AreOfGrants after (gs ++ g ∷ [])
   of_grants_open gs all draw none =
       let two = or_parts (list_any (λ x. draw == x.tuid.draw) gs) _ (sym (list_any-append (λ x. draw == x.tuid.draw) gs (g ∷ [])) ∙ none) in
       puts draw ∙ ap (λ b. cond b what (before draw)) (turned draw g.tuid.draw two.1) ∙ all draw two.0
@@ -124,7 +124,7 @@ module _ (g : Grant) (what : Option Drafting) (before after : ℕ → Option Dra
       turned a b other = grind (arith, nat_tests)
 
 -- what is held for each draw as before
-pub handled_same : (before after : ℕ → Option Drafting) → ((q : ℕ) → after q ≡ before q) → (gs : List Grant) → handled after gs ≡ handled before gs
+pub handled_same : (before after : ℕ → Option Drafting) → ((q : ℕ) → after q ≡ before q) → (gs : List OpenGrant) → handled after gs ≡ handled before gs
 handled_same before after same [] = refl
 handled_same before after same (g ∷ gs) = rw (same g.tuid.draw, handled_same before after same gs) refl
 
@@ -155,7 +155,7 @@ none_taken draw (handle ∷ ss) = at (none_taken draw ss) (is_drawn draw handle)
 
 -- ---- the tests of a table
 
-pub no_tuid : (gs : List Grant) (t : Tuid) → list_any (λ g. t.draw == g.tuid.draw) gs ≡ false → list_any (λ g. same_tuid g.tuid t) gs ≡ false
+pub no_tuid : (gs : List OpenGrant) (t : Tuid) → list_any (λ g. t.draw == g.tuid.draw) gs ≡ false → list_any (λ g. same_tuid g.tuid t) gs ≡ false
 no_tuid [] t none = refl
 no_tuid (g ∷ gs) t none =
     let two = or_parts (t.draw == g.tuid.draw) (list_any (λ x. t.draw == x.tuid.draw) gs) none in
@@ -179,7 +179,7 @@ none_of_grant who t (handle ∷ ss) none =
         and_cases_true true h = h
         and_cases_true false h = refl
 
-        apart : (who : ℕ) (t : Tuid) (g : Grant) → (t.draw == g.tuid.draw) ≡ false → (is_session_grant who t g && true) ≡ false
+        apart : (who : ℕ) (t : Tuid) (g : OpenGrant) → (t.draw == g.tuid.draw) ≡ false → (is_session_grant who t g && true) ≡ false
         apart who t g other = grind (arith, nat_tests)
 
 -- ---- a consequence of what a call does
@@ -192,7 +192,7 @@ pub on_ok : {A E P Q : Type 0} (r : Result A E) → (P → Q) → OnOk r P → O
 on_ok (Ok a) f p = f p
 on_ok (Err e) f p = tt
 
-pub stays_or : {A E : Type 0} (r : Result A E) {old new left : List Grant} (P : List Grant → Type 0) → OnOk r (new ≡ left) → OnErr r (new ≡ old) → P left → P old → P new
+pub stays_or : {A E : Type 0} (r : Result A E) {old new left : List OpenGrant} (P : List OpenGrant → Type 0) → OnOk r (new ≡ left) → OnErr r (new ≡ old) → P left → P old → P new
 stays_or (Ok a) P done kept p q = subst P (sym done) p
 stays_or (Err e) P done kept p q = subst P (sym kept) q
 

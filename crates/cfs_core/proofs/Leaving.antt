@@ -1,7 +1,7 @@
 -- A session's grants are dropped, one after the other, and then it has left.
 use Rattle.std.proofs.Common.{◌≡◌, ◌⊎◌, ⊎_elim, inl, inr, ℕ, List, [], ◌∷◌, ◌++◌, length, Bool, true, false, cond, not, Option, Some, None, IsTrue, refl, sym, ◌∙◌, ap, subst, arith, ◌==◌, find, map, option_map}
 use Rattle.cfs_core.proofs.Words.{after_leave, Ghosts, Grant, Holds, Image, Leaves, loose, State, stopped_at, then, without_session-none}
-use Rattle.open_table.specs.declared.grant.Grant as handles
+use Rattle.open_table.specs.declared.grant.OpenGrant as handles
 use Rattle.open_table.specs.Grants as tables
 use Rattle.ufs_model.specs.declared.asked.Event.TheVariants as events
 use Rattle.cfs_core.specs.declared.kernel.Stop.{Stop}
@@ -109,14 +109,14 @@ module _ {D : Type 0} (g : Ghosts D) (who : ℕ) where
 
   -- ---- none of its grants is left
 
-  none_left : (gs : List handles.Grant) (grants : List Grant) → gs ≡ map bare grants → tables.first_grant gs who ≡ None → of_others who grants ≡ grants
+  none_left : (gs : List handles.OpenGrant) (grants : List Grant) → gs ≡ map bare grants → tables.first_grant gs who ≡ None → of_others who grants ≡ grants
   none_left [] [] table none = refl
   none_left [] (x ∷ grants) table none = cc
   none_left (y ∷ gs) [] table none = cc
   none_left (y ∷ gs) (x ∷ grants) table none =
       let head : y ≡ bare x = cc in
       let tail : gs ≡ map bare grants = cc in
-      at (y.session == who) (ap (λ (e : handles.Grant). e.session == who) head) none (λ h. none_left gs grants tail h)
+      at (y.session == who) (ap (λ (e : handles.OpenGrant). e.session == who) head) none (λ h. none_left gs grants tail h)
     where
       at : (b : Bool) → b ≡ (x.session == who) → cond b (Some y) (find (λ e. e.session == who) gs) ≡ None → (find (λ e. e.session == who) gs ≡ None → of_others who grants ≡ grants)
           → cond (not (x.session == who)) (x ∷ of_others who grants) (of_others who grants) ≡ x ∷ grants

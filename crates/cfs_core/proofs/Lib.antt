@@ -48,6 +48,7 @@ mod MadeIn
 mod Altered
 mod Rewritten
 pub mod Asked
+mod Exact
 mod SoundGraph
 mod Opened
 mod Tidied
@@ -58,5 +59,4 @@ mod StepMoves
 mod Stepping
 mod Stepped
 mod Parted
-mod Passed
 mod Waiting

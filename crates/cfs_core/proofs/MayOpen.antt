@@ -6,7 +6,7 @@ use Rattle.block_tree.specs.Pointers.{leaf_limit, node_pointers}
 use Rattle.cfs_base.specs.declared.kind.FileKind.TheVariants as file_kinds
 use Rattle.cfs_base.specs.declared.refusal.Refused.TheVariants as refusals
 use Rattle.open_table.specs.declared.fault.AcquireFault.TheVariants as faults
-use Rattle.open_table.specs.declared.grant.Grant as handles
+use Rattle.open_table.specs.declared.grant.OpenGrant as handles
 use Rattle.ufs_model.specs.declared.asked.Reply.TheVariants as replies
 use Rattle.ufs_model.specs.declared.asked.Request.TheVariants as asks
 use Rattle.ufs_model.specs.declared.object.Object.TheVariants as objects
@@ -83,8 +83,8 @@ told_plain (faults.Locked mode) = tt
 told_plain faults.Grants = tt
 
 -- of a table that is the core's
-module _ {D : Type 0} {w : Option LeftCommit} (g : Ghosts D) (k : Kernel D) (s : State) (serves : ServesWith g k s w) (who : ℕ) (id : Puid) (mode : Mode) (kind : Kind) (listed : directory_kind k.directory.named id ≡ Some kind) (tuid : Tuid) (gs : List handles.Grant) (same : gs ≡ grants_in k.handles) where
-  abbrev to_open : handles.Grant
+module _ {D : Type 0} {w : Option LeftCommit} (g : Ghosts D) (k : Kernel D) (s : State) (serves : ServesWith g k s w) (who : ℕ) (id : Puid) (mode : Mode) (kind : Kind) (listed : directory_kind k.directory.named id ≡ Some kind) (tuid : Tuid) (gs : List handles.OpenGrant) (same : gs ≡ grants_in k.handles) where
+  abbrev to_open : handles.OpenGrant
   to_open = record { tuid = tuid; session = who; id = id; mode = mode }
 
   module _ (locks : is_some (mode_against (table_of s.grants) to_open) ≡ is_locked s who (asks.OpenFor id mode)) (fills : nat_le MOST_GRANTS (length (grants_of (table_of s.grants) who)) ≡ has_all_grants s who (asks.OpenFor id mode)) where
@@ -131,7 +131,7 @@ begun_open g {at = at} v n d is none = record {
 }
 
 -- a draft that was begun is ready
-pub begun_ready : (blocks : ℕ) (kind : Kind) (grant : handles.Grant) (o : Option Drafting) → IfSome o (λ d. (gets_draft kind grant.mode ≡ true) × (d.at ≡ grant.id.block) × ((n : ℕ) × (d.shadow ≡ Some n)) × (d.created ≡ None)) → grant.id.block < blocks
+pub begun_ready : (blocks : ℕ) (kind : Kind) (grant : handles.OpenGrant) (o : Option Drafting) → IfSome o (λ d. (gets_draft kind grant.mode ≡ true) × (d.at ≡ grant.id.block) × ((n : ℕ) × (d.shadow ≡ Some n)) × (d.created ≡ None)) → grant.id.block < blocks
     → is_ready blocks (record { grant = grant; drafting = o }) ≡ true
 begun_ready blocks kind grant None is less = refl
 begun_ready blocks kind grant (Some d) is less =

@@ -4,7 +4,7 @@ use Rattle.cfs_core.proofs.Words.{block_there, changes_begin, Drafting, Draws, f
 use Rattle.cfs_core.proofs.Words.{IsState, Kept, Kind, directory_kind, list_any, Mode, nat_tests, Need, need_of, next, Object, object_at, of_draft, one_if, Opened, opened_as, outcome_legal, outcome_of, Puid, Reading, refusal_of, Refused, Reply, Request, same_puid, start_stays, State, takes_draft, Tuid, wider, word, Writing, MapEntry, the_draft, ChangesOnly}
 use Rattle.cfs_base.specs.declared.kind.Kind.TheVariants as kinds
 use Rattle.cfs_base.specs.declared.refusal.Refused.TheVariants as refusals
-use Rattle.open_table.specs.declared.grant.Grant as handles
+use Rattle.open_table.specs.declared.grant.OpenGrant as handles
 use Rattle.ufs_model.specs.declared.asked.Event.TheVariants as events
 use Rattle.ufs_model.specs.declared.asked.Reply.TheVariants as replies
 use Rattle.ufs_model.specs.declared.asked.Request.TheVariants as asks
@@ -59,7 +59,7 @@ module _ {D : Type 0} {w : Option LeftCommit} (g : Ghosts D) (left_sized : (d : 
   grant = record { tuid = record { draw = s.drawn + 1; word = word k.words.seed (s.drawn + 1) }; session = who; id = id; mode = mode; draft = first_draft mode (object_at s.graph id) }
 
   -- the same as the core has it
-  abbrev shown : handles.Grant
+  abbrev shown : handles.OpenGrant
   shown = record { tuid = tuid; session = who; id = id; mode = mode }
 
   tuid_same : tuid ≡ record { draw = s.drawn + 1; word = word k.words.seed (s.drawn + 1) }

@@ -1,7 +1,7 @@
 -- Drafts as they stand between two calls.
 use Rattle.std.proofs.Common.{◌≡◌, ℕ, ◌+◌, ◌*◌, ◌<◌, List, [], ◌∷◌, ◌++◌, Bool, true, false, cond, ◌&&◌, length, Option, Some, None, refl, sym, ◌∙◌, ap, subst, arith, filter, find, is_none, is_some, map, nat_lt, option_and_then, option_to_list}
 use Rattle.cfs_core.proofs.Words.{and_parts, are_granted, Draft, Drafting, Drafts, Grant, Graph, graph_blocks, ids_of, is_grant_in, Kept, list_all, list_all-append, Listing, nat_tests, no_drafts, Object, object_at, open_there, opened_as, Puid, rises, sum_by, sum_by-cons, taken_with}
-use Rattle.open_table.specs.declared.grant.Grant as handles
+use Rattle.open_table.specs.declared.grant.OpenGrant as handles
 use Rattle.vol_owners.specs.Room as owners
 use Rattle.cfs_core.specs.declared.collecting.Collections.{Collections}
 use Rattle.cfs_core.specs.Room.{blocks_of_grant}
@@ -140,7 +140,7 @@ module _ {D : Type 0} {blocks : D → ℕ} {d : D} {directory : Listing} {before
   pub sized_taken : (draw : ℕ) (new : List Handle) → new ≡ with_drafting draw None ss → IsSizedKernel blocks d directory before new drawn c
   sized_taken draw new is = sized_with d before new drawn refl refl (ap (list_all (is_drawn_by drawn)) is ∙ drawn_taken drawn draw ss sized.drawn_all) (ap (list_all (is_ready directory.room)) is ∙ ready_taken directory.room draw ss sized.ready)
 
-  pub sized_but : (test : handles.Grant → Bool) (new : List Handle) → new ≡ handles_but test ss → IsSizedKernel blocks d directory before new drawn c
+  pub sized_but : (test : handles.OpenGrant → Bool) (new : List Handle) → new ≡ handles_but test ss → IsSizedKernel blocks d directory before new drawn c
   sized_but test new is = sized_with d before new drawn refl refl (ap (list_all (is_drawn_by drawn)) is ∙ all_filter (is_drawn_by drawn) _ ss sized.drawn_all) (ap (list_all (is_ready directory.room)) is ∙ all_filter (is_ready directory.room) _ ss sized.ready)
 
 -- ---- what drafts take
@@ -168,8 +168,8 @@ module _ (graph : Graph) (up : rises (ids_of graph) ≡ true) (blocks : ℕ) (ds
         arith,
         rest,
         sum_by-cons blocks_of_grant x grants,
-        one o.0 (ap (λ (e : handles.Grant). object_at graph e.id) head ∙ o.1)
-            (core_has_none handle.grant.id ss grants tail (subst (λ (e : handles.Grant). draft_at grants e.id ≡ None) (sym head) (none_beside x grants [] alone).1))
+        one o.0 (ap (λ (e : handles.OpenGrant). object_at graph e.id) head ∙ o.1)
+            (core_has_none handle.grant.id ss grants tail (subst (λ (e : handles.OpenGrant). draft_at grants e.id ≡ None) (sym head) (none_beside x grants [] alone).1))
             handle.drafting x.draft two.0 are.0,
       )
     where

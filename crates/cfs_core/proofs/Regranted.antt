@@ -1,7 +1,7 @@
 -- Calls that change the grants, and no draft.
 use Rattle.std.proofs.Common.{◌≤◌, ◌≡◌, ℕ, List, [], ◌∷◌, ◌++◌, length, Bool, true, false, cond, ◌&&◌, Option, Some, None, is_some, refl, sym, ◌∙◌, ap, subst, arith, ◌+◌, append-nil, filter, find, map, nat_le, not}
 use Rattle.cfs_core.proofs.Words.{and_parts, changes_begin, Draft, Drafting, Drafts, Event, Ghosts, Grant, Holds, Image, is_grant, IsState, list_all, nat_tests, next, no_drafts, Opened, or_parts, State, Tuid, with_opened}
-use Rattle.open_table.specs.declared.grant.Grant as handles
+use Rattle.open_table.specs.declared.grant.OpenGrant as handles
 use Rattle.open_table.specs.Grants as tables
 use Rattle.cfs_core.specs.Calls.{MakesEvent}
 use Rattle.cfs_core.specs.Kernel.{Kernel, Handle, grants_in, is_drawn_by}
@@ -37,7 +37,7 @@ draft_none ds who t (handle ∷ ss) (y ∷ grants) table are none x found =
     let head : handle.grant ≡ bare y = cc in
     let tail : grants_in ss ≡ map bare grants = cc in
     let two = or_parts (tables.is_session_grant who t handle.grant && is_some handle.drafting) (have_draft (tables.is_session_grant who t) ss) none in
-    at (draft_none ds who t ss grants tail are.1 two.1 x) (is_grant who t y) (subst (λ (e : handles.Grant). (tables.is_session_grant who t e && is_some handle.drafting) ≡ false) head two.0) found
+    at (draft_none ds who t ss grants tail are.1 two.1 x) (is_grant who t y) (subst (λ (e : handles.OpenGrant). (tables.is_session_grant who t e && is_some handle.drafting) ≡ false) head two.0) found
   where
     here : (drafting : Option Drafting) (d : Option Draft) → is_some drafting ≡ false → HasDraftOf ds handle drafting d → d ≡ None
     here None None none has = refl
@@ -69,7 +69,7 @@ module _ (handle : Handle) (grant : Grant) where
   push_bare is (x ∷ ss) [] table = cc
   push_bare is (x ∷ ss) (y ∷ grants) table = (let tail : grants_in ss ≡ map bare grants = cc in ap (with_opened_if x.grant.id (opened_if x.drafting y.draft)) (push_bare is ss grants tail))
 
-module _ (test : handles.Grant → Bool) where
+module _ (test : handles.OpenGrant → Bool) where
   abbrev left_of : List Grant → List Grant
   left_of grants = filter (λ grant. not (test (bare grant))) grants
 

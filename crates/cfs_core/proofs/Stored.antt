@@ -5,8 +5,8 @@ use Rattle.cfs_core.proofs.Words.{frames_hold, Ghosts, Graph, Holds, Image, Kept
 use Rattle.cfs_base.specs.Disk.{block_at}
 use Rattle.cyl_alloc.specs.Left.{LeftCommit}
 use Rattle.cyl_alloc.specs.Space.{AreCounts}
-use Rattle.intentions.specs.Left.{GoesOn, GoesWith, StoreWith, coming, copied_if, plan}
-use Rattle.intentions.proofs.Flips.{length-flipped}
+use Rattle.intentions.specs.Left.{GoesOn, GoesWith, StoreWith, coming, copied_if, settled}
+use Rattle.cyl_map.proofs.Mapped.{length-mapped}
 use Rattle.intentions.proofs.Reading.{left_hold}
 use Rattle.ufs_model.specs.Graph.{ids_of}
 use Rattle.vol_owners.specs.Account.{Accounts}
@@ -47,7 +47,7 @@ module _ {D : Type 0} (g : Ghosts D) (graph : Graph) (ds : Drafts) (d : D) (k : 
 -- the image that is to come is as long
 pub length_in : (a : Image) (w : Option LeftCommit) → length (coming a w) ≡ length a
 length_in a None = refl
-length_in a (Some l) = length-flipped (plan l) (copied_if l.copied l a) ∙ at l.copied
+length_in a (Some l) = length-mapped (settled l) (copied_if l.copied l a) ∙ at l.copied
   where
     at : (b : Bool) → length (copied_if b l a) ≡ length a
     at true = refl

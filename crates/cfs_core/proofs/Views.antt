@@ -4,7 +4,7 @@ use Rattle.cfs_core.proofs.Words.{Draft, Drafting, Ghosts, Grant, grant_found, g
 use Rattle.ufs_model.specs.declared.object.Object.TheVariants as objects
 use Rattle.std.proofs.lemmas.Option.{same_Some}
 use Rattle.open_table.specs.Grants as tables
-use Rattle.open_table.specs.declared.grant.Grant as handles
+use Rattle.open_table.specs.declared.grant.OpenGrant as handles
 use Rattle.cyl_alloc.specs.Left.{LeftCommit, block_shown}
 use Rattle.special_files.specs.View.{DraftSeen, DraftView, ObjectView}
 use Rattle.cfs_core.specs.Kernel.{Kernel, Handle, grants_in}
@@ -20,7 +20,7 @@ use Rattle.ufs_model.proofs.WellStates.{has_no_other}
 abbrev pub FindsGrant : ℕ → Tuid → Type 0
 FindsGrant who t = (s : State) → tables.session_grant (table_of s.grants) who t ≡ option_map shown (grant_of s who t)
 
-pub shown_by : (o : Option Grant) (x : handles.Grant) → Some x ≡ option_map shown o → (y : Grant) × (o ≡ Some y)
+pub shown_by : (o : Option Grant) (x : handles.OpenGrant) → Some x ≡ option_map shown o → (y : Grant) × (o ≡ Some y)
 shown_by None x is = cc
 shown_by (Some y) x is = (y, refl)
 
@@ -28,14 +28,14 @@ pub none_there : (o : Option Grant) → None ≡ option_map shown o → o ≡ No
 none_there None is = refl
 none_there (Some y) is = cc
 
-pub the_grant : (found : Option handles.Grant) (o : Option Grant) → IsSome found → found ≡ option_map shown o → (y : Grant) × (o ≡ Some y)
+pub the_grant : (found : Option handles.OpenGrant) (o : Option Grant) → IsSome found → found ≡ option_map shown o → (y : Grant) × (o ≡ Some y)
 the_grant None o some is = cc
 the_grant (Some x) o some is = shown_by o x is
 
 -- and it is on the same object
-pub the_same : (found : Option handles.Grant) (o : Option Grant) (g : handles.Grant) → found ≡ Some g → found ≡ option_map shown o → (y : Grant) × (o ≡ Some y) × (y.id ≡ g.id)
+pub the_same : (found : Option handles.OpenGrant) (o : Option Grant) (g : handles.OpenGrant) → found ≡ Some g → found ≡ option_map shown o → (y : Grant) × (o ≡ Some y) × (y.id ≡ g.id)
 the_same found None g is same = let no : Some g ≡ None = sym is ∙ same in cc
-the_same found (Some y) g is same = (y, refl, ap (λ (z : handles.Grant). z.id) (same_Some (shown y) g (sym same ∙ is)))
+the_same found (Some y) g is same = (y, refl, ap (λ (z : handles.OpenGrant). z.id) (same_Some (shown y) g (sym same ∙ is)))
 
 -- ---- a grant with a draft
 
@@ -68,7 +68,7 @@ held_by g k s serves who t was drafting found = record {
   before = there.0;
   draft_was = there.1;
   object = object.0;
-  there = ap (λ (e : handles.Grant). object_at s.graph e.id) two.1.here ∙ object.1;
+  there = ap (λ (e : handles.OpenGrant). object_at s.graph e.id) two.1.here ∙ object.1;
   there_x = object.1;
 }
   where

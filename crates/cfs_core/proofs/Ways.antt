@@ -2,7 +2,7 @@
 use Rattle.std.proofs.Common.{◌≡◌, ℕ, List, [], ◌∷◌, ◌++◌, Bool, true, false, cond, not, ◌&&◌, ◌||◌, Option, Some, None, is_some, is_none, refl, sym, ◌∙◌, ap, subst, option_map, option_and_then}
 use Rattle.cfs_core.proofs.Words.{AFile, and_parts, AnIndex, Direct, Draft, draft_of, Either, FileKind, goes_nowhere, goes_through_reading, Grant, grant_found, grant_of, has_no_such_grant, is_for_reading, is_draft_of, is_open_so, is_unwanted_file, is_unwanted_index, IsState, object_kind, meets_a_grant, named, Object, object_at, object_of, open_there, Puid, Ref, refusal_of, Reply, Request, same_kind, shown, State, target, Through, Wanted}
 use Rattle.cfs_base.specs.declared.kind.FileKind.TheVariants as file_kinds
-use Rattle.open_table.specs.declared.grant.Grant as handles
+use Rattle.open_table.specs.declared.grant.OpenGrant as handles
 use Rattle.ufs_model.specs.declared.asked.Reply.TheVariants as replies
 use Rattle.ufs_model.specs.declared.object.Object.TheVariants as objects
 use Rattle.ufs_model.specs.Refusal.{first_of}
@@ -28,11 +28,11 @@ first_later (c ∷ cs) ds is = elim c.0 as (λ b. cond b (Some c.1) (first_of cs
 
 -- ---- what a table of grants tells
 
-pub named_of : (found : Option handles.Grant) (o : Option Grant) → found ≡ option_map shown o → option_map (λ (g : handles.Grant). g.id) found ≡ option_and_then (λ (g : Grant). Some g.id) o
-named_of found None is = ap (option_map (λ (g : handles.Grant). g.id)) is
-named_of found (Some g) is = ap (option_map (λ (g : handles.Grant). g.id)) is
+pub named_of : (found : Option handles.OpenGrant) (o : Option Grant) → found ≡ option_map shown o → option_map (λ (g : handles.OpenGrant). g.id) found ≡ option_and_then (λ (g : Grant). Some g.id) o
+named_of found None is = ap (option_map (λ (g : handles.OpenGrant). g.id)) is
+named_of found (Some g) is = ap (option_map (λ (g : handles.OpenGrant). g.id)) is
 
-pub reads_of : (found : Option handles.Grant) (o : Option Grant) → found ≡ option_map shown o → reads_by found ≡ is_for_reading o
+pub reads_of : (found : Option handles.OpenGrant) (o : Option Grant) → found ≡ option_map shown o → reads_by found ≡ is_for_reading o
 reads_of found None is = ap reads_by is
 reads_of found (Some g) is = ap reads_by is
 

@@ -10,7 +10,7 @@ use Rattle.cfs_base.specs.declared.refusal.Trouble.{Trouble}
 use Rattle.cfs_base.specs.declared.refusal.Trouble.TheVariants as troubles
 use Rattle.cyl_alloc.specs.Left.{LeftCommit}
 use Rattle.cyl_alloc.specs.Space.{Kept}
-use Rattle.open_table.specs.declared.grant.Grant.{Grant}
+use Rattle.open_table.specs.declared.grant.OpenGrant.{OpenGrant}
 use Rattle.open_table.specs.Grants.{session_grant}
 use Rattle.special_files.specs.Becomes.{DraftBecomes}
 use Rattle.special_files.specs.Committing.{AbortEnds, CommitEnds, IsNoted, draft_top}
@@ -58,7 +58,7 @@ use Rattle.cfs_core.specs.StandsFor.{ServesWith, sweeps_now}
 
 -- the session has the grant, and it has a draft, of an object that is wanted
 pub record IsDrafted {D : Type 0} (k : Kernel D) (wants : Wanted) (who : ℕ) (t : Tuid) : Type 0 where
-  pub grant : Grant
+  pub grant : OpenGrant
   pub found : session_grant (grants_in k.handles) who t ≡ Some grant
   pub drafting : Drafting
   pub has : drafting_at k.handles t.draw ≡ Some drafting

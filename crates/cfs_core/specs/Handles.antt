@@ -4,7 +4,7 @@ use Rattle.std.specs.Prelude.{map, filter, find, [], ◌∷◌, Option, None, So
 use Rattle.std.specs.List.{list_any}
 use Rattle.block_tree.specs.declared.root.Root.{Root}
 use Rattle.cfs_base.specs.declared.identifier.Puid.{Puid}
-use Rattle.open_table.specs.declared.grant.Grant.{Grant}
+use Rattle.open_table.specs.declared.grant.OpenGrant.{OpenGrant}
 use Rattle.special_files.specs.Drafting.{Drafting}
 use Rattle.ufs_model.specs.Identifier.{same_puid}
 use Rattle.cfs_core.specs.Kernel.{Handle}
@@ -15,11 +15,11 @@ pub record Handleing : Type 0 where
   pub has_room : Bool
 
 -- these grants, each with the draft that is held for its draw
-abbrev pub handled : (ℕ → Option Drafting) → List Grant → List Handle
+abbrev pub handled : (ℕ → Option Drafting) → List OpenGrant → List Handle
 handled held grants = map (λ grant. record { grant = grant; drafting = held grant.tuid.draw }) grants
 
 -- nothing is held for a draw that no grant has
-abbrev pub AreOfGrants : (ℕ → Option Drafting) → List Grant → Type 0
+abbrev pub AreOfGrants : (ℕ → Option Drafting) → List OpenGrant → Type 0
 AreOfGrants held grants = (draw : ℕ) → list_any (λ grant. draw == grant.tuid.draw) grants ≡ false → held draw ≡ None
 
 -- ---- the handle of one draw
@@ -62,14 +62,14 @@ root_at (handle ∷ handles) id =
     else root_at handles id
 
 -- a handle whose grant passes the test has a draft
-abbrev pub have_draft : (Grant → Bool) → List Handle → Bool
+abbrev pub have_draft : (OpenGrant → Bool) → List Handle → Bool
 have_draft test handles = list_any (λ handle. test handle.grant && is_some handle.drafting) handles
 
-abbrev pub is_at : ℕ → Grant → Bool
+abbrev pub is_at : ℕ → OpenGrant → Bool
 is_at draw grant = draw == grant.tuid.draw
 
 -- ---- what is left
 
 -- those whose grants don't pass the test
-abbrev pub handles_but : (Grant → Bool) → List Handle → List Handle
+abbrev pub handles_but : (OpenGrant → Bool) → List Handle → List Handle
 handles_but test handles = filter (λ handle. not (test handle.grant)) handles

@@ -8,7 +8,7 @@ use Rattle.collector_steps.specs.Collecting.{Collecting, volume_of}
 use Rattle.collector_steps.specs.declared.phase.Phase.{Phase}
 use Rattle.collector_steps.specs.declared.phase.Phase.TheVariants as phases
 use Rattle.cyl_alloc.specs.Space.{Kept}
-use Rattle.open_table.specs.declared.grant.Grant.{Grant}
+use Rattle.open_table.specs.declared.grant.OpenGrant.{OpenGrant}
 use Rattle.puid_space.specs.Directory.{Listing, has_root_in}
 use Rattle.puid_space.specs.Draw.{Draws}
 use Rattle.special_files.specs.Drafting.{Drafting}
@@ -17,10 +17,10 @@ use Rattle.cfs_core.specs.declared.kernel.Stop.{Stop}
 
 -- a grant, and the draft of a special file or an index that is open for writing
 pub record Handle : Type 0 where
-  pub grant : Grant
+  pub grant : OpenGrant
   pub drafting : Option Drafting
 
-abbrev pub grants_in : List Handle → List Grant
+abbrev pub grants_in : List Handle → List OpenGrant
 grants_in handles = map (λ handle. handle.grant) handles
 
 -- drawn no later than this

@@ -1,28 +1,14 @@
--- The room of a state: what is Free on a disk of so many cylinders, while nothing sweeps.
-use Rattle.std.specs.Prelude.{◌≡◌, ℕ, ◌+◌, ◌*◌, ◌≤◌, ◌&&◌, not, count_by, length, Option, Some, None}
-use Rattle.std.specs.List.{range_with_len, sum_by}
-use Rattle.std.specs.Option.{option_map_or}
+-- What is neither Free nor in use: while a collection sweeps, and while a commit is unfinished.
+use Rattle.std.specs.Prelude.{◌≡◌, ℕ, ◌+◌, ◌≤◌, ◌&&◌, not, count_by, length, Option, Some, None}
+use Rattle.std.specs.List.{range_with_len}
 use Rattle.cfs_base.specs.Disk.{Image}
 use Rattle.cyl_map.specs.Volume.{is_free_in}
 use Rattle.ufs_model.specs.declared.asked.Event.{Event}
 use Rattle.ufs_model.specs.declared.asked.Event.TheVariants as events
-use Rattle.ufs_model.specs.declared.object.Grant.{Grant}
 use Rattle.ufs_model.specs.Graph.{Graph}
-use Rattle.ufs_model.specs.State.{State}
+pub use Rattle.ufs_model.specs.Room.{IsRoom, blocks_in, blocks_of_grant}
 use Rattle.vol_image.specs.Sound.{graph_blocks}
 use Rattle.vol_owners.specs.Owner.{stray_blocks}
-
--- the shadow root of a grant's draft, and the leaves and nodes that are the draft's alone
-abbrev pub blocks_of_grant : Grant → ℕ
-blocks_of_grant grant = option_map_or (λ d. 1 + sum_by length d.fresh) grant.draft 0
-
--- the blocks that objects and drafts have
-abbrev pub blocks_in : State → ℕ
-blocks_in s = graph_blocks s.graph + sum_by blocks_of_grant s.grants
-
--- all others are Free but the map of each cylinder and the label
-abbrev pub IsRoom : ℕ → State → ℕ → Type 0
-IsRoom cylinders s free = free + blocks_in s + 1 ≡ 63 * cylinders
 
 -- ---- while a collection sweeps
 

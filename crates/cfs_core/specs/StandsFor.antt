@@ -1,6 +1,6 @@
 -- When a core stands for a state: a relation, since no field of a core has all that a collection remembers.
 use Rattle.std.specs.Prelude.{◌≡◌, ℕ, ◌≤◌, Bool, true, false, ◌||◌, List, [], ◌∷◌}
-use Rattle.std.specs.Prelude.{length, map, sum, Option, Some, None, option_map}
+use Rattle.std.specs.Prelude.{length, map, sum, Option, Some, None, option_map, refl}
 use Rattle.cfs_base.specs.Disk.{Image}
 use Rattle.cfs_base.specs.declared.identifier.Puid.{Puid}
 use Rattle.cfs_base.specs.declared.disk.Disk.{Ghosts}
@@ -8,7 +8,7 @@ use Rattle.collector_steps.specs.Collecting.{Collecting, Collects}
 use Rattle.cyl_alloc.specs.Left.{LeftCommit}
 use Rattle.cyl_map.specs.Volume.{free_from}
 use Rattle.intentions.specs.Left.{StoreWith, coming, final_image}
-use Rattle.open_table.specs.declared.grant.Grant as handles
+use Rattle.open_table.specs.declared.grant.OpenGrant as handles
 use Rattle.puid_space.specs.Kinds.{kinds_of}
 use Rattle.special_files.specs.Drafting.{Drafting, IsOpen, opened_as}
 use Rattle.ufs_model.specs.declared.collection.Collection.{Collection}
@@ -18,7 +18,7 @@ use Rattle.ufs_model.specs.declared.object.Grant.{Grant}
 use Rattle.ufs_model.specs.Limits.{reserve}
 use Rattle.ufs_model.specs.Need.{is_normal}
 use Rattle.ufs_model.specs.Refusal.{is_reading}
-use Rattle.ufs_model.specs.State.{State}
+use Rattle.ufs_model.specs.State.{State, is_running}
 use Rattle.ufs_model.specs.Vanish.{is_marking}
 use Rattle.ufs_model.specs.WellFormed.{IsState}
 use Rattle.vol_owners.specs.Account.{Drafts, IsSwept, Opened, no_drafts, with_opened}
@@ -29,7 +29,7 @@ use Rattle.cfs_core.specs.Kernel.{Kernel, Handle, grants_in, marks_in, sweeps_in
 -- ---- grants
 
 -- the grant without its draft
-abbrev pub bare : Grant → handles.Grant
+abbrev pub bare : Grant → handles.OpenGrant
 bare g = record { tuid = g.tuid; session = g.session; id = g.id; mode = g.mode }
 
 -- the draft that a grant has, as the store accounts for it
@@ -51,7 +51,7 @@ drafts_of_handles [] grants = no_drafts
 drafts_of_handles (handle ∷ handles) [] = no_drafts
 
 -- the draft of a special file or an index, which a grant for writing has
-pub record IsDraftOf (ds : Drafts) (grant : handles.Grant) (drafting : Drafting) (d : Draft) : Type 0 where
+pub record IsDraftOf (ds : Drafts) (grant : handles.OpenGrant) (drafting : Drafting) (d : Draft) : Type 0 where
   pub is_open : IsOpen ds grant.id drafting d
   pub special : is_normal d.object ≡ false
   pub writes : is_reading grant.mode ≡ false
@@ -158,3 +158,12 @@ front_of g k s stands = at k.stop stands
     at : (o : Option Stop) → Stands g k s o → IsFront k s
     at None serves = serves.front
     at (Some stop) front = front
+
+-- the state of one that runs is well-formed, and has its root index
+pub core_formed : {D : Type 0} (g : Ghosts D) (k : Kernel D) (s : State) → StandsFor g k s → is_running s ≡ true
+    → IsState s × (s.graph.root ≡ k.root)
+core_formed g k s stands runs = at k.stop refl stands
+  where
+    at : (o : Option Stop) → k.stop ≡ o → Stands g k s o → IsState s × (s.graph.root ≡ k.root)
+    at None is serves = (serves.state, serves.root)
+    at (Some stop) is front = absurd (cc (runs, front.stopped, is))

@@ -3,7 +3,7 @@ use Rattle.std.specs.Prelude.{◌≡◌, ℕ, Bool, false, not, ◌&&◌, ◌||�
 use Rattle.cfs_base.specs.declared.identifier.Puid.{Puid}
 use Rattle.cfs_base.specs.declared.kind.Kind.{Kind}
 use Rattle.cfs_base.specs.declared.kind.Kind.TheVariants as kinds
-use Rattle.open_table.specs.declared.grant.Grant.{Grant}
+use Rattle.open_table.specs.declared.grant.OpenGrant.{OpenGrant}
 use Rattle.ufs_model.specs.declared.asked.Reply.{Reply}
 use Rattle.ufs_model.specs.declared.asked.Reply.TheVariants as replies
 use Rattle.ufs_model.specs.declared.asked.Request.{Request}
@@ -23,7 +23,7 @@ is_gone s None = false
 is_gone s (Some id) = not (is_there s.graph id)
 
 -- there is a grant, and it is for reading
-abbrev pub reads_by : Option Grant → Bool
+abbrev pub reads_by : Option OpenGrant → Bool
 reads_by None = false
 reads_by (Some grant) = is_reading grant.mode
 

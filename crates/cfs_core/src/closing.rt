@@ -1,5 +1,5 @@
 //! The ends of grants: a request that closes one, and a session that leaves.
-ghost use Rattle.std.specs.Prelude.{◌≡◌, ◌≢◌, ◌≤◌, ◌*◌, List, [], length, false, true, IfErr, IfOk, OnOk, IsSome, None};
+ghost use Rattle.std.specs.Prelude.{Bool, ◌≡◌, ◌≢◌, ◌≤◌, ◌*◌, List, [], length, false, true, IfErr, IfOk, OnOk, IsSome, None};
 ghost use Rattle.std.specs.Prelude.{Some, Ok};
 ghost use Rattle.cfs_base.specs.declared.identifier.Puid.{Puid};
 ghost use Rattle.cfs_base.specs.declared.refusal.Refused.TheVariants as refusals;
@@ -23,13 +23,13 @@ use crate::finishing::{finish, since};
 use crate::kernel::{Core, Halt, Stop};
 use cfs_base::{Disk, Refused, Session, Trouble, Tuid};
 use cyl_alloc::Space;
-use open_table::{Grant, table_follows_the_model};
-use special_files::Draft;
+use open_table::OpenGrant;
+use special_files::ObjectDraft;
 use ufs_model::Reply;
 
 /// Ends a draft, which becomes its object or is given up. What is left of a commit then is unfinished.
 fn end_draft<D: Disk>(
-    draft: Draft,
+    draft: ObjectDraft,
     disk: &mut D,
     space: &mut Space,
     commit: bool,
@@ -56,14 +56,14 @@ impl<D: Disk> Core<D> {
     ) -> Result<Reply, Refused>
         ensures { Tries D.Disk self.old self.new who (asks.Close grant commit) result }
     {
-        table_follows_the_model();
+        open_table::laws::table_follows_the_model();
         if self.handles.find(who, grant).is_none() {
             return Ok(Reply::NoGrant);
         }
         if self.handles.draft(grant.draw).is_none() {
             // There is none to take out, so no grant with this draw has one.
             let _ = self.handles.take(grant.draw);
-            return Ok(self.close_bare(who, grant, commit));
+            return Ok(self.close_bare(who, grant));
         }
         let tried = finish(&mut self.disk, &mut self.space)?;
         match self.handles.take(grant.draw) {
@@ -73,12 +73,11 @@ impl<D: Disk> Core<D> {
     }
 
     /// Ends a grant that has no draft.
-    fn close_bare(&mut self, who: Session, grant: Tuid, commit: bool) -> Reply
+    fn close_bare(&mut self, who: Session, grant: Tuid) -> Reply
         requires undrafted { have_draft (is_at grant.draw) self.old.handles ≡ false }
-        ensures { Tries D.Disk self.old self.new who (asks.Close grant commit) (Ok result) }
+        ensures { (commit : Bool) → Tries D.Disk self.old self.new who (asks.Close grant commit) (Ok result) }
     {
-        table_follows_the_model();
-        let _commit = commit;
+        open_table::laws::table_follows_the_model();
         if let Err(_) = self.handles.close(who, grant) {
             return Reply::NoGrant;
         }
@@ -90,7 +89,7 @@ impl<D: Disk> Core<D> {
         &mut self,
         who: Session,
         grant: Tuid,
-        draft: Draft,
+        draft: ObjectDraft,
         commit: bool,
     ) -> Result<Reply, Refused>
         requires left { self.old.space.left ≡ None }
@@ -104,7 +103,7 @@ impl<D: Disk> Core<D> {
         ensures told { IfOk result (λ reply. leaves_all reply ≡ false) }
         ensures never { IfErr result (λ e. e ≢ refusals.Memory) }
     {
-        table_follows_the_model();
+        open_table::laws::table_follows_the_model();
         end_draft(draft, &mut self.disk, &mut self.space, commit)?;
         let _ = self.handles.close(who, grant);
         Ok(Reply::Done)
@@ -145,12 +144,12 @@ impl<D: Disk> Core<D> {
 
     /// Drops a grant of a session. Its draft is given up, unless the core has stopped; where that fails, the core
     /// stops.
-    fn drop_grant(&mut self, who: Session, grant: Grant)
+    fn drop_grant(&mut self, who: Session, grant: OpenGrant)
         requires found { session_grant (grants_in self.old.handles) who grant.tuid ≡ Some grant }
         ensures sheds { Sheds D.Disk who self.old self.new }
         ensures gone { grants_in self.new.handles ≡ without_grant (grants_in self.old.handles) who grant.tuid }
     {
-        table_follows_the_model();
+        open_table::laws::table_follows_the_model();
         let draft = self.handles.take(grant.tuid.draw);
         let _ = self.handles.close(who, grant.tuid);
         self.collections.draft_ended(grant.id);
@@ -162,7 +161,7 @@ impl<D: Disk> Core<D> {
 
     /// Carries out what was left of a commit and gives up a draft, unless the core has stopped; where that fails, the
     /// core stops.
-    fn give_up(&mut self, draft: Draft)
+    fn give_up(&mut self, draft: ObjectDraft)
         requires ready { is_ready_for (D.blocks self.old.disk) draft ≡ true }
         ensures { GivesUp D.Disk draft self.old self.new }
     {

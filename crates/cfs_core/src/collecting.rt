@@ -7,7 +7,7 @@ ghost use Rattle.cfs_core.specs.Kernel.{Handle, marks_in, collection_runs, sweep
 ghost use Rattle.collector_steps.specs.Collecting.{volume_of};
 ghost use Rattle.collector_steps.specs.Left.{most_steps};
 ghost use Rattle.cyl_alloc.specs.Space as space;
-ghost use Rattle.open_table.specs.declared.grant.Grant as grant;
+ghost use Rattle.open_table.specs.declared.grant.OpenGrant as grant;
 
 use crate::handles::Handles;
 use crate::kernel::Core;
@@ -174,7 +174,7 @@ fn begun(
 
 /// Adds each object that is open.
 fn push_open(roots: &mut Vec<Puid>, grants: &Grants) -> Result<(), NoMemory>
-    ensures { OnOk result (roots.new.items ≡ roots.old.items ++ map (λ (g : grant.Grant). g.id) grants.now.grants) }
+    ensures { OnOk result (roots.new.items ≡ roots.old.items ++ map (λ (g : grant.OpenGrant). g.id) grants.now.grants) }
 {
     for place in 0..grants.len() {
         roots.push(grants.at(place).id)?;

@@ -25,10 +25,8 @@ use crate::reading::is_range;
 use crate::way::is_fit;
 use cfs_base::{Bytes, Disk, NoMemory, Refused, Session, Tuid};
 use cyl_alloc::Space;
-use open_table::table_follows_the_model;
-use special_files::Draft;
+use special_files::ObjectDraft;
 use std::alloc::Global;
-use ufs_model::laws::are_bytes;
 use ufs_model::{MOST_BYTES, RESERVE, Ref, Reply, Wanted};
 
 /// So many bytes.
@@ -42,7 +40,7 @@ fn zeros(alloc: Global, count: usize) -> Result<Vec<u8>, NoMemory>
 fn content<D: Disk>(
     alloc: Global,
     disk: &mut D,
-    draft: &Draft,
+    draft: &ObjectDraft,
     offset: u64,
     count: u64,
 ) -> Result<Reply, Refused>
@@ -64,7 +62,7 @@ fn content<D: Disk>(
 
 /// Writes bytes into a draft, within its size.
 pub(crate) fn overwrite<D: Disk>(
-    draft: &mut Draft,
+    draft: &mut ObjectDraft,
     disk: &mut D,
     space: &mut Space,
     offset: u64,
@@ -82,7 +80,7 @@ pub(crate) fn overwrite<D: Disk>(
 
 /// Sets the size of a draft.
 pub(crate) fn set_size<D: Disk>(
-    draft: &mut Draft,
+    draft: &mut ObjectDraft,
     disk: &mut D,
     space: &mut Space,
     size: u64,
@@ -103,7 +101,7 @@ impl<D: Disk> Core<D> {
         ensures holds { IfSome result (λ grant. HoldsDraft self.now.handles grant.draw 0) }
         ensures bare { IfNone result ((s : State) → ServesIs D.Disk self.now s → HasNoneOf wants (draft_of s who to)) }
     {
-        table_follows_the_model();
+        open_table::laws::table_follows_the_model();
         let Ref::Through(grant) = to else {
             return None;
         };
@@ -127,7 +125,7 @@ impl<D: Disk> Core<D> {
         ensures { (who : ℕ) → IsDrafted self.old AFile who grant
             → Tries D.Disk self.old self.new who (asks.Read (refs.Through grant) offset count) result }
     {
-        table_follows_the_model();
+        open_table::laws::table_follows_the_model();
         match self.handles.draft(grant.draw) {
             Some(draft) => content(alloc, &mut self.disk, draft, offset, count),
             None => unreachable!(),
@@ -140,7 +138,7 @@ impl<D: Disk> Core<D> {
         ensures { (who : ℕ) → IsDrafted self.now AFile who grant
             → Tries D.Disk self.now self.now who (asks.Size (refs.Through grant)) (Ok result) }
     {
-        table_follows_the_model();
+        open_table::laws::table_follows_the_model();
         match self.handles.draft(grant.draw) {
             Some(draft) => Reply::Number(draft.size()),
             None => unreachable!(),
@@ -158,8 +156,8 @@ impl<D: Disk> Core<D> {
         ensures { (who : ℕ) → IsDrafted self.old AFile who grant
             → Tries D.Disk self.old self.new who (asks.Write (refs.Through grant) offset bytes.now) result }
     {
-        are_bytes(bytes);
-        table_follows_the_model();
+        ufs_model::laws::are_bytes(bytes);
+        open_table::laws::table_follows_the_model();
         let held = match self.handles.draft(grant.draw) {
             Some(draft) => draft.size(),
             None => unreachable!(),
@@ -180,7 +178,7 @@ impl<D: Disk> Core<D> {
         ensures { (who : ℕ) → IsDrafted self.old AFile who grant
             → Tries D.Disk self.old self.new who (asks.Resize (refs.Through grant) size) result }
     {
-        table_follows_the_model();
+        open_table::laws::table_follows_the_model();
         if size > MOST_BYTES {
             return Ok(Reply::Range);
         }

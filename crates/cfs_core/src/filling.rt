@@ -26,19 +26,18 @@ use block_tree::Root;
 use cfs_base::{Disk, FileKind, Kind, Puid, Refused, Tuid};
 use cyl_alloc::Space;
 use index_drafts::{create_in, put_in};
-use open_table::table_follows_the_model;
-use special_files::{Draft, bare_root};
+use special_files::{ObjectDraft, bare_root};
 use ufs_model::{MOST_SLOTS, RESERVE, Reply};
 
 /// How many slots the index has of which this is a draft.
-fn count(draft: &Draft) -> u64
+fn count(draft: &ObjectDraft) -> u64
     ensures { result ≡ draft.now.root.size / 8 }
 {
     draft.size() / 8
 }
 
 /// What a slot of a draft holds, as a reply: `Slot` where it has no such slot, `Empty` where it holds nothing.
-fn look_in<D: Disk>(disk: &mut D, draft: &Draft, slot: u64) -> Result<Reply, Refused>
+fn look_in<D: Disk>(disk: &mut D, draft: &ObjectDraft, slot: u64) -> Result<Reply, Refused>
     requires { draft.now.at < D.blocks disk.old }
     ensures { LooksInDraft D.Disk slot draft.now disk.old disk.new result }
 {
@@ -53,7 +52,7 @@ fn look_in<D: Disk>(disk: &mut D, draft: &Draft, slot: u64) -> Result<Reply, Ref
 
 /// Makes a slot of a draft hold this, or nothing.
 pub(crate) fn put_slot<D: Disk>(
-    draft: &mut Draft,
+    draft: &mut ObjectDraft,
     disk: &mut D,
     space: &mut Space,
     slot: u64,
@@ -70,7 +69,7 @@ pub(crate) fn put_slot<D: Disk>(
 
 /// Makes the object with this root, and puts its identifier into a slot of a draft.
 pub(crate) fn make_in<D: Disk>(
-    draft: &mut Draft,
+    draft: &mut ObjectDraft,
     disk: &mut D,
     space: &mut Space,
     slot: u64,
@@ -118,7 +117,7 @@ impl<D: Disk> Core<D> {
         ensures { (who : ℕ) → IsDrafted self.old AnIndex who grant
             → Tries D.Disk self.old self.new who (asks.Retrieve (refs.Through grant) slot) result }
     {
-        table_follows_the_model();
+        open_table::laws::table_follows_the_model();
         self.look_drafted(grant, slot)
     }
 
@@ -128,7 +127,7 @@ impl<D: Disk> Core<D> {
         ensures { (who : ℕ) → IsDrafted self.now AnIndex who grant
             → Tries D.Disk self.now self.now who (asks.Slots (refs.Through grant)) (Ok result) }
     {
-        table_follows_the_model();
+        open_table::laws::table_follows_the_model();
         match self.handles.draft(grant.draw) {
             Some(draft) => Reply::Number(count(draft)),
             None => unreachable!(),
@@ -146,7 +145,7 @@ impl<D: Disk> Core<D> {
         ensures { (who : ℕ) → IsDrafted self.old AnIndex who grant
             → Tries D.Disk self.old self.new who (asks.Retain (refs.Through grant) slot id) result }
     {
-        table_follows_the_model();
+        open_table::laws::table_follows_the_model();
         if self.lacks(Some(id)) {
             return Ok(Reply::NoObject);
         }
@@ -162,7 +161,7 @@ impl<D: Disk> Core<D> {
         ensures { (who : ℕ) → IsDrafted self.old AnIndex who grant
             → Tries D.Disk self.old self.new who (asks.Delete (refs.Through grant) slot) result }
     {
-        table_follows_the_model();
+        open_table::laws::table_follows_the_model();
         let reply = self.look_drafted(grant, slot)?;
         if holds_something(&reply) {
             self.put_drafted(grant, slot, None)
@@ -198,7 +197,7 @@ impl<D: Disk> Core<D> {
         ensures { (who : ℕ) → IsDrafted self.old AnIndex who grant
             → Tries D.Disk self.old self.new who (asks.CreateFile kind fill (refs.Through grant) slot) result }
     {
-        table_follows_the_model();
+        open_table::laws::table_follows_the_model();
         if !self.has_drafted(grant, slot) {
             return Ok(Reply::Slot);
         }
@@ -217,7 +216,7 @@ impl<D: Disk> Core<D> {
         ensures { (who : ℕ) → IsDrafted self.old AnIndex who grant
             → Tries D.Disk self.old self.new who (asks.CreateIndex slots (refs.Through grant) slot) result }
     {
-        table_follows_the_model();
+        open_table::laws::table_follows_the_model();
         if !self.has_drafted(grant, slot) {
             return Ok(Reply::Slot);
         }

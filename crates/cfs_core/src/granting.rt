@@ -10,8 +10,8 @@ use crate::finishing::{finish, since, take_room};
 use crate::kernel::Core;
 use cfs_base::{BlockNo, Disk, Kind, Mode, Puid, Refused, Session, Trouble, Tuid};
 use cyl_alloc::Space;
-use open_table::{AcquireFault, Grant, table_follows_the_model};
-use special_files::{Draft, Room};
+use open_table::{AcquireFault, OpenGrant};
+use special_files::{ObjectDraft, Room};
 use std::alloc::Global;
 use ufs_model::{RESERVE, Reply};
 
@@ -67,7 +67,7 @@ fn first_draft<D: Disk>(
     disk: &mut D,
     space: &mut Space,
     at: BlockNo,
-) -> Result<Option<Draft>, Refused>
+) -> Result<Option<ObjectDraft>, Refused>
     requires some { at.0 ≢ 0 }
     requires on_disk { at.0 < D.blocks disk.old }
     requires size { D.blocks disk.old ≡ 64 * length space.old.free }
@@ -79,7 +79,7 @@ fn first_draft<D: Disk>(
     let Some(room) = room else {
         return Ok(None);
     };
-    Ok(Some(Draft::begin(room, disk, space, at, RESERVE)?))
+    Ok(Some(ObjectDraft::begin(room, disk, space, at, RESERVE)?))
 }
 
 impl<D: Disk> Core<D> {
@@ -98,13 +98,13 @@ impl<D: Disk> Core<D> {
         let Some(kind) = self.kind(id) else {
             return Ok(Reply::NoObject);
         };
-        table_follows_the_model();
+        open_table::laws::table_follows_the_model();
         self.handles.reserve()?;
         let tuid = Tuid {
             draw: self.words.drawn() + 1,
             word: self.words.ahead(),
         };
-        let grant = Grant {
+        let grant = OpenGrant {
             tuid,
             session: who,
             id,

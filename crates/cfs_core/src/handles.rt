@@ -22,8 +22,8 @@ use crate::filling::{make_in, put_slot};
 use block_tree::Root;
 use cfs_base::{Disk, Mode, NoMemory, Puid, Refused, Session, Tuid};
 use cyl_alloc::Space;
-use open_table::{AcquireFault, Grant, Grants, NoGrant};
-use special_files::Draft;
+use open_table::{AcquireFault, Grants, NoGrant, OpenGrant};
+use special_files::ObjectDraft;
 use std::alloc::Global;
 use std::collections::HashMap;
 use std::marker::Model;
@@ -34,7 +34,7 @@ use std::marker::Model;
 pub(crate) struct Handles {
     grants: Grants,
     /// By the number of words that were drawn with the grant's.
-    drafts: HashMap<u32, Draft>,
+    drafts: HashMap<u32, ObjectDraft>,
 }
 
 impl Model for Handles {
@@ -74,7 +74,7 @@ impl Handles {
     }
 
     /// Why a grant can't be acquired, if it can't.
-    pub fn fault(&self, grant: Grant) -> Option<AcquireFault>
+    pub fn fault(&self, grant: OpenGrant) -> Option<AcquireFault>
         ensures { result ≡ fault_of (grants_in self.now.handles) grant }
     {
         self.grants.fault(grant)
@@ -82,7 +82,7 @@ impl Handles {
 
     /// Adds a grant that may be acquired, of which no other has the draw, with its draft if it has one. Takes no
     /// memory.
-    pub fn open(&mut self, grant: Grant, draft: Option<Draft>)
+    pub fn open(&mut self, grant: OpenGrant, draft: Option<ObjectDraft>)
         requires room { self.old.has_room ≡ true }
         requires new { list_any (is_drawn grant.tuid.draw) self.old.handles ≡ false }
         requires allowed { fault_of (grants_in self.old.handles) grant ≡ None }
@@ -97,7 +97,7 @@ impl Handles {
     }
 
     /// The session's grant with this temporary identifier.
-    pub fn find(&self, who: Session, tuid: Tuid) -> Option<Grant>
+    pub fn find(&self, who: Session, tuid: Tuid) -> Option<OpenGrant>
         ensures { result ≡ session_grant (grants_in self.now.handles) who tuid }
     {
         self.grants.find(who, tuid)
@@ -111,7 +111,7 @@ impl Handles {
     }
 
     /// The first of the session's grants.
-    pub fn next_of(&self, who: Session) -> Option<Grant>
+    pub fn next_of(&self, who: Session) -> Option<OpenGrant>
         ensures { result ≡ first_grant (grants_in self.now.handles) who }
     {
         self.grants.next_of(who)
@@ -133,7 +133,7 @@ impl Handles {
     }
 
     /// The draft of one draw, if there is one.
-    pub fn draft(&self, draw: u32) -> Option<&Draft>
+    pub fn draft(&self, draw: u32) -> Option<&ObjectDraft>
         ensures { option_copied result ≡ drafting_at self.now.handles draw }
     {
         self.drafts.get(&draw)
@@ -244,7 +244,7 @@ impl Handles {
     }
 
     /// Takes out the draft of one draw, if there is one. Takes no memory.
-    pub fn take(&mut self, draw: u32) -> Option<Draft>
+    pub fn take(&mut self, draw: u32) -> Option<ObjectDraft>
         ensures draft { result ≡ drafting_at self.old.handles draw }
         ensures kept { result ≡ None → self.new.handles ≡ self.old.handles }
         ensures handles { self.new.handles ≡ with_drafting draw None self.old.handles }
@@ -255,7 +255,7 @@ impl Handles {
 
     /// Takes the session's grant with this temporary identifier out, which has no draft. Where there is none all stays
     /// as it was. Takes no memory.
-    pub fn close(&mut self, who: Session, tuid: Tuid) -> Result<Grant, NoGrant>
+    pub fn close(&mut self, who: Session, tuid: Tuid) -> Result<OpenGrant, NoGrant>
         requires undrafted { have_draft (is_at tuid.draw) self.old.handles ≡ false }
         ensures found { IfOk result (λ grant. session_grant (grants_in self.old.handles) who tuid ≡ Some grant) }
         ensures handles { OnOk result (self.new.handles ≡ handles_but (is_session_grant who tuid) self.old.handles) }

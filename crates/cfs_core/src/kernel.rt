@@ -175,7 +175,10 @@ impl<D: Disk> Core<D> {
 }
 
 impl<D: Disk> Asker for Core<D> {
-    ghost use Rattle.cfs_core.specs.StandsFor.{StandsFor, front_of};
+    ghost use Rattle.std.specs.Prelude.{is_some, length, option_and_then};
+    ghost use Rattle.cfs_core.specs.Asked.{Asks};
+    ghost use Rattle.cfs_core.specs.StandsFor.{StandsFor, core_formed, front_of};
+    ghost use Rattle.ufs_model.specs.Need.{one_if};
 
     ghost stands = { λ k s. StandsFor D.Disk k s };
 
@@ -183,13 +186,36 @@ impl<D: Disk> Asker for Core<D> {
 
     ghost words = { λ k. k.words.drawn };
 
+    ghost top = { λ k. k.root };
+
+    ghost failed = { λ k. D.faults k.disk };
+
+    ghost damaged = { λ k. one_if (is_some (option_and_then (λ stop. stop.damage) k.stop)) };
+
+    ghost cylinders = { λ k. length k.space.free };
+
+    ghost asked = { λ k who request reply new. Asks D.Disk k new who request reply };
+
     ghost counted = { λ k s stands. (front_of D.Disk k s stands).drawn };
 
+    ghost formed = { λ k s stands runs. core_formed D.Disk k s stands runs };
+
     fn ask(&mut self, alloc: Global, who: Session, request: &Request) -> Reply {
-        Core::ask(self, alloc, who, request)
+        self.has_room();
+        let reply = Core::ask(self, alloc, who, request);
+        self.has_room();
+        reply
     }
 
     fn drawn(&self) -> u32 {
         Core::drawn(self)
+    }
+
+    fn root(&self) -> Puid {
+        Core::root(self)
+    }
+
+    fn kind(&self, id: Puid) -> Option<Kind> {
+        Core::kind(self, id)
     }
 }

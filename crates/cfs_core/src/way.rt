@@ -20,7 +20,7 @@ ghost use Rattle.ufs_model.specs.declared.object.Object.TheVariants as objects;
 
 use crate::kernel::Core;
 use cfs_base::{Disk, FileKind, Kind, Mode, Puid, Session};
-use open_table::{Grant, table_follows_the_model};
+use open_table::OpenGrant;
 use ufs_model::{Ref, Reply, Wanted};
 
 /// What a request goes to, an object that it names besides, and whether it changes what is there.
@@ -101,7 +101,7 @@ impl<D: Disk> Core<D> {
     pub(crate) fn goes_to(&self, who: Session, to: Ref) -> Option<Puid>
         ensures { (s : State) → ServesIs D.Disk self.now s → result ≡ named s who to }
     {
-        table_follows_the_model();
+        open_table::laws::table_follows_the_model();
         match to {
             Ref::Direct(id) => Some(id),
             Ref::Through(grant) => Some(self.handles.find(who, grant)?.id),
@@ -134,7 +134,7 @@ impl<D: Disk> Core<D> {
     fn is_for_reading(&self, who: Session, to: Ref) -> bool
         ensures { (s : State) → ServesIs D.Disk self.now s → result ≡ goes_through_reading s who to }
     {
-        table_follows_the_model();
+        open_table::laws::table_follows_the_model();
         match to {
             Ref::Direct(_) => false,
             Ref::Through(grant) => reads(self.handles.find(who, grant)),
@@ -146,7 +146,7 @@ impl<D: Disk> Core<D> {
     fn is_met(&self, alone: bool, to: Ref) -> bool
         ensures { (s : State) → ServesIs D.Disk self.now s → result ≡ meets_a_grant s alone to }
     {
-        table_follows_the_model();
+        open_table::laws::table_follows_the_model();
         self.handles.len();
         match to {
             Ref::Direct(id) => bars(alone, self.handles.mode_on(id)),
@@ -176,7 +176,7 @@ fn wanted_kind(wants: Wanted, kind: Option<Kind>) -> Result<Kind, Reply>
 }
 
 /// Whether there is a grant, and it is for reading.
-fn reads(grant: Option<Grant>) -> bool
+fn reads(grant: Option<OpenGrant>) -> bool
     ensures { result ≡ reads_by grant }
 {
     match grant {

@@ -20,7 +20,6 @@ use crate::way::Way;
 use block_tree::Root;
 use cfs_base::{BlockNo, Disk, Refused, Session};
 use std::alloc::Global;
-use ufs_model::laws::are_bytes;
 use ufs_model::{MOST_BYTES, RESERVE, Ref, Reply, Wanted};
 
 /// The root of the file at a block: that which was read, or, where parts of a commit were made since, that which is
@@ -71,7 +70,7 @@ impl<D: Disk> Core<D> {
         requires bare { (s : State) → ServesIs D.Disk self.old s → HasNoneOf AFile (draft_of s who to) }
         ensures { Tries D.Disk self.old self.new who (asks.Write to offset bytes.now) result }
     {
-        are_bytes(bytes);
+        ufs_model::laws::are_bytes(bytes);
         let way = Way {
             to,
             also: None,

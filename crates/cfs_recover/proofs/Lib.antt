@@ -12,6 +12,9 @@ pub mod Noting
 pub mod Learning
 pub mod Finished
 pub mod Counted
+pub mod Room
+pub mod Shown
+pub mod NoFault
 pub mod Stood
 pub mod Grounded
 pub mod Opened

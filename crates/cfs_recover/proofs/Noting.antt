@@ -67,6 +67,7 @@ module _ (image : Image) (w v : Walk) (grows : Grows w v) where
     reached = is.reached;
     reads = is.reads;
     leads = λ x among. noted_on w v grows x (is.leads x among);
+    sort = is.sort;
     root = grows.held id.block is.root;
     below = λ path h there. grows.held h.block (is.below path h there);
   }

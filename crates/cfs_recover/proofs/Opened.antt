@@ -1,6 +1,6 @@
 -- An object whose root block was read, and then the root by which it is read: what is wrong, and what is shown.
 use Rattle.std.proofs.Common.{◌≡◌, ◌≢◌, ℕ, ◌<◌, false, length, refl, sym, ◌∙◌, ap, subst, arith, inr}
-use Rattle.cfs_recover.proofs.Words.{Damage, Fault, Found, HasLabel, HasNoRoot, HasRootSlots, Head, HeadFault, Image, IsFaultOf, IsFoundItem, IsHead, IsInPlace, IsOpened, IsOwn, IsReachedIn, IsRootBlock, IsRootIndex, Label, Puid, Root, Shows, Spot, SpotFault, Walk, block_at, damage, id_of, index_to_leaves, leaf_in, lists, object_with, one_root_block, object_shown, shown_tree, some_index, source}
+use Rattle.cfs_recover.proofs.Words.{AsRoot, BelongsTo, Damage, Fault, Found, HasNoRoot, HasRootSlots, Head, HeadFault, Image, IsFaultOf, IsFoundItem, IsHead, IsOpened, IsOwn, IsReachedIn, IsShownRoot, IsRootBlock, ObjectFault, Puid, Root, Spot, SpotFault, Walk, block_at, damage, id_of, lists, one_root_block, part_at, reader, reader_is}
 use Rattle.cfs_base.specs.declared.kind.Place.TheVariants as places
 use Rattle.cfs_recover.proofs.Named.{head_fault, named_nothing, named_reached, no_root}
 
@@ -24,49 +24,40 @@ module _ (image : Image) (x : Found) (own : Root) (is : IsOwn image x own) (belo
   abbrev id : Puid
   id = id_of x own
 
-  pub no_head : (d : Damage) → HeadFault image x.block own d → IsFaultOf image d
-  no_head d fault = head_fault image id x.by is.named is.some below own is.spelled refl d fault
+  pub reached : IsReachedIn image id
+  reached = named_reached image id x.by is.named is.some below (λ root other. ap (λ (r : Root). r.word) (one_root_block (block_at image x.block) root own other is.spelled))
 
-  module _ (head : Head) (at : IsHead image x.block own head) where
-    shows : Shows image x.block head.root (object_shown image id head.root)
-    shows = record {
-      own = own;
-      own_spelled = is.spelled;
-      spelled = subst (λ (n : ℕ). IsRootBlock (block_at image n) head.root) at.from at.like.spelled;
-      same_kind = at.like.same_kind;
-      same_word = at.like.same_word;
-      one_shadow = at.one_shadow;
-      object = refl;
-    }
+  abbrev its_spot : Spot
+  its_spot = record { holder = x.by; block = x.block; owner = x.block; place = places.Root }
 
-    -- the root index is of another sort
-    pub no_root_index : (label : Label) → HasLabel image label → x.block ≡ 2 → ¬ HasRootSlots head.root → IsFaultOf image (damage 2 6)
-    no_root_index label has two not =
-        let here : x.block ≡ label.root.block = two ∙ sym has.is_label.root in
-        Fault.NoRootIndex label head.root (object_shown image id head.root) has (subst (λ (n : ℕ). Shows image n head.root (object_shown image id head.root)) here shows) (λ index it count.
-        let gives = index_to_leaves head.root (leaf_in (shown_tree image x.block)) index it in
-        let eight = (shows.spelled.good.1.size.slots gives.kind).1 in
-        not (record { index = gives.kind; size = omega (arith, gives.size, count, eight) }))
+  pub not_its_own : (d : Damage) → SpotFault image its_spot d → IsFaultOf image d
+  not_its_own d (SpotFault.PastDisk past) = absurd (omega (arith, past, below))
+  not_its_own d (SpotFault.NotOwned inside not) = Fault.InObject id 5 x.block reached (ObjectFault.NotOwned places.Root x.block AsRoot not)
 
-    module _ (sort : x.block ≡ 2 → HasRootSlots head.root) where
-      reached : IsReachedIn image id
-      reached = named_reached image id x.by is.named is.some below (λ root other. ap (λ (r : Root). r.word) (one_root_block (block_at image x.block) root own other is.spelled)) root_index
-        where
-          root_index : x.block ≡ 2 → IsRootIndex image x.block
-          root_index two root o other =
-              let slots = sort two in
-              let same : root ≡ head.root = one_root_block (block_at image (source image x.block)) root head.root other.spelled shows.spelled in
-              let here = some_index head.root (leaf_in (shown_tree image x.block)) slots.index in
-              let gives = index_to_leaves head.root (leaf_in (shown_tree image x.block)) here.0 here.1 in
-              (here.0, sym other.object ∙ ap (λ (r : Root). object_with r (leaf_in (shown_tree image x.block))) same ∙ here.1, omega (arith, gives.size, slots.size))
+  module _ (owned : BelongsTo x.block places.Root (part_at image x.block)) where
+    pub no_head : (d : Damage) → HeadFault image x.block own d → IsFaultOf image d
+    no_head d fault = head_fault image id own reached is.spelled owned d fault
 
-      abbrev its_spot : Spot
-      its_spot = record { holder = x.by; block = x.block; owner = x.block; place = places.Root }
+    module _ (head : Head) (at : IsHead image x.block own head) where
+      from_is : head.from ≡ reader image x.block
+      from_is = at.from ∙ sym (reader_is image x.block owned at.one_shadow)
 
-      pub not_its_own : (d : Damage) → SpotFault image its_spot d → IsFaultOf image d
-      not_its_own d (SpotFault.PastDisk past) = absurd (omega (arith, past, below))
-      not_its_own d (SpotFault.NotOwned inside not) = Fault.RootNotOwned id own reached is.spelled not
+      read : IsShownRoot image x.block head.root
+      read = record {
+        own = own;
+        own_spelled = is.spelled;
+        spelled = subst (λ (n : ℕ). IsRootBlock (block_at image n) head.root) from_is at.like.spelled;
+        same = record { kind = at.like.same_kind; word = at.like.same_word };
+      }
 
-      pub opened : IsInPlace image its_spot → IsOpened image id head
-      unfolding shows
-      opened place = record { shown = record { reached = reached; shows = shows; word = refl; from_is = at.from }; owned = place.owned }
+      -- the root index is of another sort
+      pub no_root_index : x.block ≡ 2 → ¬ HasRootSlots head.root → IsFaultOf image (damage 2 6)
+      no_root_index two not = Fault.InObject id 6 2 reached (ObjectFault.NoRootIndex head.root two read not)
+
+      pub opened : (x.block ≡ 2 → HasRootSlots head.root) → IsOpened image id head
+      unfolding read
+      opened sort = record {
+        shown = record { reached = reached; shows = record { read = read; sort = sort; object = refl }; word = refl; from_is = from_is };
+        owned = owned;
+        one_shadow = at.one_shadow;
+      }

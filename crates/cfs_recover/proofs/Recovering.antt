@@ -1,6 +1,6 @@
 -- From what a survey knows of a volume to what recovery makes of it.
 use Rattle.std.proofs.Common.{◌≤◌, ◌≡◌, ◌⊎◌, inl, inr, ℕ, ◌+◌, ◌*◌, ◌/◌, ◌%◌, ◌<◌, Bool, true, false, List, length, get_or, Some, refl, sym, ◌∙◌, ap, subst, arith}
-use Rattle.cfs_recover.proofs.Words.{Accounts, AreAllCopies, AreCopied, AreCopies, AreCounts, AreKeptFor, AreMapsOf, AreTidied, Copied, CopiesRoots, Ghosts, Graph, HasCopy, Holds, Image, IsClean, IsHeldIn, IsIn, IsNamedCopy, IsRecovered, IsRootBlock, IsSettled, IsSoundAs, IsSurvey, IsSwept, IsTidied, Kept, IsTidying, Kind, Leads, MapEntry, Object, Puid, Root, StandsIn, Survey, Tidies, Tree, Walk, block_at, carries_settled, entries_read, entry_in, free_count, free_in_cylinder, in_image, is_fixed, directory_kind, directory_kind-kinds_in, object_kind, kinds_of, lists, map_of, nat_tests, object_at, object_there, one_root_block, one_root_index, option_map, shadows, shown_tree, sight, slice_get, slice_get_within, source, tidied, tree_in, no_drafts}
+use Rattle.cfs_recover.proofs.Words.{Accounts, AreAllCopies, AreCopied, AreCopies, AreCounts, AreKeptFor, AreMapsOf, AreTidied, Copied, CopiesRoots, Ghosts, Graph, HasCopy, Holds, Image, IsClean, IsHeldIn, IsIn, IsNamedCopy, IsRecovered, IsRootBlock, IsSettled, IsSoundAs, IsSurvey, IsSwept, IsTidied, Kept, IsTidying, Kind, Leads, MapEntry, Object, Puid, Root, StandsIn, Survey, Tidies, Tree, Walk, block_at, carries_settled, entries_read, entry_in, free_count, free_in_cylinder, in_image, is_fixed, directory_kind, directory_kind-kinds_in, object_kind, kinds_of, lists, map_of, nat_tests, object_at, object_there, one_root_block, one_root_index, option_map, shadows, source_tree, sight, slice_get, slice_get_within, source, tidied, tree_in, no_drafts}
 use Rattle.cfs_recover.proofs.Accounted.{tidied_accounts, tidied_is_clean, tidied_is_swept}
 use Rattle.cfs_recover.proofs.InMemory.{entry_is}
 use Rattle.cfs_recover.proofs.Keepings.{leads_as, leads_then}
@@ -103,7 +103,7 @@ module _ (a : Image) (s : Survey) (is : IsSurvey a s) where
       spelled = λ j less. map_kept j ∙ is.maps.spelled j less;
     }
 
-    tree_b : (id : Puid) (o : Object) → object_at graph id ≡ Some o → tree_in b (block_at b id.block) ≡ shown_tree a id.block
+    tree_b : (id : Puid) (o : Object) → object_at graph id ≡ Some o → tree_in b (block_at b id.block) ≡ source_tree a id.block
     tree_b id o at = ap (tree_in b) (sym (copied id o at)) ∙ copied_tree a graph b holds roots id o at
 
     abbrev marks : ℕ → Bool
@@ -116,7 +116,7 @@ module _ (a : Image) (s : Survey) (is : IsSurvey a s) where
       there = i.there;
       here = elim i.here [
         | inl root ↦ inl root
-        | inr inner ↦ inr (stands_on (shown_tree a i.id.block) (tree_in b (block_at b i.id.block)) n (sym (tree_b i.id i.object i.there)) inner)
+        | inr inner ↦ inr (stands_on (source_tree a i.id.block) (tree_in b (block_at b i.id.block)) n (sym (tree_b i.id i.object i.there)) inner)
       ];
     }
 
@@ -127,7 +127,7 @@ module _ (a : Image) (s : Survey) (is : IsSurvey a s) where
       there = at;
       here = elim here [
         | inl root ↦ inl root
-        | inr inner ↦ inr (stands_on (tree_in b (block_at b id.block)) (shown_tree a id.block) n (tree_b id o at) inner)
+        | inr inner ↦ inr (stands_on (tree_in b (block_at b id.block)) (source_tree a id.block) n (tree_b id o at) inner)
       ];
     })
 

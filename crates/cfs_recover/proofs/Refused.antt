@@ -1,8 +1,16 @@
 -- Refusals, handed on by the calls above.
 use Rattle.std.proofs.Common.{◌≡◌, ◌≢◌, ◌⊎◌, inl, inr, ℕ, ◌*◌, ◌<◌, ◌≤◌, List, length, refl, sym, ◌∙◌, ap, subst, arith, Err}
-use Rattle.cfs_recover.proofs.Words.{Damage, Ghosts, Graph, HasLabel, HasNoLabel, HasVersion, IfErr, Image, IsCaused, NamesDamage, IsErrAnd, IsFaultOf, IsLabelled, IsOpenFault, IsSoundAs, IsWalk, Label, MapEntry, MatchResult, Ok, OnlyReads, RecoverFault, Result, Stores, TellsNothing, Walk, Walks, block_at, no_fault, says, tells_on}
+use Rattle.cfs_recover.proofs.Words.{Damage, Ghosts, Graph, HasLabel, HasNoLabel, HasVersion, IfErr, Image, IsCaused, NamesDamage, IsErrAnd, IsFaultOf, IsLabelled, IsOpenFault, IsSoundAs, IsWalk, Label, MapEntry, MatchResult, Ok, OnlyReads, RecoverFault, Result, Stores, TellsNothing, Walk, Walks, block_at, says, tells_on}
+use Rattle.cfs_recover.proofs.NoFault.{sound_no_fault}
 use Rattle.cfs_base.proofs.Calls.{failed_after}
 use Rattle.cfs_recover.specs.declared.fault.RecoverFault.TheVariants as faults
+use Rattle.vol_label.specs.Label.{IsLabel, IsOtherVersion, is_version, spelling}
+
+-- a label is of a version that is read
+no_other : (block : List ℕ) (label : Label) (found : ℕ) → IsLabel label → block ≡ spelling label → ¬ IsOtherVersion block found
+no_other block label found is spelled other =
+    let same : found ≡ label.version = sym other.here ∙ (says block label is spelled).version in
+    cc (ap is_version same, is.version, other.other)
 
 -- more is said of the damage
 pub damage_as : (P Q : Damage → Type 0) (e : RecoverFault) → ((d : Damage) → P d → Q d) → NamesDamage P e → NamesDamage Q e
@@ -94,7 +102,7 @@ module _ (image : Image) where
   one_version : (found : ℕ) → HasVersion image found → IsLabelled image → ⊥
   one_version found other label =
       let has = label.has in
-      other.1.other (sym other.1.here ∙ (says (block_at image 1) label.label has.is_label has.spelled).version)
+      no_other (block_at image 1) label.label found has.is_label has.spelled other.1
 
   pub no_label_first : (e : RecoverFault) → HasNoLabel image → IsOpenFault image e → (e ≡ faults.NotVolume) ⊎ TellsNothing e
   no_label_first faults.Disk none is = inr tt
@@ -121,9 +129,9 @@ module _ (image : Image) where
 pub sound_refused : (image : Image) (g : Graph) → IsSoundAs image g → (e : RecoverFault) → IsOpenFault image e → (e ≡ faults.Disk) ⊎ (e ≡ faults.Memory)
 sound_refused image g sound faults.Disk is = inl refl
 sound_refused image g sound faults.Memory is = inr refl
-sound_refused image g sound (faults.Damaged d) is = absurd (no_fault image g sound d.code d.block is.1)
+sound_refused image g sound (faults.Damaged d) is = absurd (sound_no_fault image g sound d.code d.block is.1)
 sound_refused image g sound faults.NotVolume (inl few) = let label = sound.holds.label in absurd (omega (arith, few, label.size_is, label.is_label.some))
 sound_refused image g sound faults.NotVolume (inr none) = let label = sound.holds.label in absurd (none.no_label label.label label.is_label label.spelled)
 sound_refused image g sound (faults.Version found) is =
     let label = sound.holds.label in
-    absurd (is.1.other (sym is.1.here ∙ (says (block_at image 1) label.label label.is_label label.spelled).version))
+    absurd (no_other (block_at image 1) label.label found label.is_label label.spelled is.1)

@@ -1,6 +1,6 @@
 -- The entries that recovery writes may come in.
 use Rattle.std.proofs.Common.{◌≡◌, ◌≢◌, ℕ, Bool, true, false, Some, List, length, refl, sym, ◌∙◌, ap, subst}
-use Rattle.cfs_recover.proofs.Words.{Allocated, AreCopied, AreMarked, BlockState, Free, Graph, Holds, Image, IntendAllocate, IntendDeallocate, IsEntry, IsTidy, IsTree, Leaf, MapEntry, Node, Object, Place, Puid, ShadowRoot, block_at, entry_in, entry_in_table, unheld_entry, is_entry, is_fixed, is_inner, levels_of, object_at, part_of, place_inner, root_placed, same_Some, sight, stands_for, taken_apart, taken_part, tidied, tree_in, tree_placed}
+use Rattle.cfs_recover.proofs.Words.{Allocated, AreCopied, AreMarked, BlockState, Free, Graph, Holds, Image, IntendAllocate, IntendDeallocate, IsEntry, IsTidy, IsTree, Leaf, Span, MapEntry, Node, Object, Place, Puid, ShadowRoot, block_at, entry_in, entry_in_table, unheld_entry, is_entry, is_fixed, is_inner, levels_of, object_at, part_of, place_inner, root_placed, same_Some, sight, stands_for, taken_apart, taken_part, tidied, tree_in, tree_placed}
 use Rattle.cfs_base.specs.declared.kind.Place.TheVariants.{Root}
 
 -- an entry of a node or leaf has no commit bit
@@ -15,6 +15,10 @@ uncommitted Free (Leaf n) o inner is = cc
 uncommitted Allocated (Leaf n) o inner is = cc
 uncommitted IntendAllocate (Leaf n) o inner is = cc
 uncommitted IntendDeallocate (Leaf n) o inner is = cc
+uncommitted Free (Span n) o inner is = cc
+uncommitted Allocated (Span n) o inner is = cc
+uncommitted IntendAllocate (Span n) o inner is = cc
+uncommitted IntendDeallocate (Span n) o inner is = cc
 
 no_bit : (e : MapEntry) (p : Place) → IsEntry e → e.place ≡ Some p → is_inner p ≡ true → e.committed ≡ false
 no_bit e p is placed inner = at e.committed refl

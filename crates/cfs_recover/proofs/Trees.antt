@@ -1,6 +1,6 @@
 -- What stands along the paths of a tree, level by level.
 use Rattle.std.proofs.Common.{◌≡◌, ◌≢◌, inl, inr, ℕ, zero, suc, ◌+◌, ◌-◌, ◌*◌, ◌/◌, ◌%◌, ◌<◌, ◌≤◌, List, [], ◌∷◌, ◌++◌, length, refl, ◌∙◌, ap, arith}
-use Rattle.cfs_recover.proofs.Words.{Image, Level, add-mul, block_at, cases_lt, div-add-mod', end_of, get_or_past, holder, leaf_pointers, length-map-range_with_len, levels_below, mod-lt, mul-le-mul_left, mul-le-mul_right, mul_assoc, number_at, path_to, place_above, place_from, pointer, pointers_of, reads_by_height, source, tree_of, width}
+use Rattle.cfs_recover.proofs.Words.{Image, Level, add-mul, block_at, cases_lt, div-add-mod', end_of, get_or_past, holder, leaf_pointers, length-map-range_with_len, levels_below, mod-lt, mul-le-mul_left, mul-le-mul_right, mul_assoc, number_at, path_to, place_above, place_from, pointer, pointers_of, reads_by_height, shown_root, tree_of, width}
 
 pub length-pointers : (level : Level) (content : List ℕ) → length (pointers_of level content) ≡ level.count
 unfolding pointers_of
@@ -49,7 +49,7 @@ place_on (l ∷ above) rest n m small =
     ∙ ap (place_above rest) (let e : (m * l.count + n / w) * w + n % w ≡ m * (l.count * w) + n = omega (arith, add-mul (m * l.count) (n / w) w, div-add-mod' n w, mul_assoc m l.count w) in e)
 
 -- a path leads through the block at the end of all but its last pointer
-pub holder_is : (image : Image) (r : ℕ) (path : List ℕ) (k : ℕ) → holder image r (path ++ k ∷ []) ≡ tree_of image (block_at image (source image r)) (path ++ k ∷ [])
+pub holder_is : (image : Image) (r : ℕ) (path : List ℕ) (k : ℕ) → holder image r (path ++ k ∷ []) ≡ tree_of image (shown_root image r) (path ++ k ∷ [])
 holder_is image r [] k = refl
 holder_is image r (j ∷ path) k = refl
 

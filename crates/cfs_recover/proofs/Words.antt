@@ -16,13 +16,13 @@ pub use Rattle.cfs_base.specs.declared.disk.Disk.{Ghosts}
 pub use Rattle.cfs_base.specs.declared.identifier.Puid.{Puid}
 pub use Rattle.cfs_base.specs.declared.kind.Kind.{Kind}
 pub use Rattle.cfs_base.specs.declared.kind.Place.{Place}
-pub use Rattle.cfs_base.specs.declared.kind.Place.TheVariants.{Leaf, Node, ShadowRoot}
+pub use Rattle.cfs_base.specs.declared.kind.Place.TheVariants.{Leaf, Node, ShadowRoot, Span}
 pub use Rattle.cfs_base.specs.declared.refusal.Damage.{Damage}
-pub use Rattle.cfs_recover.specs.Checks.{HasNoRoot, HasNoneLike, HasRootSlots, HeadFault, IsFilled, IsHead, IsInPlace, IsLike, IsNotFilled, SpotFault}
+pub use Rattle.cfs_recover.specs.Checks.{HasNoneLike, HeadFault, IsFilled, IsHead, IsInPlace, IsLike, IsNotFilled, SpotFault}
 pub use Rattle.cfs_recover.specs.Copies.{AreCopies, AreKeptPieces, BeginsAnew, BeginsWithout, HasCopy, HasKept, Piece, all_pieces, head_piece, copies_for, node_piece, piece_at, pieces_of}
 unfoldable pub use Rattle.cfs_recover.specs.Copies.{copies_before, node_pieces}
 pub use Rattle.cfs_recover.specs.Entries.{AreStanding, EntryFault, IsShadow, MayStand, damage, standing_below}
-pub use Rattle.cfs_recover.specs.Found.{AreNamed, AreNoted, ByLabel, BySlot, Grows, IsClash, IsFaultOf, IsFoundItem, IsKeptBlock, IsNamed, IsNextItem, IsNotedIn, IsWalkedObject, IsWalk, holds, lists}
+pub use Rattle.cfs_recover.specs.Found.{AreNamed, AreNoted, ByLabel, BySlot, Grows, IsClash, IsFaultOf, IsFoundItem, IsNamed, IsNextItem, IsNotedIn, IsWalkedObject, IsWalk, holds, lists}
 pub use Rattle.cfs_recover.specs.Grounds.{AllMapsStand, AllMayStand, AreGrounds, HasEntryFault, HasNoLabel, HasVersion, IsLabelled, IsOpenFault}
 pub use Rattle.cfs_recover.specs.Keeps.{AreAllCopies, AreCopiesOf, AreKeptFor, AreWritten, IsCopyOf, IsNamedCopy, RunKeeps, Leads}
 pub use Rattle.cfs_recover.specs.Recovered.{IsClean, IsRecovered, IsUntouched, WritesWhatDiffers, one_if_changed}
@@ -33,7 +33,7 @@ pub use Rattle.cfs_recover.specs.Standing.{Shadow, one_more, shadow_of}
 pub use Rattle.cfs_recover.specs.Stored.{AreMapsOf, Stores}
 pub use Rattle.cfs_recover.specs.Survey.{IsIn, IsSurvey}
 pub use Rattle.cfs_recover.specs.Tidy.{AreCopied, AreMarked, AreTidied, CopiesRoots, HasTidied, IsHeldIn, IsMapIn, IsTidied, IsTidiedMap, IsTidy, IsTidyMap, IsTidying, Tidies, tidied}
-pub use Rattle.cfs_recover.specs.Walk.{AreGood, AreGoodBelow, HasBlock, HasPointers, IsCopy, IsGood, IsGoodAt, IsGoodLeaf, IsGoodTree, IsOpened, IsOwn, IsShown, Walks, shown_content, id_of, reads_by_height, reads_of_object, object_shown}
+pub use Rattle.cfs_recover.specs.Walk.{AreGood, AreGoodBelow, HasBlock, HasPointers, IsCopy, IsGood, IsGoodAt, IsGoodLeaf, IsGoodTree, IsOpened, IsOwn, IsShown, Walks, id_of, reads_by_height, reads_of_object, object_shown}
 pub use Rattle.cfs_recover.specs.declared.copies.Copied.{Copied}
 pub use Rattle.cfs_recover.specs.declared.fault.RecoverFault.{RecoverFault}
 pub use Rattle.cfs_recover.specs.declared.found.Found.{Found}
@@ -101,8 +101,9 @@ pub use Rattle.vol_image.proofs.AtRoot.{no_shadows}
 pub use Rattle.vol_image.proofs.Carries.{carries_settled}
 pub use Rattle.vol_image.proofs.Changes.{same_block}
 pub use Rattle.vol_image.proofs.Counts.{blocks_are}
-pub use Rattle.vol_image.proofs.Faults.{no_fault, only_one, refers_at}
+pub use Rattle.vol_image.proofs.Faults.{only_one, reader_is, refers_at, standing_is}
 pub use Rattle.vol_image.proofs.Law.{same_shadows}
+pub use Rattle.std.proofs.lemmas.List.FromFn.{get_or-map-range_with_len}
 pub use Rattle.vol_image.proofs.Parts.{IsPlaced, below_apart, in_image, is_inner, not_root, place_inner, root_placed, shadow_entry, shadow_taken, source_is, taken_apart, taken_part, tree_placed}
 pub use Rattle.vol_image.proofs.Paths.{digits_below, held_some, held_there, length-path_to, path_more, width_more}
 pub use Rattle.vol_image.proofs.Rising.{to_filter, to_numbers}
@@ -110,23 +111,25 @@ pub use Rattle.vol_image.proofs.Rooted.{root_is_rooted, rooted_is_closed}
 pub use Rattle.vol_image.proofs.Steps.{not_map}
 pub use Rattle.vol_image.proofs.Unique.{found_next, one_root_block, one_root_index, reading_is_one}
 pub use Rattle.vol_image.proofs.Views.{held, held_is, same_tree}
-pub use Rattle.vol_image.specs.Fault.{Fault, HasLabel, IsReachedIn, IsRootIndex, NamesRoot, NamesNothing, Next, Shows, TheRoot, holder, shown_tree}
+pub use Rattle.vol_image.specs.Fault.{AsRoot, Fault, HasLabel, HasLeaf, HasNoRoot, HasRootSlots, InTree, IsKeptBlock, IsReachedIn, IsShownGraph, IsShownRoot, IsSameSort, IsUsed, LeavesBlocks, NamesRoot, NamesNothing, Next, ObjectFault, Shows, TheRoot, has_own_bit, holder, one_or, reader, shown_root, shown_tree}
+unfoldable pub use Rattle.vol_image.specs.Fault.{standing}
 pub use Rattle.vol_image.specs.Frame.{IsBlockOf}
 pub use Rattle.vol_image.specs.Part.{BelongsTo, EntryPart, SameAt, is_committed, is_fixed, part_at, part_of, reserved, stands_for}
 pub use Rattle.vol_image.specs.Reading.{IsTree, leaf_content, leaf_in, slot_in}
 unfoldable pub use Rattle.vol_image.specs.Reading.{object_with}
 pub use Rattle.vol_image.specs.Seen.{Held, Tree, held_at, place_above, place_from, tree_in}
 unfoldable pub use Rattle.vol_image.specs.Seen.{place_at}
-pub use Rattle.vol_image.specs.Sight.{first_or, source}
+pub use Rattle.vol_image.specs.Sight.{first_or, source, source_tree}
 unfoldable pub use Rattle.vol_image.specs.Sight.{shadows, sight}
 pub use Rattle.vol_image.specs.Sound.{Holds, IsClosedGraph, IsSoundAs, LeavesFour, ReadsAs, graph_blocks}
-pub use Rattle.vol_label.proofs.Labels.{says}
+pub use Rattle.vol_label.proofs.Labels.{made_is, says}
 pub use Rattle.vol_label.specs.Label.{IsOtherVersion}
 pub use Rattle.vol_label.specs.declared.label.Label.{Label}
 pub use Rattle.vol_owners.proofs.Keys.{block_there, count_owned, owned_sum_by, sum_objects}
 pub use Rattle.vol_owners.proofs.Owned.{count_with_tree}
+pub use Rattle.vol_owners.proofs.Rooms.{fixed_count, fixed_one}
 pub use Rattle.vol_owners.proofs.Standing.{levels_all}
-pub use Rattle.vol_owners.proofs.Sums.{count_in, run-suc, sum_each, sum_run}
+pub use Rattle.vol_owners.proofs.Sums.{count_in, run-suc, run_ones, run_same, sum_both, sum_each, sum_run}
 pub use Rattle.vol_owners.specs.Account.{Accounts, HasItsBlocks, HasRoot, IsSwept, StandsIn, no_drafts}
 pub use Rattle.vol_owners.specs.Owner.{is_had, is_leaving, is_made, is_meant, is_owned_by, is_placed, is_root, is_root_place, is_stray, is_taken, owner_of}
 pub use Rattle.vol_owners.specs.Room.{one_of}

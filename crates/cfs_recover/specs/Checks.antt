@@ -2,11 +2,11 @@
 use Rattle.std.specs.Prelude.{◌≡◌, ◌≢◌, ℕ, ◌+◌, ◌*◌, ◌<◌, ◌≤◌, true, List, length, get_or}
 use Rattle.cfs_base.specs.Codes as codes
 use Rattle.cfs_base.specs.Disk.{Image, block_at}
-use Rattle.cfs_base.specs.declared.kind.Kind.TheVariants as kinds
 use Rattle.cfs_base.specs.declared.refusal.Damage.{Damage}
 use Rattle.block_tree.specs.declared.root.Root.{Root}
 use Rattle.block_tree.specs.Root.{IsRootBlock}
 use Rattle.ufs_model.specs.Numbers.{has_number}
+pub use Rattle.vol_image.specs.Fault.{HasNoRoot, HasRootSlots}
 use Rattle.vol_image.specs.Part.{BelongsTo, part_at}
 use Rattle.vol_image.specs.Sight.{shadows, source}
 use Rattle.cfs_recover.specs.Entries.{damage}
@@ -25,10 +25,6 @@ pub data SpotFault (image : Image) (spot : Spot) : Damage → Type 0 where
       → SpotFault image spot (damage spot.block codes.not_owned)
 
 -- ---- the root by which an object is read
-
--- no root block
-abbrev pub HasNoRoot : List ℕ → Type 0
-HasNoRoot content = (root : Root) → ¬ IsRootBlock content root
 
 -- this block is a root of the same kind and word
 pub record IsLike (own : Root) (content : List ℕ) (root : Root) : Type 0 where
@@ -50,17 +46,10 @@ pub data HeadFault (image : Image) (r : ℕ) (own : Root) : Damage → Type 0 wh
   NoShadow : (s : ℕ) → has_number s (shadows image r) ≡ true → HasNoneLike own (block_at image s)
       → HeadFault image r own (damage s codes.no_root)
 
--- the root is that of an index of 64 slots
-pub record HasRootSlots (root : Root) : Type 0 where
-  pub index : root.kind ≡ kinds.Index
-  pub size : root.size ≡ 512
+-- ---- a leaf with this number, of an object of this size: past the size it has fill bytes
 
--- ---- a leaf with this number: past the size it has fill bytes
+abbrev pub IsFilled : (size fill leaf : ℕ) → List ℕ → Type 0
+IsFilled size fill leaf content = (i : ℕ) → i < 512 → size ≤ 512 * leaf + i → get_or content i 0 ≡ fill
 
-abbrev pub IsFilled : Root → ℕ → List ℕ → Type 0
-IsFilled root leaf content =
-    (i : ℕ) → i < 512 → root.size ≤ 512 * leaf + i → get_or content i 0 ≡ root.fill
-
-abbrev pub IsNotFilled : Root → ℕ → List ℕ → Type 0
-IsNotFilled root leaf content =
-    (i : ℕ) × (i < 512) × (root.size ≤ 512 * leaf + i) × (get_or content i 0 ≢ root.fill)
+abbrev pub IsNotFilled : (size fill leaf : ℕ) → List ℕ → Type 0
+IsNotFilled size fill leaf content = (i : ℕ) × (i < 512) × (size ≤ 512 * leaf + i) × (get_or content i 0 ≢ fill)

@@ -12,12 +12,12 @@ use Rattle.ufs_model.specs.declared.object.Object.TheVariants as objects
 use Rattle.ufs_model.specs.declared.object.Index.{Index}
 use Rattle.ufs_model.specs.Identifier.{is_among, rises}
 use Rattle.ufs_model.specs.Graph.{Graph, ids_of, object_at, referred}
-use Rattle.vol_image.specs.Fault.{Fault, HasLabel, IsReachedIn, Shows, shown_tree}
+pub use Rattle.vol_image.specs.Fault.{IsKeptBlock}
+use Rattle.vol_image.specs.Fault.{Fault, HasLabel, HasRootSlots, IsReachedIn, Shows, shown_tree}
 use Rattle.vol_image.specs.Reading.{leaf_in, slot_in}
 use Rattle.vol_image.specs.Seen.{Held}
 use Rattle.vol_image.specs.Sight.{sight}
 use Rattle.vol_image.specs.Sound.{ReadsAs}
-use Rattle.vol_owners.specs.Account.{StandsIn}
 use Rattle.puid_space.specs.Directory.{directory_kind}
 use Rattle.puid_space.specs.Kinds.{kinds_of}
 use Rattle.cfs_recover.specs.declared.found.Found.{Found}
@@ -37,12 +37,6 @@ pub data IsNamed (image : Image) (id : Puid) : ℕ → Type 0 where
       → slice_get index.slots s ≡ Some (Some id) → leaf_in (shown_tree image i.block) (s / LEAF_SLOTS) ≡ Some h
       → h.block < length image
       → IsNamed image id h.block
-
--- an object that is reached holds this block: as its root, or in the tree by which it is read
-pub record IsKeptBlock (image : Image) (n : ℕ) : Type 0 where
-  pub id : Puid
-  pub reached : IsReachedIn image id
-  pub here : (n ≡ id.block) ⊎ StandsIn (shown_tree image id.block) n
 
 -- ---- what a walk has
 
@@ -86,6 +80,8 @@ pub record IsWalkedObject (image : Image) (w : Walk) (id : Puid) (o : Object) : 
   pub reached : IsReachedIn image id
   pub reads : ReadsAs (length image) id (sight image id.block) o
   pub leads : (x : Puid) → is_among x (referred o) ≡ true → IsNotedIn w x
+  -- the root index is one of 64 slots
+  pub sort : id.block ≡ 2 → HasRootSlots reads.source
   pub root : holds w id.block ≡ true
   pub below : (path : List ℕ) (h : Held) → (shown_tree image id.block).below path ≡ Some h → holds w h.block ≡ true
 

@@ -1,11 +1,11 @@
 -- The table of the shadow roots that stand.
-use Rattle.std.specs.Prelude.{◌≡◌, ◌⊎◌, ℕ, ◌<◌, ◌≤◌, ◌==◌, if◌then◌else◌, List, length, slice_get, Some}
+use Rattle.std.specs.Prelude.{◌≡◌, ◌⊎◌, ℕ, ◌-◌, ◌<◌, ◌≤◌, ◌==◌, if◌then◌else◌, List, length, slice_get, Some}
 pub use Rattle.cfs_recover.specs.declared.standing.Shadow.{Shadow}
 use Rattle.cfs_recover.specs.declared.standing.Shadow.TheVariants.{None, One, Several}
 
 -- what a number of the table says
 abbrev pub shadow_of : ℕ → Shadow
-shadow_of n = if n == 0 then None else (if n == 4294967295 then Several else One n)
+shadow_of n = if n == 0 then None else (if n == 4294967295 then Several else One (n - 1))
 
 -- with one more that stands
 abbrev pub one_more : Shadow → ℕ → Shadow
@@ -20,4 +20,4 @@ IsShadowBelow blocks (One s) = s < blocks
 IsShadowBelow blocks Several = Unit {0}
 
 abbrev pub AreWithin : List ℕ → Type 0
-AreWithin of = (length of ≤ 4294967295) × ((k n : ℕ) → slice_get of k ≡ Some n → (n < length of) ⊎ (n ≡ 4294967295))
+AreWithin of = (length of ≤ 4294967294) × ((k n : ℕ) → slice_get of k ≡ Some n → (n ≤ length of) ⊎ (n ≡ 4294967295))

@@ -5,7 +5,7 @@ use Rattle.cfs_base.specs.declared.identifier.Puid.{Puid}
 use Rattle.ufs_model.specs.declared.object.Object.{Object}
 use Rattle.ufs_model.specs.Identifier.{rises}
 use Rattle.ufs_model.specs.Graph.{Graph, ids_of, object_at}
-use Rattle.vol_image.specs.Fault.{shown_tree}
+use Rattle.vol_image.specs.Sight.{source_tree}
 use Rattle.vol_image.specs.Sound.{IsSoundAs}
 use Rattle.vol_owners.specs.Account.{StandsIn}
 use Rattle.puid_space.specs.Kinds.{kinds_of}
@@ -24,7 +24,7 @@ pub record IsIn (image : Image) (graph : Graph) (n : ℕ) : Type 0 where
   pub id : Puid
   pub object : Object
   pub there : object_at graph id ≡ Some object
-  pub here : (n ≡ id.block) ⊎ StandsIn (shown_tree image id.block) n
+  pub here : (n ≡ id.block) ⊎ StandsIn (source_tree image id.block) n
 
 -- all objects that are reached were walked, and no two identifiers have one root block
 pub record IsWholeWalk (image : Image) (w : Walk) : Type 0 where

@@ -1,5 +1,5 @@
 -- One object of an image that is walked, block by block, and then all of them.
-use Rattle.std.specs.Prelude.{◌≡◌, ◌≢◌, ℕ, zero, suc, ◌+◌, ◌*◌, ◌<◌, true, List, ◌∷◌, ◌++◌, length, get_or}
+use Rattle.std.specs.Prelude.{◌≡◌, ◌≢◌, ℕ, zero, suc, ◌+◌, ◌*◌, ◌<◌, ◌≤◌, true, List, ◌∷◌, ◌++◌, length, get_or}
 use Rattle.cfs_base.specs.Disk.{Image, block_at}
 use Rattle.cfs_base.specs.declared.disk.Disk.{Ghosts}
 use Rattle.cfs_base.specs.declared.identifier.Puid.{Puid}
@@ -14,11 +14,11 @@ use Rattle.block_tree.specs.Tree.{end_of, levels_of, path_to, pointer, tree_of}
 use Rattle.cyl_map.specs.declared.entry.MapEntry.{MapEntry}
 use Rattle.ufs_model.specs.declared.object.Object.{Object}
 use Rattle.ufs_model.specs.Object.{leaves_in}
-use Rattle.vol_image.specs.Fault.{IsReachedIn, Shows, holder, shown_tree}
+use Rattle.vol_image.specs.Fault.{IsReachedIn, Shows, holder, reader, shown_root, shown_tree}
 use Rattle.vol_image.specs.Part.{BelongsTo, part_at}
 use Rattle.vol_image.specs.Reading.{leaf_in, object_with}
 use Rattle.vol_image.specs.Seen.{place_above}
-use Rattle.vol_image.specs.Sight.{source}
+use Rattle.vol_image.specs.Sight.{shadows, source}
 use Rattle.cfs_recover.specs.declared.found.Found.{Found}
 use Rattle.cfs_recover.specs.declared.found.Walk.{Walk}
 use Rattle.cfs_recover.specs.declared.walk_below.Branch.{Branch}
@@ -34,16 +34,12 @@ use Rattle.cfs_recover.specs.Stored.{AreMapsOf, Stores}
 abbrev pub object_shown : Image → Puid → Root → Object
 object_shown image id root = object_with root (leaf_in (shown_tree image id.block))
 
--- the content of the block by which it is read
-abbrev pub shown_content : Image → Puid → List ℕ
-shown_content image id = block_at image (source image id.block)
-
 -- the object is reached, and read by this root, which stands in this block
 pub record IsShown (image : Image) (id : Puid) (from : ℕ) (root : Root) : Type 0 where
   pub reached : IsReachedIn image id
   pub shows : Shows image id.block root (object_shown image id root)
-  pub word : shows.own.word ≡ id.word
-  pub from_is : from ≡ source image id.block
+  pub word : shows.read.own.word ≡ id.word
+  pub from_is : from ≡ reader image id.block
 
 -- ---- an item of the list that is read
 
@@ -61,6 +57,7 @@ pub record IsOwn (image : Image) (x : Found) (own : Root) : Type 0 where
 pub record IsOpened (image : Image) (id : Puid) (head : Head) : Type 0 where
   pub shown : IsShown image id head.from head.root
   pub owned : BelongsTo id.block places.Root (part_at image id.block)
+  pub one_shadow : length (shadows image id.block) ≤ 1
 
 -- the object with this root block is read from the block of the head, which has the head's root
 pub record IsCopy (image : Image) (r : ℕ) (head : Head) : Type 0 where
@@ -99,10 +96,10 @@ pub record HasPointers (image : Image) (owner : ℕ) (root : Root) (at : Branch)
   pub above : List Level
   pub level : Level
   pub count : length pointers ≡ level.count
-  pub whole : levels_of (shown_content image read.id) ≡ above ++ level ∷ levels_below at.height
+  pub whole : levels_of (shown_root image read.id.block) ≡ above ++ level ∷ levels_below at.height
   pub inside : at.number < width above
   pub leads : (k : ℕ) (path : List ℕ)
-      → tree_of image (shown_content image read.id) (path_to above at.number ++ k ∷ path)
+      → tree_of image (shown_root image read.id.block) (path_to above at.number ++ k ∷ path)
       ≡ end_of image (levels_below at.height) (get_or pointers k 0) path
   pub here : at.block ≡ holder image read.id.block (path_to above at.number)
 
@@ -129,7 +126,7 @@ pub record IsNodeAt (image : Image) (block : ℕ) (node : Node) : Type 0 where
 
 -- what is known of a leaf once it was read, if its content matters
 pub record IsReadLeaf (image : Image) (root : Root) (w : Walk) (leaf block : ℕ) : Type 0 where
-  pub filled : IsFilled root leaf (block_at image block)
+  pub filled : IsFilled root.size root.fill leaf (block_at image block)
   pub noted : root.kind ≡ kinds.Index → AreNoted w (block_at image block) root.size leaf
 
 -- a leaf with this number

@@ -7,7 +7,7 @@ use cfs_base::{Damage, Place, code};
 use cyl_map::{BlockState, Map, MapEntry};
 
 /// The entry of a map block, and of the label.
-const RESERVED: MapEntry = MapEntry {
+pub const RESERVED: MapEntry = MapEntry {
     state: BlockState::Allocated,
     committed: false,
     place: None,

@@ -6,6 +6,7 @@ ghost use Rattle.cyl_map.specs.Volume.{entry_in};
 ghost use Rattle.cyl_map.specs.declared.entry.MapEntry.{MapEntry};
 ghost use Rattle.ufs_model.specs.Graph.{Graph, object_at};
 ghost use Rattle.ufs_model.specs.declared.object.Object.{Object};
+ghost use Rattle.vol_image.specs.Fault.{Fault};
 ghost use Rattle.vol_image.specs.Part.{is_fixed};
 ghost use Rattle.vol_image.specs.Sight.{source};
 ghost use Rattle.vol_image.specs.Sound.{Holds, IsSoundAs};
@@ -54,4 +55,9 @@ pub fn faults_come_in_order()
         → (e ≡ faults.Version found) ⊎ TellsNothing e }
     ensures label { (image : Image) (e : RecoverFault) → IsLabelled image → IsOpenFault image e
         → NamesDamage (IsFaultOf image) e }
+{}
+
+/// A sound image has none of the faults.
+pub fn sound_without_fault()
+    ensures { (image : Image) (g : Graph) (code block : ℕ) → IsSoundAs image g → ¬ Fault image code block }
 {}

@@ -30,24 +30,23 @@ pub fn is_read(root: &Root, leaf: u32) -> bool
     root.kind == Kind::Index || root.size < 512 * leaf as u64 + 512
 }
 
-/// The first byte of a leaf past the size that isn't the fill byte.
-fn first_late_byte(root: &Root, leaf: u32, content: &Block) -> Option<u64>
-    ensures late { IfSome result (λ i. (i < 512) × (root.now.size ≤ 512 * leaf + i)
-        × (get_or content.now i 0 ≢ root.now.fill)) }
-    ensures none { IfNone result (IsFilled root.now leaf content.now) }
+/// The first byte past the size that isn't the fill byte, of the leaf with this number.
+pub fn first_late_byte(size: u64, fill: u8, leaf: u32, content: &Block) -> Option<u64>
+    ensures late { IfSome result (λ i. (i < 512) × (size ≤ 512 * leaf + i) × (get_or content.now i 0 ≢ fill)) }
+    ensures none { IfNone result (IsFilled size fill leaf content.now) }
 {
     let bytes = content.bytes();
-    let end = root.size.saturating_sub(512 * leaf as u64);
-    (end..512).find(|i| bytes[*i as usize] != root.fill)
+    let end = size.saturating_sub(512 * leaf as u64);
+    (end..512).find(|i| bytes[*i as usize] != fill)
 }
 
 /// Whether all bytes of the leaf with this number that are past the size are the fill byte. Refused with code 9 of its
 /// block.
 pub fn check_rest(root: &Root, leaf: u32, block: u32, content: &Block) -> Result<(), Damage>
-    ensures { MatchResult result (λ _. IsFilled root.now leaf content.now)
-        (λ d. (d ≡ damage block codes.late_byte) × IsNotFilled root.now leaf content.now) }
+    ensures { MatchResult result (λ _. IsFilled root.now.size root.now.fill leaf content.now)
+        (λ d. (d ≡ damage block codes.late_byte) × IsNotFilled root.now.size root.now.fill leaf content.now) }
 {
-    match first_late_byte(root, leaf, content) {
+    match first_late_byte(root.size, root.fill, leaf, content) {
         None => Ok(()),
         Some(_) => Err(Damage {
             block,

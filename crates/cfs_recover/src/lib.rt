@@ -26,12 +26,15 @@ mod walk_object;
 mod writes;
 
 pub use check::check_volume;
-pub use entry::{check_entry, entry_at};
+pub use entry::{RESERVED, belongs, check_entry, entry_at, is_committed, is_fixed, stands};
 pub use fault::RecoverFault;
 pub use head::{Head, check_root, check_root_index, check_shadow, read_head};
-pub use leaf::{check_leaf, check_rest, is_read};
+pub use leaf::{check_leaf, check_rest, first_late_byte, is_read};
+pub use maps::note_standing;
 pub use node::check_node;
 pub use recovery::{Recovered, recover};
 pub use slot::check_slot;
 pub use spot::{Spot, check_spot};
 pub use standing::{Shadow, Standing};
+pub use walk_below::{Branch, Twig, spot_of};
+pub use writes::flush;

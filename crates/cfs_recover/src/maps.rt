@@ -5,7 +5,6 @@ ghost use Rattle.cfs_base.specs.Disk.{Image, block_at};
 ghost use Rattle.cyl_map.specs.Map.{IsMap, map_spelling};
 ghost use Rattle.cyl_map.specs.Volume.{entry_in};
 ghost use Rattle.vol_image.specs.Fault.{HasLabel};
-ghost use Rattle.vol_image.specs.Part.{reserved};
 ghost use Rattle.vol_label.specs.Label.{IsLabel};
 ghost use Rattle.cfs_recover.specs.Entries.{AreStanding};
 ghost use Rattle.cfs_recover.specs.Found.{IsFaultOf};
@@ -107,9 +106,8 @@ pub(crate) fn read_maps<D: Disk>(
 }
 
 /// Notes the block with this entry, where it stands for a root block.
-fn note_standing(standing: &mut Standing, block: u32, entry: MapEntry)
-    requires some { 0 < block }
-    requires within { block < length standing.old }
+pub fn note_standing(standing: &mut Standing, block: u32, entry: MapEntry)
+    requires { block < length standing.old }
     ensures told { (image : Image) → AreStanding image block standing.old → entry_in image block ≡ Some entry
         → AreStanding image (block + 1) standing.new }
     ensures size { length standing.new ≡ length standing.old }
@@ -122,15 +120,13 @@ fn note_standing(standing: &mut Standing, block: u32, entry: MapEntry)
 
 /// The shadow roots that stand by these maps.
 pub(crate) fn standing_in(alloc: Global, maps: &[Map]) -> Result<Standing, NoMemory>
-    requires some { 1 ≤ length maps.now }
-    requires few { length maps.now ≤ 65536 }
-    ensures told { (image : Image) → AreMapsOf image maps.now → entry_in image 0 ≡ Some reserved
-        → IfOk result (AreStanding image (length image)) }
+    requires { length maps.now ≤ 65536 }
+    ensures told { (image : Image) → AreMapsOf image maps.now → IfOk result (AreStanding image (length image)) }
     ensures size { IfOk result (λ standing. length standing ≡ 64 * length maps.now) }
 {
     let blocks = 64 * maps.len() as u32;
     let mut standing = Standing::none(alloc, blocks)?;
-    for block in 1..blocks {
+    for block in 0..blocks {
         note_standing(&mut standing, block, entry_at(maps, block));
     }
     Ok(standing)

@@ -1,5 +1,5 @@
 //! The shadow roots that stand for root blocks.
-ghost use Rattle.std.specs.Prelude.{◌≡◌, ◌<◌, replicate, length, get_or, slice_set, IfOk};
+ghost use Rattle.std.specs.Prelude.{◌≡◌, ◌<◌, ◌≤◌, replicate, length, get_or, slice_set, IfOk};
 ghost use Rattle.cfs_recover.specs.Standing as spec;
 ghost use Rattle.cfs_recover.specs.declared.standing.Shadow.TheVariants as shadows;
 
@@ -18,7 +18,7 @@ pub enum Shadow {
 /// Of each block of a volume the shadow roots that stand for it.
 #[derive(Debug, Drop)]
 pub struct Standing {
-    /// Of each block 0, or the shadow root, or `SEVERAL`.
+    /// Of each block 0, or one more than the shadow root, or `SEVERAL`.
     of: Vec<u32>,
 }
 
@@ -42,6 +42,7 @@ impl Model for Standing {
 impl Standing {
     /// Nothing stands for any of so many blocks.
     pub fn none(alloc: Global, blocks: u32) -> Result<Standing, NoMemory>
+        requires { blocks ≤ 4294967294 }
         ensures { IfOk result (λ standing. standing ≡ replicate blocks shadows.None) }
     {
         let of = vec![in alloc; 0; blocks as usize]?;
@@ -64,18 +65,17 @@ impl Standing {
         match self.of[block as usize] {
             0 => Shadow::None,
             SEVERAL => Shadow::Several,
-            shadow => Shadow::One(shadow),
+            next => Shadow::One(next - 1),
         }
     }
 
     /// One more stands for a block.
     pub fn note(&mut self, block: u32, shadow: u32)
         requires block { block < length self.old }
-        requires some { 0 < shadow }
         requires within { shadow < length self.old }
         ensures { self.new ≡ slice_set self.old block (spec.one_more (get_or self.old block shadows.None) shadow) }
     {
         let of = &mut self.of[block as usize];
-        *of = if *of == 0 { shadow } else { SEVERAL };
+        *of = if *of == 0 { shadow + 1 } else { SEVERAL };
     }
 }

@@ -19,7 +19,7 @@ use cyl_map::Map;
 /// Pointers of a tree: the block that holds them, its number among those of its level, and how many levels lie below
 /// the blocks to which they lead.
 #[derive(Clone, Copy)]
-pub(crate) struct Branch {
+pub struct Branch {
     pub block: u32,
     pub number: u32,
     pub height: u32,
@@ -28,7 +28,7 @@ pub(crate) struct Branch {
 /// A block to which a pointer leads: the block that holds the pointer, its own number among those of its level, and how
 /// many levels lie below it.
 #[derive(Clone, Copy)]
-pub(crate) struct Twig {
+pub struct Twig {
     pub holder: u32,
     pub block: u32,
     pub number: u32,
@@ -36,7 +36,7 @@ pub(crate) struct Twig {
 }
 
 /// Where the block should be, and whose.
-fn spot_of(owner: u32, twig: Twig) -> Spot
+pub fn spot_of(owner: u32, twig: Twig) -> Spot
     requires { twig.number < leaf_limit }
     ensures { result ≡ record {
       holder = twig.holder;
@@ -46,7 +46,7 @@ fn spot_of(owner: u32, twig: Twig) -> Spot
     } }
 {
     let place = if twig.height == 0 {
-        Place::Leaf(twig.number as u16)
+        Place::Leaf(twig.number)
     } else {
         Place::Node(twig.number as u16)
     };

@@ -80,8 +80,6 @@ fn open_object<D: Disk>(
     ensures cause { IfErr result (IsCaused D.Disk disk.old disk.new) }
     ensures reads { OnlyReads D.Disk 1 disk.old disk.new }
 {
-    let head = read_head(disk, maps, standing, item.block, own)?;
-    check_sort(item.block, &head.root)?;
     let spot = Spot {
         holder: item.by,
         block: item.block,
@@ -89,6 +87,8 @@ fn open_object<D: Disk>(
         place: Place::Root,
     };
     check_spot(maps, spot)?;
+    let head = read_head(disk, maps, standing, item.block, own)?;
+    check_sort(item.block, &head.root)?;
     Ok(head)
 }
 

@@ -97,7 +97,7 @@ pub(crate) fn write_roots<D: Disk>(
 }
 
 /// Makes what was written outlast a crash.
-pub(crate) fn flush<D: Disk>(disk: &mut D) -> Result<(), Failed>
+pub fn flush<D: Disk>(disk: &mut D) -> Result<(), Failed>
     ensures settled { OnOk result (IsTrue (D.honest disk.old) → IsSettled D.Disk disk.new) }
     ensures untouched { IsUntouched D.Disk disk.old disk.new }
     ensures one_call { D.calls disk.new ≡ count_after (D.calls disk.old) }

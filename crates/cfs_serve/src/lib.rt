@@ -8,6 +8,7 @@ mod cached;
 mod clients;
 mod command;
 mod ending;
+mod laws;
 mod limits;
 mod logged;
 mod machine;

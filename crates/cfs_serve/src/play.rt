@@ -17,7 +17,6 @@ use crate::ending::Ending;
 use crate::report::{Cause, Counts, Report};
 use crate::scripts::{Scripts, read_scripts};
 use crate::served::{Served, Unserved};
-use crate::server::images_are_whole;
 use crate::service::{Schedule, Service};
 use crate::volume::{Unopened, new_volume, open_volume};
 use cfs_base::{Disk, Gate, Sink, Source};
@@ -27,7 +26,6 @@ use cfs_trail::Trail;
 use std::alloc::Global;
 use std::sync::Wait;
 use std::thread::Threads;
-use survival::runs_survive;
 use ufs_model::Event;
 
 /// What a service comes to.
@@ -166,8 +164,8 @@ fn serve_ports<D: Disk + Send, K: Sink + Send, G: Gate + Sync, R: Threads + Wait
 {
     core.call_for(schedule.collections);
     core.has_room();
-    runs_survive::<D>();
-    images_are_whole::<D>();
+    survival::laws::runs_survive::<D>();
+    crate::laws::images_are_whole::<D>();
     let steps = count_steps(schedule.collections, core.most_steps(), turns);
     let service = Service {
         server: core,

@@ -22,7 +22,6 @@ use crate::traced::{Written, write_trail};
 use cfs_base::{Disk, Failed, Gate, Sink, Source};
 use cfs_core::Core;
 use cfs_trail::Trail;
-use cfs_workload::scripts_have_so_many_lines;
 use std::alloc::Global;
 use std::sync::Wait;
 use std::thread::Threads;
@@ -186,7 +185,7 @@ pub fn top<D: Disk + Send, S: Source, K: Sink + Send, G: Gate + Sync, R: Threads
         (before D.faults S.supply K.intake bay) (outside_after D.faults S.supply K.intake result) result.told
         result.status result.ending result.trail.events }
 {
-    scripts_have_so_many_lines();
+    cfs_workload::laws::scripts_have_so_many_lines();
     let Bay {
         disk,
         mut sources,

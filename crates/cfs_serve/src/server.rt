@@ -23,7 +23,6 @@ ghost use Rattle.ufs_model.specs.declared.asked.Unread.{Unread};
 use cfs_base::{Disk, Session};
 use cfs_core::{CollectFault, Core, Step, Stop, TidyFault};
 use std::alloc::Global;
-use survival::runs_survive;
 use ufs_model::{Reply, Request};
 
 /// A server that sessions ask and leave and that collects, and that tells of its disk how often a call failed. It stands
@@ -154,13 +153,6 @@ pub trait Server {
             (events.Unread who why) };
 }
 
-/// The content of an honest disk, and each image that a crash may leave, has as many blocks as the disk. This does
-/// nothing: it is a law.
-pub(crate) fn images_are_whole<D: Disk>()
-    ensures sized { (d : D) → IsTrue (D.honest d) → length (D.content d) ≡ D.blocks d }
-    ensures left_sized { (d : D) (t : ℕ) (c : Image) → D.left_since d t c → length c ≡ D.blocks d }
-{}
-
 /// The fault of a step that is told in the same words.
 fn fault_of(fault: TidyFault) -> CollectFault
     ensures { result ≡ fault_as fault }
@@ -228,7 +220,7 @@ impl<D: Disk> Server for Core<D> {
 
     fn answer(&mut self, alloc: Global, who: Session, request: &Request) -> Reply {
         self.has_room();
-        runs_survive::<D>();
+        survival::laws::runs_survive::<D>();
         let reply = Core::ask(self, alloc, who, request);
         self.has_room();
         reply
@@ -236,7 +228,7 @@ impl<D: Disk> Server for Core<D> {
 
     fn leave(&mut self, who: Session) -> Option<u64> {
         self.has_room();
-        runs_survive::<D>();
+        survival::laws::runs_survive::<D>();
         let left = Core::leave(self, who);
         self.has_room();
         match left {
@@ -247,7 +239,7 @@ impl<D: Disk> Server for Core<D> {
 
     fn turn(&mut self, alloc: Global) -> Result<Option<Step>, CollectFault> {
         self.has_room();
-        runs_survive::<D>();
+        survival::laws::runs_survive::<D>();
         let made = turn_of(self, alloc);
         self.has_room();
         made
@@ -269,7 +261,7 @@ impl<D: Disk> Server for Core<D> {
     }
 
     fn moment(&self) -> u64 {
-        runs_survive::<D>();
+        survival::laws::runs_survive::<D>();
         Core::moment(self)
     }
 }

@@ -14,7 +14,7 @@ use crate::scripts::Scripts;
 use crate::service::Schedule;
 use crate::volume::new_volume;
 use cfs_base::{Failed, Gate, Sink};
-use cfs_workload::{script, scripts_have_so_many_lines};
+use cfs_workload::script;
 use std::alloc::Global;
 use std::sync::Wait;
 use std::thread::Threads;
@@ -76,7 +76,7 @@ pub(crate) fn spin<G: Gate + Sync, R: Threads + Wait + Sync>(
         (record { disk = None; sources = drawn_sources asked.seed asked.count; sinks = drains })
         result.report result.ending result.trail.events }
 {
-    scripts_have_so_many_lines();
+    cfs_workload::laws::scripts_have_so_many_lines();
     let Some(scripts) = draw_scripts(alloc, asked.seed, asked.count) else {
         return nothing(alloc, Cause::Memory);
     };

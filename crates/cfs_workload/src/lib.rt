@@ -3,9 +3,8 @@
 #![tactic(auto)]
 
 mod act;
-mod laws;
+pub mod laws;
 mod session;
 
 pub use act::{Act, Left};
-pub use laws::scripts_have_so_many_lines;
 pub use session::script;

@@ -1,8 +1,8 @@
 -- Why a leaf of an index isn't read: what a device call or a pointer past the disk tells of the index.
 use Rattle.std.proofs.Common.{◌≡◌, ℕ, Err, List, Option, Some, refl, sym, ap, subst}
-use Rattle.collector_steps.proofs.Words.{Ghosts, HeldStep, Image, IsFault, IsPastFrom, IsRootBlock, IsRootTrouble, IsScanTrouble, LeadsPast, NoRoot, OnlyReads, PastDisk, Root, Tells, TreeFault, Trouble, block_at, root_spelling, stopped_after_reads, tells_on, trouble_of}
+use Rattle.collector_steps.proofs.Words.{Ghosts, HeldStep, Image, IsFault, IsFirstPast, IsRootBlock, IsRootTrouble, IsScanTrouble, LeadsPast, NoRoot, OnlyReads, PastDisk, Root, Tells, TreeFault, Trouble, block_at, root_spelling, stopped_after_reads, tells_on, trouble_of}
 use Rattle.collector_steps.specs.Scan.{IsTreeTrouble, PastDraft}
-use Rattle.block_tree.proofs.Faults.{fault_after, refused_as}
+use Rattle.block_tree.proofs.Faults.{fault_after, later_fault, refused_as}
 use Rattle.block_tree.proofs.Trees.{on_leads, past_last}
 use Rattle.block_tree.specs.Reads.{holder_block}
 use Rattle.block_tree.specs.Tree.{IsLeafPointer}
@@ -27,11 +27,25 @@ module _ {D : Type 0} (g : Ghosts D) (r : ℕ) where
   tree_refused old new R m (faults.BadPointer block holder) reads past = (refl, past.1)
 
   -- the step in a tree was refused
-  pub step_refused : (old new : D) (root : Root) (m from : ℕ) (fault : TreeFault) → OnlyReads g m old new → IsFault g old new (IsPastFrom (g.content old) (g.blocks old) (root_spelling root) from) fault
+  pub step_refused : (old new : D) (root : Root) (m from : ℕ) (fault : TreeFault) → OnlyReads g m old new
+      → IsFault g old new (IsFirstPast (g.content old) (g.blocks old) (root_spelling root) from) fault
       → IsTreeTrouble g old new (root_spelling root) r (trouble_of r fault)
   step_refused old new root m from fault reads is =
       tree_refused old new (root_spelling root) m fault reads
-      (refused_as {X = ℕ} g old new (IsPastFrom (g.content old) (g.blocks old) (root_spelling root) from) (Leads (g.content old) (g.blocks old) (root_spelling root) r) (Err fault) (λ p past is. on_leads (g.content old) (g.blocks old) (root_spelling root) is.leaf r p is.past.past) is)
+      (refused_as {X = ℕ} g old new (IsFirstPast (g.content old) (g.blocks old) (root_spelling root) from)
+      (Leads (g.content old) (g.blocks old) (root_spelling root) r) (Err fault)
+      (λ p past is. on_leads (g.content old) (g.blocks old) (root_spelling root) is.leaf r p is.past.past) is)
+
+  -- a later one was
+  pub next_refused : (old mid new : D) (root : Root) (n m from : ℕ) (fault : TreeFault) → OnlyReads g n old mid
+      → OnlyReads g m old new
+      → IsFault g mid new (IsFirstPast (g.content mid) (g.blocks mid) (root_spelling root) from) fault
+      → IsTreeTrouble g old new (root_spelling root) r (trouble_of r fault)
+  next_refused old mid new root n m from fault reads all is =
+      tree_refused old new (root_spelling root) m fault all
+      (later_fault {X = ℕ} g old mid new n (λ image size. IsFirstPast image size (root_spelling root) from)
+      (Leads (g.content old) (g.blocks old) (root_spelling root) r) (Err fault) reads
+      (λ p tells far is. on_leads (g.content old) (g.blocks old) (root_spelling root) is.leaf r p is.past.past) is)
 
   -- the leaf was
   pub leaf_refused : (old mid new : D) (root : Root) (n m : ℕ) → OnlyReads g n old mid → OnlyReads g m old new → (step : HeldStep) (fault : TreeFault)

@@ -1,16 +1,16 @@
 -- A leaf of an index as the disk has it, and as the model has it.
 use Rattle.std.proofs.Common.{◌≡◌, ◌≢◌, inl, inr, ℕ, zero, suc, ◌+◌, ◌*◌, ◌/◌, ◌<◌, ◌≤◌, List, [], ◌∷◌, ◌++◌, length, take, drop, get_or, replicate, refl, sym, ◌∙◌, ap, subst, arith, Bool, true, false, Option, Some, None, is_some, map}
-use Rattle.collector_steps.proofs.Words.{AreBlocks, Ghosts, Graph, HasNoDeadEnd, Held, HeldStep, Holds, IfSome, Image, Index, IsDamaged, IsScanTrouble, IsStep, IsStepped, IsTree, Kind, LeadsPast, NoRoot, NoneHeld, Object, PastDisk, Puid, Tells, Trouble, block_at, cases_lt, count_is, file_bytes, filter-rises, filter_map, find_least, find_none, find_on, has_number, held, held_at, held_in, ids_from, in_filter, in_numbers, is_committed, leaf_block, leaf_content, leaf_ids, leaf_in, leaf_limit, leaves_in, levels_of, next_held, numbers-rise, numbers_rise, object_at, object_with, part_at, path_to, range_with_len, read_by_root, root_spelling, sight, slot_in, take_at, the_index, to_filter, to_numbers, tree_in, tree_of}
+use Rattle.collector_steps.proofs.Words.{AreBlocks, Ghosts, Graph, HasNoDeadEnd, Held, HeldStep, Holds, IfSome, Image, Index, IsDamaged, IsNextLeaf, IsScanTrouble, IsTree, LeafStep, Kind, LeadsPast, NoRoot, NoneHeld, Object, PastDisk, Puid, Tells, Trouble, block_at, cases_lt, count_is, file_bytes, filter-rises, filter_map, find_least, find_none, find_on, has_number, held, held_at, held_in, ids_from, in_filter, in_numbers, is_committed, leaf_block, leaf_content, leaf_ids, leaf_in, leaf_limit, leaves_in, levels_of, next_held, numbers-rise, numbers_rise, object_at, object_with, part_at, path_to, range_with_len, read_by_root, root_spelling, sight, slot_in, take_at, the_index, to_filter, to_numbers, tree_in, tree_of}
 use Rattle.std.specs.Prelude.{if◌then◌else◌}
 use Rattle.cfs_base.specs.declared.kind.Kind.TheVariants as kinds
 use Rattle.cfs_base.specs.declared.refusal.Trouble.TheVariants as trouble
 use Rattle.block_tree.specs.declared.root.Root as roots
-use Rattle.block_tree.specs.Step.{SomeHeld}
+use Rattle.block_tree.specs.Step.{IsFoundOf, SomeHeld, upto}
 use Rattle.block_tree.specs.Tree.{leaf_count}
 use Rattle.ufs_model.specs.declared.object.Object.TheVariants as objects
 use Rattle.marking.specs.Leaves.{own_part}
 use Rattle.marking.specs.Steps.{if_held, after_draft, draft_step, own_step}
-use Rattle.collector_steps.specs.Scan.{HoldsAny, PastDraft, after_drafted, after_own, ids_read}
+use Rattle.collector_steps.specs.Scan.{HoldsAny, IsLeafStep, PastDraft, after_drafted, after_own, ids_found, ids_read, after_found, or_own, own_place}
 use Rattle.collector_steps.proofs.Slots.{ids_of_leaf}
 
 -- ---- what is held at a pointer
@@ -129,48 +129,74 @@ module _ (image : Image) (blocks : AreBlocks image) (owner : ℕ) (content : Lis
   holds_is false none = held_is 0 own_part false (λ no. cc) (λ yes. none)
 
   -- where the first held leaf is that of a step
-  step_at : (cursor : ℕ) (s : HeldStep) → IsStep image content cursor s → next_held cursor i ≡ Some s.held.leaf
-  step_at cursor s is =
+  abbrev IsNextHere : ℕ → (to : ℕ) → HeldStep → Type 0
+  IsNextHere cursor to s = IsNextLeaf (leaf_block image content) to cursor s.held
+
+  step_at : (cursor to : ℕ) (s : HeldStep) → IsNextHere cursor to s → next_held cursor i ≡ Some s.held.leaf
+  step_at cursor to s is =
       let some : leaf_block image content s.held.leaf ≢ 0 = λ gone. is.is_held (sym is.block_is ∙ gone) in
       first_next cursor s.held.leaf is.on (in_held s.held.leaf some) (λ leaf on below there. quiet cursor s.held.leaf leaf is.before on below there)
 
-  no_step : (cursor : ℕ) → IsStepped image content cursor None → next_held cursor i ≡ None
+  no_step : (cursor : ℕ) → NoneHeld image content cursor (leaf_count content) → next_held cursor i ≡ None
   no_step cursor none = none_next cursor (λ leaf on there. quiet cursor leaf_limit leaf (subst (NoneHeld image content cursor) (count_is content) none) on (of_held leaf there).1 there)
 
   -- the bytes that were read are those of its slots
-  read_is : (cursor : ℕ) (s : HeldStep) (bytes : List ℕ) → IsStep image content cursor s → bytes ≡ block_at image s.held.block → ids_from bytes 0 ≡ leaf_ids i s.held.leaf
-  read_is cursor s bytes is told =
+  read_is : (cursor to : ℕ) (s : HeldStep) (bytes : List ℕ) → IsNextHere cursor to s → bytes ≡ block_at image s.held.block → ids_from bytes 0 ≡ leaf_ids i s.held.leaf
+  read_is cursor to s bytes is told =
       let some : leaf_block image content s.held.leaf ≢ 0 = λ gone. is.is_held (sym is.block_is ∙ gone) in
       ap (λ (xs : List ℕ). ids_from xs 0) (told ∙ ap (block_at image) (sym is.block_is)) ∙ sym (ids_are s.held.leaf some)
 
-  -- a step in an index's own part is one of the model
-  pub own_step_is : (cursor : ℕ) (step : Option HeldStep) (bytes : List ℕ) → IsStepped image content cursor step → IfSome step (λ s. bytes ≡ block_at image s.held.block)
-      → (ids_read step bytes, after_own step) ≡ own_step i (next_held cursor i)
-  own_step_is cursor None bytes none told = ap (own_step i) (sym (no_step cursor none))
-  own_step_is cursor (Some s) bytes is told =
-      ap (λ (ids : List Puid). (ids, if s.follows then Some (own_part + (s.held.leaf + 1)) else None)) (read_is cursor s bytes is told)
-      ∙ ap (λ (next : Option ℕ). (leaf_ids i s.held.leaf, next)) (sym (held_is (s.held.leaf + 1) (own_part + (s.held.leaf + 1)) s.follows is.follows is.last))
-      ∙ ap (own_step i) (sym (step_at cursor s is))
+  -- whether another leaf is held after the one that a step found
+  more_after : (cursor n : ℕ) (s : HeldStep) → IsNextHere cursor n s → SomeHeld image content n → SomeHeld image content (s.held.leaf + 1)
+  more_after cursor n s is some = record { leaf = some.leaf; on = omega (arith, is.inside, some.on); inside = some.inside; held = some.held }
 
-  -- and so is one in the part of a draft, which this index is, of the index j
-  pub draft_step_is : (j : Index) (any : Bool) → if_held j 0 own_part ≡ (if any then Some own_part else None) → (cursor : ℕ) (step : Option HeldStep) (bytes : List ℕ) → IsStepped image content cursor step
-      → IfSome step (λ s. bytes ≡ block_at image s.held.block) → (ids_read step bytes, after_drafted any step) ≡ draft_step i j (next_held cursor i)
-  draft_step_is j any starts cursor None bytes none told =
-      ap (λ (next : Option ℕ). ([], next)) (sym starts) ∙ ap (draft_step i j) (sym (no_step cursor none))
-  draft_step_is j any starts cursor (Some s) bytes is told =
-      ap (λ (ids : List Puid). (ids, if s.follows then Some (s.held.leaf + 1) else (if any then Some own_part else None))) (read_is cursor s bytes is told)
-      ∙ ap (λ (next : Option ℕ). (leaf_ids i s.held.leaf, next)) (goes_on s.follows refl)
-      ∙ ap (draft_step i j) (sym (step_at cursor s is))
-    where
-      goes_on : (more : Bool) → s.follows ≡ more → (if more then Some (s.held.leaf + 1) else (if any then Some own_part else None)) ≡ after_draft i j s.held.leaf
-      goes_on true more =
-          let next = is.follows more in
-          let there : is_some (next_held (s.held.leaf + 1) i) ≡ true = some_next (next_held (s.held.leaf + 1) i) refl next.leaf next.on (in_held next.leaf next.held) in
-          rw there refl
-      goes_on false more =
-          let gone : next_held (s.held.leaf + 1) i ≡ None = none_next (s.held.leaf + 1) (λ leaf on there.
-          quiet (s.held.leaf + 1) leaf_limit leaf (subst (NoneHeld image content (s.held.leaf + 1)) (count_is content) (is.last more)) on (of_held leaf there).1 there) in
-          rw gone (sym starts)
+  module _ (cursor : ℕ) (bytes : List ℕ) where
+    abbrev IsRead : Option HeldStep → Type 0
+    IsRead found = IfSome found (λ s. bytes ≡ block_at image s.held.block)
+
+    abbrev FoundUpto : Option HeldStep → Option ℕ → Type 0
+    FoundUpto found next = IsFoundOf (leaf_block image content) cursor found (upto (leaf_count content) next)
+
+    nothing_found : (next : Option ℕ) → FoundUpto None next → (◌≡◌ {A = Option HeldStep} None None → next ≡ None) → next_held cursor i ≡ None
+    nothing_found next none sure = no_step cursor (subst (λ (o : Option ℕ). FoundUpto None o) (sure refl) none)
+
+    -- a step in an index's own part is one of the model
+    pub own_step_is : (step : LeafStep) → IsLeafStep image content cursor step → IsRead step.found → (ids_read step bytes, after_own step) ≡ own_step i (next_held cursor i)
+    own_step_is step is told = by step.found step.next is.stepped.found is.sure is.more told
+      where
+        goes_on : (s : HeldStep) (n : Option ℕ) → IsNextHere cursor (upto (leaf_count content) n) s → NoneHeld image content (s.held.leaf + 1) (upto (leaf_count content) n) → IfSome n (SomeHeld image content)
+            → own_place (after_found (Some s) n) ≡ if_held i (s.held.leaf + 1) (own_part + (s.held.leaf + 1))
+        goes_on s None next none more = sym (held_is (s.held.leaf + 1) (own_part + (s.held.leaf + 1)) false (λ no. cc) (λ yes. none))
+        goes_on s (Some n) next none more = sym (held_is (s.held.leaf + 1) (own_part + (s.held.leaf + 1)) true (λ yes. more_after cursor n s next more) (λ no. cc))
+
+        by : (f : Option HeldStep) (n : Option ℕ) → FoundUpto f n → (f ≡ None → n ≡ None) → IfSome n (SomeHeld image content) → IsRead f → (ids_found f bytes, own_place (after_found f n)) ≡ own_step i (next_held cursor i)
+        by None n none sure more told = ap (own_step i) (sym (nothing_found n none sure))
+        by (Some s) n two sure more told =
+            ap (λ (ids : List Puid). (ids, own_place (after_found (Some s) n))) (read_is cursor (upto (leaf_count content) n) s bytes two.0 told)
+            ∙ ap (λ (next : Option ℕ). (leaf_ids i s.held.leaf, next)) (goes_on s n two.0 two.1 more)
+            ∙ ap (own_step i) (sym (step_at cursor (upto (leaf_count content) n) s two.0))
+
+    -- and so is one in the part of a draft, which this index is, of the index j
+    pub draft_step_is : (j : Index) (any : Bool) → if_held j 0 own_part ≡ (if any then Some own_part else None) → (step : LeafStep) → IsLeafStep image content cursor step → IsRead step.found
+        → (ids_read step bytes, after_drafted any step) ≡ draft_step i j (next_held cursor i)
+    draft_step_is j any starts step is told = by step.found step.next is.stepped.found is.sure is.more told
+      where
+        goes_on : (s : HeldStep) (n : Option ℕ) → IsNextHere cursor (upto (leaf_count content) n) s → NoneHeld image content (s.held.leaf + 1) (upto (leaf_count content) n) → IfSome n (SomeHeld image content)
+            → or_own any (after_found (Some s) n) ≡ after_draft i j s.held.leaf
+        goes_on s None next none more =
+            let gone : next_held (s.held.leaf + 1) i ≡ None = no_step (s.held.leaf + 1) none in
+            rw gone (sym starts)
+        goes_on s (Some n) next none more =
+            let some = more_after cursor n s next more in
+            let there : is_some (next_held (s.held.leaf + 1) i) ≡ true = some_next (next_held (s.held.leaf + 1) i) refl some.leaf some.on (in_held some.leaf some.held) in
+            rw there refl
+
+        by : (f : Option HeldStep) (n : Option ℕ) → FoundUpto f n → (f ≡ None → n ≡ None) → IfSome n (SomeHeld image content) → IsRead f → (ids_found f bytes, or_own any (after_found f n)) ≡ draft_step i j (next_held cursor i)
+        by None n none sure more told = ap (λ (next : Option ℕ). ([], next)) (sym starts) ∙ ap (draft_step i j) (sym (nothing_found n none sure))
+        by (Some s) n two sure more told =
+            ap (λ (ids : List Puid). (ids, or_own any (after_found (Some s) n))) (read_is cursor (upto (leaf_count content) n) s bytes two.0 told)
+            ∙ ap (λ (next : Option ℕ). (leaf_ids i s.held.leaf, next)) (goes_on s n two.0 two.1 more)
+            ∙ ap (draft_step i j) (sym (step_at cursor (upto (leaf_count content) n) s two.0))
 
   -- no pointer of it leads past the disk
   pub none_past : (r block : ℕ) → ¬ LeadsPast image (length image) content r block

@@ -83,7 +83,7 @@ module _ {D : Type 0} (g : Ghosts D) (old : D) (blocks : AreBlocks (g.content ol
         → IsFoundIn image content (cursor - own_part) bytes after_own found → IsStepOf d
     own_is d which is =
         ap (λ next. (ids_read found.step bytes, next)) is.next
-        ∙ own_step_is image blocks id.block content tree.0 i tree.1 (cursor - own_part) found.step bytes is.step
+        ∙ own_step_is image blocks id.block content tree.0 i tree.1 (cursor - own_part) bytes found.step is.step
         is.content
         ∙ same d which
       where
@@ -99,7 +99,7 @@ module _ {D : Type 0} (g : Ghosts D) (old : D) (blocks : AreBlocks (g.content ol
     drafted_is root None has less is = absurd has
     drafted_is root (Some draft) has less (any, holds, is) =
         ap (λ next. (ids_read found.step bytes, next)) is.next
-        ∙ draft_step_is image blocks id.block (root_spelling root) root draft has.1 i any
-        (holds_is image blocks id.block content tree.0 i tree.1 any holds) cursor found.step bytes is.step
+        ∙ draft_step_is image blocks id.block (root_spelling root) root draft has.1 cursor bytes i any
+        (holds_is image blocks id.block content tree.0 i tree.1 any holds) found.step is.step
         is.content
         ∙ rw (lt-ltb cursor own_part less) refl

@@ -5,12 +5,14 @@ unfoldable pub use Rattle.block_tree.specs.Pointers.{pointers_of}
 pub use Rattle.block_tree.specs.Reads.{IsFault, IsRootTrouble, trouble_of}
 pub use Rattle.block_tree.specs.Root.{IsRootBlock}
 unfoldable pub use Rattle.block_tree.specs.Root.{root_spelling}
-pub use Rattle.block_tree.specs.Step.{IsPastFrom, IsStep, IsStepped, NoneHeld}
+pub use Rattle.block_tree.specs.Step.{IsNextLeaf, IsPlaced, IsStepped, IsSureStep, NoneHeld, SomeHeld}
+pub use Rattle.block_tree.specs.Walk.{IsFirstPast}
 pub use Rattle.block_tree.specs.Tree.{HasNoDeadEnd, LeadsPast, leaf_block, tree_of}
 unfoldable pub use Rattle.block_tree.specs.Tree.{levels_of, path_to}
 pub use Rattle.block_tree.specs.declared.fault.TreeFault.{TreeFault}
 pub use Rattle.block_tree.specs.declared.root.Root.{Root}
 pub use Rattle.block_tree.specs.declared.step.HeldStep.{HeldStep}
+pub use Rattle.block_tree.specs.declared.step.LeafStep.{LeafStep}
 pub use Rattle.cfs_base.proofs.Calls.{makes_then, reads_make, reads_then, stopped_after_reads, tells_on}
 pub use Rattle.cfs_base.proofs.Runs.{then, wider}
 pub use Rattle.cfs_base.specs.Calls.{HasStopped, MakesAtMost, OnlyReads}

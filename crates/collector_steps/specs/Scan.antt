@@ -13,10 +13,11 @@ use Rattle.cfs_base.specs.declared.refusal.Trouble.{Trouble}
 use Rattle.cfs_base.specs.declared.refusal.Trouble.TheVariants as trouble
 use Rattle.block_tree.specs.declared.root.Root.{Root}
 use Rattle.block_tree.specs.declared.step.HeldStep.{HeldStep}
+use Rattle.block_tree.specs.declared.step.LeafStep.{LeafStep}
 use Rattle.block_tree.specs.Root.{IsRootBlock}
 use Rattle.vol_image.specs.Reading.{slot_in}
 use Rattle.block_tree.specs.Root.{root_spelling}
-use Rattle.block_tree.specs.Step.{IsStepped, NoneHeld, SomeHeld}
+use Rattle.block_tree.specs.Step.{IsStepped, IsSureStep, NoneHeld, SomeHeld}
 use Rattle.block_tree.specs.Tree.{LeadsPast, leaf_count}
 use Rattle.collector_steps.specs.declared.scan.Found.{Found}
 use Rattle.marking.specs.Leaves.{own_part}
@@ -33,25 +34,39 @@ unfoldable pub ids_from : List ℕ → ℕ → List Puid
 ids_from bytes slot = filter_map (λ held. held) (map (slot_in bytes) (range_with_len slot (64 - slot)))
 
 -- what a step finds, where a leaf with these bytes was read
-abbrev pub ids_read : Option HeldStep → List ℕ → List Puid
-ids_read None bytes = []
-ids_read (Some step) bytes = ids_from bytes 0
+abbrev pub ids_found : Option HeldStep → List ℕ → List Puid
+ids_found None bytes = []
+ids_found (Some held) bytes = ids_from bytes 0
 
--- the place where the reading goes on after a step of an index's own tree
-abbrev pub after_own : Option HeldStep → Option ℕ
-after_own None = None
-after_own (Some step) = if step.follows then Some (own_part + (step.held.leaf + 1)) else None
+abbrev pub ids_read : LeafStep → List ℕ → List Puid
+ids_read step bytes = ids_found step.found bytes
 
--- the next leaf of a tree after a step, where one follows
-abbrev pub following : Option HeldStep → Option ℕ
-following None = None
-following (Some step) = if step.follows then Some (step.held.leaf + 1) else None
+-- the next leaf of a tree after the one that was found, where another is held
+abbrev pub after_found : (found : Option HeldStep) → (next : Option ℕ) → Option ℕ
+after_found None next = None
+after_found (Some held) None = None
+after_found (Some held) (Some n) = Some (held.held.leaf + 1)
 
--- the place after a step of its draft's tree, where its own holds a leaf, or none
-abbrev pub after_drafted : (any : Bool) → Option HeldStep → Option ℕ
-after_drafted any None = if any then Some own_part else None
-after_drafted any (Some step) =
-    if step.follows then Some (step.held.leaf + 1) else (if any then Some own_part else None)
+abbrev pub following : LeafStep → Option ℕ
+following step = after_found step.found step.next
+
+-- the place of a leaf of an index's own tree
+abbrev pub own_place : Option ℕ → Option ℕ
+own_place None = None
+own_place (Some leaf) = Some (own_part + leaf)
+
+-- where the reading goes on after a step of that
+abbrev pub after_own : LeafStep → Option ℕ
+after_own step = own_place (following step)
+
+-- a leaf of its draft's tree, or else the first of its own, where that holds one
+abbrev pub or_own : (any : Bool) → Option ℕ → Option ℕ
+or_own any None = if any then Some own_part else None
+or_own any (Some leaf) = Some leaf
+
+-- where the reading goes on after a step of its draft's tree
+abbrev pub after_drafted : (any : Bool) → LeafStep → Option ℕ
+after_drafted any step = or_own any (following step)
 
 -- ---- a step
 
@@ -60,11 +75,17 @@ abbrev pub HoldsAny : Image → List ℕ → Bool → Type 0
 HoldsAny image root true = SomeHeld image root 0
 HoldsAny image root false = NoneHeld image root 0 (leaf_count root)
 
+-- a step that finds the first held leaf from one on, if there is one, and tells whether another follows
+pub record IsLeafStep (image : Image) (root : List ℕ) (from : ℕ) (step : LeafStep) : Type 0 where
+  pub stepped : IsStepped image root from step
+  pub sure : IsSureStep step
+  pub more : IfSome step.next (SomeHeld image root)
+
 -- what was found from a leaf on in the tree with this root, and read; where the reading goes on is told by the step
 pub record IsFoundIn (image : Image) (root : List ℕ) (from : ℕ) (bytes : List ℕ)
-    (after : Option HeldStep → Option ℕ) (found : Found) : Type 0 where
-  pub step : IsStepped image root from found.step
-  pub content : IfSome found.step (λ s. bytes ≡ block_at image s.held.block)
+    (after : LeafStep → Option ℕ) (found : Found) : Type 0 where
+  pub step : IsLeafStep image root from found.step
+  pub content : IfSome found.step.found (λ s. bytes ≡ block_at image s.held.block)
   pub next : found.next ≡ after found.step
 
 -- the state has this draft of the index, whose tree has this root on the disk; or it has none

@@ -24,7 +24,7 @@ use crate::scan::OWN_PART;
 use crate::shading::{shade_all, shade_rescued};
 use cfs_base::{NoMemory, Puid};
 use collector_marks::{Marks, Rescue, Rescues};
-use puid_space::{Directory, kinds_follow_the_graph};
+use puid_space::Directory;
 use std::alloc::Global;
 use std::marker::Model;
 
@@ -101,8 +101,8 @@ impl Collector {
             → ((x : Puid) → is_among x roots.now ≡ is_among x (starts_now s)) → next seed s events.Began ≡ Some t
             → unread t none_marked ≤ volume_of self.old → OnOk result (Collects image t self.new) }
     {
-        kinds_follow_the_graph();
-        let _room = directory.room();
+        puid_space::laws::kinds_follow_the_graph();
+        puid_space::laws::directories_are_listings(directory);
         self.condemned.reserve(self.marks.blocks())?;
         self.marks.clear();
         self.rescues.clear();
@@ -150,8 +150,8 @@ impl Collector {
         ensures keeps { (s : State) (image : Image) → IsState s → directory.now.named ≡ kinds_of s.graph
             → Collects image s self.old → Collects image s self.new }
     {
-        kinds_follow_the_graph();
-        let _room = directory.room();
+        puid_space::laws::kinds_follow_the_graph();
+        puid_space::laws::directories_are_listings(directory);
         let Some(rescue) = self.rescues.take() else {
             unreachable!();
         };

@@ -21,7 +21,7 @@ use crate::collector::Collector;
 use crate::phase::Phase;
 use cfs_base::{Ids, Puid};
 use collector_marks::Marks;
-use puid_space::{Directory, kinds_follow_the_graph, taken_are_left_out};
+use puid_space::Directory;
 use std::mem;
 
 /// Takes out of a directory what isn't marked, and adds it to a list that has room for it. Takes no memory.
@@ -60,9 +60,9 @@ impl Collector {
         ensures left { (seed : ℕ) (s t : State) → directory.old.named ≡ kinds_of s.graph
             → next seed s (events.Vanish result) ≡ Some t → directory.new.named ≡ kinds_of t.graph }
     {
-        kinds_follow_the_graph();
-        taken_are_left_out();
-        let _room = directory.room();
+        puid_space::laws::kinds_follow_the_graph();
+        puid_space::laws::taken_are_left_out();
+        puid_space::laws::directories_are_listings(directory);
         let mut gone = mem::replace(&mut self.condemned, Vec::new(self.alloc));
         take_unmarked(&self.marks, directory, &mut gone);
         self.phase = Phase::Inner { cylinder: 0 };

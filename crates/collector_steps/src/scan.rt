@@ -3,8 +3,8 @@ ghost use Rattle.std.specs.Prelude.{◌≡◌, ℕ, ◌+◌, ◌<◌, ◌≤◌,
 ghost use Rattle.std.specs.Prelude.{None, Bool, Option, ◌*◌, false, if◌then◌else◌};
 ghost use Rattle.block_tree.specs.Pointers.{leaf_limit};
 ghost use Rattle.block_tree.specs.declared.root.Root as roots;
-ghost use Rattle.block_tree.specs.Step.{IsStepped};
-ghost use Rattle.block_tree.specs.Tree.{HasNoDeadEnd};
+ghost use Rattle.block_tree.specs.Step.{IsHeldAmong};
+ghost use Rattle.block_tree.specs.Tree.{HasNoDeadEnd, IsLeafPointer};
 ghost use Rattle.cfs_base.specs.Calls.{OnlyReads};
 ghost use Rattle.cfs_base.specs.Disk.{block_at};
 ghost use Rattle.cfs_base.specs.Outside.{count_after};
@@ -16,7 +16,7 @@ ghost use Rattle.collector_marks.specs.Kept.{blocks_marked, colours_of};
 ghost use Rattle.collector_steps.specs.Collecting.{Collects, IsAsBefore, Serves, colours_in, volume_of};
 ghost use Rattle.collector_steps.specs.Left.{steps_left};
 ghost use Rattle.block_tree.specs.Root.{root_spelling};
-ghost use Rattle.collector_steps.specs.Scan.{HoldsAny, IsDamaged, IsDraftRoot, IsFoundIn, IsScanTrouble};
+ghost use Rattle.collector_steps.specs.Scan.{HoldsAny, IsDamaged, IsDraftRoot, IsFoundIn, IsLeafStep, IsScanTrouble};
 ghost use Rattle.collector_steps.specs.Scan.{IsTreeTrouble, after_drafted, after_own, following, ids_read};
 ghost use Rattle.marking.specs.Colours.{first_grey};
 ghost use Rattle.marking.specs.Leaves.{own_part};
@@ -32,40 +32,41 @@ ghost use Rattle.vol_owners.specs.Account.{Drafts};
 use crate::collector::Collector;
 use crate::leaf::shade_leaf;
 use crate::phase::Phase;
-use block_tree::{HeldStep, LEAF_LIMIT, Root, follow_pointer, holds_any, read_root, step_held};
+use block_tree::{LEAF_LIMIT, LeafStep, Root, follow_pointer, holds_any, read_root, step_held};
 use cfs_base::{Block, BlockNo, Disk, Trouble};
 use collector_marks::{Grey, Marks};
-use puid_space::{Directory, kinds_follow_the_graph};
+use puid_space::Directory;
 
 /// Places from this one on are leaves of an index itself; those below are leaves of its draft.
 pub(crate) const OWN_PART: u32 = LEAF_LIMIT;
 
-/// What a step finds: the leaf that was read, if one was, and the place where the reading goes on, if it does.
+/// What a step finds, whose leaf was read, if it found one; and the place where the reading goes on, if it does.
 #[derive(Clone, Copy, Debug)]
 struct Found {
-    step: Option<HeldStep>,
+    step: LeafStep,
     next: Option<u32>,
 }
 
-/// Where the reading goes on after a step of the index's own tree.
-fn after_own(step: Option<HeldStep>) -> Option<u32>
-    requires { IfSome step (λ s. s.held.leaf < leaf_limit) }
-    ensures { result ≡ after_own step }
+/// The next leaf of a tree after the one that was found, where another is held.
+fn following(step: LeafStep) -> Option<u32>
+    requires { IfSome step.found (λ s. s.held.leaf < leaf_limit) }
+    ensures { result ≡ following step }
 {
-    match step {
-        Some(step) if step.follows => Some(OWN_PART + (step.held.leaf + 1)),
-        _ => None,
+    let found = step.found?;
+    match step.next {
+        Some(_) => Some(found.held.leaf + 1),
+        None => None,
     }
 }
 
-/// The next leaf of a tree after a step, where one follows.
-fn following(step: Option<HeldStep>) -> Option<u32>
-    requires { IfSome step (λ s. s.held.leaf < leaf_limit) }
-    ensures { result ≡ following step }
+/// Where the reading goes on after a step of the index's own tree.
+fn after_own(step: LeafStep) -> Option<u32>
+    requires { IfSome step.found (λ s. s.held.leaf < leaf_limit) }
+    ensures { result ≡ after_own step }
 {
-    match step {
-        Some(step) if step.follows => Some(step.held.leaf + 1),
-        _ => None,
+    match following(step) {
+        Some(leaf) => Some(OWN_PART + leaf),
+        None => None,
     }
 }
 
@@ -76,31 +77,65 @@ fn after_last(any: bool) -> Option<u32>
     if any { Some(OWN_PART) } else { None }
 }
 
-/// The next held leaf, not below the cursor, of the tree with this root, which is that of the index at a block or of
-/// its draft, and its content. At most 3 device calls.
+/// The first held leaf not below the cursor, if there is one, and whether another follows, of the tree with this root,
+/// which is that of the index at a block or of its draft. At most 2 device calls.
+fn find_leaf<D: Disk>(
+    disk: &mut D,
+    block: u32,
+    root: &Root,
+    cursor: u32,
+) -> Result<LeafStep, Trouble>
+    ensures step { Tells D.Disk disk.old → HasNoDeadEnd (D.content disk.old) (root_spelling root.now)
+        → IfOk result (IsLeafStep (D.content disk.old) (root_spelling root.now) cursor) }
+    ensures there { Tells D.Disk disk.old → IfOk result (λ step. IfSome step.found (λ s.
+        IsLeafPointer (D.content disk.old) (root_spelling root.now) s.held.leaf
+        (record { holder = s.holder; block = s.held.block }))) }
+    ensures within { IfOk result (λ step. IfSome step.found (IsHeldAmong leaf_limit cursor)) }
+    ensures refused { IfErr result (IsTreeTrouble D.Disk disk.old disk.new (root_spelling root.now) block) }
+    ensures untried { IfErr result (λ trouble. trouble_had_tried trouble ≡ false) }
+    ensures reads { OnlyReads D.Disk 2 disk.old disk.new }
+{
+    let first = match step_held(disk, root, cursor) {
+        Ok(step) => step,
+        Err(fault) => return Err(fault.in_tree(BlockNo(block))),
+    };
+    if first.found.is_some() {
+        return Ok(first);
+    }
+    // No leaf is held before the next.
+    let Some(next) = first.next else {
+        return Ok(first);
+    };
+    match step_held(disk, root, next) {
+        Ok(step) => Ok(step),
+        Err(fault) => Err(fault.in_tree(BlockNo(block))),
+    }
+}
+
+/// That leaf, and its content. At most 3 device calls.
 fn next_leaf<D: Disk>(
     disk: &mut D,
     block: u32,
     root: &Root,
     cursor: u32,
     into: &mut Block,
-) -> Result<Option<HeldStep>, Trouble>
+) -> Result<LeafStep, Trouble>
     ensures step { Tells D.Disk disk.old → HasNoDeadEnd (D.content disk.old) (root_spelling root.now)
-        → IfOk result (IsStepped (D.content disk.old) (root_spelling root.now) cursor) }
-    ensures content { Tells D.Disk disk.old → IfOk result (λ step. IfSome step (λ s.
+        → IfOk result (IsLeafStep (D.content disk.old) (root_spelling root.now) cursor) }
+    ensures content { Tells D.Disk disk.old → IfOk result (λ step. IfSome step.found (λ s.
         into.new ≡ block_at (D.content disk.old) s.held.block)) }
-    ensures inside { IfOk result (λ step. IfSome step (λ s. (cursor ≤ s.held.leaf) × (s.held.leaf < leaf_limit))) }
+    ensures inside { IfOk result (λ step. IfSome step.found (λ s.
+        (cursor ≤ s.held.leaf) × (s.held.leaf < leaf_limit))) }
     ensures refused { IfErr result (IsTreeTrouble D.Disk disk.old disk.new (root_spelling root.now) block) }
     ensures untried { IfErr result (λ trouble. trouble_had_tried trouble ≡ false) }
     ensures reads { OnlyReads D.Disk 3 disk.old disk.new }
 {
-    let step = match step_held(disk, root, cursor) {
-        Ok(Some(step)) => step,
-        Ok(None) => return Ok(None),
-        Err(fault) => return Err(fault.in_tree(BlockNo(block))),
+    let step = find_leaf(disk, block, root, cursor)?;
+    let Some(found) = step.found else {
+        return Ok(step);
     };
-    match follow_pointer(disk, step.pointer(), into) {
-        Ok(()) => Ok(Some(step)),
+    match follow_pointer(disk, found.pointer(), into) {
+        Ok(()) => Ok(step),
         Err(fault) => Err(fault.in_tree(BlockNo(block))),
     }
 }
@@ -210,7 +245,7 @@ fn read_on(marks: &mut Marks, directory: &Directory, found: Found, content: &Blo
         Some(place) => marks.advance(place),
         None => marks.finish_grey(),
     }
-    if found.step.is_some() {
+    if found.step.found.is_some() {
         shade_leaf(marks, directory, content);
     }
 }
@@ -254,8 +289,8 @@ impl Collector {
         ensures untried { IfErr result (λ error. trouble_had_tried error ≡ false) }
         ensures reads { OnlyReads D.Disk 4 disk.old disk.new }
     {
-        kinds_follow_the_graph();
-        let _room = directory.room();
+        puid_space::laws::kinds_follow_the_graph();
+        puid_space::laws::directories_are_listings(directory);
         let Some(grey) = self.marks.next_grey() else {
             return Ok(());
         };

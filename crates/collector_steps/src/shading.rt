@@ -14,7 +14,7 @@ fn kind_of(directory: &Directory, id: Puid) -> Option<Kind>
     ensures kind { result ≡ directory_kind directory.now.named id }
     ensures inside { IfSome result (λ _. id.block < directory.now.room) }
 {
-    let _room = directory.room();
+    puid_space::laws::directories_are_listings(directory);
     directory.kind(id)
 }
 

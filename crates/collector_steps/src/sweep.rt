@@ -15,7 +15,7 @@ use cfs_base::{Block, BlockNo, Disk, Failed, Place, Trouble};
 use cyl_alloc::Space;
 use cyl_alloc::maps::read_map;
 use cyl_map::{BlockState, Map, MapEntry};
-use puid_space::{Directory, kinds_follow_the_graph};
+use puid_space::Directory;
 
 /// Which blocks a sweep is over.
 #[derive(Clone, Copy, Debug, PartialEq, Eq)]
@@ -113,7 +113,7 @@ pub fn sweep_cylinder<D: Disk>(
     requires on_disk { cylinder < length space.old.free }
     ensures { IsSweep D.Disk directory.now.named pass cylinder disk.old disk.new space.old space.new result }
 {
-    kinds_follow_the_graph();
+    puid_space::laws::kinds_follow_the_graph();
     let blocks = disk.blocks();
     prove!(cylinder < blocks / 64);
     let mut map = read_map(disk, 64 * cylinder)?;

@@ -10,7 +10,7 @@ use crate::phase::Phase;
 use crate::sweep::{Pass, sweep_cylinder};
 use cfs_base::{Disk, Trouble};
 use cyl_alloc::Space;
-use puid_space::{Directory, kinds_follow_the_graph};
+use puid_space::Directory;
 
 fn cylinder_of(phase: Phase) -> u32
     ensures { result ≡ spec.cylinder_of phase }
@@ -87,7 +87,7 @@ impl Collector {
         ensures { HasSwept D.Disk directory.now.named pass disk.old disk.new space.old space.new self.old self.new
             result }
     {
-        kinds_follow_the_graph();
+        puid_space::laws::kinds_follow_the_graph();
         let cylinders = disk.blocks() / 64;
         sweep_cylinder(disk, space, directory, pass, cylinder_of(self.phase))?;
         self.phase = next_phase(self.phase, cylinders);

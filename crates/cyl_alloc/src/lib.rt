@@ -7,14 +7,13 @@
 mod commits;
 mod counts;
 mod known;
-mod laws;
+pub mod laws;
 pub mod maps;
 mod part;
 mod space;
 mod unfinished;
 
 pub use known::KnownMaps;
-pub use laws::counts_follow;
 pub use part::Part;
 pub use space::Space;
 pub use unfinished::Blocks;

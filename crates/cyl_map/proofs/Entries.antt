@@ -1,17 +1,17 @@
 -- The entries of the whole table, from those of its rows.
-use Rattle.std.proofs.Common.{◌≡◌, ◌⊎◌, ⊎_elim, inl, inr, ℕ, ◌+◌, ◌%◌, ◌^◌, ◌<◌, ◌≤◌, Bool, true, false, cond, not, ◌&&◌, ◌||◌, ◌==◌, List, [], ◌∷◌, ◌++◌, length, take, drop, get_or, Option, Some, None, Result, Err, ◌↔◌, refl, sym, ◌∙◌, ap, subst, append_assoc, arith}
-use Rattle.cyl_map.proofs.Words.{Allocated, BadEntry, BeginsEntry, BeginsEntryOf, BlockState, Free, IntendAllocate, IntendDeallocate, IsEntry, IsFirstBad, IsFirstBadOf, IsSome, IsSpelledBy, Leaf, MapEntry, Node, Place, Root, Row, ShadowRoot, bytes_eq, bytes_eq-Decides, entry_of, first_byte, from_be_bytes-to_be_bytes_2, from_be_bytes-to_be_bytes_4, is_entry, is_of, list_all, list_any, list_any-append, nat_lt, nat_tests, or_at, place_code, place_number, place_of, said_by, spelling, state_of, table, take-append-drop, take-take, take_more}
+use Rattle.std.proofs.Common.{◌≡◌, ◌≢◌, ◌⊎◌, ⊎_elim, inl, inr, ℕ, ◌+◌, ◌*◌, ◌/◌, ◌%◌, ◌^◌, ◌<◌, ◌≤◌, Bool, true, false, cond, not, ◌&&◌, ◌||◌, ◌==◌, List, [], ◌∷◌, ◌++◌, length, take, drop, get_or, Option, Some, None, Result, Err, ◌↔◌, refl, sym, ◌∙◌, ap, subst, append_assoc, arith}
+use Rattle.cyl_map.proofs.Words.{Allocated, BadEntry, BeginsEntry, BeginsEntryOf, BlockState, Free, IntendAllocate, IntendDeallocate, IsEntry, IsFirstBad, IsFirstBadOf, IsSome, IsSpelledBy, Leaf, MapEntry, Node, Place, Root, Row, ShadowRoot, Span, bytes_eq, bytes_eq-Decides, entry_of, first_byte, from_be_bytes-to_be_bytes_2, from_be_bytes-to_be_bytes_4, is_entry, is_of, list_all, list_any, list_any-append, nat_lt, nat_tests, or_at, place_byte, place_code, place_number, place_of, said_by, spelling, state_of, table, take-append-drop, take-take, take_more}
 use Rattle.cyl_map.proofs.Rows.{and_true, and_left, and_right, made, of_row, owned_within, unowned_zero}
 
-or_cases : (x y : Bool) → (x || y) ≡ true → (x ≡ true) ⊎ (y ≡ true)
+pub or_cases : (x y : Bool) → (x || y) ≡ true → (x ≡ true) ⊎ (y ≡ true)
 or_cases true y is = inl refl
 or_cases false y is = inr is
 
-or_left : (x y : Bool) → x ≡ true → (x || y) ≡ true
+pub or_left : (x y : Bool) → x ≡ true → (x || y) ≡ true
 or_left true y is = refl
 or_left false y is = cc
 
-or_right : (x y : Bool) → y ≡ true → (x || y) ≡ true
+pub or_right : (x y : Bool) → y ≡ true → (x || y) ≡ true
 or_right true y is = refl
 or_right false y is = is
 
@@ -52,10 +52,10 @@ ends_more rows i d bytes lt before here (e, is, rest, spelled) =
     (λ p. ⊎_elim (λ q. here (e, q, rest, spelled)) (λ q. cc) (or_cases (is_of (get_or rows i d) e) false p))
     (or_cases (list_any (λ row. is_of row e) (take i rows)) _ (sym (any_more rows i d e lt) ∙ is))
 
-pub of_table : (i : ℕ) (d : Row) (e : MapEntry) → i < 5 → is_of (get_or table i d) e ≡ true → IsEntry e
+pub of_table : (i : ℕ) (d : Row) (e : MapEntry) → i < 6 → is_of (get_or table i d) e ≡ true → IsEntry e
 of_table i d e lt is = record { in_table = or_at (list_any (λ row. is_of row e)) (λ row. is_of row e) refl (λ _ _. refl) table i d lt is }
 
-pub begins_of : (i : ℕ) (d : Row) (bytes : List ℕ) → i < 5 → BeginsEntryOf (get_or table i d) bytes → BeginsEntry bytes
+pub begins_of : (i : ℕ) (d : Row) (bytes : List ℕ) → i < 6 → BeginsEntryOf (get_or table i d) bytes → BeginsEntry bytes
 begins_of i d bytes lt (e, is, rest, spelled) = (e, of_table i d e lt is, rest, spelled)
 
 pub furthest_none : (bytes : List ℕ) → Furthest 0 bytes 0
@@ -64,41 +64,52 @@ furthest_none bytes = record {
   ends = λ (e, is, rest, spelled). cc;
 }
 
-pub furthest_same : (i : ℕ) (d : Row) (bytes : List ℕ) (k m : ℕ) → i < 5 → Furthest i bytes k → IsFirstBadOf (get_or table i d) bytes m → m ≤ k → Furthest (i + 1) bytes k
+pub furthest_same : (i : ℕ) (d : Row) (bytes : List ℕ) (k m : ℕ) → i < 6 → Furthest i bytes k → IsFirstBadOf (get_or table i d) bytes m → m ≤ k → Furthest (i + 1) bytes k
 furthest_same i d bytes k m lt so_far here le = record {
   begins = so_far.begins;
   ends = ends_more table i d (take (k + 1) bytes) lt so_far.ends (λ b. here.bad (shorter_of (get_or table i d) bytes (m + 1) (k + 1) (omega arith) b));
 }
 
-pub furthest_more : (i : ℕ) (d : Row) (bytes : List ℕ) (k m : ℕ) → i < 5 → Furthest i bytes k → IsFirstBadOf (get_or table i d) bytes m → k < m → Furthest (i + 1) bytes m
+pub furthest_more : (i : ℕ) (d : Row) (bytes : List ℕ) (k m : ℕ) → i < 6 → Furthest i bytes k → IsFirstBadOf (get_or table i d) bytes m → k < m → Furthest (i + 1) bytes m
 furthest_more i d bytes k m lt so_far here more = record {
   begins = begins_of i d (take m bytes) lt here.before;
   ends = ends_more table i d (take (m + 1) bytes) lt (λ b. so_far.ends (shorter_among (take i table) bytes (k + 1) (m + 1) (omega arith) b)) here.bad;
 }
 
 -- all rows
-pub furthest_all : (i : ℕ) (bytes : List ℕ) (k : ℕ) → i ≡ 5 → Furthest i bytes k → IsFirstBad bytes k
+pub furthest_all : (i : ℕ) (bytes : List ℕ) (k : ℕ) → i ≡ 6 → Furthest i bytes k → IsFirstBad bytes k
 furthest_all i bytes k all some = let far = subst (λ n. Furthest n bytes k) all some in record { before = far.begins; bad = λ (e, is, rest, spelled). far.ends (e, is.in_table, rest, spelled) }
 
 -- ---- reading back
 
 record FitsBytes (e : MapEntry) : Type 0 where
-  number : place_number e.place < 2 ^ 16
+  number : place_number e.place < 2 ^ 20
+  narrow : place_code e.place ≢ 4 → place_number e.place < 2 ^ 16
   owner : e.owner < 2 ^ 32
+
+-- all numbers of a row fit
+abbrev row_fits : Row → Bool
+row_fits row = nat_lt (place_number row.last) (2 ^ 20) && ((place_code row.last == 4) || nat_lt (place_number row.last) (2 ^ 16))
 
 owner_fits : (owned : Bool) (o : ℕ) → cond owned (nat_lt 0 o && nat_lt o (2 ^ 32)) (o == 0) ≡ true → o < 2 ^ 32
 owner_fits true o lets = (owned_within true o refl lets).1
 owner_fits false o lets = let none = unowned_zero false o refl lets in omega arith
 
-any_fits : (rows : List Row) (e : MapEntry) → list_all (λ row. nat_lt (place_number row.last) (2 ^ 16)) rows ≡ true → list_any (λ row. is_of row e) rows ≡ true → FitsBytes e
+any_fits : (rows : List Row) (e : MapEntry) → list_all row_fits rows ≡ true → list_any (λ row. is_of row e) rows ≡ true → FitsBytes e
 any_fits [] e small is = cc
 any_fits (row ∷ rows) e small is =
     ⊎_elim
-    (λ p. let last : nat_lt (place_number row.last) (2 ^ 16) ≡ true = and_left _ _ small in
+    (λ p. let here = and_left (row_fits row) _ small in
+    let last = and_left (nat_lt (place_number row.last) (2 ^ 20)) _ here in
+    let inner = and_right (nat_lt (place_number row.last) (2 ^ 20)) _ here in
     let facts = of_row row e p in
-    let below : place_number row.last < 2 ^ 16 = grind (arith, nat_tests) in
-    record { number = omega arith; owner = owner_fits row.owned e.owner facts.owner })
-    (λ p. any_fits rows e (and_right (nat_lt (place_number row.last) (2 ^ 16)) _ small) p)
+    let below : place_number row.last < 2 ^ 20 = grind (arith, nat_tests) in
+    record {
+      number = omega arith;
+      narrow = λ other. ⊎_elim (λ is. absurd (let leaf : place_code row.last ≡ 4 = grind (arith, nat_tests) in omega arith)) (λ is. let less : place_number row.last < 2 ^ 16 = grind (arith, nat_tests) in omega arith) (or_cases (place_code row.last == 4) _ inner);
+      owner = owner_fits row.owned e.owner facts.owner;
+    })
+    (λ p. any_fits rows e (and_right (row_fits row) _ small) p)
     (or_cases (is_of row e) _ is)
 
 fits : (e : MapEntry) → IsEntry e → FitsBytes e
@@ -124,12 +135,23 @@ bit_back IntendAllocate false = refl
 bit_back IntendDeallocate true = refl
 bit_back IntendDeallocate false = refl
 
-place_back : (p : Option Place) → place_of (place_code p) (place_number p) ≡ p
-place_back None = refl
-place_back (Some Root) = refl
-place_back (Some ShadowRoot) = refl
-place_back (Some (Node n)) = refl
-place_back (Some (Leaf n)) = refl
+-- a byte with this kind in its low half says this place
+says_node : (byte low : ℕ) → byte % 16 ≡ 3 → place_of byte low ≡ Some (Node low)
+says_node byte low kind = rw kind refl
+
+says_leaf : (byte low : ℕ) → byte % 16 ≡ 4 → place_of byte low ≡ Some (Leaf (byte / 16 * 2 ^ 16 + low))
+says_leaf byte low kind = rw kind refl
+
+says_span : (byte low : ℕ) → byte % 16 ≡ 5 → place_of byte low ≡ Some (Span low)
+says_span byte low kind = rw kind refl
+
+place_back : (p : Option Place) → (place_code p ≢ 4 → place_number p < 2 ^ 16) → place_of (place_byte p) (place_number p % 2 ^ 16) ≡ p
+place_back None small = refl
+place_back (Some Root) small = refl
+place_back (Some ShadowRoot) small = refl
+place_back (Some (Node n)) small = let fits = small (omega arith) in says_node (place_byte (Some (Node n))) (n % 2 ^ 16) (omega arith) ∙ ap (λ (m : ℕ). Some (Node m)) (omega arith)
+place_back (Some (Leaf n)) small = says_leaf (place_byte (Some (Leaf n))) (n % 2 ^ 16) (omega arith) ∙ ap (λ (m : ℕ). Some (Leaf m)) (omega arith)
+place_back (Some (Span n)) small = let fits = small (omega arith) in says_span (place_byte (Some (Span n))) (n % 2 ^ 16) (omega arith) ∙ ap (λ (m : ℕ). Some (Span m)) (omega arith)
 
 same_parts : (s s' : BlockState) (c c' : Bool) (p p' : Option Place) (o o' : ℕ) → s ≡ s' → c ≡ c' → p ≡ p' → o ≡ o' → made s c p o ≡ made s' c' p' o'
 same_parts s s' c c' p p' o o' state committed place owner = cc
@@ -141,7 +163,7 @@ said_by-spelling e is =
     same_parts _ e.state _ e.committed _ e.place _ e.owner
     (state_back e.state e.committed)
     (bit_back e.state e.committed)
-    (ap (place_of (place_code e.place)) (from_be_bytes-to_be_bytes_2 (place_number e.place) small.number) ∙ place_back e.place)
+    (ap (place_of (place_byte e.place)) (from_be_bytes-to_be_bytes_2 (place_number e.place % 2 ^ 16) (omega arith)) ∙ place_back e.place small.narrow)
     (from_be_bytes-to_be_bytes_4 e.owner small.owner)
 
 chosen : (b : Bool) (e : MapEntry) → b ≡ true → cond b (Some e) None ≡ Some e
@@ -186,7 +208,7 @@ abbrev pub SpelledAmong : List Row → List ℕ → Type 0
 SpelledAmong rows bytes = (e : MapEntry) × (list_any (λ row. is_of row e) rows ≡ true) × (bytes ≡ spelling e)
 
 -- one row more
-pub spelled_more : (i : ℕ) (d : Row) (bytes : List ℕ) (any here : Bool) → i < 5 → (any ≡ true) ↔ SpelledAmong (take i table) bytes → (here ≡ true) ↔ IsSpelledBy (get_or table i d) bytes
+pub spelled_more : (i : ℕ) (d : Row) (bytes : List ℕ) (any here : Bool) → i < 6 → (any ≡ true) ↔ SpelledAmong (take i table) bytes → (here ≡ true) ↔ IsSpelledBy (get_or table i d) bytes
     → ((any || here) ≡ true) ↔ SpelledAmong (take (i + 1) table) bytes
 spelled_more i d bytes any here lt before this = (
   λ is. ⊎_elim (λ p. let (e, among, spelled) = before.0 p in (e, any_more table i d e lt ∙ or_left _ _ among, spelled))
@@ -199,7 +221,7 @@ spelled_more i d bytes any here lt before this = (
 )
 
 -- all rows
-pub spelled_all : (i : ℕ) (bytes : List ℕ) (any : Bool) → i ≡ 5 → (any ≡ true) ↔ SpelledAmong (take i table) bytes → (any ≡ true) ↔ IsSome (entry_of bytes)
+pub spelled_all : (i : ℕ) (bytes : List ℕ) (any : Bool) → i ≡ 6 → (any ≡ true) ↔ SpelledAmong (take i table) bytes → (any ≡ true) ↔ IsSome (entry_of bytes)
 spelled_all i bytes any all is =
     let rows = subst (λ (n : ℕ). (any ≡ true) ↔ SpelledAmong (take n table) bytes) all is in (
       λ p. let (e, among, spelled) = rows.0 p in subst IsSome (sym (ap entry_of spelled ∙ entry_of-spelling e (record { in_table = among }))) refl,

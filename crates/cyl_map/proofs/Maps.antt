@@ -1,11 +1,15 @@
 -- 64 entries, one after the other.
-use Rattle.std.proofs.Common.{◌≡◌, ℕ, zero, suc, ◌+◌, ◌*◌, ◌<◌, ◌≤◌, List, [], ◌∷◌, ◌++◌, length, take, drop, map, get_or, Option, Some, None, Result, Err, ◌↔◌, slice_get, set, refl, sym, ◌∙◌, ap, subst, arith, length-drop, length-set}
+use Rattle.std.proofs.Common.{◌≡◌, ℕ, zero, suc, ◌+◌, ◌*◌, ◌<◌, ◌≤◌, List, [], ◌∷◌, ◌++◌, length, take, drop, map, get_or, Option, Some, None, Result, Err, ◌↔◌, slice_get, set, refl, sym, ◌∙◌, ap, subst, arith, length-append, length-drop, length-set}
 use Rattle.cyl_map.proofs.Words.{All, All-set, AreEntries, BadMap, IsEntry, IsFirstBad, IsFirstBadEntry, IsMap, IsSome, MapEntry, SpellsMap, bytes_at, drop-drop, drop_at, eights, entries_of, entry_at, entry_of, first_chunks, get_or-map, length-map, map_spelling, said_by, slice_get-get_or, spelling, take-append-drop, take_at}
 use Rattle.cyl_map.proofs.Entries.{entry_of-spelling, entry_of_said, said_by-spelling, entry_of_bad, first_bad_one}
 
 pub length-spelling : (e : MapEntry) → length (spelling e) ≡ 8
 unfolding spelling
 length-spelling e = refl
+
+pub length-map_spelling : (es : List MapEntry) → length (map_spelling es) ≡ 8 * length es
+length-map_spelling [] = refl
+length-map_spelling (e ∷ es) = omega (arith, length-append (spelling e) (map_spelling es), length-spelling e, length-map_spelling es)
 
 -- ---- the eight bytes of each entry
 

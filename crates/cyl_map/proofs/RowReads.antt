@@ -1,7 +1,7 @@
 -- How far a row of the table reads eight bytes.
 use Rattle.std.proofs.Common.{◌≡◌, ◌≢◌, ℕ, zero, suc, ◌+◌, ◌*◌, ◌/◌, ◌%◌, ◌^◌, ◌<◌, ◌≤◌, Bool, true, false, not, cond, ◌&&◌, ◌||◌, ◌==◌, List, [], ◌∷◌, length, drop, get_or, Option, refl, sym, ◌∙◌, ap, subst, arith}
-use Rattle.cyl_map.proofs.Words.{Allocated, BlockState, Free, IntendAllocate, IntendDeallocate, IsFirstBadOf, IsFirstOfOwner, IsSpelledBy, MapEntry, Place, Row, first_byte, is_of, lets_owner, lets_state, nat_le, nat_lt, nat_tests, place_code, place_number, spelling, state_code, state_of}
-use Rattle.cyl_map.proofs.Rows.{and_true, and_left, and_right, either, reads_place, of_row, made, least_owner, lets_least, lets_least_state, lets_owned, lets_none, owned_within, unowned_zero, is_of_made, with_number, place_code-with_number, place_number-with_number, number_in, Reads, ReadsPlace}
+use Rattle.cyl_map.proofs.Words.{Allocated, BlockState, Free, IntendAllocate, IntendDeallocate, IsFirstBadOf, IsFirstOfOwner, IsSpelledBy, MapEntry, Place, Row, first_byte, is_of, lets_owner, lets_state, nat_le, nat_lt, nat_tests, place_byte, place_code, place_number, spelling, state_code, state_of}
+use Rattle.cyl_map.proofs.Rows.{and_true, and_left, and_right, either, reads_place, of_row, made, least_owner, lets_least, lets_least_state, lets_owned, lets_none, owned_within, unowned_zero, is_of_made, with_number, place_code-with_number, place_number-with_number, byte_is, byte_says, number_in, Reads, ReadsPlace}
 
 -- a list of eight is eight cells
 pub on_eight : (P : List ℕ → Type 0) (bytes : List ℕ) → length bytes ≡ 8 → P (get_or bytes 0 0 ∷ get_or bytes 1 0 ∷ get_or bytes 2 0 ∷ get_or bytes 3 0 ∷ get_or bytes 4 0 ∷ get_or bytes 5 0 ∷ get_or bytes 6 0 ∷ get_or bytes 7 0 ∷ []) → P bytes
@@ -42,7 +42,7 @@ first_refused row bytes eight range none = on_eight (λ bs. IsFirstBadOf row bs 
   bad = λ (e, is, rest, spelled). none e.state e.committed (of_row row e is).state (cc);
 })
 
-pub kind_refused : (row : Row) (bytes : List ℕ) (s : BlockState) (c : Bool) → Reads row bytes s c → place_code row.last ≢ get_or bytes 1 0 → IsFirstBadOf row bytes 1
+pub kind_refused : (row : Row) (bytes : List ℕ) (s : BlockState) (c : Bool) → Reads row bytes s c → (place_code row.last ≡ get_or bytes 1 0 % 16 → place_number row.last / 2 ^ 16 < get_or bytes 1 0 / 16) → IsFirstBadOf row bytes 1
 unfolding spelling
 kind_refused row bytes s c reads other = on_eight (λ bs. IsFirstBadOf row bs 1) bytes reads.eight (record {
   before = (
@@ -51,44 +51,65 @@ kind_refused row bytes s c reads other = on_eight (λ bs. IsFirstBadOf row bs 1)
     drop 1 (spelling (made s c row.last (least_owner row))),
     (let first = reads.first in cc),
   );
-  bad = λ (e, is, rest, spelled). other (let kind = (of_row row e is).kind in cc);
-})
-
-pub high_refused : (row : Row) (bytes : List ℕ) (s : BlockState) (c : Bool) → Reads row bytes s c → place_code row.last ≡ get_or bytes 1 0 → place_number row.last / 256 < get_or bytes 2 0 → place_number row.last < 2 ^ 16 → IsFirstBadOf row bytes 2
-unfolding spelling
-high_refused row bytes s c reads kind past fits = on_eight (λ bs. IsFirstBadOf row bs 2) bytes reads.eight (record {
-  before = (
-    made s c row.last (least_owner row),
-    is_of_made row s c row.last (least_owner row) reads.state refl (omega arith) (lets_least row.owned),
-    drop 2 (spelling (made s c row.last (least_owner row))),
-    (let first = reads.first in cc),
-  );
   bad = λ (e, is, rest, spelled).
-      let number = (of_row row e is).number in
-      let cell : place_number e.place / 256 % 256 ≡ get_or bytes 2 0 = cc in
-      omega arith;
+      let facts = of_row row e is in
+      let says = byte_says e.place in
+      let cell : place_byte e.place ≡ get_or bytes 1 0 = cc in
+      let past = other (omega (arith, facts.kind)) in
+      omega (arith, facts.number);
 })
 
-pub low_refused : (row : Row) (bytes : List ℕ) (s : BlockState) (c : Bool) → Reads row bytes s c → place_code row.last ≡ get_or bytes 1 0 → get_or bytes 2 0 ≤ place_number row.last / 256 → place_number row.last < number_in bytes → place_number row.last < 2 ^ 16 → IsFirstBadOf row bytes 3
+-- an entry of the row that begins with the first two bytes and a number with these high bits
+begins_numbered : (row : Row) (bytes : List ℕ) (s : BlockState) (c : Bool) (n : ℕ) → Reads row bytes s c → place_code row.last ≡ get_or bytes 1 0 % 16 → n / 2 ^ 16 ≡ get_or bytes 1 0 / 16 → n ≤ place_number row.last
+    → (is_of row (made s c (with_number row.last n) (least_owner row)) ≡ true) × (place_byte (with_number row.last n) ≡ get_or bytes 1 0) × (place_number (with_number row.last n) ≡ n)
+begins_numbered row bytes s c n reads kind high within =
+    let numbered = place_number-with_number row.last n within in
+    let kept = place_code-with_number row.last n in (
+      is_of_made row s c (with_number row.last n) (least_owner row) reads.state kept (omega arith) (lets_least row.owned),
+      byte_is _ row.last (get_or bytes 1 0) n kept kind numbered high,
+      numbered,
+    )
+
+pub high_refused : (row : Row) (bytes : List ℕ) (s : BlockState) (c : Bool) → Reads row bytes s c → place_code row.last ≡ get_or bytes 1 0 % 16 → get_or bytes 1 0 / 16 ≤ place_number row.last / 2 ^ 16 → place_number row.last / 2 ^ 8 < get_or bytes 1 0 / 16 * 2 ^ 8 + get_or bytes 2 0 → IsFirstBadOf row bytes 2
 unfolding spelling
-low_refused row bytes s c reads kind high past fits =
-    let n : ℕ = get_or bytes 2 0 * 256 in
-    let p : Option Place = with_number row.last n in
-    let numbered : place_number p ≡ n = place_number-with_number row.last n (omega arith) in
-    let kept : place_code p ≡ place_code row.last = place_code-with_number row.last n in
-    let small : get_or bytes 2 0 < 256 = reads.small 2 in
-    let cell : place_number p / 256 % 256 ≡ get_or bytes 2 0 = omega arith in
-    on_eight (λ bs. IsFirstBadOf row bs 3) bytes reads.eight (record {
+high_refused row bytes s c reads kind high past =
+    let n : ℕ = get_or bytes 1 0 / 16 * 2 ^ 16 in
+    let begins = begins_numbered row bytes s c n reads kind (omega arith) (omega arith) in
+    on_eight (λ bs. IsFirstBadOf row bs 2) bytes reads.eight (record {
       before = (
-        made s c p (least_owner row),
-        is_of_made row s c p (least_owner row) reads.state kept (omega arith) (lets_least row.owned),
-        drop 3 (spelling (made s c p (least_owner row))),
-        (let first = reads.first in cc),
+        made s c (with_number row.last n) (least_owner row),
+        begins.0,
+        drop 2 (spelling (made s c (with_number row.last n) (least_owner row))),
+        (let first = reads.first in let byte = begins.1 in cc),
       );
       bad = λ (e, is, rest, spelled).
           let number = (of_row row e is).number in
-          let high : place_number e.place / 256 % 256 ≡ get_or bytes 2 0 = cc in
-          let low : place_number e.place % 256 ≡ get_or bytes 3 0 = cc in
+          let says = byte_says e.place in
+          let byte : place_byte e.place ≡ get_or bytes 1 0 = cc in
+          let cell : place_number e.place % 2 ^ 16 / 256 % 256 ≡ get_or bytes 2 0 = cc in
+          omega arith;
+    })
+
+pub low_refused : (row : Row) (bytes : List ℕ) (s : BlockState) (c : Bool) → Reads row bytes s c → place_code row.last ≡ get_or bytes 1 0 % 16 → get_or bytes 1 0 / 16 * 2 ^ 8 + get_or bytes 2 0 ≤ place_number row.last / 2 ^ 8 → place_number row.last < number_in bytes → IsFirstBadOf row bytes 3
+unfolding spelling
+low_refused row bytes s c reads kind high past =
+    let n : ℕ = get_or bytes 1 0 / 16 * 2 ^ 16 + get_or bytes 2 0 * 2 ^ 8 in
+    let small : get_or bytes 2 0 < 256 = reads.small 2 in
+    let begins = begins_numbered row bytes s c n reads kind (omega arith) (omega arith) in
+    let cell : place_number (with_number row.last n) % 2 ^ 16 / 256 % 256 ≡ get_or bytes 2 0 = omega (arith, begins.2) in
+    on_eight (λ bs. IsFirstBadOf row bs 3) bytes reads.eight (record {
+      before = (
+        made s c (with_number row.last n) (least_owner row),
+        begins.0,
+        drop 3 (spelling (made s c (with_number row.last n) (least_owner row))),
+        (let first = reads.first in let byte = begins.1 in cc),
+      );
+      bad = λ (e, is, rest, spelled).
+          let number = (of_row row e is).number in
+          let says = byte_says e.place in
+          let byte : place_byte e.place ≡ get_or bytes 1 0 = cc in
+          let high : place_number e.place % 2 ^ 16 / 256 % 256 ≡ get_or bytes 2 0 = cc in
+          let low : place_number e.place % 2 ^ 16 % 256 ≡ get_or bytes 3 0 = cc in
           omega arith;
     })
 
@@ -97,8 +118,8 @@ unfolding spelling
 zero_refused row bytes s c p reads place owned z4 z5 z6 z7 =
     let small2 : get_or bytes 2 0 < 256 = reads.small 2 in
     let small3 : get_or bytes 3 0 < 256 = reads.small 3 in
-    let high : place_number p / 256 % 256 ≡ get_or bytes 2 0 = omega (arith, place.number) in
-    let low : place_number p % 256 ≡ get_or bytes 3 0 = omega (arith, place.number) in
+    let high : place_number p % 2 ^ 16 / 256 % 256 ≡ get_or bytes 2 0 = omega (arith, place.number) in
+    let low : place_number p % 2 ^ 16 % 256 ≡ get_or bytes 3 0 = omega (arith, place.number) in
     on_eight (λ bs. IsFirstBadOf row bs 7) bytes reads.eight (record {
       before = (
         made s c p 1,
@@ -120,8 +141,8 @@ unfolding spelling
 owner_refused row bytes s c p reads place owned at found =
     let small2 : get_or bytes 2 0 < 256 = reads.small 2 in
     let small3 : get_or bytes 3 0 < 256 = reads.small 3 in
-    let high : place_number p / 256 % 256 ≡ get_or bytes 2 0 = omega (arith, place.number) in
-    let low : place_number p % 256 ≡ get_or bytes 3 0 = omega (arith, place.number) in
+    let high : place_number p % 2 ^ 16 / 256 % 256 ≡ get_or bytes 2 0 = omega (arith, place.number) in
+    let low : place_number p % 2 ^ 16 % 256 ≡ get_or bytes 3 0 = omega (arith, place.number) in
     let first = reads.first in
     let kind = place.kind in
     let one_of = is_of_made row s c p 0 reads.state place.like place.within (lets_none row.owned 0 owned refl) in
@@ -159,8 +180,8 @@ read_spelled row bytes s c p o reads place owner lets =
     let small5 : get_or bytes 5 0 < 256 = reads.small 5 in
     let small6 : get_or bytes 6 0 < 256 = reads.small 6 in
     let small7 : get_or bytes 7 0 < 256 = reads.small 7 in
-    let high : place_number p / 256 % 256 ≡ get_or bytes 2 0 = omega (arith, place.number) in
-    let low : place_number p % 256 ≡ get_or bytes 3 0 = omega (arith, place.number) in
+    let high : place_number p % 2 ^ 16 / 256 % 256 ≡ get_or bytes 2 0 = omega (arith, place.number) in
+    let low : place_number p % 2 ^ 16 % 256 ≡ get_or bytes 3 0 = omega (arith, place.number) in
     let c4 : o / 2 ^ 24 % 256 ≡ get_or bytes 4 0 = omega arith in
     let c5 : o / 2 ^ 16 % 256 ≡ get_or bytes 5 0 = omega arith in
     let c6 : o / 2 ^ 8 % 256 ≡ get_or bytes 6 0 = omega arith in
@@ -217,7 +238,7 @@ pub record Passes (row : Row) (bytes : List ℕ) (owner : ℕ) : Type 0 where
   pub low : state_code row.from ≤ get_or bytes 0 0 % 128
   pub high : get_or bytes 0 0 % 128 ≤ state_code row.to
   pub bit : (nat_lt (get_or bytes 0 0) 128 || row.may_commit) ≡ true
-  pub kind : get_or bytes 1 0 ≡ place_code row.last
+  pub kind : get_or bytes 1 0 % 16 ≡ place_code row.last
   pub within : number_in bytes ≤ place_number row.last
   pub owned : not (owner == 0) ≡ row.owned
 
@@ -226,7 +247,7 @@ passes_spelled row bytes owner eight small is fits passes =
     let b = get_or bytes 0 0 in
     let said = lets_said row b (small 0) passes.low passes.high passes.bit in
     let read = read_spelled row bytes (state_of (b % 128)) (not (nat_lt b 128)) (with_number row.last (number_in bytes)) owner (record { eight = eight; small = small; state = said.0; first = said.1 })
-    (reads_place row bytes (sym passes.kind) passes.within) is (owner_lets row.owned owner fits passes.owned) in
+    (reads_place row bytes small (sym passes.kind) passes.within) is (owner_lets row.owned owner fits passes.owned) in
     (made (state_of (b % 128)) (not (nat_lt b 128)) (with_number row.last (number_in bytes)) owner, read.0, read.1)
 
 -- what a first byte says of its state and commit bit
@@ -238,10 +259,12 @@ owner_told : (owned : Bool) (o : ℕ) → cond owned (nat_lt 0 o && nat_lt o (2 
 owner_told true o lets = let within = owned_within true o refl lets in (within.1, grind (arith, nat_tests))
 owner_told false o lets = let none = unowned_zero false o refl lets in (omega arith, grind (arith, nat_tests))
 
-pub spelled_passes : (row : Row) (bytes : List ℕ) → place_number row.last < 2 ^ 16 → IsSpelledBy row bytes → Passes row bytes (owner_in bytes)
+pub spelled_passes : (row : Row) (bytes : List ℕ) → IsSpelledBy row bytes → Passes row bytes (owner_in bytes)
 unfolding spelling
-spelled_passes row bytes fits (e, is, spelled) =
+spelled_passes row bytes (e, is, spelled) =
     let facts = of_row row e is in
+    let says = byte_says e.place in
+    let number : number_in (spelling e) ≡ place_number e.place = omega arith in
     let said = first_says e.state e.committed in
     let range : (nat_le (state_code row.from) (state_code e.state) && nat_le (state_code e.state) (state_code row.to)) ≡ true = and_left _ (row.may_commit || not e.committed) facts.state in
     let from = and_left (nat_le (state_code row.from) (state_code e.state)) _ range in
@@ -252,7 +275,7 @@ spelled_passes row bytes fits (e, is, spelled) =
       low = (let low : state_code row.from ≤ state_code e.state = grind (arith, nat_tests) in omega (arith, said.0));
       high = (let high : state_code e.state ≤ state_code row.to = grind (arith, nat_tests) in omega (arith, said.0));
       bit = turned (nat_lt (first_byte e.state e.committed) 128) row.may_commit (not e.committed) said.1 (and_right _ (row.may_commit || not e.committed) facts.state);
-      kind = facts.kind;
+      kind = omega (arith, facts.kind);
       within = omega (arith, facts.number);
       owned = ap (λ (o : ℕ). not (o == 0)) owner ∙ owned.1;
     })

@@ -1,14 +1,15 @@
 -- What lemmas of this crate name of the crates below, and of its own definitions.
 pub use Rattle.cfs_base.specs.Disk.{Image, block_at}
 pub use Rattle.cfs_base.specs.declared.kind.Place.{Place}
-pub use Rattle.cfs_base.specs.declared.kind.Place.TheVariants.{Leaf, Node, Root, ShadowRoot}
-pub use Rattle.cyl_map.specs.Entry.{IsEntry, first_byte, is_entry, is_of, lets_owner, lets_place, lets_state, place_code, place_number, state_code, table}
+pub use Rattle.cfs_base.specs.declared.kind.Place.TheVariants.{Leaf, Node, Root, ShadowRoot, Span}
+pub use Rattle.cyl_map.specs.Entry.{IsEntry, first_byte, is_entry, is_of, lets_owner, lets_place, lets_state, place_byte, place_code, place_number, row, state_code, table}
 unfoldable pub use Rattle.cyl_map.specs.Entry.{spelling}
 pub use Rattle.cyl_map.specs.Map.{AreEntries, IsFirstBadEntry, IsMap, SpellsMap, bytes_at, entries_of, entry_at, map_spelling}
 unfoldable pub use Rattle.cyl_map.specs.Map.{eights}
 pub use Rattle.cyl_map.specs.Reading.{BeginsEntry, IsFirstBad, place_of, said_by, state_of}
 unfoldable pub use Rattle.cyl_map.specs.Reading.{entry_of}
 pub use Rattle.cyl_map.specs.Row.{BeginsEntryOf, IsFirstBadOf, IsFirstOfOwner, IsSpelledBy}
+pub use Rattle.cyl_map.specs.Version1.{IsNarrowEntry, narrow_spelling, narrow_table}
 pub use Rattle.cyl_map.specs.Volume.{map_of}
 unfoldable pub use Rattle.cyl_map.specs.Volume.{entry_in, with_bytes, with_entry}
 pub use Rattle.cyl_map.specs.declared.entry.BadEntry.{BadEntry}

@@ -4,7 +4,7 @@ ghost use Rattle.cyl_map.specs.Entry.{IsEntry, spelling};
 ghost use Rattle.cyl_map.specs.Map.{is_free};
 ghost use Rattle.cyl_map.specs.Reading.{IsFirstBad, entry_of, said_by};
 
-use crate::row::{TABLE, place_code, place_number, place_of};
+use crate::row::{TABLE, place_byte, place_number, place_of};
 use crate::state::BlockState;
 use cfs_base::Place;
 
@@ -97,8 +97,8 @@ impl MapEntry {
         ensures alone { (other : MapEntry) → IsEntry other → spelling other ≡ spelling self.now → other ≡ self.now }
     {
         let first = self.state.code() + if self.committed { 0x80 } else { 0 };
-        let [high, low] = place_number(self.place).to_be_bytes();
+        let [high, low] = ((place_number(self.place) % 0x1_0000) as u16).to_be_bytes();
         let [a, b, c, d] = self.owner.to_be_bytes();
-        [first, place_code(self.place), high, low, a, b, c, d]
+        [first, place_byte(self.place), high, low, a, b, c, d]
     }
 }

@@ -141,6 +141,15 @@ impl Map {
         MapEntry::said_by(&entries[entry as usize])
     }
 
+    /// The entry that its eight bytes in a block spell, where they spell one.
+    pub fn read_in(block: &Block, entry: u8) -> Option<MapEntry>
+        requires { entry < 64 }
+        ensures { result ≡ spec.entry_at block.now entry }
+    {
+        let entries = eights(block.bytes());
+        MapEntry::decode(&entries[entry as usize]).ok()
+    }
+
     /// Puts an entry into the block in place of another.
     pub fn put_in(block: &mut Block, entry: u8, value: MapEntry)
         requires below { entry < 64 }

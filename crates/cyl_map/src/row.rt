@@ -23,7 +23,7 @@ pub(crate) struct Row {
 const NO_OWNER: u32 = 0;
 
 /// All entries that there are.
-pub(crate) static TABLE: [Row; 5] = [
+pub(crate) static TABLE: [Row; 6] = [
     Row {
         from: BlockState::Free,
         to: BlockState::Allocated,
@@ -48,20 +48,27 @@ pub(crate) static TABLE: [Row; 5] = [
     Row {
         from: BlockState::Allocated,
         to: BlockState::IntendDeallocate,
-        last: Some(Place::Node(119)),
+        last: Some(Place::Node(8_191)),
         owned: true,
         may_commit: false,
     },
     Row {
         from: BlockState::Allocated,
         to: BlockState::IntendDeallocate,
-        last: Some(Place::Leaf(15_359)),
+        last: Some(Place::Leaf(1_048_575)),
+        owned: true,
+        may_commit: false,
+    },
+    Row {
+        from: BlockState::Allocated,
+        to: BlockState::IntendDeallocate,
+        last: Some(Place::Span(63)),
         owned: true,
         may_commit: false,
     },
 ];
 
-/// The number of the kind of place in an entry's second byte.
+/// The number of the kind of place in the low half of an entry's second byte.
 pub(crate) fn place_code(place: Option<Place>) -> u8
     ensures { result ≡ spec.place_code place }
 {
@@ -71,41 +78,53 @@ pub(crate) fn place_code(place: Option<Place>) -> u8
         Some(Place::ShadowRoot) => 2,
         Some(Place::Node(_)) => 3,
         Some(Place::Leaf(_)) => 4,
+        Some(Place::Span(_)) => 5,
     }
 }
 
 /// Which of its kind the place is.
-pub(crate) fn place_number(place: Option<Place>) -> u16
+pub(crate) fn place_number(place: Option<Place>) -> u32
     ensures { result ≡ spec.place_number place }
 {
     match place {
-        Some(Place::Node(number)) | Some(Place::Leaf(number)) => number,
+        Some(Place::Node(number)) | Some(Place::Span(number)) => number as u32,
+        Some(Place::Leaf(number)) => number,
         _ => 0,
     }
 }
 
-/// The place that a kind's number and a number say, where they are an entry's.
-pub(crate) fn place_of(kind: u8, number: u16) -> Option<Place>
-    ensures { result ≡ said_place kind number }
+/// The second byte of an entry with this place.
+pub(crate) fn place_byte(place: Option<Place>) -> u8
+    requires { spec.place_number place < 2 ^ 20 }
+    ensures { result ≡ spec.place_byte place }
 {
-    match kind {
+    place_code(place) + 16 * (place_number(place) / 0x1_0000) as u8
+}
+
+/// The place that the second byte and the two after it say, where they are an entry's.
+pub(crate) fn place_of(byte: u8, low: u16) -> Option<Place>
+    ensures { result ≡ said_place byte low }
+{
+    match byte % 16 {
         1 => Some(Place::Root),
         2 => Some(Place::ShadowRoot),
-        3 => Some(Place::Node(number)),
-        4 => Some(Place::Leaf(number)),
+        3 => Some(Place::Node(low)),
+        4 => Some(Place::Leaf((byte / 16) as u32 * 0x1_0000 + low as u32)),
+        5 => Some(Place::Span(low)),
         _ => None,
     }
 }
 
 /// The place of the same kind with this number.
-fn numbered(place: Option<Place>, number: u16) -> Option<Place>
+fn numbered(place: Option<Place>, number: u32) -> Option<Place>
     requires { number ≤ spec.place_number place }
     ensures kind { spec.place_code result ≡ spec.place_code place }
     ensures number { spec.place_number result ≡ number }
 {
     match place {
-        Some(Place::Node(_)) => Some(Place::Node(number)),
+        Some(Place::Node(_)) => Some(Place::Node(number as u16)),
         Some(Place::Leaf(_)) => Some(Place::Leaf(number)),
+        Some(Place::Span(_)) => Some(Place::Span(number as u16)),
         other => other,
     }
 }
@@ -160,10 +179,12 @@ impl Row {
 
     /// Whether the bytes spell an entry of this row, told without a branch on them.
     pub fn spells(&self, bytes: &[u8; 8]) -> bool
+        requires fits { spec.place_number self.now.last < 2 ^ 20 }
         ensures { IsTrue result ↔ IsSpelledBy self.now bytes.now }
     {
-        let told = little_endian(bytes) % 0x1_0000; // first byte and kind
-        let number = big_endian(bytes) % 0x1_0000;
+        let told = little_endian(bytes) % 0x1000; // first byte and kind
+        let numbers = big_endian(bytes);
+        let number = numbers / 0x10_0000 % 0x10 * 0x1_0000 + numbers % 0x1_0000;
         let owner = u32::from_be_bytes([bytes[4], bytes[5], bytes[6], bytes[7]]);
         let least = place_code(self.last) as u32 * 0x100;
         let head = if self.may_commit {
@@ -173,28 +194,30 @@ impl Row {
         };
         (least + self.from.code() as u32 <= head)
             & (head <= least + self.to.code() as u32)
-            & (number <= place_number(self.last) as u32)
+            & (number <= place_number(self.last))
             & ((owner != NO_OWNER) == self.owned)
     }
 
     /// The entry of this row that the bytes spell; else the least place such that no entry of the row begins with the
     /// bytes up to and with it.
     pub fn read(&self, bytes: &[u8; 8]) -> Result<MapEntry, BadEntry>
-        requires { spec.state_code self.now.from ≤ spec.state_code self.now.to }
+        requires range { spec.state_code self.now.from ≤ spec.state_code self.now.to }
+        requires fits { spec.place_number self.now.last < 2 ^ 20 }
         ensures read { IfOk result (λ entry. (spec.is_of self.now entry ≡ true) × (bytes.now ≡ spec.spelling entry)) }
         ensures refused { IfErr result (λ bad. IsFirstBadOf self.now bytes.now bad.byte) }
     {
         let Some((state, committed)) = self.state_in(bytes[0]) else {
             return Err(BadEntry { byte: 0 });
         };
-        if bytes[1] != place_code(self.last) {
+        let last = place_number(self.last);
+        let high = (bytes[1] / 16) as u32;
+        if bytes[1] % 16 != place_code(self.last) || last / 0x1_0000 < high {
             return Err(BadEntry { byte: 1 });
         }
-        let last = place_number(self.last);
-        if last / 256 < bytes[2] as u16 {
+        if last / 0x100 < high * 0x100 + bytes[2] as u32 {
             return Err(BadEntry { byte: 2 });
         }
-        let number = u16::from_be_bytes([bytes[2], bytes[3]]);
+        let number = high * 0x1_0000 + bytes[2] as u32 * 0x100 + bytes[3] as u32;
         if last < number {
             return Err(BadEntry { byte: 3 });
         }

@@ -10,7 +10,7 @@ ghost use Rattle.ufs_model.specs.declared.change.Change.TheVariants.{Overwrite, 
 
 use cfs_base::{BlockNo, Damage, Disk, Refused, Trouble, code};
 use cyl_alloc::Space;
-use special_files::{Draft, Room};
+use special_files::{ObjectDraft, Room};
 
 /// The refusal of a call that may have tried a write before.
 fn since(wrote: bool, trouble: Trouble) -> Refused
@@ -24,7 +24,7 @@ fn since(wrote: bool, trouble: Trouble) -> Refused
 
 /// Makes a draft its object. Where the draft wrote something before, each failure is one after a try.
 fn commit<D: Disk>(
-    draft: Draft,
+    draft: ObjectDraft,
     disk: &mut D,
     space: &mut Space,
     wrote: bool,
@@ -69,7 +69,7 @@ pub(crate) fn write_beside<D: Disk>(
         space.old space.new result }
     ensures memory { IfErr result (λ e. e ≢ refused.Memory) }
 {
-    let mut draft = match Draft::begin_direct(room, disk, space, at) {
+    let mut draft = match ObjectDraft::begin_direct(room, disk, space, at) {
         Ok(draft) => draft,
         Err(error) => return Err(error),
     };
@@ -103,7 +103,7 @@ pub(crate) fn resize_beside<D: Disk>(
         space.new result }
     ensures memory { IfErr result (λ e. e ≢ refused.Memory) }
 {
-    let mut draft = match Draft::begin_direct(room, disk, space, at) {
+    let mut draft = match ObjectDraft::begin_direct(room, disk, space, at) {
         Ok(draft) => draft,
         Err(error) => return Err(error),
     };

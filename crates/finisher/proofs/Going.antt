@@ -1,11 +1,9 @@
 -- A commit that goes on, part by part.
 use Rattle.std.proofs.Common.{◌≡◌, ◌≢◌, inl, inr, ℕ, Bool, true, false, List, [], ◌∷◌, ◌++◌, length, set, Ok, Err, Option, Some, None, refl, sym, ◌∙◌, ap, subst, cond}
-use Rattle.std.specs.Prelude.{◌==◌, ◌%◌, IfErr, OnOk, Result}
+use Rattle.std.specs.Prelude.{◌==◌, ◌%◌, IfErr, IsSome, OnOk, Result}
 use Rattle.std.proofs.lemmas.Bool.{cases_Bool}
 use Rattle.cyl_map.specs.Entry.{IsEntry}
 use Rattle.cyl_map.specs.Map.{is_free}
-use Rattle.cyl_map.specs.declared.state.BlockState.{BlockState}
-use Rattle.cyl_map.specs.declared.state.BlockState.TheVariants.{Free, Allocated, IntendAllocate, IntendDeallocate}
 use Rattle.cyl_alloc.specs.Space.{after_giving, AreCounts, Kept}
 use Rattle.cyl_alloc.proofs.Counted.{counts_content, counts_given, counts_same}
 use Rattle.vol_image.proofs.Parts.{root_placed, taken_apart}
@@ -31,22 +29,24 @@ use Rattle.cyl_map.specs.declared.entry.MapEntry.{MapEntry}
 use Rattle.cyl_map.specs.Volume.{entry_in, with_entry}
 use Rattle.intentions.specs.Calls.{ChangesBit, ChangesEntry}
 use Rattle.intentions.specs.Commit.{Copies, IsCommitted}
-use Rattle.intentions.specs.Course.{Course, IsCourse, IsOn, Keeps, Settling}
-use Rattle.intentions.specs.Entries.{changed_entry}
+use Rattle.intentions.specs.Course.{Course, IsOn, Keeps, MayPut, Settling}
+use Rattle.intentions.specs.Entries.{changed_entry, without_bit}
 use Rattle.intentions.specs.Store.{StoreHas}
-use Rattle.intentions.specs.declared.change.Change.{Change}
-use Rattle.intentions.specs.declared.change.Change.TheVariants.{ClearBit}
+use Rattle.intentions.specs.declared.change.EntryChange.TheVariants.{ClearBit}
 use Rattle.intentions.proofs.Committed.{copied_settles}
 use Rattle.intentions.proofs.Courses.{carries_ended, keeps_settled, on_holds}
-use Rattle.intentions.specs.Flips.{MayFlip, flip, flipped, flips}
 use Rattle.block_tree.specs.Reads.{is_damage}
-use Rattle.intentions.proofs.Flips.{flip_is, no_damage}
+use Rattle.cyl_map.proofs.Mapped.{mapped_is}
+use Rattle.cyl_map.specs.Mapped.{AreWhole, IsMapped, mapped}
+use Rattle.intentions.proofs.Settled.{bit_cleared_at, bit_here, comes_after, open_then}
+use Rattle.intentions.proofs.Turned.{first_number, may_first, may_then, no_damage, put_valid, turn_one, whole_on}
+use Rattle.intentions.specs.Turned.{MayTurn, turned}
 use Rattle.ufs_model.specs.declared.object.Object.{Object}
 use Rattle.ufs_model.specs.Graph.{Graph}
 use Rattle.vol_image.specs.Sound.{Holds}
 use Rattle.vol_owners.specs.Account.{Accounts, Drafts}
-use Rattle.vol_owners.specs.Change.{of_owners}
-use Rattle.intentions.specs.Left.{AreOpen, HasLeft, IsGoing, coming, how_for, to_flip}
+use Rattle.vol_owners.specs.Change.{IsOpenTo, of_owners}
+use Rattle.intentions.specs.Left.{HasLeft, IsGoing, coming, how_for, settled}
 use Rattle.intentions.specs.Runs.{is_freed}
 
 abbrev parts : ℕ → ℕ → List ℕ → Bool → LeftCommit
@@ -81,7 +81,7 @@ module _ {D : Type 0} (g : Ghosts D) (graph : Graph) (d0 d1 : D) (k : Kept) (r s
 
   module _ (copies : Copies (g.content d0) (g.content d1) graph has.id has.object s) (content : g.content d1 ≡ set (g.content d0) r (block_at (g.content d0) s)) (settled : IsSettled g d1) where
     pub copy_comes : coming (g.content d1) (Some (after_copy r s rest)) ≡ coming (g.content d0) (Some (before_copy r s rest))
-    copy_comes = ap (λ (i : Image). flipped i (to_flip s rest ++ flips ClearBit (r ∷ []))) content
+    copy_comes = ap (λ (i : Image). coming i (Some (after_copy r s rest))) content
 
     pub copy_counts : AreCounts (g.content d1) k
     copy_counts = subst (λ (i : Image). AreCounts i k) (sym content) (counts_content (g.content d0) k r (block_at (g.content d0) s) root_real has.counts)
@@ -95,7 +95,7 @@ module _ {D : Type 0} (g : Ghosts D) (graph : Graph) (d0 d1 : D) (k : Kept) (r s
         g.content d1,
         copies.copied,
         keeps_settled g (Settling (g.content d1) graph has.id has.object s) d1 settled (copied_settles (g.content d0) (g.content d1) graph has.id has.object s copies),
-        subst (λ (i : Image). MayFlip (Settling i graph has.id has.object s) i (to_flip s rest ++ flips ClearBit (r ∷ []))) (sym content) has.goes.2,
+        subst (λ (i : Image). MayTurn (Settling i graph has.id has.object s) i (λ n. how_for (n == s)) rest) (sym content) has.goes.2,
       );
       counts = copy_counts;
     }
@@ -106,72 +106,112 @@ copy_store g graph ds d0 d1 k r s rest has copies content settled = record {
   going = copy_goes g graph d0 d1 k r s rest has.going copies content settled;
   owners = has.owners;
   own = has.own;
-  opens = subst (λ (i : Image). AreOpen (λ e. of_owners has.owners e) i (to_flip s rest ++ flips ClearBit (r ∷ []))) (sym content) has.opens;
+  opens = λ n there. subst (IsOpenTo (λ e. of_owners has.owners e)) (sym (copies.entries n)) (has.opens n there);
   shut = has.shut;
   account = subst (λ (i : Image). Accounts i graph ds) (sym (copy_comes g graph d0 d1 k r s rest has.going copies content settled)) has.account;
   ordered = has.ordered;
 }
 
--- ---- one entry
+-- ---- some entries
 
-module _ {D : Type 0} (g : Ghosts D) (graph : Graph) (d0 d1 : D) (k0 k1 : Kept) (r s n : ℕ) (ns : List ℕ) (has : IsGoing g graph d0 k0 (after_copy r s (n ∷ ns))) where
-  abbrev how : Change
-  how = how_for (n == s)
+-- The entries of the first of what is left are changed.
+module _ {D : Type 0} (g : Ghosts D) (d0 d1 : D) (k0 k1 : Kept) (r s : ℕ) (ms ns : List ℕ) where
+  abbrev turns : ℕ → MapEntry → MapEntry
+  turns n e = turned (λ m. how_for (m == s)) ms n e
 
-  abbrev c : Image
-  c = has.goes.0
+  -- on the course of a commit that goes on
+  abbrev pub course : (graph : Graph) → IsGoing g graph d0 k0 (after_copy r s (ms ++ ns)) → Course
+  course graph has = Settling has.goes.0 graph has.id has.object s
 
-  abbrev w : Course
-  w = Settling c graph has.id has.object s
+  pub record Turns (graph : Graph) (has : IsGoing g graph d0 k0 (after_copy r s (ms ++ ns))) : Type 0 where
+    pub content : IsMapped (turned (λ m. how_for (m == s)) ms) (g.content d0) (g.content d1)
+    pub keeps : Keeps g (Settling has.goes.0 graph has.id has.object s) d1
+    pub leaves : Leaves g d0 d1 (IsOn (Settling has.goes.0 graph has.id has.object s))
+    pub counts : AreCounts (g.content d1) k1
 
-  pub fits : IsCourse w
-  fits = has.goes.1
+  module _ (graph : Graph) (has : IsGoing g graph d0 k0 (after_copy r s (ms ++ ns))) where
+    pub whole : AreWhole (g.content d0)
+    whole = whole_on (course graph has) (λ m. how_for (m == s)) has.goes.1 (g.content d0) has.goes.2.content
 
-  pub keeps : Keeps g w d0
-  keeps = has.goes.2
+    pub these_may : MayTurn (course graph has) (g.content d0) (λ m. how_for (m == s)) ms
+    these_may = may_first (course graph has) (λ m. how_for (m == s)) ms ns (g.content d0) has.goes.3
 
-  pub may : MayFlip w (g.content d0) (to_flip s (n ∷ ns) ++ flips ClearBit (r ∷ []))
-  may = has.goes.3
+    hold : Leaves g d0 d1 (IsOn (course graph has)) → Leaves g d0 d1 (λ c. Holds c graph)
+    hold leaves = wider g d0 d1 (IsOn (course graph has)) (λ c. Holds c graph) leaves (λ c on. on_holds (course graph has) c has.goes.1 on)
 
-  module _ {A : Type 0} (result : Result A Trouble) (change : ChangesEntry g n (λ e. changed_entry how e) d0 d1 result) where
-    pub flip_leaves : Leaves g d0 d1 (λ x. Holds x graph)
-    flip_leaves = wider g d0 d1 (IsOn w) (λ x. Holds x graph) (change.leaves w may.0.0 fits keeps may.0.1 may.0.2) (λ x on. on_holds w x fits on)
+    module _ (made : Turns graph has) where
+      comes : coming (g.content d1) (Some (after_copy r s ns)) ≡ coming (g.content d0) (Some (after_copy r s (ms ++ ns)))
+      comes = comes_after r s ms ns (g.content d0) (g.content d1) whole made.content
 
-  pub flip_sound : (t : Trouble) → IsMapTrouble g d0 d1 n t → is_damage (trouble_after_try t) ≡ false
-  flip_sound t is = no_damage g n how d0 d1 w fits keeps may.0.0 may.0.1 t is
+      abbrev goes : IsGoing g graph d1 k1 (after_copy r s ns)
+      goes = record {
+        id = has.id;
+        object = has.object;
+        root_is = has.root_is;
+        goes = (has.goes.0, has.goes.1, made.keeps, may_then (course graph has) (λ m. how_for (m == s)) ms ns (g.content d0) (g.content d1) made.content has.goes.3);
+        counts = made.counts;
+      }
 
-  module _ {A : Type 0} (x : A) (change : ChangesEntry g n (λ e. changed_entry how e) d0 d1 (Ok x)) where
-    pub flip_content : g.content d1 ≡ flip (g.content d0) (record { block = n; how = how })
-    flip_content = change.put keeps.tells may.0.0 may.0.1 ∙ sym (flip_is (g.content d0) (record { block = n; how = how }) may.0.0 may.0.1)
+  store : (graph : Graph) (ds : Drafts) (has : HasLeft g graph ds d0 k0 (after_copy r s (ms ++ ns))) → Turns graph has.going → HasLeft g graph ds d1 k1 (after_copy r s ns)
+  store graph ds has made = record {
+    going = goes graph has.going made;
+    owners = has.owners;
+    own = has.own;
+    opens = open_then has.owners s ms ns (g.content d0) (g.content d1) made.content (λ n there. (let may = has.going.goes.3 n there in subst (λ (o : Option MapEntry). IsSome o) (sym may.1) refl)) has.opens;
+    shut = has.shut;
+    account = subst (λ (i : Image). Accounts i graph ds) (sym (comes graph has.going made)) has.account;
+    ordered = has.ordered;
+  }
 
-    pub flip_comes : coming (g.content d1) (Some (after_copy r s ns)) ≡ coming (g.content d0) (Some (after_copy r s (n ∷ ns)))
-    flip_comes = ap (λ (i : Image). flipped i (to_flip s ns ++ flips ClearBit (r ∷ []))) flip_content
+  pub turned_so : ((graph : Graph) (has : IsGoing g graph d0 k0 (after_copy r s (ms ++ ns))) → Turns graph has) → GoesFrom g d0 d1 k0 k1 (Some (after_copy r s (ms ++ ns))) (Some (after_copy r s ns)) (Ok tt)
+  turned_so made = record {
+    goes = λ graph has. goes graph has (made graph has);
+    comes = λ graph has. comes graph has (made graph has);
+    leaves = λ graph has. hold graph has (made graph has).leaves;
+    sound = λ graph has. tt;
+    store = λ graph ds has. store graph ds has (made graph has.going);
+  }
 
-    abbrev pub flip_goes : AreCounts (g.content d1) k1 → IsGoing g graph d1 k1 (after_copy r s ns)
-    flip_goes counts = record {
-      id = has.id;
-      object = has.object;
-      root_is = has.root_is;
-      goes = (
-        c,
-        fits,
-        change.keeps w may.0.0 fits keeps may.0.1 may.0.2,
-        subst (λ (i : Image). MayFlip w i (to_flip s ns ++ flips ClearBit (r ∷ []))) (sym flip_content) may.1,
-      );
+  pub turn_failed : (t : Trouble) → ((graph : Graph) (has : IsGoing g graph d0 k0 (after_copy r s (ms ++ ns))) → Leaves g d0 d1 (IsOn (Settling has.goes.0 graph has.id has.object s)) × (is_damage t ≡ false))
+      → GoesFrom g d0 d1 k0 k1 (Some (after_copy r s (ms ++ ns))) (Some (after_copy r s ns)) (Err t)
+  turn_failed t tried = record {
+    goes = λ graph has. tt;
+    comes = λ graph has. tt;
+    leaves = λ graph has. hold graph has (tried graph has).0;
+    sound = λ graph has. (tried graph has).1;
+    store = λ graph ds has. tt;
+  }
+
+-- one alone
+module _ {D : Type 0} (g : Ghosts D) (d0 d1 : D) (k0 k1 : Kept) (r s n : ℕ) (ns : List ℕ) where
+  abbrev turn : MapEntry → MapEntry
+  turn e = changed_entry (how_for (n == s)) e
+
+  module _ (graph : Graph) (has : IsGoing g graph d0 k0 (after_copy r s (n ∷ ns))) where
+    abbrev w : Course
+    w = Settling has.goes.0 graph has.id has.object s
+
+    abbrev may : (e : MapEntry) × (entry_in (g.content d0) n ≡ Some e) × MayPut (Settling has.goes.0 graph has.id has.object s) n e (changed_entry (how_for (n == s)) e)
+    may = has.goes.3 n (first_number n ns)
+
+    pub flip_sound : (t : Trouble) → IsMapTrouble g d0 d1 n t → is_damage (trouble_after_try t) ≡ false
+    flip_sound t is = no_damage g n d0 d1 w has.goes.1 has.goes.2 may.0 may.1 t is
+
+    one_turns : {A : Type 0} (x : A) → ChangesEntry g n turn d0 d1 (Ok x) → AreCounts (g.content d1) k1 → Turns g d0 d1 k0 k1 r s (n ∷ []) ns graph has
+    one_turns x change counts = record {
+      content = subst (IsMapped (turned (λ m. how_for (m == s)) (n ∷ [])) (g.content d0)) (sym (change.put has.goes.2.tells may.0 may.1)) (turn_one (λ m. how_for (m == s)) (g.content d0) n may.0 may.1 (put_valid w n may.0 (turn may.0) may.2));
+      keeps = change.keeps w may.0 has.goes.1 has.goes.2 may.1 may.2;
+      leaves = change.leaves w may.0 has.goes.1 has.goes.2 may.1 may.2;
       counts = counts;
     }
 
-pub flip_store : {D A : Type 0} (g : Ghosts D) (graph : Graph) (ds : Drafts) (d0 d1 : D) (k0 k1 : Kept) (r s n : ℕ) (ns : List ℕ) → HasLeft g graph ds d0 k0 (after_copy r s (n ∷ ns)) → (x : A) → ChangesEntry g n (λ e. changed_entry (how_for (n == s)) e) d0 d1 (Ok x)
-    → AreCounts (g.content d1) k1 → HasLeft g graph ds d1 k1 (after_copy r s ns)
-flip_store g graph ds d0 d1 k0 k1 r s n ns has x change counts = record {
-  going = flip_goes g graph d0 d1 k0 k1 r s n ns has.going x change counts;
-  owners = has.owners;
-  own = has.own;
-  opens = subst (λ (i : Image). AreOpen (λ e. of_owners has.owners e) i (to_flip s ns ++ flips ClearBit (r ∷ []))) (sym (flip_content g graph d0 d1 k0 k1 r s n ns has.going x change)) has.opens.1;
-  shut = has.shut;
-  account = subst (λ (i : Image). Accounts i graph ds) (sym (flip_comes g graph d0 d1 k0 k1 r s n ns has.going x change)) has.account;
-  ordered = has.ordered;
-}
+  pub flipped_so : {A : Type 0} (x : A) → ChangesEntry g n turn d0 d1 (Ok x) → (Tells g d0 → AreCounts (g.content d0) k0 → AreCounts (g.content d1) k1)
+      → GoesFrom g d0 d1 k0 k1 (Some (after_copy r s (n ∷ ns))) (Some (after_copy r s ns)) (Ok tt)
+  flipped_so x change counts = turned_so g d0 d1 k0 k1 r s (n ∷ []) ns (λ graph has. one_turns graph has x change (counts has.goes.2.tells has.counts))
+
+  pub flip_failed : {A : Type 0} (t : Trouble) → ChangesEntry {A = A} g n turn d0 d1 (Err t)
+      → GoesFrom g d0 d1 k0 k1 (Some (after_copy r s (n ∷ ns))) (Some (after_copy r s ns)) (Err t)
+  flip_failed t change = turn_failed g d0 d1 k0 k1 r s (n ∷ []) ns t (λ graph has. (let one = may graph has in (change.leaves (w graph has) one.0 has.goes.1 has.goes.2 one.1 one.2, still_sound t (flip_sound graph has t change.refused))))
 
 -- ---- the bit
 
@@ -179,20 +219,30 @@ module _ {D : Type 0} (g : Ghosts D) (graph : Graph) (d0 d1 : D) (k0 : Kept) (r 
   abbrev w_end : Course
   w_end = Settling has.goes.0 graph has.id has.object s
 
+  abbrev end_bit : (e : MapEntry) × (entry_in (g.content d0) has.id.block ≡ Some e) × MayPut (Settling has.goes.0 graph has.id has.object s) has.id.block e (without_bit e)
+  end_bit = bit_here has.goes.0 graph has.id has.object (after_copy r s []) has.root_is has.goes.1 (g.content d0) has.goes.2.content
+
+  -- the root is that whose bit is cleared
+  abbrev bit : (e : MapEntry) × (entry_in (g.content d0) r ≡ Some e) × MayPut (Settling has.goes.0 graph has.id has.object s) r e (without_bit e)
+  bit = subst (λ (n : ℕ). (e : MapEntry) × (entry_in (g.content d0) n ≡ Some e) × MayPut (Settling has.goes.0 graph has.id has.object s) n e (without_bit e)) has.root_is end_bit
+
   pub clear_leaves : (result : Result (Unit {0}) Trouble) → ChangesBit g r (λ e. changed_entry ClearBit e) d0 d1 result → Leaves g d0 d1 (λ x. Holds x graph)
-  clear_leaves result change = (let may = has.goes.3 in wider g d0 d1 (IsOn w_end) (λ x. Holds x graph) (change.leaves w_end may.0.0 has.goes.1 has.goes.2 may.0.1 may.0.2) (λ x on. on_holds w_end x has.goes.1 on))
+  clear_leaves result change = wider g d0 d1 (IsOn w_end) (λ x. Holds x graph) (change.leaves w_end bit.0 has.goes.1 has.goes.2 bit.1 bit.2) (λ x on. on_holds w_end x has.goes.1 on)
 
   pub clear_sound : (t : Trouble) → IsMapTrouble g d0 d1 r t → is_damage (trouble_after_try t) ≡ false
-  clear_sound t is = no_damage g r ClearBit d0 d1 w_end has.goes.1 has.goes.2 has.goes.3.0.0 has.goes.3.0.1 t is
+  clear_sound t is = no_damage g r d0 d1 w_end has.goes.1 has.goes.2 bit.0 bit.1 t is
 
   module _ (change : ChangesBit g r (λ e. changed_entry ClearBit e) d0 d1 (Ok (tt {0}))) where
     pub clear_comes : g.content d1 ≡ coming (g.content d0) (Some (after_copy r s []))
-    clear_comes = (let may = has.goes.3 in change.put has.goes.2.tells may.0.0 may.0.1 ∙ sym (flip_is (g.content d0) (record { block = r; how = ClearBit }) may.0.0 may.0.1))
+    clear_comes =
+        change.put has.goes.2.tells bit.0 bit.1
+        ∙ sym (mapped_is (settled (after_copy r s [])) (g.content d0) (with_entry (g.content d0) r (without_bit bit.0)) (whole_on w_end (λ m. how_for (m == s)) has.goes.1 (g.content d0) has.goes.2.content)
+        (bit_cleared_at (after_copy r s []) (g.content d0) bit.0 bit.1 bit.2.entry))
 
     pub clear_goes : Carries g graph d1 × AreCounts (g.content d1) k0
-    clear_goes = (let may = has.goes.3 in let settled = change.settled has.goes.2.tells in (
-      carries_ended g w_end d1 has.goes.1 (change.keeps w_end may.0.0 has.goes.1 has.goes.2 may.0.1 may.0.2) settled,
-      subst (λ (i : Image). AreCounts i k0) (sym (change.put has.goes.2.tells may.0.0 may.0.1)) (counts_same (g.content d0) k0 r may.0.0 (changed_entry ClearBit may.0.0) has.counts may.0.1 may.0.2.entry refl),
+    clear_goes = (let settled = change.settled has.goes.2.tells in (
+      carries_ended g w_end d1 has.goes.1 (change.keeps w_end bit.0 has.goes.1 has.goes.2 bit.1 bit.2) settled,
+      subst (λ (i : Image). AreCounts i k0) (sym (change.put has.goes.2.tells bit.0 bit.1)) (counts_same (g.content d0) k0 r bit.0 (changed_entry ClearBit bit.0) has.counts bit.1 bit.2.entry refl),
     ))
 
 pub clear_store : {D : Type 0} (g : Ghosts D) (graph : Graph) (ds : Drafts) (d0 d1 : D) (k0 : Kept) (r s : ℕ) → HasLeft g graph ds d0 k0 (after_copy r s []) → ChangesBit g r (λ e. changed_entry ClearBit e) d0 d1 (Ok (tt {0})) → StoreHas g graph ds d1 k0
@@ -238,30 +288,6 @@ module _ {D : Type 0} (g : Ghosts D) (d0 d1 : D) where
       store = λ graph ds has. tt;
     }
 
-  module _ (k0 k1 : Kept) (r s n : ℕ) (ns : List ℕ) where
-    abbrev turn : MapEntry → MapEntry
-    turn e = changed_entry (how_for (n == s)) e
-
-    pub flipped_so : {A : Type 0} (x : A) → ChangesEntry g n turn d0 d1 (Ok x) → (Tells g d0 → AreCounts (g.content d0) k0 → AreCounts (g.content d1) k1)
-        → GoesFrom g d0 d1 k0 k1 (Some (after_copy r s (n ∷ ns))) (Some (after_copy r s ns)) (Ok tt)
-    flipped_so x change counts = record {
-      goes = λ graph has. flip_goes g graph d0 d1 k0 k1 r s n ns has x change (counts has.goes.2.tells has.counts);
-      comes = λ graph has. flip_comes g graph d0 d1 k0 k1 r s n ns has x change;
-      leaves = λ graph has. flip_leaves g graph d0 d1 k0 k1 r s n ns has (Ok x) change;
-      sound = λ graph has. tt;
-      store = λ graph ds has. flip_store g graph ds d0 d1 k0 k1 r s n ns has x change (counts has.going.goes.2.tells has.going.counts);
-    }
-
-    pub flip_failed : {A : Type 0} (t : Trouble) → ChangesEntry {A = A} g n turn d0 d1 (Err t)
-        → GoesFrom g d0 d1 k0 k1 (Some (after_copy r s (n ∷ ns))) (Some (after_copy r s ns)) (Err t)
-    flip_failed {A} t change = record {
-      goes = λ graph has. tt;
-      comes = λ graph has. tt;
-      leaves = λ graph has. flip_leaves g graph d0 d1 k0 k1 r s n ns has {A = A} (Err t) change;
-      sound = λ graph has. still_sound t (flip_sound g graph d0 d1 k0 k1 r s n ns has t change.refused);
-      store = λ graph ds has. tt;
-    }
-
   module _ (k : Kept) (r s : ℕ) where
     pub cleared_so : (result : Result (Unit {0}) Trouble) → ChangesBit g r (λ e. changed_entry ClearBit e) d0 d1 result → GoesFrom g d0 d1 k k (Some (after_copy r s [])) None result
     cleared_so (Ok u) change = record {
@@ -280,20 +306,6 @@ module _ {D : Type 0} (g : Ghosts D) (d0 d1 : D) where
     }
 
 -- ---- counts
-
--- a block that is Free stays so
-pub turned_free : (b : Bool) (e : MapEntry) → is_free e ≡ true → is_free (changed_entry (how_for b) e) ≡ true
-turned_free b e free = at b e.state free
-  where
-    at : (b : Bool) (s : BlockState) → is_free (record e { state = s }) ≡ true → is_free (changed_entry (how_for b) (record e { state = s })) ≡ true
-    at true Free h = refl
-    at true Allocated h = cc
-    at true IntendAllocate h = cc
-    at true IntendDeallocate h = cc
-    at false Free h = refl
-    at false Allocated h = cc
-    at false IntendAllocate h = cc
-    at false IntendDeallocate h = cc
 
 module _ (image : Image) (k : Kept) (n : ℕ) (was now : MapEntry) (counts : AreCounts image k) (here : entry_in image n ≡ Some was) (is : IsEntry now) where
   pub freed_counts : is_freed was now ≡ true → AreCounts (with_entry image n now) (after_giving k n 1)

@@ -3,4 +3,3 @@ pub mod Calls
 pub mod Finished
 pub mod Runs
 pub mod AtOnce
-pub mod Passed

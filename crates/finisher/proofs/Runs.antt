@@ -9,8 +9,6 @@ use Rattle.cfs_base.specs.declared.disk.Disk.{Ghosts}
 use Rattle.cyl_alloc.specs.Left.{LeftCommit, after_in, after_next, after_part, flips_in, next_part_in, next_part_of}
 use Rattle.finisher.specs.Going.{calls_left, part_calls, tries_left, part_tries}
 use Rattle.finisher.specs.Runs.{Spends, calls_by_map, tries_by_map}
-use Rattle.intentions.specs.Flips.{Flip}
-use Rattle.intentions.specs.Left.{how_for, to_flip}
 use Rattle.intentions.specs.Runs.{IsFirst, runs}
 use Rattle.intentions.proofs.Runs.{one_run, runs_most}
 
@@ -85,10 +83,6 @@ step_pays g d0 d1 (Some l) now some none is made =
     }
 
 -- ---- what is left has flips next
-
-pub to_flip-append : (s : ℕ) (ms ns : List ℕ) → to_flip s (ms ++ ns) ≡ to_flip s ms ++ to_flip s ns
-to_flip-append s [] ns = refl
-to_flip-append s (m ∷ ms) ns = ap (λ (fs : List Flip). record { block = m; how = how_for (m == s) } ∷ fs) (to_flip-append s ms ns)
 
 pub first_left : (n : ℕ) (w : Option LeftCommit) → IsFirst n (flips_in w) → (l : LeftCommit) × (w ≡ Some l) × (l.copied ≡ true) × (flips_in w ≡ l.rest)
 first_left n None is = absurd is

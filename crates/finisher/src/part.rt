@@ -17,17 +17,17 @@ ghost use Rattle.finisher.specs.Going as spec;
 use cfs_base::{Block, BlockNo, Disk, Trouble};
 use cyl_alloc::{Part, Space};
 use cyl_map::MapEntry;
-use intentions::{Change, change_entry, clear_bit, copy_root, is_freed};
+use intentions::{EntryChange, change_entry, clear_bit, copy_root, is_freed};
 
 /// The shadow root is given back, and all else is carried out.
-fn how_to(is_shadow: bool) -> Change
+fn how_to(is_shadow: bool) -> EntryChange
     ensures value { result ≡ how_for is_shadow }
     ensures fits { entries.FitsEntry result }
 {
     if is_shadow {
-        Change::Undo
+        EntryChange::Undo
     } else {
-        Change::Finish
+        EntryChange::Finish
     }
 }
 

@@ -2,5 +2,4 @@ pub mod Words
 mod Added
 mod Drafts
 mod Makings
-mod Passed
 mod Roots

@@ -23,7 +23,7 @@ unfoldable pub use Rattle.cyl_map.specs.Volume.{with_entry}
 pub use Rattle.cyl_map.specs.declared.entry.MapEntry.{MapEntry}
 pub use Rattle.cyl_map.specs.declared.state.BlockState.TheVariants.{Free}
 pub use Rattle.special_files.specs.Creates.{HasImage, IsOpenMap}
-pub use Rattle.intentions.proofs.Flips.{first_number}
+pub use Rattle.intentions.proofs.Turned.{first_number}
 pub use Rattle.intentions.specs.Store.{StoreHas}
 pub use Rattle.leaf_changes.proofs.Given.{index_to_leaves}
 pub use Rattle.special_files.proofs.Amid.{framed_carries, framed_holds, written_framed}

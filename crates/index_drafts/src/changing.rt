@@ -6,14 +6,14 @@ ghost use Rattle.leaf_changes.specs.Bytes.{IsSlot};
 use crate::draft::IndexDraft;
 use cfs_base::{Disk, Puid, Refused};
 use cyl_alloc::Space;
-use special_files::Draft;
+use special_files::ObjectDraft;
 
 /// Makes a slot of a draft, which is an index's, hold this, or nothing. `Full` exactly where fewer blocks are Free than
 /// it takes and the floor: one for the slot's leaf where that isn't fresh, and one for the leaf's node where that
 /// isn't; nothing was done then. `Damaged` names a map block, with code 2, which is none or has no Free block, with
 /// code 12, or a node or the root block, with code 4, where a pointer leads past the disk. Takes no memory.
 pub fn put_in<D: Disk>(
-    draft: &mut Draft,
+    draft: &mut ObjectDraft,
     disk: &mut D,
     space: &mut Space,
     slot: u64,

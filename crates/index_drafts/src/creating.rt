@@ -19,7 +19,7 @@ use block_tree::Root;
 use cfs_base::{BlockNo, Disk, Place, Puid, Refused};
 use cyl_alloc::Space;
 use intentions::barrier;
-use special_files::{Draft, least, write_root};
+use special_files::{ObjectDraft, least, write_root};
 
 /// Makes the least-numbered Free block the root of a new object: it is Allocated and written, and then both outlast a
 /// crash. Until then the block is nobody's, as recovery sees it.
@@ -55,7 +55,7 @@ fn make_at<D: Disk>(
 /// it names block 0, with code 2, where that map is Free by what it says itself. Refused once the object is there it
 /// answers `Disk` that had tried: the object may be there then, and its identifier in no slot. Takes no memory.
 pub fn create_in<D: Disk>(
-    draft: &mut Draft,
+    draft: &mut ObjectDraft,
     disk: &mut D,
     space: &mut Space,
     slot: u64,

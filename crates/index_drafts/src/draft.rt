@@ -17,13 +17,13 @@ ghost use Rattle.vol_owners.specs.Account.{HasDraft};
 use block_tree::Root;
 use cfs_base::{BlockNo, Disk, Puid, Refused, Trouble};
 use cyl_alloc::Space;
-use special_files::{Draft, Room};
+use special_files::{ObjectDraft, Room};
 use std::marker::Model;
 
 /// A changed index beside the one that stands. It has a shadow root from its beginning on.
 #[derive(Debug, Drop)]
 pub struct IndexDraft {
-    pub(crate) draft: Draft,
+    pub(crate) draft: ObjectDraft,
 }
 
 impl Model for IndexDraft {
@@ -56,7 +56,7 @@ impl IndexDraft {
             → GoesTo D.Disk v.graph (BeginsDraft v disk.new space.new) disk.old disk.new result }
         ensures call { BeginCall D.Disk at.0 floor disk.old disk.new space.old space.new result }
     {
-        let draft = Draft::begin(room, disk, space, at, floor)?;
+        let draft = ObjectDraft::begin(room, disk, space, at, floor)?;
         Ok(IndexDraft { draft })
     }
 

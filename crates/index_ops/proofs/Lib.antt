@@ -3,4 +3,3 @@ mod Indices
 mod Begun
 mod Filling
 mod Making
-mod Passed

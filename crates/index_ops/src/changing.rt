@@ -17,7 +17,7 @@ ghost use Rattle.ufs_model.specs.Limits.{most_slots};
 use cfs_base::{BlockNo, Damage, Disk, Puid, Refused, code};
 use cyl_alloc::Space;
 use intentions::barrier;
-use special_files::{Draft, Room};
+use special_files::{ObjectDraft, Room};
 
 /// The root at a block has no such slot.
 fn short(index: BlockNo) -> Refused
@@ -36,7 +36,7 @@ pub(crate) fn begin<D: Disk>(
     space: &mut Space,
     index: BlockNo,
     slot: u64,
-) -> Result<Draft, Refused>
+) -> Result<ObjectDraft, Refused>
     requires some { index.0 ≢ 0 }
     requires on_disk { index.0 < D.blocks disk.old }
     requires few { slot < most_slots }
@@ -50,7 +50,7 @@ pub(crate) fn begin<D: Disk>(
     ensures space { space.new ≡ space.old }
     ensures reads { OnlyReads D.Disk 1 disk.old disk.new }
 {
-    let draft = Draft::begin_direct(room, disk, space, index)?;
+    let draft = ObjectDraft::begin_direct(room, disk, space, index)?;
     if draft.size() < 8 * slot + 8 {
         return Err(short(index));
     }

@@ -22,11 +22,11 @@ use crate::changing::begin;
 use block_tree::Root;
 use cfs_base::{BlockNo, Disk, Puid, Refused};
 use cyl_alloc::Space;
-use special_files::{Draft, Room, least};
+use special_files::{ObjectDraft, Room, least};
 
 /// Makes the object with this root at a Free block, fills the slot with it, and commits both.
 fn make_at<D: Disk>(
-    mut draft: Draft,
+    mut draft: ObjectDraft,
     disk: &mut D,
     space: &mut Space,
     slot: u64,

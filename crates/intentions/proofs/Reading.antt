@@ -11,14 +11,13 @@ use Rattle.intentions.specs.Commit.{IsCommitted}
 use Rattle.intentions.specs.Course.{Settling}
 use Rattle.intentions.proofs.Courses.{on_holds, reads}
 use Rattle.vol_image.specs.Sound.{Holds}
-use Rattle.intentions.specs.Flips.{MayFlip}
+use Rattle.intentions.specs.Turned.{MayTurn}
 use Rattle.ufs_model.specs.declared.object.Object.{Object}
 use Rattle.ufs_model.specs.Graph.{Graph}
 use Rattle.vol_image.proofs.Carries.{carries_on}
 use Rattle.vol_owners.specs.Account.{Accounts, Drafts}
 use Rattle.cyl_alloc.specs.Left.{LeftCommit}
-use Rattle.vol_owners.specs.Change.{of_owners}
-use Rattle.intentions.specs.Left.{AreOpen, GoesOn, GoesWith, HasLeft, IsGoing, StoreWith, coming, copied_if, plan}
+use Rattle.intentions.specs.Left.{AreOpen, GoesOn, GoesWith, HasLeft, IsGoing, StoreWith, coming, copied_if, how_left}
 
 module _ {D : Type 0} (g : Ghosts D) (graph : Graph) (d0 d1 : D) (k : Kept) (n : ℕ) (only : OnlyReads g n d0 d1) where
   settled_still : IsSettled g d0 → IsSettled g d1
@@ -31,13 +30,13 @@ module _ {D : Type 0} (g : Ghosts D) (graph : Graph) (d0 d1 : D) (k : Kept) (n :
   goes_still false id o l goes = (
     settled_still goes.0,
     subst (λ (i : Image). IsCommitted i graph id o l.shadow) (sym only.content) goes.1,
-    subst (λ (i : Image). MayFlip (Settling (copied_if false l i) graph id o l.shadow) (copied_if false l i) (plan l)) (sym only.content) goes.2,
+    subst (λ (i : Image). MayTurn (Settling (copied_if false l i) graph id o l.shadow) (copied_if false l i) (how_left l) l.rest) (sym only.content) goes.2,
   )
   goes_still true id o l goes = (
     goes.0,
     goes.1,
     reads g (Settling goes.0 graph id o l.shadow) d0 d1 n goes.2 only,
-    subst (λ (i : Image). MayFlip (Settling goes.0 graph id o l.shadow) i (plan l)) (sym only.content) goes.3,
+    subst (λ (i : Image). MayTurn (Settling goes.0 graph id o l.shadow) i (how_left l) l.rest) (sym only.content) goes.3,
   )
 
   abbrev left_goes : (l : LeftCommit) → IsGoing g graph d0 k l → IsGoing g graph d1 k l
@@ -58,7 +57,7 @@ module _ {D : Type 0} (g : Ghosts D) (graph : Graph) (d0 d1 : D) (k : Kept) (n :
     going = left_goes l has.going;
     owners = has.owners;
     own = has.own;
-    opens = subst (λ (i : Image). AreOpen (λ e. of_owners has.owners e) (copied_if l.copied l i) (plan l)) (sym only.content) has.opens;
+    opens = subst (λ (i : Image). AreOpen has.owners i l.rest) (sym only.content) has.opens;
     shut = has.shut;
     account = subst (λ (i : Image). Accounts (coming i (Some l)) graph ds) (sym only.content) has.account;
     ordered = has.ordered;

@@ -1,24 +1,25 @@
 -- Runs of blocks of one map, in a list and in memory: a crash leaves all of their changes or none.
-use Rattle.std.proofs.Common.{◌≡◌, inl, inr, ℕ, ◌+◌, ◌/◌, ◌<◌, ◌≤◌, zero, suc, Bool, true, false, List, [], ◌∷◌, ◌++◌, length, get_or, set, take, drop, Option, Some, None, refl, sym, ◌∙◌, ap, subst, arith, cond, add-one, drop-cons}
+use Rattle.std.proofs.Common.{◌≡◌, inl, inr, ℕ, ◌+◌, ◌/◌, ◌<◌, ◌≤◌, zero, suc, Bool, true, false, List, [], ◌∷◌, ◌++◌, length, get_or, set, take, drop, Some, refl, sym, ◌∙◌, ap, subst, arith, cond, add-one, drop-cons}
 use Rattle.std.specs.Prelude.{◌==◌}
 use Rattle.std.specs.List.{All}
-use Rattle.std.proofs.lemmas.Bool.{cases_Bool, eq-eqb}
-use Rattle.std.proofs.lemmas.List.{set-get_or, set-set, take_more}
+use Rattle.std.proofs.lemmas.Bool.{cases_Bool, cases_lt, eq-eqb}
+use Rattle.std.proofs.lemmas.List.{get_or_past, set-get_or, set-set, take_more}
 use Rattle.std.proofs.lemmas.List.Elements.{All-head, All-more, All-nil, All-tail}
 use Rattle.cyl_alloc.specs.Space.{HasMoreFree}
 use Rattle.cyl_alloc.proofs.Counted.{cylinder-most}
 use Rattle.cyl_alloc.proofs.Given.{as_many_free, none_more, one_more_free}
 use Rattle.cyl_map.specs.Map.{SpellsMap, is_free}
-use Rattle.intentions.proofs.Flips.{flip_is, flipped_append}
-use Rattle.intentions.proofs.Words.{Image, IsEntry, MapEntry, block_at, entry_in, get_or-set_same, map_in_image, map_of, map_with, with_entry}
+use Rattle.cyl_map.proofs.Mapped.{mapped_as, mapped_none}
+use Rattle.cyl_map.proofs.Maps.{length-map_spelling}
+use Rattle.cyl_map.specs.Mapped.{IsMapped}
+use Rattle.intentions.proofs.Turned.{not_only, turns_then}
+use Rattle.intentions.proofs.Words.{Image, IsEntry, MapEntry, block_at, entries_of, entry_in, get_or-set_same, length-entries_of, map_of, same_or_not, with_entry}
 use Rattle.intentions.specs.Entries.{changed_entry}
-use Rattle.intentions.specs.Flips.{Flip, flip, flip_in, flipped, flips}
-use Rattle.intentions.specs.Left.{to_flip}
-use Rattle.intentions.specs.Runs.{FlipsFirst, IsFirst, KeepsFree, flips_of, how_of, is_freed, runs, runs_after}
-use Rattle.intentions.specs.declared.change.Change.{Change}
+use Rattle.intentions.specs.Runs.{FlipsFirst, IsFirst, KeepsFree, how_of, is_freed, runs, runs_after}
+use Rattle.intentions.specs.Turned.{changed_if, turned}
+use Rattle.ufs_model.specs.Numbers.{has_number}
+use Rattle.intentions.specs.declared.change.EntryChange.{EntryChange}
 use Rattle.intentions.specs.declared.run.Rule.{Rule}
-use Rattle.intentions.specs.declared.run.Rule.TheVariants.{Alike, Settle}
-use Rattle.cfs_base.specs.declared.identifier.BlockNo.{BlockNo}
 
 -- ---- how many runs there are
 
@@ -76,74 +77,66 @@ pub run_some : (i : ℕ) (ns : List ℕ) → 1 + runs (drop i ns) ≡ runs ns �
 run_some zero ns is = absurd (omega (arith, is))
 run_some (suc i) ns is = omega arith
 
--- ---- what is done to them
-
-pub flips_alike : (how : Change) (ns : List ℕ) → flips_of (Alike how) ns ≡ flips how ns
-flips_alike how [] = refl
-flips_alike how (n ∷ ns) = ap (λ (fs : List Flip). record { block = n; how = how } ∷ fs) (flips_alike how ns)
-
-pub flips_settle : (shadow : BlockNo) (ns : List ℕ) → flips_of (Settle shadow) ns ≡ to_flip shadow.0 ns
-flips_settle shadow [] = refl
-flips_settle shadow (n ∷ ns) = ap (λ (fs : List Flip). record { block = n; how = how_of (Settle shadow) n } ∷ fs) (flips_settle shadow ns)
-
-flips_of-append : (rule : Rule) (ms ns : List ℕ) → flips_of rule (ms ++ ns) ≡ flips_of rule ms ++ flips_of rule ns
-flips_of-append rule [] ns = refl
-flips_of-append rule (m ∷ ms) ns = ap (λ (fs : List Flip). record { block = m; how = how_of rule m } ∷ fs) (flips_of-append rule ms ns)
-
--- ---- on an image
-
--- one change writes its map alone, and so do all
-flip_sets : (image : Image) (x : Flip) → flip image x ≡ set image (map_of x.block) (block_at (flip image x) (map_of x.block))
-unfolding with_entry
-flip_sets image x = at (entry_in image x.block) refl
-  where
-    at : (was : Option MapEntry) → entry_in image x.block ≡ was → flip_in image x was ≡ set image (map_of x.block) (block_at (flip_in image x was) (map_of x.block))
-    at None is = sym (set-get_or image (map_of x.block) [])
-    at (Some e) is = ap (set image (map_of x.block)) (sym (get_or-set_same image (map_of x.block) (map_with image x.block (changed_entry x.how e)) [] (map_in_image image x.block e is)))
-
-pub flipped_sets : (rule : Rule) (m : ℕ) (ns : List ℕ) (image : Image) → All (λ k. map_of k ≡ m) ns → flipped image (flips_of rule ns) ≡ set image m (block_at (flipped image (flips_of rule ns)) m)
-flipped_sets rule m [] image all = sym (set-get_or image m [])
-flipped_sets rule m (n ∷ ns) image all =
-    let x : Flip = record { block = n; how = how_of rule n } in
-    let rest = flipped_sets rule m ns (flip image x) (All-tail (λ k. map_of k ≡ m) n ns all) in
-    let here = subst (λ (k : ℕ). flip image x ≡ set image k (block_at (flip image x) k)) (All-head (λ k. map_of k ≡ m) n ns all) (flip_sets image x) in
-    rest ∙ ap (λ (i : Image). set i m (block_at (flipped (flip image x) (flips_of rule ns)) m)) here ∙ set-set image m _ _
-
 -- ---- in memory
 
+-- a map that was read lies in its image
+pub spelled_within : (image : Image) (m : ℕ) (bytes : List ℕ) → SpellsMap bytes → block_at image m ≡ bytes → m < length image
+spelled_within image m bytes spells same = elim (cases_lt m (length image)) [
+  | inl below ↦ below
+  | inr past ↦ absurd (omega (arith, ap length (spells.spelled ∙ refl), length-map_spelling (entries_of bytes), length-entries_of bytes, ap length same, ap length (get_or_past image m [] past)))
+]
+
 pub flips_none : (rule : Rule) (n : ℕ) (ns bytes : List ℕ) → SpellsMap bytes → FlipsFirst rule n 0 0 ns bytes bytes
-flips_none rule n ns bytes spells = record { within = omega arith; here = All-nil (λ m. map_of m ≡ map_of n); spells = spells; changed = λ image same. same; free = λ stays image same. none_more image n }
+flips_none rule n ns bytes spells = record {
+  within = omega arith;
+  here = All-nil (λ m. map_of m ≡ map_of n);
+  spells = spells;
+  changed = λ image same. subst (IsMapped (turned (how_of rule) []) image) (sym (stays image same)) (mapped_none (turned (how_of rule) []) image (λ m e here. refl));
+  free = λ free image same. subst (HasMoreFree image n 0) (sym (stays image same)) (none_more image n);
+}
+  where
+    stays : (image : Image) → block_at image (map_of n) ≡ bytes → set image (map_of n) bytes ≡ image
+    stays image same = ap (set image (map_of n)) (sym same) ∙ set-get_or image (map_of n) []
 
-module _ (rule : Rule) (n i freed : ℕ) (ns was mid now : List ℕ) (has : FlipsFirst rule n i freed ns was mid) (below : i < length ns) (m : ℕ) (is : m ≡ get_or ns i 0) (here : m / 64 ≡ n / 64) (spells : SpellsMap now) where
-  abbrev x : Flip
-  x = record { block = m; how = how_of rule m }
-
+module _ (rule : Rule) (n i freed : ℕ) (ns was mid now : List ℕ) (begun : SpellsMap was) (has : FlipsFirst rule n i freed ns was mid) (below : i < length ns) (m : ℕ) (is : m ≡ get_or ns i 0) (here : m / 64 ≡ n / 64) (spells : SpellsMap now) where
   here_map : map_of m ≡ map_of n
   here_map = omega (arith, here)
 
   more : take (i + 1) ns ≡ take i ns ++ (m ∷ [])
   more = take_more ns i 0 below ∙ ap (λ (k : ℕ). take i ns ++ (k ∷ [])) (sym is)
 
-  flipped_more : (image : Image) → flipped image (flips_of rule (take (i + 1) ns)) ≡ flip (flipped image (flips_of rule (take i ns))) x
-  flipped_more image = ap (λ (l : List ℕ). flipped image (flips_of rule l)) more ∙ ap (flipped image) (flips_of-append rule (take i ns) (m ∷ [])) ∙ flipped_append (flips_of rule (take i ns)) (flips_of rule (m ∷ [])) image
-
-  pub flips_more : (given : ℕ) → ((image : Image) → block_at image (map_of m) ≡ mid → block_at (flip image x) (map_of m) ≡ now)
-      → (KeepsFree (how_of rule m) → (image other : Image) → block_at other (map_of m) ≡ mid → HasMoreFree image n freed other → HasMoreFree image n given (flip other x))
+  -- one block more
+  pub flips_more : (given : ℕ) → ((image : Image) → block_at image (map_of m) ≡ mid → IsMapped (turned (λ k. how_of rule m) (m ∷ [])) image (set image (map_of m) now))
+      → (KeepsFree (how_of rule m) → (image other : Image) → block_at other (map_of m) ≡ mid → HasMoreFree image n freed other → HasMoreFree image n given (set other (map_of m) now))
       → FlipsFirst rule n (i + 1) given ns was now
   flips_more given change free = record {
     within = omega (arith, below);
     here = All-more (λ k. map_of k ≡ map_of n) ns i 0 below has.here (subst (λ (k : ℕ). map_of k ≡ map_of n) is here_map);
     spells = spells;
-    changed = λ image same. subst (λ (k : ℕ). block_at (flipped image (flips_of rule (take (i + 1) ns))) k ≡ now) here_map
-        (ap (λ (a : Image). block_at a (map_of m)) (flipped_more image) ∙ change (flipped image (flips_of rule (take i ns))) (at image same));
-    free = λ stays image same. subst (HasMoreFree image n given) (sym (flipped_more image)) (free (stays m) image (flipped image (flips_of rule (take i ns))) (at image same) (has.free stays image same));
+    changed = λ image same. subst (λ (l : List ℕ). IsMapped (turned (how_of rule) l) image (set image (map_of n) now)) (sym more)
+        (subst (IsMapped (turned (how_of rule) (take i ns ++ (m ∷ []))) image) (twice image)
+        (turns_then (how_of rule) (take i ns) (m ∷ []) image (half image) (set (half image) (map_of m) now) (has.changed image same)
+        (mapped_as _ _ (half image) (set (half image) (map_of m) now) (change (half image) (at image same)) (λ k e there. alone k e))));
+    free = λ stays image same. subst (HasMoreFree image n given) (twice image) (free (stays m) image (half image) (at image same) (has.free stays image same));
   }
     where
-      at : (image : Image) → block_at image (map_of n) ≡ was → block_at (flipped image (flips_of rule (take i ns))) (map_of m) ≡ mid
-      at image same = ap (block_at (flipped image (flips_of rule (take i ns)))) here_map ∙ has.changed image same
+      half : Image → Image
+      half image = set image (map_of n) mid
+
+      at : (image : Image) → block_at image (map_of n) ≡ was → block_at (set image (map_of n) mid) (map_of m) ≡ mid
+      at image same = ap (block_at (set image (map_of n) mid)) here_map ∙ get_or-set_same image (map_of n) mid [] (spelled_within image (map_of n) was begun same)
+
+      twice : (image : Image) → set (set image (map_of n) mid) (map_of m) now ≡ set image (map_of n) now
+      twice image = ap (λ (k : ℕ). set (set image (map_of n) mid) k now) here_map ∙ set-set image (map_of n) mid now
+
+      alone : (k : ℕ) (e : MapEntry) → turned (λ j. how_of rule m) (m ∷ []) k e ≡ turned (how_of rule) (m ∷ []) k e
+      alone k e = elim (same_or_not k m) [
+        | inl same ↦ ap (λ (j : ℕ). changed_if (has_number k (m ∷ [])) (how_of rule j) e) (sym same)
+        | inr other ↦ (λ i. changed_if (not_only m k other i) (how_of rule m) e) ∙ sym (λ i. changed_if (not_only m k other i) (how_of rule k) e)
+      ]
 
 -- Of an entry that is changed where a Free one stays so, the block became Free or it stayed as it was.
-module _ (image other : Image) (n count b : ℕ) (how : Change) (stays : KeepsFree how) (e now : MapEntry) (valid : IsEntry now) (value : now ≡ changed_entry how e) (same : map_of b ≡ map_of n) (here : entry_in other b ≡ Some e) (has : HasMoreFree image n count other) where
+module _ (image other : Image) (n count b : ℕ) (how : EntryChange) (stays : KeepsFree how) (e now : MapEntry) (valid : IsEntry now) (value : now ≡ changed_entry how e) (same : map_of b ≡ map_of n) (here : entry_in other b ≡ Some e) (has : HasMoreFree image n count other) where
   freed_now : (k : ℕ) → k ≡ count + cond (is_freed e now) 1 0 → HasMoreFree image n k (with_entry other b now)
   freed_now k is = elim (cases_Bool (is_freed e now)) [
     | inl freed ↦
@@ -162,8 +155,8 @@ module _ (image other : Image) (n count b : ℕ) (how : Change) (stays : KeepsFr
         (as_many_free image other n count b e now has same here valid alike)
   ]
 
-  pub freed_in : HasMoreFree image n (count + cond (is_freed e now) 1 0) (flip other (record { block = b; how = how }))
-  freed_in = subst (HasMoreFree image n (count + cond (is_freed e now) 1 0)) (sym (flip_is other (record { block = b; how = how }) e here ∙ ap (λ (x : MapEntry). with_entry other b x) (sym value))) (freed_now (count + cond (is_freed e now) 1 0) refl)
+  pub freed_in : HasMoreFree image n (count + cond (is_freed e now) 1 0) (with_entry other b now)
+  freed_in = freed_now (count + cond (is_freed e now) 1 0) refl
 
 -- a cylinder has no more than 64 blocks that become Free
 pub few_freed : (image other : Image) (n count : ℕ) → HasMoreFree image n count other → count ≤ 64

@@ -10,12 +10,12 @@ use Rattle.cfs_base.specs.Calls.{OnlyReads}
 use Rattle.cfs_base.specs.Run.{Tells}
 use Rattle.cyl_alloc.specs.Left.{LeftCommit, block_shown}
 use Rattle.cyl_alloc.specs.Space.{Kept}
-use Rattle.intentions.proofs.Committed.{copied_settles, copies}
-use Rattle.intentions.proofs.Flips.{flipped_block, flipped_on}
+use Rattle.cyl_map.proofs.Mapped.{block_at-mapped}
+use Rattle.cyl_map.specs.Mapped.{mapped}
+use Rattle.intentions.proofs.Settled.{left_ends, left_on}
 use Rattle.intentions.proofs.Reading.{image_holds, store_reads}
-use Rattle.intentions.proofs.Words.{get_or-set_other, get_or-set_same, Ghosts, in_image, IsPlaced, not_map, Root, root_placed, taken_apart, Graph, Holds, Image, IsCopied, IsTree, Object, Puid, Settles, Settling, block_at, entry_in, first_or, object_at, part_of, same_puid, same_puid_is, source, stands_for, tree_in, without}
-use Rattle.intentions.specs.Flips.{flipped}
-use Rattle.intentions.specs.Left.{GoesOn, IsShownAt, StoreIs, StoreWith, coming, copied_if, final_image, plan}
+use Rattle.intentions.proofs.Words.{get_or-set_other, get_or-set_same, Ghosts, in_image, IsPlaced, not_map, Root, root_placed, taken_apart, Graph, Holds, Image, IsTree, Object, Puid, Settles, block_at, entry_in, first_or, object_at, part_of, same_puid, same_puid_is, source, stands_for, tree_in, without}
+use Rattle.intentions.specs.Left.{GoesOn, IsShownAt, StoreIs, StoreWith, coming, copied_if, final_image, settled}
 use Rattle.intentions.specs.Store.{StoreHas}
 use Rattle.ufs_model.specs.Identifier.{is_among}
 use Rattle.vol_image.proofs.AtRoot.{no_shadows}
@@ -72,17 +72,11 @@ module _ {D : Type 0} (g : Ghosts D) (graph : Graph) (d : D) (l : LeftCommit) (i
   own_shown true goes = settles_shown goes.0 image graph id l.shadow goes.2.content
 
   -- the parts of all others are those of the image that is to come
-  others_stay : (b : Bool) → GoesOn g b graph id o l d → (x : Puid) (p : Object) → object_at graph x ≡ Some p → same_puid x id ≡ false → part_at image x.block ≡ part_at (flipped (copied_if b l image) (plan l)) x.block
-  others_stay false goes x p at other =
-      let c = copied_if false l image in
-      let made = copies image graph id o l.shadow goes.1 in
-      let c_is : set image id.block (block_at image l.shadow) ≡ c = ap (λ (n : ℕ). set image n (block_at image l.shadow)) root in
-      let begins = subst (λ (i : Image). Settles i graph id l.shadow i) c_is (copied_settles image (set image id.block (block_at image l.shadow)) graph id o l.shadow made) in
-      let ends = flipped_on (Settling c graph id o l.shadow) (plan l) c (subst (λ (i : Image). IsCopied i graph id o l.shadow) c_is made.copied) begins goes.2 in
-      ap part_of (sym (made.entries x.block)) ∙ ap (λ (i : Image). part_at i x.block) c_is ∙ sym (others_part c (flipped c (plan l)) graph id l.shadow ends x p at other)
-  others_stay true goes x p at other =
-      let ends = flipped_on (Settling goes.0 graph id o l.shadow) (plan l) image goes.1 goes.2.content goes.3 in
-      others_part goes.0 image graph id l.shadow goes.2.content x p at other ∙ sym (others_part goes.0 (flipped image (plan l)) graph id l.shadow ends x p at other)
+  others_stay : (b : Bool) → GoesOn g b graph id o l d → (x : Puid) (p : Object) → object_at graph x ≡ Some p → same_puid x id ≡ false → part_at image x.block ≡ part_at (mapped (settled l) (copied_if b l image)) x.block
+  others_stay b goes x p at other =
+      let c = left_on g graph d l id o root b goes in
+      ap part_of (sym (c.1.entries x.block)) ∙ others_part c.0 (copied_if b l image) graph id l.shadow c.1.on x p at other
+      ∙ sym (others_part c.0 (mapped (settled l) (copied_if b l image)) graph id l.shadow (left_ends g graph d l id o root b goes) x p at other)
 
 -- ---- of the store
 
@@ -168,7 +162,7 @@ module _ {D : Type 0} (g : Ghosts D) (graph : Graph) (ds : Drafts) (d : D) (spac
 
       with_left : (w : Option LeftCommit) → block_at (coming a w) id.block ≡ block_at a (block_shown w id.block)
       with_left None = refl
-      with_left (Some l) = flipped_block (plan l) (copied_if l.copied l a) id.block (not_map id.block (taken_apart a graph holds id.block id.block root.taken)) ∙ copied l.copied l
+      with_left (Some l) = block_at-mapped (settled l) (copied_if l.copied l a) id.block (not_map id.block (taken_apart a graph holds id.block id.block root.taken)) ∙ copied l.copied l
 
 -- ---- what is read
 

@@ -1,6 +1,6 @@
 -- What intentions write are entries, and what stays of an entry.
 use Rattle.std.proofs.Common.{◌≡◌, ◌≢◌, ◌⊎◌, inl, inr, ℕ, Bool, true, false, Some, None, Option, IsTrue, refl, sym, ◌∙◌, subst}
-use Rattle.intentions.proofs.Words.{Allocated, BlockState, Free, IntendAllocate, IntendDeallocate, IsEntry, Leaf, MapEntry, Node, Place, Root, ShadowRoot, with_commit_bit, false≢true, finished, finished_in, is_entry, part_in, part_of, released, released_at, shadow_entry, stands_for, undone, undone_in, without_bit}
+use Rattle.intentions.proofs.Words.{Allocated, BlockState, Free, IntendAllocate, IntendDeallocate, IsEntry, Leaf, Span, MapEntry, Node, Place, Root, ShadowRoot, with_commit_bit, false≢true, finished, finished_in, is_entry, part_in, part_of, released, released_at, shadow_entry, stands_for, undone, undone_in, without_bit}
 
 abbrev Is : BlockState → Bool → Option Place → ℕ → Type 0
 Is t bit p n = IsTrue (is_entry (record { state = t; committed = bit; place = p; owner = n }))
@@ -54,6 +54,10 @@ held_in (Some (Leaf k)) true n (inl x) = absurd (false≢true x)
 held_in (Some (Leaf k)) true n (inr x) = absurd (false≢true x)
 held_in (Some (Leaf k)) false n (inl x) = x
 held_in (Some (Leaf k)) false n (inr x) = x
+held_in (Some (Span k)) true n (inl x) = absurd (false≢true x)
+held_in (Some (Span k)) true n (inr x) = absurd (false≢true x)
+held_in (Some (Span k)) false n (inl x) = x
+held_in (Some (Span k)) false n (inr x) = x
 
 finish_in : (t : BlockState) (p : Option Place) (bit : Bool) (n : ℕ) → Is t bit p n → IsTrue (is_entry (finished_in t (record { state = t; committed = bit; place = p; owner = n })))
 finish_in Free p bit n is = is
@@ -91,6 +95,14 @@ leaf_leaves IntendAllocate true k n is taken = absurd (false≢true is)
 leaf_leaves IntendAllocate false k n is taken = is
 leaf_leaves IntendDeallocate bit k n is taken = is
 
+span_leaves : (t : BlockState) (bit : Bool) (k n : ℕ) → Is t bit (Some (Span k)) n → t ≢ Free → Is IntendDeallocate bit (Some (Span k)) n
+span_leaves Free bit k n is taken = absurd (taken refl)
+span_leaves Allocated true k n is taken = absurd (false≢true is)
+span_leaves Allocated false k n is taken = is
+span_leaves IntendAllocate true k n is taken = absurd (false≢true is)
+span_leaves IntendAllocate false k n is taken = is
+span_leaves IntendDeallocate bit k n is taken = is
+
 -- the entry stays one, of the same part, and stands for the same
 pub record KeepsPart (e now : MapEntry) : Type 0 where
   pub valid : IsEntry now
@@ -117,6 +129,10 @@ release_at (Some (Leaf k)) Free bit n is = part_same (entry Free bit (Some (Leaf
 release_at (Some (Leaf k)) IntendDeallocate bit n is = part_same (entry IntendDeallocate bit (Some (Leaf k)) n) is
 release_at (Some (Leaf k)) Allocated bit n is = record { valid = record { in_table = leaf_leaves Allocated bit k n is.in_table (λ no. cc) }; part = refl; stands = λ r. refl; place = refl; owner = refl }
 release_at (Some (Leaf k)) IntendAllocate bit n is = record { valid = record { in_table = leaf_leaves IntendAllocate bit k n is.in_table (λ no. cc) }; part = refl; stands = λ r. refl; place = refl; owner = refl }
+release_at (Some (Span k)) Free bit n is = part_same (entry Free bit (Some (Span k)) n) is
+release_at (Some (Span k)) IntendDeallocate bit n is = part_same (entry IntendDeallocate bit (Some (Span k)) n) is
+release_at (Some (Span k)) Allocated bit n is = record { valid = record { in_table = span_leaves Allocated bit k n is.in_table (λ no. cc) }; part = refl; stands = λ r. refl; place = refl; owner = refl }
+release_at (Some (Span k)) IntendAllocate bit n is = record { valid = record { in_table = span_leaves IntendAllocate bit k n is.in_table (λ no. cc) }; part = refl; stands = λ r. refl; place = refl; owner = refl }
 
 pub released_keeps : (e : MapEntry) → IsEntry e → KeepsPart e (released e)
 released_keeps e is = release_at e.place e.state e.committed e.owner is

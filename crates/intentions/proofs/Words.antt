@@ -9,7 +9,7 @@ pub use Rattle.cfs_base.specs.Run.{IsSettled, Leaves, Tells, left_now}
 pub use Rattle.cfs_base.specs.declared.disk.Disk.{Ghosts}
 pub use Rattle.cfs_base.specs.declared.identifier.Puid.{Puid}
 pub use Rattle.cfs_base.specs.declared.kind.Place.{Place}
-pub use Rattle.cfs_base.specs.declared.kind.Place.TheVariants.{Leaf, Node, Root, ShadowRoot}
+pub use Rattle.cfs_base.specs.declared.kind.Place.TheVariants.{Leaf, Node, Root, ShadowRoot, Span}
 pub use Rattle.cfs_base.specs.declared.refusal.Trouble.{Trouble}
 pub use Rattle.cyl_alloc.proofs.Entries.{entry_is}
 pub use Rattle.cyl_alloc.specs.Maps.{IsMapOf}

@@ -1,14 +1,14 @@
 -- The entries that intentions write. Where a call doesn't fit an entry, that stays as it is.
 use Rattle.std.specs.Prelude.{true, false, Option, Some, None}
 use Rattle.cfs_base.specs.declared.kind.Place.{Place}
-use Rattle.cfs_base.specs.declared.kind.Place.TheVariants.{Root, ShadowRoot, Node, Leaf}
+use Rattle.cfs_base.specs.declared.kind.Place.TheVariants.{Root, ShadowRoot, Node, Leaf, Span}
 use Rattle.cyl_map.specs.declared.state.BlockState.{BlockState}
 use Rattle.cyl_map.specs.declared.state.BlockState.TheVariants.{Free, Allocated, IntendAllocate, IntendDeallocate}
 use Rattle.cyl_map.specs.declared.entry.MapEntry.{MapEntry}
 use Rattle.cyl_map.specs.Entry.{IsEntry}
 use Rattle.cyl_alloc.specs.Space.{unheld_entry, intended}
-use Rattle.intentions.specs.declared.change.Change.{Change}
-use Rattle.intentions.specs.declared.change.Change.TheVariants.{Claim, Release, SetBit, ClearBit, Finish, Undo}
+use Rattle.intentions.specs.declared.change.EntryChange.{EntryChange}
+use Rattle.intentions.specs.declared.change.EntryChange.TheVariants.{Claim, Release, SetBit, ClearBit, Finish, Undo}
 
 -- the same entry in another state
 abbrev pub restated : BlockState → MapEntry → MapEntry
@@ -27,6 +27,7 @@ released_at (Some Root) e = e
 released_at (Some ShadowRoot) e = e
 released_at (Some (Node n)) e = released_in e.state e
 released_at (Some (Leaf n)) e = released_in e.state e
+released_at (Some (Span n)) e = released_in e.state e
 
 abbrev pub released : MapEntry → MapEntry
 released e = released_at e.place e
@@ -38,6 +39,7 @@ with_bit_at (Some Root) e = record e { committed = true }
 with_bit_at (Some ShadowRoot) e = e
 with_bit_at (Some (Node n)) e = e
 with_bit_at (Some (Leaf n)) e = e
+with_bit_at (Some (Span n)) e = e
 
 abbrev pub with_bit : MapEntry → MapEntry
 with_bit e = with_bit_at e.place e
@@ -66,7 +68,7 @@ abbrev pub undone : MapEntry → MapEntry
 undone e = undone_in e.state e
 
 -- the entry after a change
-abbrev pub changed_entry : Change → MapEntry → MapEntry
+abbrev pub changed_entry : EntryChange → MapEntry → MapEntry
 changed_entry (Claim place owner) e = intended place owner
 changed_entry Release e = released e
 changed_entry SetBit e = with_bit e
@@ -75,7 +77,7 @@ changed_entry Finish e = finished e
 changed_entry Undo e = undone e
 
 -- what is claimed makes an entry
-abbrev pub FitsEntry : Change → Type 0
+abbrev pub FitsEntry : EntryChange → Type 0
 FitsEntry (Claim place owner) = IsEntry (intended place owner)
 FitsEntry Release = Unit {0}
 FitsEntry SetBit = Unit {0}

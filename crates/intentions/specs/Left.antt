@@ -1,20 +1,20 @@
 -- A store in which one commit is past its bit and not carried out.
-use Rattle.std.specs.Prelude.{◌≡◌, ℕ, ◌==◌, Bool, true, false, List, [], ◌∷◌, ◌++◌, set, Option, Some, None}
+use Rattle.std.specs.Prelude.{◌≡◌, ℕ, ◌==◌, Bool, true, false, List, set, Option, Some, None}
 use Rattle.cfs_base.specs.Disk.{Image, block_at}
 use Rattle.cfs_base.specs.Run.{IsSettled}
 use Rattle.cfs_base.specs.declared.disk.Disk.{Ghosts}
 use Rattle.cfs_base.specs.declared.identifier.Puid.{Puid}
 use Rattle.cyl_alloc.specs.Left.{LeftCommit, block_shown}
 use Rattle.cyl_alloc.specs.Space.{AreCounts, Kept}
+use Rattle.cyl_map.specs.Mapped.{mapped}
 use Rattle.cyl_map.specs.Volume.{entry_in}
 use Rattle.cyl_map.specs.declared.entry.MapEntry.{MapEntry}
 use Rattle.intentions.specs.Commit.{IsCommitted}
 use Rattle.intentions.specs.Course.{IsCopied, Keeps, Settling}
-use Rattle.intentions.specs.Entries.{changed_entry}
-use Rattle.intentions.specs.Flips.{Flip, MayFlip, flip, flipped, flips}
 use Rattle.intentions.specs.Store.{StoreHas}
-use Rattle.intentions.specs.declared.change.Change.{Change}
-use Rattle.intentions.specs.declared.change.Change.TheVariants.{ClearBit, Finish, Undo}
+use Rattle.intentions.specs.Turned.{MayTurn, changed_if, turned}
+use Rattle.intentions.specs.declared.change.EntryChange.{EntryChange}
+use Rattle.intentions.specs.declared.change.EntryChange.TheVariants.{ClearBit, Finish, Undo}
 use Rattle.ufs_model.specs.Graph.{Graph, ids_of, object_at}
 use Rattle.ufs_model.specs.Identifier.{rises}
 use Rattle.ufs_model.specs.Numbers.{has_number}
@@ -26,17 +26,17 @@ use Rattle.vol_owners.specs.Change.{IsOpenTo, of_owners}
 -- ---- what is to come
 
 -- the shadow root is given back, all else is carried out
-abbrev pub how_for : Bool → Change
+abbrev pub how_for : Bool → EntryChange
 how_for true = Undo
 how_for false = Finish
 
-abbrev pub to_flip : ℕ → List ℕ → List Flip
-to_flip s [] = []
-to_flip s (n ∷ ns) = record { block = n; how = how_for (n == s) } ∷ to_flip s ns
+-- what the entry of each block gets that is left
+abbrev pub how_left : LeftCommit → ℕ → EntryChange
+how_left l n = how_for (n == l.shadow)
 
--- the entries that are still to be changed, the root's as the last
-abbrev pub plan : LeftCommit → List Flip
-plan l = to_flip l.shadow l.rest ++ flips ClearBit (l.root ∷ [])
+-- the entry of block n once the commit is carried out: what is left is settled, and the root's bit is cleared
+abbrev pub settled : LeftCommit → ℕ → MapEntry → MapEntry
+settled l n e = changed_if (n == l.root) ClearBit (turned (how_left l) l.rest n e)
 
 abbrev pub copied_if : Bool → LeftCommit → Image → Image
 copied_if true l image = image
@@ -45,24 +45,23 @@ copied_if false l image = set image l.root (block_at image l.shadow)
 -- what the image is once nothing is left
 abbrev pub coming : Image → Option LeftCommit → Image
 coming image None = image
-coming image (Some l) = flipped (copied_if l.copied l image) (plan l)
+coming image (Some l) = mapped (settled l) (copied_if l.copied l image)
 
 -- ---- how far it is
 
--- Each entry that is changed is open to changes of these owners, before it and after it.
-abbrev pub AreOpen : (Option MapEntry → Bool) → Image → List Flip → Type 0
-AreOpen T image [] = Unit {0}
-AreOpen T image (x ∷ xs) = ((e : MapEntry) × (entry_in image x.block ≡ Some e) × IsOpenTo T (Some e)
-    × IsOpenTo T (Some (changed_entry x.how e))) × AreOpen T (flip image x) xs
+-- The entries of these blocks are open to changes of these owners.
+abbrev pub AreOpen : List ℕ → Image → List ℕ → Type 0
+AreOpen owners image ns = (n : ℕ) → has_number n ns ≡ true → IsOpenTo (λ e. of_owners owners e) (entry_in image n)
 
 -- The object's commit bit stands, it is read by its shadow root, and nothing waits for a barrier. Or its root is
 -- copied, and each image that a crash leaves is one in which it settles. What is left may be done.
 abbrev pub GoesOn : {D : Type 0} → Ghosts D → Bool → Graph → Puid → Object → LeftCommit → D → Type 0
 GoesOn g false graph id o l d = IsSettled g d × IsCommitted (g.content d) graph id o l.shadow
-    × MayFlip (Settling (copied_if false l (g.content d)) graph id o l.shadow) (copied_if false l (g.content d))
-    (plan l)
+    × MayTurn (Settling (copied_if false l (g.content d)) graph id o l.shadow) (copied_if false l (g.content d))
+    (how_left l) l.rest
 GoesOn g true graph id o l d = (c : Image) × IsCopied c graph id o l.shadow
-    × Keeps g (Settling c graph id o l.shadow) d × MayFlip (Settling c graph id o l.shadow) (g.content d) (plan l)
+    × Keeps g (Settling c graph id o l.shadow) d
+    × MayTurn (Settling c graph id o l.shadow) (g.content d) (how_left l) l.rest
 
 -- These objects are carried on: one of them, whose commit is past its bit, goes on as far as it is. The Free blocks of
 -- the disk as it is are counted.
@@ -83,10 +82,10 @@ GoesWith g graph disk space (Some l) = IsGoing g graph disk space l
 pub record HasLeft {D : Type 0} (g : Ghosts D) (graph : Graph) (drafts : Drafts) (disk : D) (space : Kept)
     (l : LeftCommit) : Type 0 where
   pub going : IsGoing g graph disk space l
-  -- Of this object, and one that is made with it, are all entries that are still to be changed, and no draft is theirs.
+  -- Of this object, and one that is made with it, is each block that is left, or it is Free; and no draft is theirs.
   pub owners : List ℕ
   pub own : has_number going.id.block owners ≡ true
-  pub opens : AreOpen (λ e. of_owners owners e) (copied_if l.copied l (g.content disk)) (plan l)
+  pub opens : AreOpen owners (g.content disk) l.rest
   pub shut : (x : Puid) → has_number x.block owners ≡ true → drafts x ≡ None
   pub account : Accounts (coming (g.content disk) (Some l)) graph drafts
   pub ordered : rises (ids_of graph) ≡ true

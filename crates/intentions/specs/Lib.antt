@@ -3,6 +3,6 @@ pub mod Course
 pub mod Commit
 pub mod Calls
 pub mod Store
-pub mod Flips
+pub mod Turned
 pub mod Left
 pub mod Runs

@@ -10,12 +10,13 @@ use Rattle.cfs_base.specs.declared.refusal.Trouble.{Trouble}
 use Rattle.cfs_base.specs.declared.refusal.Trouble.TheVariants as trouble
 use Rattle.cyl_alloc.specs.Space.{HasMoreFree}
 use Rattle.cyl_map.specs.Map.{SpellsMap, is_free}
+use Rattle.cyl_map.specs.Mapped.{IsMapped}
 use Rattle.cyl_map.specs.Volume.{map_of}
 use Rattle.cyl_map.specs.declared.entry.MapEntry.{MapEntry}
 use Rattle.intentions.specs.Entries.{FitsEntry, changed_entry}
-use Rattle.intentions.specs.Flips.{Flip, flipped}
 use Rattle.intentions.specs.Left.{how_for}
-use Rattle.intentions.specs.declared.change.Change.{Change}
+use Rattle.intentions.specs.Turned.{turned}
+use Rattle.intentions.specs.declared.change.EntryChange.{EntryChange}
 use Rattle.intentions.specs.declared.run.Rule.{Rule}
 use Rattle.intentions.specs.declared.run.Rule.TheVariants.{Alike, Settle}
 
@@ -38,13 +39,9 @@ IsFirst n (m ∷ ms) = m ≡ n
 -- ---- what is done to them
 
 -- to the entry of block n
-abbrev pub how_of : Rule → ℕ → Change
+abbrev pub how_of : Rule → ℕ → EntryChange
 how_of (Alike how) n = how
 how_of (Settle shadow) n = how_for (n == shadow.0)
-
-abbrev pub flips_of : Rule → List ℕ → List Flip
-flips_of rule [] = []
-flips_of rule (n ∷ ns) = record { block = n; how = how_of rule n } ∷ flips_of rule ns
 
 -- what is claimed makes an entry
 abbrev pub AllFit : Rule → Type 0
@@ -52,7 +49,7 @@ AllFit (Alike how) = FitsEntry how
 AllFit (Settle shadow) = Unit {0}
 
 -- a block that is Free stays so
-abbrev pub KeepsFree : Change → Type 0
+abbrev pub KeepsFree : EntryChange → Type 0
 KeepsFree how = (e : MapEntry) → is_free e ≡ true → is_free (changed_entry how e) ≡ true
 
 -- a block became Free
@@ -67,10 +64,10 @@ pub record FlipsFirst (rule : Rule) (n i freed : ℕ) (ns was now : List ℕ) : 
   pub here : All (λ m. map_of m ≡ map_of n) (take i ns)
   pub spells : SpellsMap now
   pub changed : (image : Image) → block_at image (map_of n) ≡ was
-      → block_at (flipped image (flips_of rule (take i ns))) (map_of n) ≡ now
+      → IsMapped (turned (how_of rule) (take i ns)) image (set image (map_of n) now)
   -- so many of them became Free
   pub free : ((m : ℕ) → KeepsFree (how_of rule m)) → (image : Image) → block_at image (map_of n) ≡ was
-      → HasMoreFree image n freed (flipped image (flips_of rule (take i ns)))
+      → HasMoreFree image n freed (set image (map_of n) now)
 
 -- ---- on a disk
 

@@ -19,7 +19,7 @@ ghost use Rattle.vol_image.specs.Commit.{IsDraft};
 ghost use Rattle.vol_image.specs.Run.{Carries};
 ghost use Rattle.vol_image.specs.Sound.{Holds};
 
-use crate::change::Change;
+use crate::change::EntryChange;
 use crate::entry::{put_entry, read_entry};
 use cfs_base::{Block, BlockNo, Disk, Trouble};
 use cyl_alloc::KnownMaps;
@@ -71,7 +71,7 @@ fn change_bit<D: Disk>(
     disk: &mut D,
     known: &mut KnownMaps,
     root: BlockNo,
-    how: Change,
+    how: EntryChange,
 ) -> Result<(), Trouble>
     requires on_disk { root.0 < D.blocks disk.old }
     requires fits { entries.FitsEntry how }
@@ -98,7 +98,7 @@ pub fn commit<D: Disk>(disk: &mut D, known: &mut KnownMaps, root: BlockNo) -> Re
         → object_at graph id ≡ Some was → IsDraft (D.content disk.old) id.block s o
         → Leaves D.Disk disk.old disk.new (λ c. Holds c (with_object graph id o)) }
 {
-    change_bit(disk, known, root, Change::SetBit)
+    change_bit(disk, known, root, EntryChange::SetBit)
 }
 
 /// Clears the commit bit of a root. The barrier before it makes durable what was finished. `Damaged` as in `commit`.
@@ -106,7 +106,7 @@ pub fn clear_bit<D: Disk>(disk: &mut D, known: &mut KnownMaps, root: BlockNo) ->
     requires { root.0 < D.blocks disk.old }
     ensures { spec.ChangesBit D.Disk root.0 (λ e. entries.without_bit e) disk.old disk.new result }
 {
-    change_bit(disk, known, root, Change::ClearBit)
+    change_bit(disk, known, root, EntryChange::ClearBit)
 }
 
 /// Writes to the root this content, which is its shadow root's, and makes that outlast a crash. Never `Damaged`.

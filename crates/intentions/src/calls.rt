@@ -5,7 +5,7 @@ ghost use Rattle.cyl_alloc.specs.Space.{intended};
 ghost use Rattle.intentions.specs.Calls as spec;
 ghost use Rattle.intentions.specs.Entries as entries;
 
-use crate::change::Change;
+use crate::change::EntryChange;
 use crate::entry::change_entry;
 use cfs_base::{BlockNo, Disk, Place, Trouble};
 use cyl_alloc::KnownMaps;
@@ -26,7 +26,7 @@ pub fn intend_claim<D: Disk>(
         disk,
         &mut KnownMaps::new(),
         block,
-        Change::Claim { place, owner },
+        EntryChange::Claim { place, owner },
     )?;
     Ok(())
 }
@@ -36,7 +36,7 @@ pub fn intend_release<D: Disk>(disk: &mut D, block: BlockNo) -> Result<(), Troub
     requires { block.0 < D.blocks disk.old }
     ensures { spec.ChangesEntry D.Disk block.0 (λ e. entries.released e) disk.old disk.new result }
 {
-    change_entry(disk, &mut KnownMaps::new(), block, Change::Release)?;
+    change_entry(disk, &mut KnownMaps::new(), block, EntryChange::Release)?;
     Ok(())
 }
 
@@ -46,7 +46,7 @@ pub fn finish<D: Disk>(disk: &mut D, block: BlockNo) -> Result<(), Trouble>
     requires { block.0 < D.blocks disk.old }
     ensures { spec.ChangesEntry D.Disk block.0 (λ e. entries.finished e) disk.old disk.new result }
 {
-    change_entry(disk, &mut KnownMaps::new(), block, Change::Finish)?;
+    change_entry(disk, &mut KnownMaps::new(), block, EntryChange::Finish)?;
     Ok(())
 }
 
@@ -56,6 +56,6 @@ pub fn undo<D: Disk>(disk: &mut D, block: BlockNo) -> Result<(), Trouble>
     requires { block.0 < D.blocks disk.old }
     ensures { spec.ChangesEntry D.Disk block.0 (λ e. entries.undone e) disk.old disk.new result }
 {
-    change_entry(disk, &mut KnownMaps::new(), block, Change::Undo)?;
+    change_entry(disk, &mut KnownMaps::new(), block, EntryChange::Undo)?;
     Ok(())
 }

@@ -9,7 +9,7 @@ use cyl_map::{BlockState, MapEntry};
 
 /// A change of an entry. Where it doesn't fit an entry, that stays as it is.
 #[derive(Clone, Copy, Debug, PartialEq, Eq)]
-pub enum Change {
+pub enum EntryChange {
     /// A Free block is claimed for an owner's place.
     Claim { place: Place, owner: u32 },
     /// A node or leaf is to be given up.
@@ -37,7 +37,7 @@ fn released(entry: MapEntry) -> MapEntry
     ensures entry { IsEntry result }
 {
     match entry.place {
-        Some(Place::Node(_)) | Some(Place::Leaf(_)) => match entry.state {
+        Some(Place::Node(_)) | Some(Place::Leaf(_)) | Some(Place::Span(_)) => match entry.state {
             BlockState::Allocated | BlockState::IntendAllocate => {
                 restated(entry, BlockState::IntendDeallocate)
             }
@@ -57,7 +57,7 @@ fn with_bit(entry: MapEntry) -> MapEntry
             committed: true,
             ..entry
         },
-        Some(Place::ShadowRoot) | Some(Place::Node(_)) | Some(Place::Leaf(_)) | None => entry,
+        Some(_) | None => entry,
     }
 }
 
@@ -96,7 +96,7 @@ fn undone(entry: MapEntry) -> MapEntry
     }
 }
 
-impl Change {
+impl EntryChange {
     /// The entry after the change.
     pub fn of(self, entry: MapEntry) -> MapEntry
         requires entry { IsEntry entry }
@@ -105,17 +105,17 @@ impl Change {
         ensures entry { IsEntry result }
     {
         match self {
-            Change::Claim { place, owner } => MapEntry {
+            EntryChange::Claim { place, owner } => MapEntry {
                 state: BlockState::IntendAllocate,
                 committed: false,
                 place: Some(place),
                 owner,
             },
-            Change::Release => released(entry),
-            Change::SetBit => with_bit(entry),
-            Change::ClearBit => without_bit(entry),
-            Change::Finish => finished(entry),
-            Change::Undo => undone(entry),
+            EntryChange::Release => released(entry),
+            EntryChange::SetBit => with_bit(entry),
+            EntryChange::ClearBit => without_bit(entry),
+            EntryChange::Finish => finished(entry),
+            EntryChange::Undo => undone(entry),
         }
     }
 }

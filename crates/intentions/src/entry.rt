@@ -1,21 +1,20 @@
 //! One entry on a disk, read with its map and changed.
-ghost use Rattle.std.specs.Prelude.{◌≡◌, ℕ, ◌<◌, true, false, Some, IsTrue, IfOk, IfErr, OnOk};
+ghost use Rattle.std.specs.Prelude.{◌≡◌, ℕ, ◌%◌, ◌<◌, true, false, Some, IsTrue, IfOk, IfErr, OnOk};
 ghost use Rattle.cfs_base.specs.Calls.{HasTried, OnlyReads, MakesAtMost};
 ghost use Rattle.cfs_base.specs.Disk.{Image, Nothing, Written, block_at};
 ghost use Rattle.cfs_base.specs.Run.{IsSettled, Tells, Leaves, left_now};
 ghost use Rattle.cfs_base.specs.declared.refusal.Trouble.TheVariants as troubles;
-ghost use Rattle.cyl_map.specs.Entry.{IsEntry};
+ghost use Rattle.cyl_map.specs.Entry.{IsEntry, spelling};
 ghost use Rattle.cyl_map.specs.Map.{SpellsMap, entries_of};
-ghost use Rattle.cyl_map.specs.Volume.{entry_in, map_of, map_with, with_entry};
+ghost use Rattle.cyl_map.specs.Volume.{entry_in, map_of, map_with, with_bytes, with_entry};
 ghost use Rattle.cyl_alloc.specs.Maps.{IsMapOf};
 ghost use Rattle.cyl_alloc.specs.Refusals.{IsMapTrouble};
 ghost use Rattle.cfs_base.specs.Refusals.{trouble_had_tried};
 ghost use Rattle.cyl_alloc.specs.Space.{IsGoodMap};
 ghost use Rattle.intentions.specs.Calls as spec;
 ghost use Rattle.intentions.specs.Entries as entries;
-ghost use Rattle.intentions.specs.Flips.{flip};
 
-use crate::change::Change;
+use crate::change::EntryChange;
 use cfs_base::{Block, BlockNo, Disk, Trouble};
 use cyl_alloc::KnownMaps;
 use cyl_map::{Map, MapEntry};
@@ -74,7 +73,7 @@ pub fn change_entry<D: Disk>(
     disk: &mut D,
     known: &mut KnownMaps,
     block: BlockNo,
-    how: Change,
+    how: EntryChange,
 ) -> Result<MapEntry, Trouble>
     requires on_disk { block.0 < D.blocks disk.old }
     requires fits { entries.FitsEntry how }
@@ -91,14 +90,13 @@ pub fn change_entry<D: Disk>(
 }
 
 /// Changes the entry of a block in its map, which is in memory, and gives the one that it had.
-pub fn change_in(map: &mut Block, block: BlockNo, how: Change) -> MapEntry
+pub fn change_in(map: &mut Block, block: BlockNo, how: EntryChange) -> MapEntry
     requires spells { SpellsMap map.old }
     requires fits { entries.FitsEntry how }
     ensures valid { IsEntry result }
     ensures spells { SpellsMap map.new }
     ensures was { (image : Image) → block_at image (map_of block.0) ≡ map.old → entry_in image block.0 ≡ Some result }
-    ensures now { (image : Image) → block_at image (map_of block.0) ≡ map.old
-        → block_at (flip image (record { block = block.0; how = how })) (map_of block.0) ≡ map.new }
+    ensures now { map.new ≡ with_bytes map.old (block.0 % 64) (spelling (entries.changed_entry how result)) }
 {
     let at = (block.0 % 64) as u8;
     let entry = Map::entry_in(map, at);

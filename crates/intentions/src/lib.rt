@@ -7,12 +7,11 @@ mod bit;
 mod calls;
 mod change;
 mod entry;
-mod laws;
+pub mod laws;
 mod run;
 
 pub use bit::{barrier, clear_bit, commit, copy_root};
 pub use calls::{finish, intend_claim, intend_release, undo};
-pub use change::Change;
+pub use change::EntryChange;
 pub use entry::{change_entry, change_in};
-pub use laws::{a_disk_keeps_to_courses, courses_hold, intentions_keep_the_frame, objects_settle};
 pub use run::{Rule, Run, change_first, is_freed, write_map};

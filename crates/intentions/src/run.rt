@@ -1,14 +1,15 @@
 //! The first of some blocks, which lie in one map: their entries are changed by one write of it.
-ghost use Rattle.std.specs.Prelude.{◌≡◌, ℕ, ◌+◌, ◌<◌, if◌then◌else◌, drop};
+ghost use Rattle.std.specs.Prelude.{◌≡◌, ℕ, ◌+◌, if◌then◌else◌, ◌<◌, [], ◌∷◌, drop, set};
 ghost use Rattle.cfs_base.specs.Disk.{Image, block_at};
 ghost use Rattle.cyl_alloc.specs.Space.{HasMoreFree};
 ghost use Rattle.cyl_map.specs.Map as maps;
+ghost use Rattle.cyl_map.specs.Mapped.{IsMapped};
 ghost use Rattle.cyl_map.specs.Volume.{map_of};
 ghost use Rattle.intentions.specs.Entries.{FitsEntry};
-ghost use Rattle.intentions.specs.Flips.{flip};
+ghost use Rattle.intentions.specs.Turned.{turned};
 ghost use Rattle.intentions.specs.Runs as spec;
 
-use crate::change::Change;
+use crate::change::EntryChange;
 use crate::entry::change_in;
 use cfs_base::{Block, BlockNo, Disk, Trouble};
 use cyl_alloc::KnownMaps;
@@ -18,14 +19,14 @@ use cyl_map::{BlockState, MapEntry};
 #[derive(Clone, Copy, Debug, PartialEq, Eq)]
 pub enum Rule {
     /// The same to each.
-    Alike(Change),
+    Alike(EntryChange),
     /// The intentions are carried out, but that with the shadow root is taken back.
     Settle { shadow: BlockNo },
 }
 
 impl Rule {
     /// The change of the entry of a block.
-    fn of(self, block: BlockNo) -> Change
+    fn of(self, block: BlockNo) -> EntryChange
         requires { spec.AllFit self }
         ensures value { result ≡ spec.how_of self block.0 }
         ensures fits { FitsEntry result }
@@ -34,9 +35,9 @@ impl Rule {
             Rule::Alike(how) => how,
             Rule::Settle { shadow } => {
                 if block.0 == shadow.0 {
-                    Change::Undo
+                    EntryChange::Undo
                 } else {
-                    Change::Finish
+                    EntryChange::Finish
                 }
             }
         }
@@ -67,16 +68,15 @@ pub fn is_freed(was: MapEntry, now: MapEntry) -> bool
 }
 
 /// Changes the entry of a block in its map, which was read. Answers whether the block became Free.
-fn flip_in(map: &mut Block, block: BlockNo, how: Change) -> bool
+fn flip_in(map: &mut Block, block: BlockNo, how: EntryChange) -> bool
     requires spells { maps.SpellsMap map.old }
     requires fits { FitsEntry how }
     ensures spells { maps.SpellsMap map.new }
     ensures now { (image : Image) → block_at image (map_of block.0) ≡ map.old
-        → block_at (flip image (record { block = block.0; how = how })) (map_of block.0) ≡ map.new }
+        → IsMapped (turned (λ n. how) (block.0 ∷ [])) image (set image (map_of block.0) map.new) }
     ensures freed { spec.KeepsFree how → (image other : Image) (n count : ℕ) → map_of block.0 ≡ map_of n
         → block_at other (map_of block.0) ≡ map.old → HasMoreFree image n count other
-        → HasMoreFree image n (count + (if result then 1 else 0))
-        (flip other (record { block = block.0; how = how })) }
+        → HasMoreFree image n (count + (if result then 1 else 0)) (set other (map_of block.0) map.new) }
 {
     let was = change_in(map, block, how);
     is_freed(was, how.of(was))

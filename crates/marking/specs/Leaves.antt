@@ -3,17 +3,16 @@
 use Rattle.std.specs.Prelude.{ℕ, ◌*◌, ◌-◌, Bool, false, not, ◌&&◌, nat_lt, if◌then◌else◌, List, take, drop, Option}
 use Rattle.std.specs.Prelude.{Some, None}
 use Rattle.std.specs.List.{filter_map}
+use Rattle.std.specs.Option.{option_map}
 use Rattle.cfs_base.specs.declared.identifier.Puid.{Puid}
 use Rattle.cfs_base.specs.declared.kind.Kind.{Kind}
-use Rattle.cfs_base.specs.declared.kind.Kind.TheVariants as kinds
-use Rattle.cfs_base.specs.declared.kind.FileKind.{FileKind}
-use Rattle.cfs_base.specs.declared.kind.FileKind.TheVariants as file_kinds
 use Rattle.ufs_model.specs.Limits.{leaf_slots, most_leaves}
 use Rattle.ufs_model.specs.declared.object.Object.{Object}
 use Rattle.ufs_model.specs.declared.object.Object.TheVariants as objects
 use Rattle.ufs_model.specs.declared.object.Index.{Index}
 use Rattle.ufs_model.specs.Identifier.{is_among}
-use Rattle.ufs_model.specs.Graph.{Graph, object_at}
+use Rattle.ufs_model.specs.Graph.{object_at}
+pub use Rattle.ufs_model.specs.Kinds.{file_kind, kind_at, object_kind}
 use Rattle.ufs_model.specs.State.{State, draft_at}
 use Rattle.ufs_model.specs.Reach.{starts_now}
 
@@ -46,15 +45,6 @@ is_found s (Some i) place x = at_place (draft_at s.grants i) (object_at s.graph 
 
 -- ---- kinds
 
-abbrev pub file_kind : FileKind → Kind
-file_kind file_kinds.Normal = kinds.Normal
-file_kind file_kinds.Special = kinds.Special
-
 -- the kind of what stands here
 abbrev pub kind_standing : Option Object → Option Kind
-kind_standing None = None
-kind_standing (Some (objects.File f)) = Some (file_kind f.kind)
-kind_standing (Some (objects.Index i)) = Some kinds.Index
-
-abbrev pub kind_at : Graph → Puid → Option Kind
-kind_at g x = kind_standing (object_at g x)
+kind_standing o = option_map object_kind o

@@ -3,8 +3,7 @@
 //! exactly what isn't marked may vanish.
 #![tactic(auto)]
 
-mod laws;
+pub mod laws;
 mod memory;
 
-pub use laws::{requests_keep_marking, steps_are_bounded, steps_keep_marking, unmarked_may_vanish};
 pub use memory::{Grey, Rescue};

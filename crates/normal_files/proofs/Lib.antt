@@ -10,7 +10,6 @@ pub mod Patched
 pub mod Amid
 pub mod Come
 pub mod Places
-mod Passed
 mod PutParts
 pub mod Owned
 pub mod NeedOf

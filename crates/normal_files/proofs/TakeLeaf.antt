@@ -17,10 +17,10 @@ record GotNode (b c : Image) (owner n : ℕ) (held : Bool) (block y : ℕ) : Typ
   pub contents : (m : ℕ) → m % 64 ≢ 0 → block_at c m ≡ block_at b m
 
 pub leaf_entry : (l r : ℕ) → l < leaf_limit → r ≢ 0 → r < 2 ^ 32 → IsEntry (allocated (Leaf l) r)
-leaf_entry l r below some small = record { in_table = rw (le-leb l 15359 (omega arith), lt-ltb 0 r (omega (arith, some)), lt-ltb r (2 ^ 32) small) refl }
+leaf_entry l r below some small = record { in_table = rw (le-leb l 1048575 (omega arith), lt-ltb 0 r (omega (arith, some)), lt-ltb r (2 ^ 32) small) refl }
 
 pub node_entry : (n r : ℕ) → n < node_pointers.count → r ≢ 0 → r < 2 ^ 32 → IsEntry (allocated (Node n) r)
-node_entry n r below some small = record { in_table = rw (le-leb n 119 (omega arith), lt-ltb 0 r (omega (arith, some)), lt-ltb r (2 ^ 32) small) refl }
+node_entry n r below some small = record { in_table = rw (le-leb n 8191 (omega arith), lt-ltb 0 r (omega (arith, some)), lt-ltb r (2 ^ 32) small) refl }
 
 module _ {D : Type 0} {g : Ghosts D} {r : ℕ} {w : Way g r} {offset : ℕ} {bytes : List ℕ} {d0 : D} {k0 : Kept} (may : MayTake w offset bytes d0 k0) {leaf : ℕ} (below : leaf < leaf_limit) (some : r ≢ 0) (small : r < 2 ^ 32) where
   abbrev a : Image

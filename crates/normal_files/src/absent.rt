@@ -86,7 +86,7 @@ impl Patch<'_> {
         ensures ends { Finishes D.Disk 5 3 (spec.leaf_takes held) disk.old disk.new space.old space.new result (λ taken.
             true) }
     {
-        let leaf_block = space.claim(disk, Place::Leaf(leaf as u16), self.at.0)?;
+        let leaf_block = space.claim(disk, Place::Leaf(leaf), self.at.0)?;
         let node = take_node(disk, space, self.at, leaf / LEAVES as u32, held, block).map_err(
             Refused::after_try,
         )?;

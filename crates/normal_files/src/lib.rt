@@ -9,7 +9,7 @@ mod flush;
 mod free;
 mod grow;
 mod in_place;
-mod laws;
+pub mod laws;
 mod link;
 mod lowest;
 mod need;
@@ -23,7 +23,6 @@ mod touched;
 mod two_nodes;
 mod writing;
 
-pub use laws::files_are_read_by_their_roots;
 pub use reading::read;
 pub use resizing::resize;
 pub use writing::write;

@@ -1,12 +1,12 @@
 -- Grants that stand beside one another.
 use Rattle.std.proofs.Common.{◌≡◌, List, [], ◌∷◌, ◌++◌, refl, ap, ◌∙◌, Option, Some, None, Bool, true, false, cond, not, ◌&&◌}
-use Rattle.open_table.proofs.Words.{Grant, Mode, and_parts, collides, conflicts, find, list_all, list_any, open_mode, none_collide, option_map, or_parts, same_puid, same_tuid, tuids_differ}
+use Rattle.open_table.proofs.Words.{OpenGrant, Mode, and_parts, collides, conflicts, find, list_all, list_any, open_mode, none_collide, option_map, or_parts, same_puid, same_tuid, tuids_differ}
 use Rattle.open_table.proofs.Lists.{not_true, same_puid-trans, collides-sym, one_mode}
 
 -- ---- what a grant collides with
 
 -- it collides with the first on its object, where the modes conflict
-pub collides-first : (grants : List Grant) (g : Grant) (m : Mode) → open_mode grants g.id ≡ Some m → conflicts g.mode m ≡ true → option_map (λ h. h.mode) (find (collides g) grants) ≡ Some m
+pub collides-first : (grants : List OpenGrant) (g : OpenGrant) (m : Mode) → open_mode grants g.id ≡ Some m → conflicts g.mode m ≡ true → option_map (λ h. h.mode) (find (collides g) grants) ≡ Some m
 collides-first [] g m there conflict = cc
 collides-first (h ∷ grants) g m there conflict =
     elim (same_puid g.id h.id) as (λ s. option_map (λ h. h.mode) (cond s (Some h) (find (λ g'. same_puid g.id g'.id) grants)) ≡ Some m
@@ -16,7 +16,7 @@ collides-first (h ∷ grants) g m there conflict =
     ] there
 
 -- and with none where none is on its object
-pub collides-none : (grants : List Grant) (g : Grant) → open_mode grants g.id ≡ None → find (collides g) grants ≡ None
+pub collides-none : (grants : List OpenGrant) (g : OpenGrant) → open_mode grants g.id ≡ None → find (collides g) grants ≡ None
 collides-none [] g none = refl
 collides-none (h ∷ grants) g none =
     elim (same_puid g.id h.id) as (λ s. option_map (λ h. h.mode) (cond s (Some h) (find (λ g'. same_puid g.id g'.id) grants)) ≡ None
@@ -26,7 +26,7 @@ collides-none (h ∷ grants) g none =
     ] none
 
 -- those that stand beside one of its mode on its object don't collide with it either
-beside : (grants : List Grant) (g h : Grant) → same_puid g.id h.id ≡ true → g.mode ≡ h.mode → list_all (λ x. not (collides h x)) grants ≡ true → find (collides g) grants ≡ None
+beside : (grants : List OpenGrant) (g h : OpenGrant) → same_puid g.id h.id ≡ true → g.mode ≡ h.mode → list_all (λ x. not (collides h x)) grants ≡ true → find (collides g) grants ≡ None
 beside [] g h same mode all = refl
 beside (x ∷ grants) g h same mode all =
     let parts = and_parts (not (collides h x)) (list_all (λ x. not (collides h x)) grants) all in
@@ -34,7 +34,7 @@ beside (x ∷ grants) g h same mode all =
     let none : collides g x ≡ false = alike ∙ not_true (collides h x) parts.0 in
     rw none (beside grants g h same mode parts.1)
 
-pub collides-shared : (grants : List Grant) (g : Grant) (m : Mode) → none_collide grants ≡ true → open_mode grants g.id ≡ Some m → conflicts g.mode m ≡ false → find (collides g) grants ≡ None
+pub collides-shared : (grants : List OpenGrant) (g : OpenGrant) (m : Mode) → none_collide grants ≡ true → open_mode grants g.id ≡ Some m → conflicts g.mode m ≡ false → find (collides g) grants ≡ None
 collides-shared [] g m apart there shared = cc
 collides-shared (h ∷ grants) g m apart there shared =
     let parts = and_parts (list_all (λ x. not (collides h x)) grants) (none_collide grants) apart in
@@ -49,22 +49,22 @@ collides-shared (h ∷ grants) g m apart there shared =
 
 -- ---- one more
 
-all_push : (p : Grant → Bool) (xs : List Grant) (y : Grant) → list_all p xs ≡ true → p y ≡ true → list_all p (xs ++ y ∷ []) ≡ true
+all_push : (p : OpenGrant → Bool) (xs : List OpenGrant) (y : OpenGrant) → list_all p xs ≡ true → p y ≡ true → list_all p (xs ++ y ∷ []) ≡ true
 all_push p [] y all last = rw last refl
 all_push p (x ∷ xs) y all last = let parts = and_parts (p x) (list_all p xs) all in rw parts.0 (all_push p xs y parts.1 last)
 
-pub none_collide-push : (grants : List Grant) (g : Grant) → none_collide grants ≡ true → find (collides g) grants ≡ None → none_collide (grants ++ g ∷ []) ≡ true
+pub none_collide-push : (grants : List OpenGrant) (g : OpenGrant) → none_collide grants ≡ true → find (collides g) grants ≡ None → none_collide (grants ++ g ∷ []) ≡ true
 none_collide-push [] g apart none = refl
 none_collide-push (h ∷ grants) g apart none =
     let parts = and_parts (list_all (λ x. not (collides h x)) grants) (none_collide grants) apart in
     let free = passed (collides g h) h (find (collides g) grants) none in
     rw (all_push (λ x. not (collides h x)) grants g parts.0 (ap not (collides-sym h g ∙ free.0))) (none_collide-push grants g parts.1 free.1)
   where
-    passed : (t : Bool) (h : Grant) (rest : Option Grant) → cond t (Some h) rest ≡ None → (t ≡ false) × (rest ≡ None)
+    passed : (t : Bool) (h : OpenGrant) (rest : Option OpenGrant) → cond t (Some h) rest ≡ None → (t ≡ false) × (rest ≡ None)
     passed true h rest e = cc
     passed false h rest e = (refl, e)
 
-pub tuids_differ-push : (grants : List Grant) (g : Grant) → tuids_differ grants ≡ true → list_any (λ h. same_tuid h.tuid g.tuid) grants ≡ false → tuids_differ (grants ++ g ∷ []) ≡ true
+pub tuids_differ-push : (grants : List OpenGrant) (g : OpenGrant) → tuids_differ grants ≡ true → list_any (λ h. same_tuid h.tuid g.tuid) grants ≡ false → tuids_differ (grants ++ g ∷ []) ≡ true
 tuids_differ-push [] g differ new = refl
 tuids_differ-push (h ∷ grants) g differ new =
     let parts = and_parts (list_all (λ x. not (same_tuid h.tuid x.tuid)) grants) (tuids_differ grants) differ in

@@ -1,19 +1,19 @@
 -- The model's grants without their drafts.
 use Rattle.std.proofs.Common.{◌≡◌, suc, List, [], ◌∷◌, length, refl, sym, ap, ◌∙◌, Some, Bool, true, false, cond, not, ◌&&◌, ◌||◌, is_some}
-use Rattle.open_table.proofs.Words.{Grant, Mode, Puid, Reading, Writing, and_parts, collides, conflicts, filter, find, is_writing, list_all, list_any, open_mode, none_collide, option_map, same_puid, shown, table_of}
+use Rattle.open_table.proofs.Words.{OpenGrant, Mode, Puid, Reading, Writing, and_parts, collides, conflicts, filter, find, is_writing, list_all, list_any, open_mode, none_collide, option_map, same_puid, shown, table_of}
 use Rattle.ufs_model.specs.declared.object.Grant as models
 use Rattle.open_table.proofs.Lists.{not_true, same_puid-trans}
 
 -- ---- any test that does not look at the draft
 
-pub find-table : (p : Grant → Bool) (grants : List models.Grant) → find p (table_of grants) ≡ option_map shown (find (λ g. p (shown g)) grants)
+pub find-table : (p : OpenGrant → Bool) (grants : List models.Grant) → find p (table_of grants) ≡ option_map shown (find (λ g. p (shown g)) grants)
 find-table p [] = refl
 find-table p (g ∷ grants) = elim (p (shown g)) as (λ t. cond t (Some (shown g)) (find p (table_of grants)) ≡ option_map shown (cond t (Some g) (find (λ g. p (shown g)) grants))) [
   | true ↦ refl
   | false ↦ find-table p grants
 ]
 
-pub filter-table : (p : Grant → Bool) (grants : List models.Grant) → filter p (table_of grants) ≡ table_of (filter (λ g. p (shown g)) grants)
+pub filter-table : (p : OpenGrant → Bool) (grants : List models.Grant) → filter p (table_of grants) ≡ table_of (filter (λ g. p (shown g)) grants)
 filter-table p [] = refl
 filter-table p (g ∷ grants) = elim (p (shown g)) as (λ t. cond t (shown g ∷ filter p (table_of grants)) (filter p (table_of grants)) ≡ table_of (cond t (g ∷ filter (λ g. p (shown g)) grants) (filter (λ g. p (shown g)) grants))) [
   | true ↦ ap (λ rest. shown g ∷ rest) (filter-table p grants)
@@ -24,7 +24,7 @@ pub length-table : (grants : List models.Grant) → length (table_of grants) ≡
 length-table [] = refl
 length-table (g ∷ grants) = ap suc (length-table grants)
 
-pub found-any : (p : Grant → Bool) (grants : List models.Grant) → is_some (option_map (λ g. g.mode) (find p (table_of grants))) ≡ list_any (λ g. p (shown g)) grants
+pub found-any : (p : OpenGrant → Bool) (grants : List models.Grant) → is_some (option_map (λ g. g.mode) (find p (table_of grants))) ≡ list_any (λ g. p (shown g)) grants
 found-any p [] = refl
 found-any p (g ∷ grants) = elim (p (shown g)) as (λ t. is_some (option_map (λ g. g.mode) (cond t (Some (shown g)) (find p (table_of grants)))) ≡ (t || list_any (λ g. p (shown g)) grants)) [
   | true ↦ refl
@@ -60,7 +60,7 @@ met-writing grants id = any-alike _ _ (λ g. conflicts-writing (same_puid id g.i
 -- ---- an object that is open for writing
 
 -- beside one for reading there is none for writing
-no_writer : (grants : List models.Grant) (g : Grant) (id : Puid) → g.mode ≡ Reading → same_puid id g.id ≡ true → list_all (λ x. not (collides g x)) (table_of grants) ≡ true
+no_writer : (grants : List models.Grant) (g : OpenGrant) (id : Puid) → g.mode ≡ Reading → same_puid id g.id ≡ true → list_all (λ x. not (collides g x)) (table_of grants) ≡ true
     → list_any (λ h. same_puid id h.id && not (is_for_reading h.mode)) grants ≡ false
 no_writer [] g id reading same all = refl
 no_writer (h ∷ grants) g id reading same all =

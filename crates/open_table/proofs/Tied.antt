@@ -1,16 +1,16 @@
 -- The tables beside the list.
 use Rattle.std.proofs.Common.{◌≡◌, ℕ, ◌+◌, ◌<◌, ◌≤◌, ◌^◌, List, [], ◌∷◌, ◌++◌, length, refl, sym, ap, ◌∙◌, arith, Option, Some, None, true, false, cond, eqb, leb, length-append}
-use Rattle.open_table.proofs.Words.{Grant, IsTied, MOST_GRANTS, Mode, Puid, collides, conflicts, find, grants_of, is_grant_table, list_all, list_any, mode_against, nat_tests, option_map, same_puid, same_tuid, then_some}
+use Rattle.open_table.proofs.Words.{OpenGrant, IsTied, MOST_GRANTS, Mode, Puid, collides, conflicts, find, grants_of, is_grant_table, list_all, list_any, mode_against, nat_tests, option_map, same_puid, same_tuid, then_some}
 use Rattle.open_table.proofs.Lists.{grants_of-push, open_mode-push}
 use Rattle.open_table.proofs.Collide.{collides-first, collides-none, collides-shared, none_collide-push, tuids_differ-push}
 
-module _ {grants : List Grant} {own : ℕ → List Grant} {modes : Puid → Option Mode} (tied : IsTied grants own modes) where
+module _ {grants : List OpenGrant} {own : ℕ → List OpenGrant} {modes : Puid → Option Mode} (tied : IsTied grants own modes) where
   -- ---- the interlock
 
-  pub against-none : (g : Grant) → modes g.id ≡ None → mode_against grants g ≡ None
+  pub against-none : (g : OpenGrant) → modes g.id ≡ None → mode_against grants g ≡ None
   against-none g none = rw (collides-none grants g (sym (tied.modes g.id) ∙ none)) refl
 
-  pub against-some : (g : Grant) (m : Mode) → modes g.id ≡ Some m → mode_against grants g ≡ then_some (conflicts g.mode m) m
+  pub against-some : (g : OpenGrant) (m : Mode) → modes g.id ≡ Some m → mode_against grants g ≡ then_some (conflicts g.mode m) m
   against-some g m there =
       elim (conflicts g.mode m) as (λ t. conflicts g.mode m ≡ t → mode_against grants g ≡ then_some t m) [
         | true ↦ λ conflict. collides-first grants g m (sym (tied.modes g.id) ∙ there) conflict
@@ -18,8 +18,8 @@ module _ {grants : List Grant} {own : ℕ → List Grant} {modes : Puid → Opti
       ] refl
 
   -- a grant that conflicts with none, of a session that may have one more, is one more
-  pub IsTied-more : (g : Grant) → mode_against grants g ≡ None → length (own g.session) < MOST_GRANTS → list_any (λ h. same_tuid h.tuid g.tuid) grants ≡ false → length grants + 1 < 2 ^ 32
-      → {own' : ℕ → List Grant} → ((q : ℕ) → own' q ≡ cond (eqb q g.session) (own q ++ g ∷ []) (own q))
+  pub IsTied-more : (g : OpenGrant) → mode_against grants g ≡ None → length (own g.session) < MOST_GRANTS → list_any (λ h. same_tuid h.tuid g.tuid) grants ≡ false → length grants + 1 < 2 ^ 32
+      → {own' : ℕ → List OpenGrant} → ((q : ℕ) → own' q ≡ cond (eqb q g.session) (own q ++ g ∷ []) (own q))
       → {modes' : Puid → Option Mode} → ((q : Puid) → modes' q ≡ cond (same_puid q g.id) (Some g.mode) (modes q))
       → IsTied (grants ++ g ∷ []) own' modes'
   IsTied-more g against few new small own_is modes_is = record {
@@ -52,6 +52,6 @@ module _ {grants : List Grant} {own : ℕ → List Grant} {modes : Puid → Opti
   pub is_grant_table-all : is_grant_table grants ≡ true
   is_grant_table-all = rw (tied.apart, tied.tuids) (each grants)
     where
-      each : (some : List Grant) → list_all (λ g. leb (length (grants_of grants g.session)) MOST_GRANTS) some ≡ true
+      each : (some : List OpenGrant) → list_all (λ g. leb (length (grants_of grants g.session)) MOST_GRANTS) some ≡ true
       each [] = refl
       each (g ∷ some) = let few = tied.few g.session in let here : leb (length (grants_of grants g.session)) MOST_GRANTS ≡ true = grind (arith, nat_tests) in rw here (each some)

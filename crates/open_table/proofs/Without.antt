@@ -1,12 +1,12 @@
 -- One grant less.
 use Rattle.std.proofs.Common.{◌≡◌, ◌≢◌, ℕ, ◌+◌, ◌≤◌, List, [], ◌∷◌, ◌++◌, length, refl, sym, ap, ◌∙◌, arith, Option, Some, None, Bool, true, false, cond, not, ◌&&◌, ◌||◌, eqb, length-append}
-use Rattle.open_table.proofs.Words.{Grant, IsTied, Mode, Puid, Tuid, and_parts, collides, conflicts, filter, filter-append, find, session_grant, grants_of, is_session_grant, list_all, list_any, open_mode, nat_tests, none_collide, option_map, or_parts, same_puid, same_tuid, tuids_differ, without_grant}
+use Rattle.open_table.proofs.Words.{OpenGrant, IsTied, Mode, Puid, Tuid, and_parts, collides, conflicts, filter, filter-append, find, session_grant, grants_of, is_session_grant, list_all, list_any, open_mode, nat_tests, none_collide, option_map, or_parts, same_puid, same_tuid, tuids_differ, without_grant}
 use Rattle.open_table.proofs.Lists.{not_true, same_puid-sym, same_puid-trans, same_tuid-sym, same_tuid-trans, one_mode, grants_of-without_grant, grants_of-without_other}
 
 -- ---- where it stands
 
 -- what has another identifier stays
-none_left : (grants : List Grant) (g : Grant) (who : ℕ) (t : Tuid) → same_tuid g.tuid t ≡ true → list_all (λ x. not (same_tuid g.tuid x.tuid)) grants ≡ true → without_grant grants who t ≡ grants
+none_left : (grants : List OpenGrant) (g : OpenGrant) (who : ℕ) (t : Tuid) → same_tuid g.tuid t ≡ true → list_all (λ x. not (same_tuid g.tuid x.tuid)) grants ≡ true → without_grant grants who t ≡ grants
 none_left [] g who t is differ = refl
 none_left (x ∷ grants) g who t is differ =
     let parts = and_parts (not (same_tuid g.tuid x.tuid)) (list_all (λ x. not (same_tuid g.tuid x.tuid)) grants) differ in
@@ -18,13 +18,13 @@ none_left (x ∷ grants) g who t is differ =
     never false k h = refl
 
 -- a grant that is found has others before and after it, and these are left without it
-pub record IsSplit (grants : List Grant) (who : ℕ) (t : Tuid) (c : Grant) : Type 0 where
-  pub front : List Grant
-  pub back : List Grant
+pub record IsSplit (grants : List OpenGrant) (who : ℕ) (t : Tuid) (c : OpenGrant) : Type 0 where
+  pub front : List OpenGrant
+  pub back : List OpenGrant
   pub whole : grants ≡ front ++ c ∷ back
   pub left : without_grant grants who t ≡ front ++ back
 
-pub split : (grants : List Grant) (who : ℕ) (t : Tuid) (c : Grant) → tuids_differ grants ≡ true → session_grant grants who t ≡ Some c → IsSplit grants who t c
+pub split : (grants : List OpenGrant) (who : ℕ) (t : Tuid) (c : OpenGrant) → tuids_differ grants ≡ true → session_grant grants who t ≡ Some c → IsSplit grants who t c
 split [] who t c differ found = cc
 split (g ∷ grants) who t c differ found =
     let parts = and_parts (list_all (λ h. not (same_tuid g.tuid h.tuid)) grants) (tuids_differ grants) differ in
@@ -39,7 +39,7 @@ split (g ∷ grants) who t c differ found =
 
 -- ---- how objects are open without it
 
-open_mode-other : (front back : List Grant) (c : Grant) (id : Puid) → same_puid id c.id ≡ false → open_mode (front ++ back) id ≡ open_mode (front ++ c ∷ back) id
+open_mode-other : (front back : List OpenGrant) (c : OpenGrant) (id : Puid) → same_puid id c.id ≡ false → open_mode (front ++ back) id ≡ open_mode (front ++ c ∷ back) id
 open_mode-other [] back c id other = rw other refl
 open_mode-other (g ∷ front) back c id other =
     elim (same_puid id g.id) as (λ s. option_map (λ h. h.mode) (cond s (Some g) (find (λ h. same_puid id h.id) (front ++ back))) ≡ option_map (λ h. h.mode) (cond s (Some g) (find (λ h. same_puid id h.id) (front ++ c ∷ back)))) [
@@ -48,7 +48,7 @@ open_mode-other (g ∷ front) back c id other =
     ]
 
 -- of the object that it opened, where none is left on it
-open_mode-gone : (grants : List Grant) (c : Grant) (id : Puid) → same_puid id c.id ≡ true → list_any (λ g. same_puid g.id c.id) grants ≡ false → open_mode grants id ≡ None
+open_mode-gone : (grants : List OpenGrant) (c : OpenGrant) (id : Puid) → same_puid id c.id ≡ true → list_any (λ g. same_puid g.id c.id) grants ≡ false → open_mode grants id ≡ None
 open_mode-gone [] c id same gone = refl
 open_mode-gone (g ∷ grants) c id same gone =
     let parts = or_parts (same_puid g.id c.id) (list_any (λ g. same_puid g.id c.id) grants) gone in
@@ -56,7 +56,7 @@ open_mode-gone (g ∷ grants) c id same gone =
     rw other (open_mode-gone grants c id same parts.1)
 
 -- and where others are left on it, which are in its mode
-open_mode-beside : (grants : List Grant) (c : Grant) (id : Puid) → same_puid id c.id ≡ true → list_all (λ x. not (collides c x)) grants ≡ true → list_any (λ g. same_puid g.id c.id) grants ≡ true → open_mode grants id ≡ Some c.mode
+open_mode-beside : (grants : List OpenGrant) (c : OpenGrant) (id : Puid) → same_puid id c.id ≡ true → list_all (λ x. not (collides c x)) grants ≡ true → list_any (λ g. same_puid g.id c.id) grants ≡ true → open_mode grants id ≡ Some c.mode
 open_mode-beside [] c id same all there = cc
 open_mode-beside (g ∷ grants) c id same all there =
     let parts = and_parts (not (collides c g)) (list_all (λ x. not (collides c x)) grants) all in
@@ -68,7 +68,7 @@ open_mode-beside (g ∷ grants) c id same all there =
       | false ↦ λ is later. rw (alike ∙ is) (open_mode-beside grants c id same parts.1 later)
     ] refl there
 
-open_mode-shared : (front back : List Grant) (c : Grant) (id : Puid) → same_puid id c.id ≡ true → none_collide (front ++ c ∷ back) ≡ true → list_any (λ g. same_puid g.id c.id) (front ++ back) ≡ true
+open_mode-shared : (front back : List OpenGrant) (c : OpenGrant) (id : Puid) → same_puid id c.id ≡ true → none_collide (front ++ c ∷ back) ≡ true → list_any (λ g. same_puid g.id c.id) (front ++ back) ≡ true
     → open_mode (front ++ back) id ≡ open_mode (front ++ c ∷ back) id
 open_mode-shared [] back c id same apart there = rw same (open_mode-beside back c id same (and_parts (list_all (λ x. not (collides c x)) back) (none_collide back) apart).0 there)
 open_mode-shared (g ∷ front) back c id same apart there =
@@ -84,25 +84,25 @@ open_mode-shared (g ∷ front) back c id same apart there =
 
 -- ---- what holds of all still does
 
-list_all-without : (p : Grant → Bool) (front back : List Grant) (c : Grant) → list_all p (front ++ c ∷ back) ≡ true → list_all p (front ++ back) ≡ true
+list_all-without : (p : OpenGrant → Bool) (front back : List OpenGrant) (c : OpenGrant) → list_all p (front ++ c ∷ back) ≡ true → list_all p (front ++ back) ≡ true
 list_all-without p [] back c all = (and_parts (p c) (list_all p back) all).1
 list_all-without p (g ∷ front) back c all =
     let parts = and_parts (p g) (list_all p (front ++ c ∷ back)) all in
     rw parts.0 (list_all-without p front back c parts.1)
 
-none_collide-without : (front back : List Grant) (c : Grant) → none_collide (front ++ c ∷ back) ≡ true → none_collide (front ++ back) ≡ true
+none_collide-without : (front back : List OpenGrant) (c : OpenGrant) → none_collide (front ++ c ∷ back) ≡ true → none_collide (front ++ back) ≡ true
 none_collide-without [] back c apart = (and_parts (list_all (λ x. not (collides c x)) back) (none_collide back) apart).1
 none_collide-without (g ∷ front) back c apart =
     let parts = and_parts (list_all (λ x. not (collides g x)) (front ++ c ∷ back)) (none_collide (front ++ c ∷ back)) apart in
     rw (list_all-without (λ x. not (collides g x)) front back c parts.0) (none_collide-without front back c parts.1)
 
-tuids_differ-without : (front back : List Grant) (c : Grant) → tuids_differ (front ++ c ∷ back) ≡ true → tuids_differ (front ++ back) ≡ true
+tuids_differ-without : (front back : List OpenGrant) (c : OpenGrant) → tuids_differ (front ++ c ∷ back) ≡ true → tuids_differ (front ++ back) ≡ true
 tuids_differ-without [] back c differ = (and_parts (list_all (λ x. not (same_tuid c.tuid x.tuid)) back) (tuids_differ back) differ).1
 tuids_differ-without (g ∷ front) back c differ =
     let parts = and_parts (list_all (λ x. not (same_tuid g.tuid x.tuid)) (front ++ c ∷ back)) (tuids_differ (front ++ c ∷ back)) differ in
     rw (list_all-without (λ x. not (same_tuid g.tuid x.tuid)) front back c parts.0) (tuids_differ-without front back c parts.1)
 
-pub few-without : (front back : List Grant) (c : Grant) (who : ℕ) → length (grants_of (front ++ back) who) ≤ length (grants_of (front ++ c ∷ back) who)
+pub few-without : (front back : List OpenGrant) (c : OpenGrant) (who : ℕ) → length (grants_of (front ++ back) who) ≤ length (grants_of (front ++ c ∷ back) who)
 few-without front back c who =
     rw (filter-append (λ g. eqb g.session who) front back, filter-append (λ g. eqb g.session who) front (c ∷ back)) (simp length-append (more (eqb c.session who)))
   where
@@ -112,12 +112,12 @@ few-without front back c who =
 
 -- ---- the tables beside the list
 
-module _ {grants : List Grant} {own : ℕ → List Grant} {modes : Puid → Option Mode} (tied : IsTied grants own modes) (who : ℕ) (t : Tuid) (c : Grant) (found : session_grant grants who t ≡ Some c) where
+module _ {grants : List OpenGrant} {own : ℕ → List OpenGrant} {modes : Puid → Option Mode} (tied : IsTied grants own modes) (who : ℕ) (t : Tuid) (c : OpenGrant) (found : session_grant grants who t ≡ Some c) where
   parts : IsSplit grants who t c
   parts = split grants who t c tied.tuids found
 
   -- what is told of all but the modes
-  less : {own' : ℕ → List Grant} → ((q : ℕ) → own' q ≡ cond (eqb q who) (filter (λ g. not (same_tuid g.tuid t)) (own q)) (own q))
+  less : {own' : ℕ → List OpenGrant} → ((q : ℕ) → own' q ≡ cond (eqb q who) (filter (λ g. not (same_tuid g.tuid t)) (own q)) (own q))
       → {modes' : Puid → Option Mode} → ((id : Puid) → modes' id ≡ open_mode (without_grant grants who t) id)
       → IsTied (without_grant grants who t) own' modes'
   less own_is modes_is = record {
@@ -139,7 +139,7 @@ module _ {grants : List Grant} {own : ℕ → List Grant} {modes : Puid → Opti
 
   -- others are left on the object
   pub IsTied-shared : list_any (λ g. same_puid g.id c.id) (without_grant grants who t) ≡ true
-      → {own' : ℕ → List Grant} → ((q : ℕ) → own' q ≡ cond (eqb q who) (filter (λ g. not (same_tuid g.tuid t)) (own q)) (own q))
+      → {own' : ℕ → List OpenGrant} → ((q : ℕ) → own' q ≡ cond (eqb q who) (filter (λ g. not (same_tuid g.tuid t)) (own q)) (own q))
       → IsTied (without_grant grants who t) own' modes
   IsTied-shared there own_is = less own_is (λ id. tied.modes id ∙ ap (λ gs. open_mode gs id) parts.whole ∙ still id (same_puid id c.id) refl ∙ sym (ap (λ gs. open_mode gs id) parts.left))
     where
@@ -149,7 +149,7 @@ module _ {grants : List Grant} {own : ℕ → List Grant} {modes : Puid → Opti
 
   -- none is left on it
   pub IsTied-closed : list_any (λ g. same_puid g.id c.id) (without_grant grants who t) ≡ false
-      → {own' : ℕ → List Grant} → ((q : ℕ) → own' q ≡ cond (eqb q who) (filter (λ g. not (same_tuid g.tuid t)) (own q)) (own q))
+      → {own' : ℕ → List OpenGrant} → ((q : ℕ) → own' q ≡ cond (eqb q who) (filter (λ g. not (same_tuid g.tuid t)) (own q)) (own q))
       → {modes' : Puid → Option Mode} → ((q : Puid) → modes' q ≡ cond (same_puid q c.id) None (modes q))
       → IsTied (without_grant grants who t) own' modes'
   IsTied-closed gone own_is modes_is = less own_is (λ id. modes_is id ∙ still id (same_puid id c.id) refl)

@@ -6,7 +6,7 @@ pub use Rattle.cfs_base.specs.declared.kind.Mode.TheVariants.{Reading, Writing}
 pub use Rattle.open_table.specs.Grants.{Table, collides, conflicts, fault_by, fault_of, first_grant, session_grant, grants_of, is_session_grant, is_grant_table, mode_against, open_mode, none_collide, tuids_differ, without_grant, without_session}
 pub use Rattle.open_table.specs.Model.{is_writing, shown, table_of}
 pub use Rattle.open_table.specs.Parts.{IsTied, Modes, same_key}
-pub use Rattle.open_table.specs.declared.grant.Grant.{Grant}
+pub use Rattle.open_table.specs.declared.grant.OpenGrant.{OpenGrant}
 pub use Rattle.std.proofs.lemmas.Bool.{and_parts, or_parts}
 pub use Rattle.std.proofs.lemmas.Bool.Decides.{nat_tests}
 pub use Rattle.std.proofs.lemmas.Fn.{filter_same}

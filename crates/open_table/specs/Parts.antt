@@ -10,23 +10,23 @@ use Rattle.cfs_base.specs.declared.identifier.Tuid.{Tuid}
 use Rattle.cfs_base.specs.declared.kind.Mode.{Mode}
 use Rattle.ufs_model.specs.declared.limits.TheConstants.{MOST_GRANTS}
 use Rattle.ufs_model.specs.Identifier.{same_tuid}
-use Rattle.open_table.specs.declared.grant.Grant.{Grant}
+use Rattle.open_table.specs.declared.grant.OpenGrant.{OpenGrant}
 use Rattle.open_table.specs.Grants.{grants_of, open_mode, none_collide, tuids_differ}
 
 abbrev pub Own : Type 0
-Own = HashMap ℕ (Vec Grant Global) (BuildHasherDefault FoldHasher)
+Own = HashMap ℕ (Vec OpenGrant Global) (BuildHasherDefault FoldHasher)
 
 -- a session's own grants
-abbrev pub own_in : Own → ℕ → List Grant
+abbrev pub own_in : Own → ℕ → List OpenGrant
 own_in own who = unwrap_or (option_map (λ v. v.items) (get nat_eq own who)) []
 
 -- these without the one of that identifier
-abbrev pub without_tuid : List Grant → Tuid → List Grant
+abbrev pub without_tuid : List OpenGrant → Tuid → List OpenGrant
 without_tuid grants t = filter (λ g. not (same_tuid g.tuid t)) grants
 
 -- each session has seats for all the grants that it may have
 abbrev pub HaveSeats : Own → Type 0
-HaveSeats own = (who : ℕ) (v : Vec Grant Global) → get nat_eq own who ≡ Some v → MOST_GRANTS ≤ vec_capacity v
+HaveSeats own = (who : ℕ) (v : Vec OpenGrant Global) → get nat_eq own who ≡ Some v → MOST_GRANTS ≤ vec_capacity v
 
 abbrev pub Modes : Type 0
 Modes = HashMap (ℕ × ℕ) Mode (BuildHasherDefault FoldHasher)
@@ -39,7 +39,7 @@ abbrev pub mode_at : Modes → Puid → Option Mode
 mode_at m id = get same_key m (id.block, id.word)
 
 -- the tables tell what the list tells. No two grants collide or have one identifier, and no session has too many
-pub record IsTied (grants : List Grant) (sessions : ℕ → List Grant) (objects : Puid → Option Mode) : Type 0 where
+pub record IsTied (grants : List OpenGrant) (sessions : ℕ → List OpenGrant) (objects : Puid → Option Mode) : Type 0 where
   pub own : (who : ℕ) → sessions who ≡ grants_of grants who
   pub modes : (id : Puid) → objects id ≡ open_mode grants id
   pub few : (who : ℕ) → length (grants_of grants who) ≤ MOST_GRANTS

@@ -3,7 +3,7 @@ use cfs_base::{Mode, Puid, Session, Tuid};
 
 /// An object that a session has open.
 #[derive(Clone, Copy, Debug, PartialEq, Eq)]
-pub struct Grant {
+pub struct OpenGrant {
     pub tuid: Tuid,
     pub session: Session,
     pub id: Puid,

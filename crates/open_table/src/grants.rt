@@ -9,7 +9,7 @@ ghost use Rattle.open_table.specs.Grants.{conflicts, mode_against, fault_of};
 
 use crate::objects::Objects;
 use crate::sessions::Sessions;
-use crate::{AcquireFault, Grant, NoGrant};
+use crate::{AcquireFault, NoGrant, OpenGrant};
 use cfs_base::{Mode, NoMemory, Puid, Session, Tuid};
 use std::alloc::Global;
 use std::marker::Model;
@@ -19,7 +19,7 @@ use ufs_model::MOST_GRANTS;
 /// object is open by one look-up. Only `reserve` takes memory.
 #[derive(Drop)]
 pub struct Grants {
-    grants: Vec<Grant>,
+    grants: Vec<OpenGrant>,
     sessions: Sessions,
     objects: Objects,
 }
@@ -74,7 +74,7 @@ impl Grants {
 
     /// Adds a grant, whose temporary identifier must be new. Takes no memory, and uses up the room that was made.
     /// Where it is refused all stays as it was.
-    pub fn acquire(&mut self, grant: Grant) -> Result<(), AcquireFault>
+    pub fn acquire(&mut self, grant: OpenGrant) -> Result<(), AcquireFault>
         requires room { self.old.has_room ≡ true }
         requires new { list_any (λ g. same_tuid g.tuid grant.tuid) self.old.grants ≡ false }
         ensures grants { OnOk result (self.new.grants ≡ self.old.grants ++ grant ∷ []) }
@@ -92,7 +92,7 @@ impl Grants {
     }
 
     /// Why a grant can't be acquired, if it can't.
-    pub fn fault(&self, grant: Grant) -> Option<AcquireFault>
+    pub fn fault(&self, grant: OpenGrant) -> Option<AcquireFault>
         ensures { result ≡ fault_of self.now.grants grant }
     {
         if let Some(mode) = self.standing_against(grant) {
@@ -105,7 +105,7 @@ impl Grants {
     }
 
     /// The mode of those that stand on the object and conflict with this grant.
-    fn standing_against(&self, grant: Grant) -> Option<Mode>
+    fn standing_against(&self, grant: OpenGrant) -> Option<Mode>
         ensures { result ≡ mode_against self.now.grants grant }
     {
         let mode = self.objects.mode_on(grant.id)?;
@@ -113,7 +113,7 @@ impl Grants {
     }
 
     /// The session's grant with this temporary identifier.
-    pub fn find(&self, who: Session, tuid: Tuid) -> Option<Grant>
+    pub fn find(&self, who: Session, tuid: Tuid) -> Option<OpenGrant>
         ensures { result ≡ session_grant self.now.grants who tuid }
     {
         self.sessions.find(who, tuid)
@@ -121,7 +121,7 @@ impl Grants {
 
     /// Takes the session's grant with this temporary identifier out, which goes over the list. Where there is none all
     /// stays as it was. Takes no memory.
-    pub fn close(&mut self, who: Session, tuid: Tuid) -> Result<Grant, NoGrant>
+    pub fn close(&mut self, who: Session, tuid: Tuid) -> Result<OpenGrant, NoGrant>
         ensures found { IfOk result (λ grant. session_grant self.old.grants who tuid ≡ Some grant) }
         ensures grants { OnOk result (self.new.grants ≡ without_grant self.old.grants who tuid) }
         ensures none { OnErr result (session_grant self.old.grants who tuid ≡ None) }
@@ -146,7 +146,7 @@ impl Grants {
     }
 
     /// The first of the session's grants.
-    pub fn next_of(&self, who: Session) -> Option<Grant>
+    pub fn next_of(&self, who: Session) -> Option<OpenGrant>
         ensures { result ≡ first_grant self.now.grants who }
     {
         self.sessions.of(who).first().copied()
@@ -172,7 +172,7 @@ impl Grants {
     }
 
     /// The grant at a place, in the order of acquiring from 0.
-    pub fn at(&self, place: u32) -> Grant
+    pub fn at(&self, place: u32) -> OpenGrant
         requires { place < length self.now.grants }
         ensures { slice_get self.now.grants place ≡ Some result }
     {
@@ -181,7 +181,7 @@ impl Grants {
 }
 
 /// Whether one of these grants is on the object.
-fn is_open(grants: &[Grant], id: Puid) -> bool
+fn is_open(grants: &[OpenGrant], id: Puid) -> bool
     ensures { result ≡ list_any (λ g. same_puid g.id id) grants.now }
 {
     grants.iter().any(|g| g.id == id)

@@ -9,7 +9,7 @@ ghost use Rattle.ufs_model.specs.State.{State, grant_of, after_leave};
 ghost use Rattle.ufs_model.specs.Outcome.{outcome_of};
 ghost use Rattle.ufs_model.specs.Word.{word};
 ghost use Rattle.ufs_model.specs.Refusal.{is_open, is_open_for_writing, is_locked, has_all_grants};
-ghost use Rattle.open_table.specs.declared.grant.Grant.{Grant};
+ghost use Rattle.open_table.specs.declared.grant.OpenGrant.{OpenGrant};
 ghost use Rattle.open_table.specs.Grants.{session_grant, grants_of, open_mode, mode_against, without_grant};
 ghost use Rattle.open_table.specs.Grants.{without_session};
 ghost use Rattle.open_table.specs.Grants.{none_collide};
@@ -23,7 +23,7 @@ pub fn table_follows_the_model()
     ensures open { (s : State) (id : Puid) → is_some (open_mode (table_of s.grants) id) ≡ is_open s id }
     ensures written { (s : State) (id : Puid) → none_collide (table_of s.grants) ≡ true
         → is_writing (open_mode (table_of s.grants) id) ≡ is_open_for_writing s id }
-    ensures locked { (s : State) (who : ℕ) (g : Grant)
+    ensures locked { (s : State) (who : ℕ) (g : OpenGrant)
         → is_some (mode_against (table_of s.grants) g) ≡ is_locked s who (asks.OpenFor g.id g.mode) }
     ensures full { (s : State) (who : ℕ) (id : Puid) (mode : Mode)
         → nat_le MOST_GRANTS (length (grants_of (table_of s.grants) who))

@@ -6,11 +6,10 @@
 mod fault;
 mod grant;
 mod grants;
-mod laws;
+pub mod laws;
 mod objects;
 mod sessions;
 
 pub use fault::{AcquireFault, NoGrant};
-pub use grant::Grant;
+pub use grant::OpenGrant;
 pub use grants::Grants;
-pub use laws::table_follows_the_model;

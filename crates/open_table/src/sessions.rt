@@ -5,7 +5,7 @@ ghost use Rattle.std.specs.HashMap.{spare, get};
 ghost use Rattle.ufs_model.specs.Identifier.{same_tuid};
 ghost use Rattle.open_table.specs.Parts.{own_in, HaveSeats, without_tuid};
 
-use crate::Grant;
+use crate::OpenGrant;
 use cfs_base::{NoMemory, Session, Tuid};
 use std::alloc::Global;
 use std::collections::HashMap;
@@ -16,9 +16,9 @@ use ufs_model::MOST_GRANTS;
 #[derive(Drop)]
 pub struct Sessions {
     alloc: Global,
-    pub own: HashMap<Session, Vec<Grant>>,
+    pub own: HashMap<Session, Vec<OpenGrant>>,
     /// Of the next session that comes: empty, with room for all the grants that it may have.
-    pub fresh: Vec<Grant>,
+    pub fresh: Vec<OpenGrant>,
     ghost seats: { HaveSeats own },
     ghost empty: { fresh.items ≡ [] },
 }
@@ -50,7 +50,7 @@ impl Sessions {
     }
 
     /// A session's own grants.
-    pub fn of(&self, who: Session) -> &[Grant]
+    pub fn of(&self, who: Session) -> &[OpenGrant]
         ensures { result.now ≡ own_in self.now.own who }
     {
         match self.own.get(&who) {
@@ -60,14 +60,14 @@ impl Sessions {
     }
 
     /// The one of a session's own with this temporary identifier.
-    pub fn find(&self, who: Session, tuid: Tuid) -> Option<Grant>
+    pub fn find(&self, who: Session, tuid: Tuid) -> Option<OpenGrant>
         ensures { result ≡ find (λ g. same_tuid g.tuid tuid) (own_in self.now.own who) }
     {
         self.of(who).iter().find(|g| g.tuid == tuid).copied()
     }
 
     /// Adds a grant to its session's own. Takes no memory.
-    pub fn add(&mut self, grant: Grant)
+    pub fn add(&mut self, grant: OpenGrant)
         requires few { length (own_in self.old.own grant.session) < MOST_GRANTS }
         requires room { 0 < spare self.old.own }
         requires seats { MOST_GRANTS ≤ vec_capacity self.old.fresh }

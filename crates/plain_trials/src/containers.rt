@@ -6,7 +6,7 @@ use cfs_base::{Disk, Gate, Ids, Kind, Mode, Puid, Sink, Tuid};
 use cfs_fakes::{HoldGate, MemoryDisk, MemorySink};
 use cfs_trail::Trail;
 use collector_marks::{Grey, Marks, Rescue, Rescues};
-use open_table::{Grant, Grants};
+use open_table::{Grants, OpenGrant};
 use puid_space::Directory;
 use std::test::Fail;
 use ufs_model::Event;
@@ -44,7 +44,7 @@ fn names_are_added_and_taken_out_in_rising_order(rt: HostRuntime) -> Result<(), 
 
 #[test]
 fn a_grant_is_acquired_and_found(rt: HostRuntime) -> Result<(), Fail> {
-    let grant = Grant {
+    let grant = OpenGrant {
         tuid: Tuid { draw: 1, word: 7 },
         session: 0,
         id: named(3),

@@ -1,4 +1,6 @@
 //! Spellings worked by hand: numbers in a block, entries of a map, labels, and the words of a seed.
+ghost use Rattle.std.specs.Prelude.{◌≤◌};
+
 use cfs_base::{Block, Place, Puid};
 use cyl_map::{BadEntry, BlockState, MapEntry};
 use puid_space::{Draw, Drawn, root_word};
@@ -68,6 +70,29 @@ fn entries_of_a_small_volume_are_read_and_spelled(rt: HostRuntime) {
             Place::ShadowRoot,
             2,
         ),
+        (0x0103_0078_0000_0005, Allocated, false, Place::Node(120), 5),
+        (
+            0x0104_ffff_0000_0002,
+            Allocated,
+            false,
+            Place::Leaf(65_535),
+            2,
+        ),
+        (
+            0x0114_0000_0000_0002,
+            Allocated,
+            false,
+            Place::Leaf(65_536),
+            2,
+        ),
+        (
+            0x01f4_ffff_0000_0002,
+            Allocated,
+            false,
+            Place::Leaf(1_048_575),
+            2,
+        ),
+        (0x0105_003f_0000_0002, Allocated, false, Place::Span(63), 2),
     ] {
         let entry = MapEntry {
             state,
@@ -81,7 +106,10 @@ fn entries_of_a_small_volume_are_read_and_spelled(rt: HostRuntime) {
         (0x0100_0000_0000_0001, 7),
         (0x0301_0000_0000_0005, 1),
         (0x8103_0000_0000_0005, 1),
-        (0x0103_0078_0000_0005, 3),
+        (0x0103_2000_0000_0005, 2),
+        (0x0113_0000_0000_0005, 1),
+        (0x0105_0040_0000_0002, 3),
+        (0x0105_0100_0000_0002, 2),
         (0x0101_0000_0000_0000, 7),
         (0x0400_0000_0000_0000, 0),
     ] {
@@ -95,42 +123,54 @@ fn label_of(cylinders: u32) -> Label {
     Label {
         cylinders,
         root: Puid { block: 2, word },
+        version: 2,
     }
 }
 
 /// The label of a volume of one cylinder, byte by byte.
 fn small_label() -> Block {
     let mut block = Block::zero();
-    block.put_u64(0, 0x4346_5331_0000_0001);
+    block.put_u64(0, 0x4346_5331_0000_0002);
     block.put_u64(8, 0x0000_0001_0000_0002);
     block.put_u32(16, 0xade0_b876);
     block
 }
 
+/// That label, with this number somewhere in it.
+fn changed_label(at: usize, number: u32) -> Block
+    requires { at ≤ 508 }
+{
+    let mut block = small_label();
+    block.put_u32(at, number);
+    block
+}
+
 #[test]
 fn the_label_of_a_small_volume_is_read_and_refused_where_it_is_changed(rt: HostRuntime) {
-    let none = Err(LabelFault::NotVolume);
-    for (at, number, wanted) in [
-        (0, 0x4346_5331, Ok(label_of(1))),
-        (0, 0x4346_5332, none),
-        (4, 0, Err(LabelFault::Version { found: 0 })),
-        (
-            4,
-            0x0100_0000,
-            Err(LabelFault::Version { found: 0x0100_0000 }),
-        ),
-        (8, 0, none),
-        (8, 65_536, Ok(label_of(65_536))),
-        (8, 65_537, none),
-        (12, 3, none),
-        (508, 1, none),
+    let first = Label {
+        version: 1,
+        ..label_of(1)
+    };
+    for (at, number, label) in [
+        (0, 0x4346_5331, label_of(1)),
+        (4, 1, first),
+        (8, 65_536, label_of(65_536)),
     ] {
-        let mut block = small_label();
-        block.put_u32(at, number);
-        let read = Label::decode(&block);
-        assert_eq!(rt; read, wanted, "{number} at {at}");
-        if let Ok(label) = read {
-            assert_eq!(rt; label.encode(), block);
-        }
+        let block = changed_label(at, number);
+        assert_eq!(rt; Label::decode(&block), Ok(label), "{number} at {at}");
+        assert_eq!(rt; label.encode(), block);
+    }
+    for (at, number, fault) in [
+        (0, 0x4346_5332, LabelFault::NotVolume),
+        (4, 0, LabelFault::Version { found: 0 }),
+        (4, 3, LabelFault::Version { found: 3 }),
+        (4, 0x0100_0000, LabelFault::Version { found: 0x0100_0000 }),
+        (8, 0, LabelFault::NotVolume),
+        (8, 65_537, LabelFault::NotVolume),
+        (12, 3, LabelFault::NotVolume),
+        (508, 1, LabelFault::NotVolume),
+    ] {
+        let read = Label::decode(&changed_label(at, number));
+        assert_eq!(rt; read, Err(fault), "{number} at {at}");
     }
 }

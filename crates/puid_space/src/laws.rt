@@ -8,7 +8,9 @@ ghost use Rattle.ufs_model.specs.declared.object.Object.{Object};
 ghost use Rattle.ufs_model.specs.Identifier.{puid_cmp, is_among, rises};
 ghost use Rattle.ufs_model.specs.Graph.{Graph, ids_of, object_at, with_object, without, has_block};
 ghost use Rattle.puid_space.specs.Kinds.{object_kind, kinds_of};
-ghost use Rattle.puid_space.specs.Directory.{directory_kind, has_root_in, kept_by, taken_by};
+ghost use Rattle.puid_space.specs.Directory.{directory_kind, has_root_in, is_listing, kept_by, taken_by};
+
+use crate::directory::Directory;
 
 /// The kinds of a graph's objects: what is found in them, and how they change with the graph.
 pub fn kinds_follow_the_graph()
@@ -30,3 +32,10 @@ pub fn taken_are_left_out()
     ensures { (test : ℕ → Bool) (named : List (Puid × Kind))
         → filter (λ e. not (is_among e.0 (taken_by test named))) named ≡ kept_by test named }
 {}
+
+/// A directory lists its identifiers in their order, each with a root block that there is room for.
+pub fn directories_are_listings(directory: &Directory)
+    ensures { IsTrue (is_listing directory.now) }
+{
+    directory.room();
+}

@@ -5,8 +5,7 @@
 
 mod directory;
 mod draw;
-mod laws;
+pub mod laws;
 
 pub use directory::Directory;
 pub use draw::{Draw, Drawn, root_word};
-pub use laws::{kinds_follow_the_graph, taken_are_left_out};

@@ -1,13 +1,13 @@
 -- A commit from the release of what is dropped to the end.
 use Rattle.std.proofs.Common.{◌≡◌, inl, inr, ⊎_elim, ℕ, ◌≤◌, true, false, List, [], ◌∷◌, length, set, Ok, Some, refl, sym, ◌∙◌, ap, subst, arith, Option}
-use Rattle.special_files.proofs.Words.{AreCounts, Decided, Carries, ChangesBit, ChangesOnly, Flips, Frame, Ghosts, Graph, HasItsBlocks, Holds, IfErr, Image, IsEntered, IsMapTrouble, IsOldOrNew, IsOn, IsReady, IsSettled, Keeps, Kept, Leaves, MakesAtMost, MayFlip, Object, Puid, Release, Result, SetBit, Trouble, bit_set, block_at, carries_framed, entry_in, false_from_ne_true, flipped, flips, frames_hold, in_image, is_damage, is_fixed, is_free_in, is_meant_for, is_owned_by, is_taken, keeps_frame, puid_at, not_label, not_map, of_owners, option_to_list, reserved, root_placed, same_or_not, taken_apart, the_entry, then, tree_in, trouble_after_try, wider, with_bit, with_entry, with_object}
-use Rattle.intentions.proofs.Flips.{flip_is, flipped_append, no_damage}
+use Rattle.special_files.proofs.Words.{AreCounts, Decided, Carries, ChangesBit, ChangesOnly, Flips, Frame, Ghosts, Graph, HasItsBlocks, Holds, IfErr, Image, IsEntered, IsMapTrouble, IsOldOrNew, IsOn, IsReady, IsSettled, Keeps, Kept, Leaves, MakesAtMost, MayTurn, Object, Puid, Release, Result, Trouble, bit_set, block_at, carries_framed, entry_in, false_from_ne_true, frames_hold, in_image, is_damage, is_fixed, is_free_in, is_meant_for, is_owned_by, is_taken, keeps_frame, puid_at, not_label, not_map, of_owners, option_to_list, reserved, root_placed, same_or_not, taken_apart, the_entry, then, tree_in, trouble_after_try, turned, wider, with_bit, with_entry, with_object}
+use Rattle.cyl_map.proofs.Mapped.{mapped_is}
+use Rattle.intentions.proofs.Turned.{no_damage}
 use Rattle.special_files.proofs.commit.CommitRoles.{none_meant, now_has, only_owners}
-use Rattle.intentions.specs.Left.{AreOpen, coming, copied_if, final_image, plan}
+use Rattle.intentions.specs.Left.{coming, final_image}
 use Rattle.intentions.proofs.Courses.{on_holds}
-use Rattle.special_files.proofs.commit.CommitOpens.{plan_open}
 use Rattle.finisher.proofs.Calls.{counts_alike}
-use Rattle.special_files.proofs.CommitLeft.{comes_to, going_begins, left, plan_is, rest_of}
+use Rattle.special_files.proofs.CommitLeft.{bit_is, comes_to, going_begins, open_begins, rest_of}
 use Rattle.special_files.proofs.commit.CommitAfter as after_it
 use Rattle.special_files.proofs.commit.CommitWhole as whole
 
@@ -17,24 +17,18 @@ module _ {D : Type 0} (g : Ghosts D) {graph full : Graph} {at word : ℕ} {was o
   frame_keeps : Keeps g (Frame (g.content d0) graph) d0
   frame_keeps = keeps_frame g graph d0 run
 
-  may : MayFlip (Frame (g.content d0) graph) (g.content d0) (flips Release dropped)
+  may : MayTurn (Frame (g.content d0) graph) (g.content d0) (λ m. Release) dropped
   may = whole.release_may ready graph
 
-  pub release_leaves : (d1 : D) (n t : ℕ) (r : Result (Unit {0}) Trouble) → Flips g n t (flips Release dropped) d0 d1 r → Leaves g d0 d1 (IsOldOrNew graph full (puid_at at word) o)
+  pub release_leaves : (d1 : D) (n t : ℕ) (r : Result (Unit {0}) Trouble) → Flips g n t Release dropped d0 d1 r → Leaves g d0 d1 (IsOldOrNew graph full (puid_at at word) o)
   release_leaves d1 n t r f = wider g d0 d1 (IsOn (Frame (g.content d0) graph)) (IsOldOrNew graph full (puid_at at word) o) (f.leaves (Frame (g.content d0) graph) run.holds frame_keeps may) (λ c on. inl (frames_hold (g.content d0) c graph run.holds on))
 
-  pub release_sound : (d1 : D) (n t : ℕ) (r : Result (Unit {0}) Trouble) → Flips g n t (flips Release dropped) d0 d1 r → IfErr r (λ e. is_damage e ≡ false)
+  pub release_sound : (d1 : D) (n t : ℕ) (r : Result (Unit {0}) Trouble) → Flips g n t Release dropped d0 d1 r → IfErr r (λ e. is_damage e ≡ false)
   release_sound d1 n t r f = f.sound (Frame (g.content d0) graph) run.holds frame_keeps may
 
-  -- the bit in the image of the plan
-  bit_is : bit_set (g.content d0) at dropped ≡ whole.a2 ready
-  bit_is =
-      flipped_append (flips Release dropped) (flips SetBit (at ∷ [])) (g.content d0)
-      ∙ flip_is (flipped (g.content d0) (flips Release dropped)) (record { block = at; how = SetBit }) _ (whole.a1_root ready).taken.here
-
-  module _ (d1 : D) (n t : ℕ) (f : Flips g n t (flips Release dropped) d0 d1 (Ok tt)) where
+  module _ (d1 : D) (n t : ℕ) (f : Flips g n t Release dropped d0 d1 (Ok tt)) where
     content1 : g.content d1 ≡ whole.a1 ready
-    content1 = f.put run.tells
+    content1 = sym (mapped_is (turned (λ m. Release) dropped) (g.content d0) (g.content d1) (whole.whole ready) (f.put (Frame (g.content d0) graph) run.holds frame_keeps may))
 
     run1 : Carries g graph d1
     run1 = carries_framed g (g.content d0) graph d1 run.holds (f.keeps (Frame (g.content d0) graph) run.holds frame_keeps may)
@@ -43,7 +37,7 @@ module _ {D : Type 0} (g : Ghosts D) {graph full : Graph} {at word : ℕ} {was o
     here1 = ap (λ (i : Image). entry_in i at) content1 ∙ (whole.a1_root ready).taken.here
 
     pub bit_sound : (d2 : D) (e : Trouble) → IsMapTrouble g d1 d2 at e → is_damage (trouble_after_try e) ≡ false
-    bit_sound d2 e is = no_damage g at SetBit d1 d2 (Frame (g.content d1) graph) run1.holds (keeps_frame g graph d1 run1) (whole.a1_root ready).taken.is here1 e is
+    bit_sound d2 e is = no_damage g at d1 d2 (Frame (g.content d1) graph) run1.holds (keeps_frame g graph d1 run1) (whole.a1_root ready).taken.is here1 e is
 
     a2_now : with_entry (g.content d1) at (with_bit (whole.a1_root ready).taken.is) ≡ whole.a2 ready
     a2_now = ap (λ (i : Image). with_entry i at (with_bit (whole.a1_root ready).taken.is)) content1
@@ -54,17 +48,17 @@ module _ {D : Type 0} (g : Ghosts D) {graph full : Graph} {at word : ℕ} {was o
           (λ c is. subst (λ (i : Image). Holds i (with_object full (puid_at at word) o)) (sym (is ∙ a2_now)) (whole.bit ready).committed.holds)
 
     pub bit_put : (d2 : D) → ChangesBit g at (λ e. with_bit e) d1 d2 (Ok (tt {0})) → g.content d2 ≡ bit_set (g.content d0) at dropped
-    bit_put d2 bit = bit.put run1.tells (whole.a1_root ready).taken.is here1 ∙ a2_now ∙ sym bit_is
+    bit_put d2 bit = bit.put run1.tells (whole.a1_root ready).taken.is here1 ∙ a2_now ∙ sym (bit_is ready)
 
   -- ---- from the bit on
 
   module _ (d1 : D) (content_is : g.content d1 ≡ bit_set (g.content d0) at dropped) where
     a2_is : g.content d1 ≡ whole.a2 ready
-    a2_is = content_is ∙ bit_is
+    a2_is = content_is ∙ bit_is ready
 
     -- what is left then, as a space keeps it
     module _ (before mid : Kept) (counts : AreCounts (g.content d0) before) (same : mid.free ≡ before.free) (rest : List ℕ) (rest_is : rest ≡ rest_of taken dropped created s) (noted : mid.left ≡ Some (record { root = at; shadow = s; rest = rest; copied = false })) (settled : IsSettled g d1) where
-      left_is : mid.left ≡ Some (left ready)
+      left_is : mid.left ≡ Some (whole.left ready)
       left_is = noted ∙ ap (λ (ns : List ℕ). Some (record { root = at; shadow = s; rest = ns; copied = false })) rest_is
 
       counts1 : AreCounts (g.content d1) mid
@@ -88,16 +82,12 @@ module _ {D : Type 0} (g : Ghosts D) {graph full : Graph} {at word : ℕ} {was o
           let same = run.holds.fixed m (in_image (g.content d0) graph run.holds m e.0 e.1) is in
           let no : is_owned_by is_taken q (Some reserved) ≡ true = sym (ap (is_owned_by is_taken q) same) ∙ h in cc)
 
-      -- the image with the root copied
-      copied_is : copied_if false (left ready) (g.content d1) ≡ whole.a3 ready
-      copied_is = ap (λ (i : Image). set i at (block_at i s)) a2_is
-
       pub decided : Decided g full (puid_at at word) o s created d0 d1 mid
       decided = record {
-        left = left ready;
+        left = whole.left ready;
         kept = record { is = left_is; root = refl; uncopied = refl };
         going = going_begins ready g d1 mid content_is settled counts1;
-        opens = subst (λ (i : Image). AreOpen (λ e. of_owners (at ∷ option_to_list created) e) i (plan (left ready))) (sym copied_is) (subst (AreOpen (λ e. of_owners (at ∷ option_to_list created) e) (whole.a3 ready)) (sym (plan_is ready)) (plan_open ready));
+        opens = open_begins ready g d1 mid content_is settled counts1;
         settled = settled;
         holds = subst (λ (i : Image). Holds i (with_object full (puid_at at word) o)) (sym b4_is) b4_holds;
         has = subst (λ (i : Image). HasItsBlocks i at) (sym b4_is) (now_has (g.content d0) b4 at created _ ready.has (after_it.role ready) (after_it.no_bit_now ready) (after_it.tree_now ready) (after_it.new_taken ready));

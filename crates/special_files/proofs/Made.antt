@@ -1,9 +1,9 @@
 -- The root of an object that is made with a commit.
 use Rattle.std.proofs.Common.{◌≡◌, ◌≢◌, inl, inr, ⊎_elim, ℕ, true, false, List, Option, Some, None, refl, sym, ◌∙◌, ap, subst, eq-eqb}
-use Rattle.special_files.proofs.Words.{Accounts, ChangesOnly, Drafts, Graph, HasItsBlocks, Image, IntendAllocate, IsBareRoot, IsEntered, IsMadeRoot, IsOpenTo, IsPlaced, IsRootBlock, Leaf, MapEntry, Node, Opened, Place, Puid, Root, RootsOwnThemselves, SameAt, ShadowRoot, and_from, and_parts, below_none, block_at, both_ways, created_if, entry_in, false_from_ne_true, free_unowned, had_not_meant, is_committed, is_fixed, is_had, is_leaving, is_made, is_meant, is_meant_for, is_owned_by, is_placed, is_root_place, is_taken, node_pointers, none-some, of_draft, of_taken, owner_is, owner_of, part_at, pointers_of, root_owner, same_Some}
+use Rattle.special_files.proofs.Words.{Accounts, ChangesOnly, Drafts, Graph, HasItsBlocks, Image, IntendAllocate, IsBareRoot, IsEntered, IsMadeRoot, IsOpenTo, IsPlaced, IsRootBlock, Leaf, Span, MapEntry, Node, Opened, Place, Puid, Root, RootsOwnThemselves, SameAt, ShadowRoot, and_from, and_parts, below_none, block_at, both_ways, created_if, entry_in, false_from_ne_true, free_unowned, had_not_meant, is_committed, is_fixed, is_had, is_leaving, is_made, is_meant, is_meant_for, is_owned_by, is_placed, is_root_place, is_taken, node_pointers, none-some, of_draft, of_taken, owner_is, owner_of, part_at, pointers_of, root_owner, same_Some}
 use Rattle.block_tree.specs.declared.root.Root as roots
 use Rattle.vol_owners.proofs.Entries.{root_placed}
-use Rattle.intentions.proofs.Flips.{option_is}
+use Rattle.intentions.proofs.Turned.{option_is}
 use Rattle.special_files.proofs.commit.CommitRoles.{block_stands, had_not_leaving}
 use Rattle.special_files.proofs.Meant.{meant_is}
 
@@ -13,6 +13,7 @@ root_is (Some Root) q = refl
 root_is (Some ShadowRoot) q = cc
 root_is (Some (Node k)) q = cc
 root_is (Some (Leaf k)) q = cc
+root_is (Some (Span k)) q = cc
 
 -- the entry of a root that is meant for itself
 pub record IsNewRoot (a : Image) (c : ℕ) : Type 0 where

@@ -20,7 +20,7 @@ pub use Rattle.cfs_base.specs.declared.identifier.BlockNo.{BlockNo}
 pub use Rattle.cfs_base.specs.declared.identifier.Puid.{Puid}
 pub use Rattle.cfs_base.specs.declared.kind.FileKind.{FileKind}
 pub use Rattle.cfs_base.specs.declared.kind.Place.{Place}
-pub use Rattle.cfs_base.specs.declared.kind.Place.TheVariants.{Leaf, Node, Root, ShadowRoot}
+pub use Rattle.cfs_base.specs.declared.kind.Place.TheVariants.{Leaf, Node, Root, ShadowRoot, Span}
 pub use Rattle.cfs_base.specs.declared.refusal.Damage.{Damage}
 pub use Rattle.cfs_base.specs.declared.refusal.Need.{Need}
 pub use Rattle.cfs_base.specs.declared.refusal.Refused.{Refused}
@@ -50,10 +50,10 @@ pub use Rattle.intentions.specs.Calls.{ChangesBit, ChangesEntry}
 pub use Rattle.intentions.specs.Commit.{Commits, Copies, IsToFinish}
 pub use Rattle.intentions.specs.Course.{Course, Frame, IsCourse, IsOn, Keeps, MayPut, Settling}
 pub use Rattle.intentions.specs.Entries.{changed_entry, finished, finished_in, released, released_at, released_in, undone, undone_in, with_bit, with_bit_at, without_bit}
-pub use Rattle.intentions.specs.Flips.{Flip, MayFlip, flip, flipped, flips}
+pub use Rattle.intentions.specs.Turned.{MayTurn, changed_if, turned}
 pub use Rattle.intentions.specs.Store.{StoreHas}
-pub use Rattle.intentions.specs.declared.change.Change.{Change}
-pub use Rattle.intentions.specs.declared.change.Change.TheVariants.{ClearBit, Finish, Release, SetBit, Undo}
+pub use Rattle.intentions.specs.declared.change.EntryChange.{EntryChange}
+pub use Rattle.intentions.specs.declared.change.EntryChange.TheVariants.{ClearBit, Finish, Release, SetBit, Undo}
 pub use Rattle.leaf_changes.proofs.Contents.{content_is, held_is, length-leaf_content, past_size, same_held}
 pub use Rattle.leaf_changes.proofs.Fits.{same_object}
 pub use Rattle.leaf_changes.proofs.Given.{file_to_leaves, index_to_leaves}
@@ -74,7 +74,7 @@ pub use Rattle.special_files.specs.Begins.{BeginsDirect, BeginsDraft}
 pub use Rattle.special_files.specs.Calls.{Claims, GetsDraftNode, Had, SetsFlags, SetsFresh, WritesDraftBlock}
 pub use Rattle.special_files.specs.Changed.{AreDropped, AreOnDisk, AreTaken, IsChanged, in_node, pointer_table, unlike}
 unfoldable pub use Rattle.special_files.specs.Changed.{all_unlike}
-pub use Rattle.special_files.specs.Committing.{AbortCall, AbortEnds, AreDraftParts, Decided, CommitEnds, Committed, Dropped, CommitCall, CommitFails, CommitsSo, FinishesCommit, Flips, FlipsRun, IsEntered, IsNoted, IsOldOrNew, IsReady, Makes, Making, TakesShadow, bit_set, far_root, given_all, puid_at, making_root, settling, undoing, with_making, FarMade, FarRoots, FarShadow, draft_top, parts_top}
+pub use Rattle.special_files.specs.Committing.{AbortCall, AbortEnds, AreDraftParts, Decided, CommitEnds, Committed, Dropped, CommitCall, CommitFails, CommitsSo, FinishesCommit, Flips, FlipsRun, IsEntered, IsNoted, IsOldOrNew, IsReady, Makes, Making, TakesShadow, bit_set, far_root, given_all, puid_at, making_root, undoing, with_making, FarMade, FarRoots, FarShadow, draft_top, parts_top}
 pub use Rattle.special_files.specs.Drafting.{Drafting, HasNoneFresh, IsOpen, begun_at, fresh_of, is_fresh_leaf, is_fresh_node, draft_takes, leaves_take, need_beside, pointer_to_node, number_if, one_unless, opened_as, shadow_count, shadow_need}
 unfoldable pub use Rattle.special_files.specs.Drafting.{none_of, set_in, unset_in}
 pub use Rattle.special_files.specs.Ends.{EndsCall}

@@ -2,7 +2,6 @@ pub mod CommitAfter
 pub mod CommitCalls
 pub mod CommitEntries
 pub mod CommitFlips
-pub mod CommitOpens
 pub mod CommitRoles
 pub mod CommitRuns
 pub mod CommitStore

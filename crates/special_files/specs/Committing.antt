@@ -1,5 +1,5 @@
 -- Entries that are changed one after another, as a commit and an abort do.
-use Rattle.std.specs.Prelude.{◌≡◌, ◌⊎◌, ℕ, ◌+◌, ◌≤◌, ◌≢◌, ◌%◌, true, false, List, [], ◌∷◌, ◌++◌, set, IfErr, OnOk}
+use Rattle.std.specs.Prelude.{◌≡◌, ◌⊎◌, ℕ, ◌+◌, ◌≤◌, ◌≢◌, ◌==◌, ◌%◌, true, false, List, [], ◌∷◌, ◌++◌, IfErr, OnOk}
 use Rattle.std.specs.Prelude.{Ok, Err, Result, IsSome, Option, Some, None, drop, length, option_to_list, take}
 use Rattle.cfs_base.specs.Codes.{past_disk}
 use Rattle.cfs_base.specs.Calls.{HasFailed, HasTried, MakesAtMost, OnlyReads}
@@ -15,11 +15,12 @@ use Rattle.block_tree.specs.Root.{root_spelling}
 use Rattle.cyl_alloc.specs.Left.{LeftCommit}
 use Rattle.cyl_alloc.specs.Space.{IsLeastFree, AreCounts, Kept, after_giving}
 use Rattle.cyl_map.specs.Volume.{entry_in, is_free_in}
-use Rattle.intentions.specs.Flips.{Flip, MayFlip, flipped, flips}
+use Rattle.cyl_map.specs.Mapped.{IsMapped, mapped}
+use Rattle.intentions.specs.Turned.{MayTurn, changed_if, turned}
 use Rattle.intentions.specs.Course.{Course, IsCourse, IsOn, Keeps}
 use Rattle.intentions.specs.Runs.{runs}
-use Rattle.intentions.specs.declared.change.Change.{Change}
-use Rattle.intentions.specs.declared.change.Change.TheVariants.{Finish, Release, SetBit, Undo}
+use Rattle.intentions.specs.declared.change.EntryChange.{EntryChange}
+use Rattle.intentions.specs.declared.change.EntryChange.TheVariants.{Release, SetBit}
 use Rattle.special_files.specs.Limits.{abort_calls, abort_tries, changed_reads, commit_calls, commit_tries}
 use Rattle.ufs_model.specs.declared.object.Object.{Object}
 use Rattle.ufs_model.specs.Graph.{Graph, object_at, with_object}
@@ -30,7 +31,7 @@ use Rattle.vol_image.specs.Seen.{tree_in}
 use Rattle.vol_image.specs.Part.{SameAt}
 use Rattle.vol_image.specs.Reading.{bare_object}
 use Rattle.vol_image.specs.Sound.{Holds, IsBareRoot}
-use Rattle.intentions.specs.Left.{AreOpen, IsGoing, StoreIs, copied_if, final_image, plan}
+use Rattle.intentions.specs.Left.{AreOpen, IsGoing, StoreIs, final_image}
 use Rattle.intentions.specs.Store.{StoreHas}
 use Rattle.vol_owners.specs.Account.{Drafts, HasItsBlocks, IsMadeRoot, Opened, StandsIn, content_of, is_meant_for}
 use Rattle.vol_owners.specs.Account.{numbers_differ, without_draft}
@@ -49,28 +50,30 @@ abbrev pub CommitFails : {D : Type 0} → Ghosts D → Top → D → D → Kept 
 CommitFails g at old new kept (trouble.Disk tried) = (tried ≡ true) × HasFailed g old new
 CommitFails g at old new kept (trouble.Damaged damage) = IsDraftDamage g at old new kept damage
 
--- These entries are changed, with at most n device calls, t of them writes and barriers.
-pub record Flips {D : Type 0} (g : Ghosts D) (n t : ℕ) (xs : List Flip) (old new : D)
+-- The entries of these blocks are changed so, with at most n device calls, t of them writes and barriers.
+pub record Flips {D : Type 0} (g : Ghosts D) (n t : ℕ) (how : EntryChange) (ns : List ℕ) (old new : D)
     (result : Result (Unit {0}) Trouble) : Type 0 where
-  pub put : Tells g old → OnOk result (g.content new ≡ flipped (g.content old) xs)
   pub tells : Tells g old → OnOk result (Tells g new)
+  -- where they may be on a course
+  pub put : (course : Course) → IsCourse course → Keeps g course old → MayTurn course (g.content old) (λ m. how) ns
+      → OnOk result (IsMapped (turned (λ m. how) ns) (g.content old) (g.content new))
   -- a run stays on its course, and each image that a crash leaves is on it
-  pub keeps : (course : Course) → IsCourse course → Keeps g course old → MayFlip course (g.content old) xs
+  pub keeps : (course : Course) → IsCourse course → Keeps g course old → MayTurn course (g.content old) (λ m. how) ns
       → OnOk result (Keeps g course new)
-  pub leaves : (course : Course) → IsCourse course → Keeps g course old → MayFlip course (g.content old) xs
+  pub leaves : (course : Course) → IsCourse course → Keeps g course old → MayTurn course (g.content old) (λ m. how) ns
       → Leaves g old new (IsOn course)
   -- on it no damage is met
-  pub sound : (course : Course) → IsCourse course → Keeps g course old → MayFlip course (g.content old) xs
+  pub sound : (course : Course) → IsCourse course → Keeps g course old → MayTurn course (g.content old) (λ m. how) ns
       → IfErr result (λ t. is_damage t ≡ false)
   pub fails : (at : ℕ) (kept : Kept) → IfErr result (CommitFails g (still_top at) old new kept)
   pub calls : MakesAtMost g n t old new
 
 -- The same of the first of these blocks, which lie in one map, by one read and one write of it. How many they are is
 -- told.
-abbrev pub FlipsRun : {D : Type 0} → Ghosts D → Change → List ℕ → D → D → Result ℕ Trouble → Type 0
+abbrev pub FlipsRun : {D : Type 0} → Ghosts D → EntryChange → List ℕ → D → D → Result ℕ Trouble → Type 0
 FlipsRun g how ns old new (Ok i) = (i ≤ length ns) × (1 + runs (drop i ns) ≡ runs ns)
-    × Flips g 2 1 (flips how (take i ns)) old new (Ok tt)
-FlipsRun g how ns old new (Err t) = Flips g 2 1 (flips how ns) old new (Err t)
+    × Flips g 2 1 how (take i ns) old new (Ok tt)
+FlipsRun g how ns old new (Err t) = Flips g 2 1 how ns old new (Err t)
 
 -- ---- counts
 
@@ -80,11 +83,6 @@ given_all kept [] = kept
 given_all kept (n ∷ ns) = given_all (after_giving kept n 1) ns
 
 -- ---- a commit
-
--- what is changed from the copy of the root on, but for the commit bit
-abbrev pub settling : (taken dropped made : List ℕ) (s : ℕ) → List Flip
-settling taken dropped made s = flips Finish taken ++ (flips Finish dropped
-    ++ (flips Finish made ++ flips Undo (s ∷ [])))
 
 -- The image holds these objects. The draft of one stands with its root in the shadow root s. These blocks of its tree
 -- are those that are meant for the object, and those are the blocks of the object's own tree that the draft's doesn't
@@ -106,13 +104,9 @@ pub record IsReady (a : Image) (graph : Graph) (id : Puid) (was o : Object) (s :
   pub dropped_once : numbers_differ dropped ≡ true
   pub made : (c : ℕ) → created ≡ Some c → IsMadeRoot a c
 
--- an image with these blocks released and the commit bit of root r set, and with the content of its shadow root s
--- copied to it
+-- an image with these blocks released and the commit bit of root r set
 abbrev pub bit_set : Image → ℕ → List ℕ → Image
-bit_set a r dropped = flipped a (flips Release dropped ++ flips SetBit (r ∷ []))
-
-abbrev pub root_copied : Image → ℕ → ℕ → List ℕ → Image
-root_copied a r s dropped = set (bit_set a r dropped) r (block_at (bit_set a r dropped) s)
+bit_set a r dropped = mapped (λ n e. changed_if (n == r) SetBit (turned (λ m. Release) dropped n e)) a
 
 -- the identifier of an object with this root block
 abbrev pub puid_at : ℕ → ℕ → Puid
@@ -147,8 +141,7 @@ pub record Decided {D : Type 0} (g : Ghosts D) (graph : Graph) (id : Puid) (o : 
   pub left : LeftCommit
   pub kept : IsNoted id.block after.left left
   pub going : IsGoing g (with_object graph id o) new after left
-  pub opens : AreOpen (λ e. of_owners (id.block ∷ option_to_list created) e)
-      (copied_if left.copied left (g.content new)) (plan left)
+  pub opens : AreOpen (id.block ∷ option_to_list created) (g.content new) left.rest
   pub settled : IsSettled g new
   pub holds : Holds (final_image g new after) (with_object graph id o)
   pub has : HasItsBlocks (final_image g new after) id.block
@@ -255,9 +248,9 @@ as_refused (Err t) = Err (refused_by t)
 
 -- ---- an abort
 
--- what is changed by it
-abbrev pub undoing : List ℕ → Option ℕ → Option ℕ → List Flip
-undoing taken shadow made = flips Undo taken ++ (flips Undo (option_to_list shadow) ++ flips Undo (option_to_list made))
+-- the blocks that were claimed for it
+abbrev pub undoing : List ℕ → Option ℕ → Option ℕ → List ℕ
+undoing taken shadow made = taken ++ (option_to_list shadow ++ option_to_list made)
 
 -- The store has no draft of the object any more. Only blocks that were meant for it changed, and the root of the object
 -- that was to be made with it, which is Free.

@@ -2,6 +2,7 @@
 ghost use Rattle.std.specs.Prelude.{◌≡◌, ◌<◌, ◌+◌, ◌*◌, ℕ, length, option_to_list, Some, IfErr};
 ghost use Rattle.std.specs.List.{All};
 ghost use Rattle.cfs_base.specs.Calls.{MakesAtMost};
+ghost use Rattle.intentions.specs.declared.change.EntryChange.TheVariants.{Undo};
 ghost use Rattle.special_files.specs.Changed.{AreTaken};
 ghost use Rattle.special_files.specs.Committing as spec;
 ghost use Rattle.special_files.specs.Drafting.{Drafting, number_if, opened_as};
@@ -12,12 +13,12 @@ use crate::becoming::part_on_disk;
 use crate::blocks::Blocks;
 use crate::changed::changed;
 use crate::commit_bit::flip_made;
-use crate::draft::Draft;
+use crate::draft::ObjectDraft;
 use crate::flips::{flip_all, give_all};
 use block_tree::Root;
 use cfs_base::{BlockNo, Disk, Trouble};
 use cyl_alloc::{KnownMaps, Space};
-use intentions::{Change, barrier};
+use intentions::{EntryChange, barrier};
 
 /// Takes back what was claimed for a draft: its nodes and leaves, its shadow root, and the root of an object that it
 /// makes.
@@ -32,11 +33,11 @@ fn undo_all<D: Disk>(
     requires shadow_on_disk { (n : ℕ) → number_if shadow ≡ Some n → n < D.blocks disk.old }
     requires created_on_disk { (n : ℕ) → number_if created ≡ Some n → n < D.blocks disk.old }
     ensures flips { spec.Flips D.Disk (2 * length taken.now + (2 + 2)) (length taken.now + (1 + 1))
-        (spec.undoing taken.now (number_if shadow) (number_if created)) disk.old disk.new result }
+        Undo (spec.undoing taken.now (number_if shadow) (number_if created)) disk.old disk.new result }
 {
-    flip_all(disk, known, taken, Change::Undo)?;
-    flip_made(disk, known, shadow, Change::Undo)?;
-    flip_made(disk, known, created, Change::Undo)
+    flip_all(disk, known, taken, EntryChange::Undo)?;
+    flip_made(disk, known, shadow, EntryChange::Undo)?;
+    flip_made(disk, known, created, EntryChange::Undo)
 }
 
 /// Counts a block as Free again, if there is one.
@@ -123,7 +124,7 @@ fn abort_parts<D: Disk>(
     give_up(disk, space, taken.as_slice(), shadow, created)
 }
 
-impl Draft {
+impl ObjectDraft {
     /// Gives up the draft, whose blocks are Free then, as is the root of an object that it was to make. Where it is
     /// refused the draft is gone, and each image that a crash leaves has the object as it was. `Damaged` as in
     /// `commit`.

@@ -1,10 +1,10 @@
 //! The root of an object that is made with a draft's commit.
 ghost use Rattle.std.specs.Prelude.{◌≡◌, ◌≢◌, Some};
 
-use crate::draft::Draft;
+use crate::draft::ObjectDraft;
 use cfs_base::BlockNo;
 
-impl Draft {
+impl ObjectDraft {
     /// Gives the draft the root of a new object, which was claimed and written. `commit` makes it Allocated, and
     /// `abort` makes it Free.
     pub fn adopt(&mut self, created: BlockNo)

@@ -14,7 +14,7 @@ use crate::blocks::Blocks;
 use crate::changed::add_unlike;
 use crate::commit::commit_begun;
 use crate::direct::{commit_direct, commit_listed};
-use crate::draft::Draft;
+use crate::draft::ObjectDraft;
 use crate::fill::Swap;
 use block_tree::{LEAVES, Root};
 use cfs_base::{BlockNo, Damage, Disk, Trouble, code};
@@ -98,7 +98,7 @@ fn list_two(list: &mut Blocks, node: u32, other_node: u32, leaf: u32, other_leaf
     add_unlike(list, leaf, other_leaf);
 }
 
-impl Draft {
+impl ObjectDraft {
     /// Makes the draft its object. A draft without a shadow root takes one Free block for it. Done, all is durable, and
     /// the object's blocks are exactly those of the draft; of an object that is made with it the root is Allocated.
     /// Where it is refused the draft is gone, and each image that a crash leaves has the object old, or it new and what

@@ -6,7 +6,7 @@ ghost use Rattle.special_files.specs.Drafting.{begun_at, none_of, number_if};
 ghost use Rattle.special_files.specs.View.{GoesTo, ObjectView};
 
 use crate::blocks::Blocks;
-use crate::draft::Draft;
+use crate::draft::ObjectDraft;
 use crate::flags::Flags;
 use block_tree::{LEAF_LIMIT, NODES, Root, read_root};
 use cfs_base::{BlockNo, Disk, NoMemory, Place, Refused};
@@ -51,12 +51,12 @@ impl Room {
     }
 
     /// The draft that equals the object with this root.
-    fn draft(self, at: BlockNo, shadow: Option<BlockNo>, root: Root) -> Draft
+    fn draft(self, at: BlockNo, shadow: Option<BlockNo>, root: Root) -> ObjectDraft
         requires some { at.0 ≢ 0 }
         requires limit { root.size ≤ size_limit }
         ensures { result ≡ begun_at at.0 (number_if shadow) root }
     {
-        Draft {
+        ObjectDraft {
             at,
             shadow,
             own: root,
@@ -70,7 +70,7 @@ impl Room {
     }
 }
 
-impl Draft {
+impl ObjectDraft {
     /// Begins a draft with its shadow root, for which the least-numbered Free block is claimed. `Full` where fewer
     /// blocks are Free than 1 and the floor; nothing was written then. `Damaged` names the root block, with code 3,
     /// which is none, or the map in which no Free block was found, with code 2 where it is none. Never `Memory`.
@@ -80,7 +80,7 @@ impl Draft {
         space: &mut Space,
         at: BlockNo,
         floor: u32,
-    ) -> Result<Draft, Refused>
+    ) -> Result<ObjectDraft, Refused>
         requires some { at.0 ≢ 0 }
         requires on_disk { at.0 < D.blocks disk.old }
         requires size { D.blocks disk.old ≡ 64 * length space.old.free }
@@ -101,7 +101,7 @@ impl Draft {
         disk: &mut D,
         space: &mut Space,
         at: BlockNo,
-    ) -> Result<Draft, Refused>
+    ) -> Result<ObjectDraft, Refused>
         requires some { at.0 ≢ 0 }
         requires on_disk { at.0 < D.blocks disk.old }
         ensures begins { (v : ObjectView D.Disk disk.old space.old at.0)

@@ -6,7 +6,6 @@ ghost use Rattle.std.specs.List.{All};
 ghost use Rattle.cfs_base.specs.Calls.{MakesAtMost};
 ghost use Rattle.cfs_base.specs.Run.{IsSettled, Leaves, Tells};
 ghost use Rattle.cyl_alloc.specs.Space.{Kept};
-ghost use Rattle.intentions.specs.Flips.{flips};
 ghost use Rattle.intentions.specs.Runs.{runs};
 ghost use Rattle.leaf_changes.specs.Tops.{still_top};
 ghost use Rattle.special_files.specs.Committing as spec;
@@ -19,19 +18,18 @@ ghost use Rattle.vol_image.specs.Run.{Carries};
 use crate::flips::{flip, flip_all};
 use cfs_base::{BlockNo, Disk, Trouble};
 use cyl_alloc::KnownMaps;
-use intentions::{Change, commit};
+use intentions::{EntryChange, commit};
 
 /// Changes the entry of the root of an object that is made, if one is.
 pub(crate) fn flip_made<D: Disk>(
     disk: &mut D,
     known: &mut KnownMaps,
     created: Option<BlockNo>,
-    how: Change,
+    how: EntryChange,
 ) -> Result<(), Trouble>
     requires on_disk { (n : ℕ) → number_if created ≡ Some n → n < D.blocks disk.old }
     requires fits { FitsEntry how }
-    ensures flips { spec.Flips D.Disk 2 1
-        (flips how (option_to_list (number_if created))) disk.old disk.new result }
+    ensures flips { spec.Flips D.Disk 2 1 how (option_to_list (number_if created)) disk.old disk.new result }
 {
     match created {
         Some(block) => flip(disk, known, block, how),
@@ -66,7 +64,7 @@ pub(crate) fn decide<D: Disk>(
     // Those of one map that stand together cost one read and one write.
     ensures by_map { MakesAtMost D.Disk (2 * runs dropped.now + 4) (runs dropped.now + 3) disk.old disk.new }
 {
-    flip_all(disk, known, dropped, Change::Release)?;
+    flip_all(disk, known, dropped, EntryChange::Release)?;
     match commit(disk, known, at) {
         Ok(()) => Ok(()),
         Err(trouble) => Err(trouble.after_try()),

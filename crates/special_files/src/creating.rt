@@ -20,7 +20,7 @@ ghost use Rattle.ufs_model.specs.Graph.{Graph};
 ghost use Rattle.vol_image.specs.Reading.{bare_object};
 ghost use Rattle.vol_owners.specs.Account.{Drafts};
 
-use crate::draft::Draft;
+use crate::draft::ObjectDraft;
 use crate::fill::Swap;
 use crate::leaf::write_own;
 use block_tree::{NODES, Root};
@@ -128,7 +128,7 @@ fn puid_of(block: BlockNo, word: u32) -> Puid
     }
 }
 
-impl Draft {
+impl ObjectDraft {
     /// Makes an object with this root at a block, the least-numbered Free one, and puts its identifier into a slot of
     /// the draft, which is an index's and makes no object yet. The root is claimed and written, and then the slot is
     /// filled; `commit` makes the root Allocated, and `abort` makes it Free. Answers what was put, as `fill` does. Has

@@ -17,7 +17,7 @@ use std::marker::Model;
 /// A changed object beside the one that stands. It has a shadow root, and of the leaves and nodes those that were
 /// written since it was begun; all others are the object's own.
 #[derive(Debug, Drop)]
-pub struct Draft {
+pub struct ObjectDraft {
     pub(crate) at: BlockNo,
     /// A draft that is its own commit has none until then.
     pub(crate) shadow: Option<BlockNo>,
@@ -35,7 +35,7 @@ pub struct Draft {
     pub(crate) dropped: Blocks,
 }
 
-impl Model for Draft {
+impl Model for ObjectDraft {
     ghost use Rattle.std.specs.Prelude.{◌≡◌, ◌≢◌, ◌≤◌, length};
     ghost use Rattle.block_tree.specs.Pointers.{leaf_limit, node_pointers, size_limit};
     ghost use Rattle.special_files.specs.Drafting.{Drafting, number_if};
@@ -56,7 +56,7 @@ impl Model for Draft {
         × (a.root.size ≤ size_limit) };
 }
 
-impl Draft {
+impl ObjectDraft {
     /// The object's size in bytes, as the draft has it.
     pub fn size(&self) -> u64
         ensures { result ≡ self.now.root.size }

@@ -5,7 +5,7 @@ ghost use Rattle.special_files.specs.Fills.{FillCall, FillsIfIndex};
 ghost use Rattle.special_files.specs.View.{DraftView, GoesTo};
 ghost use Rattle.vol_image.specs.Reading.{slot_in};
 
-use crate::draft::Draft;
+use crate::draft::ObjectDraft;
 use block_tree::{SIZE_LIMIT, Way};
 use cfs_base::{Block, Disk, Puid, Refused};
 use cyl_alloc::Space;
@@ -27,7 +27,7 @@ fn is_empty_already(content: &Block, slot: usize, what: Option<Puid>) -> bool
     what.is_none() && slot_at(content, slot).is_none()
 }
 
-impl Draft {
+impl ObjectDraft {
     /// Puts an identifier into a slot of an index, or empties the slot, and answers what was put: the slot's leaf alone
     /// is read, and put with this in it. `None` where the slot is empty and is to be: nothing is done then. Has no
     /// floor, and never answers `Memory`.

@@ -3,24 +3,23 @@ ghost use Rattle.std.specs.Prelude.{◌≡◌, ◌<◌, ◌*◌, ℕ, [], ◌∷
 ghost use Rattle.std.specs.List.{All};
 ghost use Rattle.cfs_base.specs.Calls.{MakesAtMost};
 ghost use Rattle.intentions.specs.Entries.{FitsEntry};
-ghost use Rattle.intentions.specs.Flips.{flips};
 ghost use Rattle.intentions.specs.Runs.{runs};
 ghost use Rattle.special_files.specs.Committing as spec;
 
 use cfs_base::{Block, BlockNo, Disk, Trouble};
 use cyl_alloc::{KnownMaps, Space};
-use intentions::{Change, Rule, change_entry, change_first, write_map};
+use intentions::{EntryChange, Rule, change_entry, change_first, write_map};
 
 /// Changes the entry of a block, where a write or a barrier was tried before.
 pub(crate) fn flip<D: Disk>(
     disk: &mut D,
     known: &mut KnownMaps,
     block: BlockNo,
-    how: Change,
+    how: EntryChange,
 ) -> Result<(), Trouble>
     requires on_disk { block.0 < D.blocks disk.old }
     requires fits { FitsEntry how }
-    ensures flips { spec.Flips D.Disk 2 1 (record { block = block.0; how = how } ∷ []) disk.old disk.new result }
+    ensures flips { spec.Flips D.Disk 2 1 how (block.0 ∷ []) disk.old disk.new result }
 {
     change_entry(disk, known, block, how).map_err(Trouble::after_try)?;
     Ok(())
@@ -32,7 +31,7 @@ fn flip_run<D: Disk>(
     disk: &mut D,
     known: &mut KnownMaps,
     blocks: &[u32],
-    how: Change,
+    how: EntryChange,
 ) -> Result<usize, Trouble>
     requires some { 0 < length blocks.now }
     requires on_disk { All (λ n. n < D.blocks disk.old) blocks.now }
@@ -54,11 +53,11 @@ pub(crate) fn flip_all<D: Disk>(
     disk: &mut D,
     known: &mut KnownMaps,
     blocks: &[u32],
-    how: Change,
+    how: EntryChange,
 ) -> Result<(), Trouble>
     requires on_disk { All (λ n. n < D.blocks disk.old) blocks.now }
     requires fits { FitsEntry how }
-    ensures flips { spec.Flips D.Disk (2 * length blocks.now) (length blocks.now) (flips how blocks.now)
+    ensures flips { spec.Flips D.Disk (2 * length blocks.now) (length blocks.now) how blocks.now
         disk.old disk.new result }
     ensures by_map { MakesAtMost D.Disk (2 * runs blocks.now) (runs blocks.now) disk.old disk.new }
 {

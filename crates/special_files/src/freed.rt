@@ -8,8 +8,7 @@ ghost use Rattle.cfs_base.specs.Refusals.{trouble_after_try, trouble_had_tried};
 ghost use Rattle.cfs_base.specs.Run.{Tells};
 ghost use Rattle.cfs_base.specs.declared.refusal.Trouble.TheVariants as trouble;
 ghost use Rattle.cyl_alloc.specs.Space.{Kept};
-ghost use Rattle.intentions.specs.declared.change.Change.TheVariants.{Undo};
-ghost use Rattle.intentions.specs.Flips.{flips};
+ghost use Rattle.intentions.specs.declared.change.EntryChange.TheVariants.{Undo};
 ghost use Rattle.special_files.specs.Committing.{Flips};
 ghost use Rattle.special_files.specs.Drafting.{Drafting, opened_as};
 ghost use Rattle.block_tree.specs.Along.{IsNearTree, IsWay};
@@ -27,7 +26,7 @@ use crate::flags::Flags;
 use block_tree::{LEAVES, NODES, Node, Root, Way};
 use cfs_base::{BlockNo, Disk, Trouble};
 use cyl_alloc::KnownMaps;
-use intentions::{Change, change_entry};
+use intentions::{EntryChange, change_entry};
 
 /// A node of a draft with this root, which is read unless the way has it.
 fn node_again<D: Disk>(
@@ -164,7 +163,7 @@ pub(crate) fn undo_listed<D: Disk>(
     blocks: &[u32],
 ) -> Result<(), Trouble>
     requires { All (λ n. n < D.blocks disk.old) blocks.now }
-    ensures flips { Flips D.Disk (2 * length blocks.now) (length blocks.now) (flips Undo blocks.now)
+    ensures flips { Flips D.Disk (2 * length blocks.now) (length blocks.now) Undo blocks.now
         disk.old disk.new (spec.as_tried result) }
     ensures told { OnOk result ((n : ℕ) → IsTrue (D.told disk.old n) → IsTrue (D.told disk.new n)) }
     ensures refused { (at : ℕ) (kept : Kept)
@@ -174,7 +173,7 @@ pub(crate) fn undo_listed<D: Disk>(
 {
     let mut tried = false;
     for block in blocks {
-        match change_entry(disk, known, BlockNo(*block), Change::Undo) {
+        match change_entry(disk, known, BlockNo(*block), EntryChange::Undo) {
             Ok(_) => tried = true,
             Err(trouble) => return Err(since(tried, trouble)),
         }

@@ -10,7 +10,7 @@ ghost use Rattle.special_files.specs.Nodes.{IsRead, IsSafe};
 ghost use Rattle.special_files.specs.Puts.{FitsLeaf, LeafCall, PutsLeaf};
 ghost use Rattle.special_files.specs.View.{GoesHolding, DraftView};
 
-use crate::draft::Draft;
+use crate::draft::ObjectDraft;
 use block_tree::{LEAVES, Root, Way};
 use cfs_base::{Block, BlockNo, Disk, Place, Refused};
 use cyl_alloc::Space;
@@ -28,7 +28,7 @@ pub(crate) fn write_own<D: Disk>(
         .map_err(|_| Refused::Disk { tried: true })
 }
 
-impl Draft {
+impl ObjectDraft {
     /// Claims a block for the draft, the least-numbered that is Free.
     pub(crate) fn claim<D: Disk>(
         &self,
@@ -84,7 +84,7 @@ impl Draft {
         if self.has_fresh_leaf(leaf) {
             return write_own(disk, BlockNo(way.end(&self.root)), content);
         }
-        let block = match self.claim(disk, space, Place::Leaf(leaf as u16)) {
+        let block = match self.claim(disk, space, Place::Leaf(leaf)) {
             Ok(block) => block,
             Err(error) => return Err(error),
         };

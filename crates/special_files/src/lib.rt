@@ -27,5 +27,5 @@ mod write;
 
 pub use begin::Room;
 pub use creating::{bare_root, least, write_root};
-pub use draft::Draft;
+pub use draft::ObjectDraft;
 pub use fill::Swap;

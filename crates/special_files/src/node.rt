@@ -7,11 +7,11 @@ ghost use Rattle.block_tree.specs.Tree.{leaf_block};
 ghost use Rattle.cfs_base.specs.Run.{Tells};
 ghost use Rattle.special_files.specs.Nodes as spec;
 
-use crate::draft::Draft;
+use crate::draft::ObjectDraft;
 use block_tree::Way;
 use cfs_base::{Disk, Trouble};
 
-impl Draft {
+impl ObjectDraft {
     /// Turns a way to a leaf of the draft, and gives the leaf's block, 0 where it is absent. A node that the way has is
     /// not read again.
     pub(crate) fn turn_to<D: Disk>(

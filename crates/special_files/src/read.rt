@@ -12,12 +12,12 @@ ghost use Rattle.ufs_model.specs.Object as spec;
 ghost use Rattle.vol_image.specs.Reading.{leaf_content};
 ghost use Rattle.vol_owners.specs.Account.{Drafts};
 
-use crate::draft::Draft;
+use crate::draft::ObjectDraft;
 use block_tree::{SIZE_LIMIT, Way, read_block};
 use cfs_base::{Block, Disk, Trouble};
 use leaf_changes::{leaves_in, read_part};
 
-impl Draft {
+impl ObjectDraft {
     /// The bytes of a leaf.
     pub(crate) fn leaf_bytes<D: Disk>(
         &self,

@@ -12,13 +12,13 @@ ghost use Rattle.special_files.specs.Shed.{sized};
 ghost use Rattle.special_files.specs.View.{GoesHolding, DraftView};
 ghost use Rattle.vol_image.specs.Reading.{leaf_content};
 
-use crate::draft::Draft;
+use crate::draft::ObjectDraft;
 use block_tree::Way;
 use cfs_base::{Block, Disk, Refused, Trouble};
 use cyl_alloc::Space;
 use leaf_changes::cut_leaf;
 
-impl Draft {
+impl ObjectDraft {
     /// Sets the size to no less than it is, which takes the shadow root alone.
     pub(crate) fn grow(&mut self, space: &Space, size: u64, floor: u32) -> Result<(), Refused>
         requires { size ≤ size_limit }

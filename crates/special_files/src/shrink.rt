@@ -12,7 +12,7 @@ ghost use Rattle.special_files.specs.View.{GoesHolding, DraftView};
 ghost use Rattle.ufs_model.specs.declared.object.File.{File};
 ghost use Rattle.ufs_model.specs.declared.object.Object.TheVariants as objects;
 
-use crate::draft::{Draft, after};
+use crate::draft::{ObjectDraft, after};
 use crate::flips::give_all;
 use crate::freed::{DraftParts, list_from, undo_listed};
 use crate::leaf::write_own;
@@ -70,7 +70,7 @@ fn is_cut(node: &Node, size: u64) -> bool
     size % 512 != 0 && node.leaves[(size / 512) as usize % LEAVES] != 0
 }
 
-impl Draft {
+impl ObjectDraft {
     /// How many blocks a resize to less takes, with the shadow root that a commit takes: one for its last leaf where
     /// that is cut and isn't fresh, and one for the node where it changes and isn't fresh.
     fn need_at(&self, cut: bool, from: u32, leaf: u32, node: u32) -> u32

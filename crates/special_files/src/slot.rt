@@ -4,12 +4,12 @@ ghost use Rattle.special_files.specs.Drafting.{draft_takes};
 ghost use Rattle.special_files.specs.Looks.{FindsSlot, ReadCall};
 ghost use Rattle.special_files.specs.View.{DraftSeen};
 
-use crate::draft::Draft;
+use crate::draft::ObjectDraft;
 use block_tree::{LEAVES, SIZE_LIMIT, Way};
 use cfs_base::{Disk, Puid, Trouble};
 use leaf_changes::slot_at;
 
-impl Draft {
+impl ObjectDraft {
     /// How many blocks `fill` takes for this slot: one for its leaf where that isn't fresh, and then one for the leaf's
     /// node where that isn't fresh.
     pub fn slot_takes(&self, slot: u64) -> u32

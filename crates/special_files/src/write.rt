@@ -13,7 +13,7 @@ ghost use Rattle.special_files.specs.Writes.{WriteCall, WritesDraft};
 ghost use Rattle.ufs_model.specs.Object as spec;
 ghost use Rattle.vol_image.specs.Reading.{leaf_content};
 
-use crate::draft::{Draft, after};
+use crate::draft::{ObjectDraft, after};
 use block_tree::{LEAVES, SIZE_LIMIT, Way};
 use cfs_base::{Block, Disk, Refused, Trouble};
 use cyl_alloc::Space;
@@ -26,7 +26,7 @@ struct Patch<'a> {
     bytes: &'a [u8],
 }
 
-impl Draft {
+impl ObjectDraft {
     /// How many blocks it takes to write these leaves, with the shadow root that a commit takes.
     fn need_to_write(&self, from: u32, to: u32) -> u32
         requires order { from ≤ to }

@@ -3,7 +3,7 @@ use crate::laid::{Edit, edited};
 use crate::volume::Volume;
 use cfs_base::{BlockNo, Disk, Failed, FileKind, Kind, Puid, Refused};
 use cfs_fakes::Seen;
-use special_files::Draft;
+use special_files::ObjectDraft;
 use std::alloc::Global;
 use std::test::Fail;
 
@@ -76,7 +76,7 @@ pub enum Act {
 #[derive(Drop)]
 pub struct Bench {
     pub volume: Volume,
-    draft: Option<Draft>,
+    draft: Option<ObjectDraft>,
 }
 
 /// What is written.

@@ -143,7 +143,7 @@ fn each_damage_is_found_by_block_and_code(rt: HostRuntime) -> Result<(), Fail> {
 }
 
 /// How many leaves the file has, what is put into the volume, and what opening it comes to.
-const OPENINGS: [(u8, &[Edit], Option<RecoverFault>); 5] = [
+const OPENINGS: [(u8, &[Edit], Option<RecoverFault>); 6] = [
     (2, &[], None),
     // 58 blocks are taken beside the map and the label, or 59.
     (53, &[], None),
@@ -152,11 +152,12 @@ const OPENINGS: [(u8, &[Edit], Option<RecoverFault>); 5] = [
         &[],
         Some(RecoverFault::Damaged(Damage { block: 0, code: 11 })),
     ),
-    // No volume comes before the version.
-    (2, &[(1, 4, 2)], Some(RecoverFault::Version { found: 2 })),
+    // Both versions are read; that there is no volume comes before the version.
+    (2, &[(1, 4, 2)], None),
+    (2, &[(1, 4, 3)], Some(RecoverFault::Version { found: 3 })),
     (
         2,
-        &[(1, 0, 0x0046_5331), (1, 4, 2)],
+        &[(1, 0, 0x0046_5331), (1, 4, 3)],
         Some(RecoverFault::NotVolume),
     ),
 ];

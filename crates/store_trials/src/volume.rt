@@ -12,7 +12,7 @@ use cyl_alloc::Space;
 use file_ops::{read, read_root, resize, write};
 use finisher::{finish_all, step};
 use index_ops::{create, delete, retain, retrieve};
-use special_files::{Draft, Room, bare_root};
+use special_files::{ObjectDraft, Room, bare_root};
 use std::alloc::Global;
 use std::test::Fail;
 use vol_format::format_volume;
@@ -210,20 +210,30 @@ impl Volume {
     }
 
     /// Begins a draft of the file at a block, with a shadow root or without one.
-    pub fn begin(&mut self, alloc: Global, at: BlockNo, is_direct: bool) -> Result<Draft, Refused> {
+    pub fn begin(
+        &mut self,
+        alloc: Global,
+        at: BlockNo,
+        is_direct: bool,
+    ) -> Result<ObjectDraft, Refused> {
         if at.0 == 0 || at.0 > 8 || !self.is_ready() {
             return Err(Refused::Memory);
         }
         let room = Room::new(alloc)?;
         let (disk, space) = (&mut self.disk, &mut self.space);
         if is_direct {
-            return Draft::begin_direct(room, disk, space, at);
+            return ObjectDraft::begin_direct(room, disk, space, at);
         }
-        Draft::begin(room, disk, space, at, 4)
+        ObjectDraft::begin(room, disk, space, at, 4)
     }
 
     /// Writes bytes into a draft.
-    pub fn write(&mut self, draft: &mut Draft, offset: u64, bytes: &[u8]) -> Result<(), Refused> {
+    pub fn write(
+        &mut self,
+        draft: &mut ObjectDraft,
+        offset: u64,
+        bytes: &[u8],
+    ) -> Result<(), Refused> {
         let (count, size) = (bytes.len() as u64, draft.size());
         if draft.at().0 >= self.disk.blocks() || size < count || size - count < offset {
             return Err(Refused::Memory);
@@ -232,7 +242,7 @@ impl Volume {
     }
 
     /// Sets the size of a draft.
-    pub fn resize(&mut self, draft: &mut Draft, size: u64) -> Result<(), Refused> {
+    pub fn resize(&mut self, draft: &mut ObjectDraft, size: u64) -> Result<(), Refused> {
         if draft.at().0 >= self.disk.blocks() || size > LIMIT {
             return Err(Refused::Memory);
         }
@@ -240,7 +250,7 @@ impl Volume {
     }
 
     /// Commits a draft, and finishes what is left of that, or aborts it.
-    pub fn end(&mut self, draft: Draft, commits: bool) -> Result<(), Refused> {
+    pub fn end(&mut self, draft: ObjectDraft, commits: bool) -> Result<(), Refused> {
         if commits {
             self.commit(draft)?;
             return self.finish();
@@ -253,7 +263,7 @@ impl Volume {
     }
 
     /// Commits a draft, and leaves the parts past its bit.
-    pub fn commit(&mut self, draft: Draft) -> Result<(), Refused> {
+    pub fn commit(&mut self, draft: ObjectDraft) -> Result<(), Refused> {
         let is_one = self.space.free() > 0 && self.space.unfinished() == 0;
         if draft.at().0 >= self.disk.blocks() || !is_one {
             return Err(Refused::Memory);
@@ -276,7 +286,7 @@ impl Volume {
     pub fn see(
         &mut self,
         alloc: Global,
-        draft: &Draft,
+        draft: &ObjectDraft,
         offset: u64,
         count: usize,
     ) -> Result<(), Refused> {

@@ -158,7 +158,7 @@ fn expected(at: u32) -> Block {
     match at {
         0 => block_of(&[RESERVED, RESERVED, ROOT_ENTRY]),
         1 => block_of(&[
-            0x4346_5331_0000_0001,
+            0x4346_5331_0000_0002,
             0x0000_0002_0000_0002,
             0xade0_b876_0000_0000,
         ]),

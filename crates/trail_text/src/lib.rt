@@ -4,7 +4,7 @@
 
 mod ends;
 mod fault;
-mod laws;
+pub mod laws;
 mod print;
 mod print_ask;
 mod read;
@@ -15,6 +15,5 @@ mod word;
 
 pub use ends::{Opening, print_opening, print_status, read_opening, read_status};
 pub use fault::TrailFault;
-pub use laws::lines_tell_events;
 pub use print::print_event;
 pub use read::read_event;

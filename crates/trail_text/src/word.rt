@@ -11,7 +11,6 @@ ghost use Rattle.trail_text.specs.EventLine.{letters, spaced, word_within};
 use cfs_base::{FileKind, Mode, NoMemory};
 use itoa::Buffer;
 use std::alloc::Global;
-use ufs_model::laws::are_bytes;
 use ufs_model::{Ref, Unread};
 
 /// A word, as it is to be put into a line.
@@ -71,7 +70,7 @@ fn put_word(line: &mut String, word: &Word<'_>) -> Result<(), NoMemory>
         }
         Word::Byte(byte) => put_hex(line, &[*byte])?,
         Word::Hex(bytes) => {
-            are_bytes(bytes);
+            ufs_model::laws::are_bytes(bytes);
             put_hex(line, bytes)?;
         }
     }

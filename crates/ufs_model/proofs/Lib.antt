@@ -10,12 +10,14 @@ pub mod RootBlocks
 pub mod Entries
 pub mod Outcomes
 pub mod Legal
+pub mod Came
 pub mod Tests
 pub mod Reached
 pub mod Graphs
 pub mod Rising
 pub mod Objects
 pub mod WellGraphs
+pub mod Takes
 pub mod Grants
 pub mod Drafts
 pub mod WellStates

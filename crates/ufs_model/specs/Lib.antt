@@ -3,6 +3,7 @@ pub mod Identifier
 pub mod Numbers
 pub mod Object
 pub mod Graph
+pub mod Kinds
 pub mod Word
 pub mod State
 pub mod Need
@@ -11,6 +12,8 @@ pub mod Outcome
 pub mod Reach
 pub mod Vanish
 pub mod Next
+pub mod Room
+pub mod Came
 pub mod Run
 pub mod WellFormed
 pub mod Script

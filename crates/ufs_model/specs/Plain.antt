@@ -1,5 +1,6 @@
 -- What the slow server is to its callers, and how it answers.
 use Rattle.std.specs.Prelude.{◌≡◌, ℕ, ◌≤◌, Bool, true, false, length, set, slice_get, Option, Some, None}
+use Rattle.std.proofs.Common.{ap}
 use Rattle.ufs_model.specs.Limits.{most_at_once}
 use Rattle.cfs_base.specs.declared.identifier.Tuid.{Tuid}
 use Rattle.ufs_model.specs.declared.asked.Ref.{Ref}
@@ -13,9 +14,10 @@ use Rattle.cfs_base.specs.declared.identifier.Puid.{Puid}
 use Rattle.ufs_model.specs.declared.object.Object.{Object}
 use Rattle.ufs_model.specs.Object.{Fill}
 use Rattle.ufs_model.specs.Graph.{IsLeastFreeRoot, with_object}
-use Rattle.ufs_model.specs.State.{State, changed_draft, grant_of}
+use Rattle.ufs_model.specs.State.{State, changed_draft, grant_of, is_running}
 use Rattle.ufs_model.specs.Refusal.{refusal_of}
 use Rattle.ufs_model.specs.Outcome.{outcome_of, creates, block_named}
+use Rattle.ufs_model.specs.WellFormed.{IsState}
 
 -- a server: the seed of its words, and its state
 pub record Server : Type 0 where
@@ -65,3 +67,12 @@ IsPlainReply (replies.Stopped moment) = ⊥
 IsPlainReply (replies.Disk doubt) = ⊥
 IsPlainReply (replies.Damaged damage moment) = ⊥
 IsPlainReply reply = Unit {0}
+
+-- ---- the states for which it stands: its own, which is well-formed
+
+pub plain_counted : (p : Server) (s : State) → (s ≡ p.state) × IsState s → s.drawn ≡ p.state.drawn
+plain_counted p s stands = ap (λ (t : State). t.drawn) stands.0
+
+pub plain_formed : (p : Server) (s : State) → (s ≡ p.state) × IsState s → is_running s ≡ true
+    → IsState s × (s.graph.root ≡ p.state.graph.root)
+plain_formed p s stands runs = (stands.1, ap (λ (t : State). t.graph.root) stands.0)

@@ -1,12 +1,17 @@
 //! Whoever answers requests as the definitions say: a server in memory, or one that has its objects on a disk.
-ghost use Rattle.std.specs.Prelude.{◌≡◌, ◌+◌, ◌<◌, ◌≤◌, ℕ};
-ghost use Rattle.ufs_model.specs.Asks.{IsAsked};
+ghost use Rattle.std.specs.Prelude.{◌≡◌, ◌+◌, ◌<◌, ◌≤◌, ℕ, true};
+ghost use Rattle.cfs_base.specs.declared.identifier.Puid.{Puid};
+ghost use Rattle.ufs_model.specs.Asks.{IsAsked, IsExactIn, TellsTrouble};
+ghost use Rattle.ufs_model.specs.Kinds.{kind_at};
 ghost use Rattle.ufs_model.specs.Outcome.{draws};
-ghost use Rattle.ufs_model.specs.State.{State};
+ghost use Rattle.ufs_model.specs.State.{State, is_running};
+ghost use Rattle.ufs_model.specs.WellFormed.{IsState};
+ghost use Rattle.ufs_model.specs.declared.asked.Reply.{Reply};
+ghost use Rattle.ufs_model.specs.declared.asked.Request.{Request};
 
 use crate::asked::{Reply, Request};
 use crate::plain::Plain;
-use cfs_base::Session;
+use cfs_base::{Kind, Puid, Session};
 use std::alloc::Global;
 use std::marker::Model;
 
@@ -21,40 +26,93 @@ pub trait Asker {
     /// How many words were drawn, whatever state it stands for.
     ghost words: { Self → ℕ };
 
-    ghost counted: { (a : Self) → (s : State) → stands a s → s.drawn ≡ words a };
+    /// The root index.
+    ghost top: { Self → Puid };
+
+    /// How many calls of its disk failed.
+    ghost failed: { Self → ℕ };
+
+    /// How many blocks it found damaged. It stops at the first.
+    ghost damaged: { Self → ℕ };
+
+    /// The cylinders by which its room is counted.
+    ghost cylinders: { Self → ℕ };
+
+    /// A session's request was asked of it and answered so, and this came of it. `ask` alone gives it.
+    ghost asked: { Self → ℕ → Request → Reply → Self → Type 0 };
+
+    ghost counted: { (a : Self) (s : State) → stands a s → s.drawn ≡ words a };
+
+    ghost formed: { (a : Self) (s : State) → stands a s → is_running s ≡ true → IsState s × (s.graph.root ≡ top a) };
 
     /// The answer to a request of a session.
     fn ask(&mut self, alloc: Global, who: Session, request: &Request) -> Reply
         requires words { words self.old < 4294967295 }
+        ensures asked { asked self.old who request.now result self.new }
         ensures event { (s : State) → stands self.old s
             → IsAsked (stands self.new) (seed self.old) s who request.now result }
-        ensures seed { seed self.new ≡ seed self.old }
+        ensures exact { (s : State) → stands self.old s → IsExactIn (cylinders self.old) s request.now result }
+        ensures told { TellsTrouble (failed self.old) (failed self.new) (damaged self.old) (damaged self.new) result }
+        ensures later { (failed self.old ≤ failed self.new) × (damaged self.old ≤ damaged self.new) }
+        ensures same { (seed self.new ≡ seed self.old) × (cylinders self.new ≡ cylinders self.old) }
         ensures kept { words self.old ≤ words self.new }
         ensures drawn { words self.new ≤ words self.old + draws request.now };
 
     /// How many words were drawn.
     fn drawn(&self) -> u32
         ensures { result ≡ words self.now };
+
+    /// The identifier of the root index.
+    fn root(&self) -> Puid
+        ensures { result ≡ top self.now };
+
+    /// The kind of an object of its state; nothing where the graph has no such identifier.
+    fn kind(&self, id: Puid) -> Option<Kind>
+        ensures { (s : State) → stands self.now s → result ≡ kind_at s.graph id };
 }
 
 impl Asker for Plain {
-    ghost use Rattle.std.specs.Prelude.{◌≡◌};
-    ghost use Rattle.std.proofs.Common.{ap};
-    ghost use Rattle.ufs_model.specs.State.{State};
+    ghost use Rattle.std.specs.Prelude.{◌≡◌, Some};
+    ghost use Rattle.ufs_model.specs.Next.{next};
+    ghost use Rattle.ufs_model.specs.Plain.{plain_counted, plain_formed};
+    ghost use Rattle.ufs_model.specs.WellFormed.{IsState};
+    ghost use Rattle.ufs_model.specs.declared.asked.Event.TheVariants as events;
 
-    ghost stands = { λ p s. s ≡ p.state };
+    ghost stands = { λ p s. (s ≡ p.state) × IsState s };
 
     ghost seed = { λ p. p.seed };
 
     ghost words = { λ p. p.state.drawn };
 
-    ghost counted = { λ p s is. ap (λ (t : State). t.drawn) is };
+    ghost top = { λ p. p.state.graph.root };
+
+    ghost failed = { λ p. 0 };
+
+    ghost damaged = { λ p. 0 };
+
+    ghost cylinders = { λ p. 0 };
+
+    ghost asked = { λ p who request reply q. next p.seed p.state (events.Ask who request reply) ≡ Some q.state };
+
+    ghost counted = { plain_counted };
+
+    ghost formed = { plain_formed };
 
     fn ask(&mut self, alloc: Global, who: Session, request: &Request) -> Reply {
+        crate::laws::requests_store_bytes(request);
+        crate::laws::next_keeps_graphs();
         Plain::ask(self, alloc, who, request)
     }
 
     fn drawn(&self) -> u32 {
         Plain::drawn(self)
+    }
+
+    fn root(&self) -> Puid {
+        Plain::root(self)
+    }
+
+    fn kind(&self, id: Puid) -> Option<Kind> {
+        Plain::kind(self, id)
     }
 }

@@ -12,7 +12,6 @@ ghost use Rattle.ufs_model.specs.Vanish.{may_vanish};
 ghost use Rattle.ufs_model.specs.declared.asked.Event.TheVariants as events;
 
 use crate::asked::{Event, Reply, Request};
-use crate::laws::requests_store_bytes;
 use crate::marks::{reached_in, set_of};
 use crate::progress::{Progress, seen_by};
 use crate::server::Server;
@@ -293,7 +292,7 @@ impl Follower {
         if !self.server.is_outcome(who, request, reply) {
             return Ok(false);
         }
-        requests_store_bytes(request);
+        crate::laws::requests_store_bytes(request);
         let to = self.server.named(who, request.target());
         self.progress.reserve()?;
         let told = self.server.outcome(alloc, who, request, reply.block())?;

@@ -2,6 +2,7 @@
 ghost use Rattle.std.specs.Prelude.{◌≡◌, ◌≢◌, ◌↔◌, ◌+◌, ℕ, List, length, nat_lt, true, false, Some, None, Option, All};
 ghost use Rattle.std.specs.List.{list_all};
 ghost use Rattle.cfs_base.specs.declared.identifier.Puid.{Puid};
+ghost use Rattle.ufs_model.specs.Came.{Came};
 ghost use Rattle.ufs_model.specs.Graph.{Graph, IsClosedGraph, IsGraph, fresh_graph, is_free_root, is_there, object_at};
 ghost use Rattle.ufs_model.specs.Identifier.{is_among};
 ghost use Rattle.ufs_model.specs.Limits.{fan_out, leaf_size, leaf_slots, most_at_once, most_bytes, most_grants};
@@ -17,6 +18,7 @@ ghost use Rattle.ufs_model.specs.Vanish.{IsCutOff, MayVanish, may_vanish};
 ghost use Rattle.ufs_model.specs.WellFormed.{IsSpeakable, IsState, stores_bytes};
 ghost use Rattle.ufs_model.specs.declared.asked.Event.{Event};
 ghost use Rattle.ufs_model.specs.declared.asked.Event.TheVariants as events;
+ghost use Rattle.ufs_model.specs.declared.asked.Reply.{Reply};
 ghost use Rattle.ufs_model.specs.declared.asked.Request.{Request};
 ghost use Rattle.ufs_model.specs.declared.object.Object.{Object};
 
@@ -83,6 +85,12 @@ pub fn outcomes_are_legal()
         → (creates request ≡ true → is_free_root s.graph b ≡ true)
         → next seed s (events.Ask who request (outcome_of seed s who request b).0)
         ≡ Some (outcome_of seed s who request b).1 }
+{}
+
+/// An answer is the outcome of the request, its refusal, a want of blocks, or trouble.
+pub fn answers_are()
+    ensures { (seed : ℕ) (s t : State) (who : ℕ) (request : Request) (reply : Reply)
+        → next seed s (events.Ask who request reply) ≡ Some t → Came seed s who request reply t }
 {}
 
 /// What is reached in so many steps is all that is reached.

@@ -3,7 +3,7 @@ ghost use Rattle.std.specs.Prelude.{◌≡◌, ◌+◌, ◌-◌, ◌<◌, ◌≤
 ghost use Rattle.std.specs.Prelude.{OnErr, OnOk};
 
 use crate::numbers::{Levels, Numbers};
-use cfs_base::{FileKind, Mode, Puid, Session, Tuid};
+use cfs_base::{FileKind, Kind, Mode, Puid, Session, Tuid};
 use std::alloc::{AllocError, Global};
 use std::marker::Model;
 
@@ -174,6 +174,20 @@ impl Index {
 }
 
 impl Object {
+    ghost use Rattle.ufs_model.specs.Kinds.{object_kind};
+
+    pub fn kind(&self) -> Kind
+        ensures { result ≡ object_kind self.now }
+    {
+        match self {
+            Object::File(file) => match file.kind {
+                FileKind::Normal => Kind::Normal,
+                FileKind::Special => Kind::Special,
+            },
+            Object::Index(_) => Kind::Index,
+        }
+    }
+
     pub fn copy(&self, alloc: Global) -> Result<Object, AllocError>
         ensures { IfOk result (λ copy. copy ≡ self.now) }
     {

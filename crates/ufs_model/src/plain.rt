@@ -4,15 +4,16 @@ ghost use Rattle.ufs_model.specs.declared.asked.Reply.TheVariants as replies;
 ghost use Rattle.ufs_model.specs.declared.asked.Event.TheVariants as events;
 ghost use Rattle.ufs_model.specs.Plain.{IsAnswer, IsPlainReply};
 ghost use Rattle.ufs_model.specs.Graph.{IsLeastFreeRoot, fresh_graph};
+ghost use Rattle.ufs_model.specs.Kinds.{kind_at};
 ghost use Rattle.ufs_model.specs.Outcome.{creates, draws};
 ghost use Rattle.ufs_model.specs.State.{opening, is_running};
 ghost use Rattle.ufs_model.specs.Next.{next};
 
 use crate::asked::{Reply, Request};
 use crate::blocks::least_free_root;
-use crate::laws::requests_store_bytes;
+use crate::object::Object;
 use crate::server::Server;
-use cfs_base::{NoMemory, Puid, Session};
+use cfs_base::{Kind, NoMemory, Puid, Session};
 use std::alloc::Global;
 use std::marker::Model;
 
@@ -65,6 +66,20 @@ impl Plain {
         self.server.objects.len()
     }
 
+    /// The identifier of the root index.
+    pub fn root(&self) -> Puid
+        ensures { result ≡ self.now.state.graph.root }
+    {
+        self.server.root
+    }
+
+    /// The kind of an object; nothing where no object has this identifier.
+    pub fn kind(&self, id: Puid) -> Option<Kind>
+        ensures { result ≡ kind_at self.now.state.graph id }
+    {
+        self.server.objects.get(&id).map(Object::kind)
+    }
+
     /// The answer of the definitions, or `Memory`, which changes nothing. It never stops, and nothing is ever full.
     pub fn ask(&mut self, alloc: Global, who: Session, request: &Request) -> Reply
         requires { self.old.state.drawn < 4294967295 }
@@ -104,7 +119,7 @@ impl Plain {
         if let Some(refused) = self.server.refusal(who, request) {
             return Ok(refused);
         }
-        requests_store_bytes(request);
+        crate::laws::requests_store_bytes(request);
         let block = self.block_for(request).ok_or(NoMemory)?;
         let reply = self.server.outcome(alloc, who, request, block)?;
         if request.creates() {

@@ -55,8 +55,8 @@ module _ (image : Image) (cylinders word : ℕ) (size : length image ≡ 64 * cy
     fresh_is_sound = record {
       holds = record {
         label = record {
-          label = record { cylinders = cylinders; root = root_id word };
-          is_label = record { some = some; at_most = most; root = refl; word = small };
+          label = record { cylinders = cylinders; root = root_id word; version = 2 };
+          is_label = record { version = refl; some = some; at_most = most; root = refl; word = small };
           spelled = ap (λ (i : Image). block_at i 1) is ∙ get_or-set_same image 1 (label_block cylinders word) [] (omega arith);
           size_is = sym long;
           root_is = refl;

@@ -27,7 +27,7 @@ abbrev pub fresh : ℕ → Graph
 fresh word = fresh_graph (root_id word)
 
 abbrev pub label_block : ℕ → ℕ → List ℕ
-label_block cylinders word = spelling (record { cylinders = cylinders; root = root_id word })
+label_block cylinders word = spelling (record { cylinders = cylinders; root = root_id word; version = 2 })
 
 -- an index of 64 slots with no node
 abbrev pub empty_root : ℕ → roots.Root

@@ -11,7 +11,7 @@ use crate::map::fresh_map;
 use block_tree::{NODES, Root};
 use cfs_base::{Block, BlockNo, Disk, Failed, Kind, Puid};
 use ufs_model::ROOT_SLOTS;
-use vol_label::Label;
+use vol_label::{Label, NEWEST};
 
 /// The label's block.
 const LABEL: u32 = 1;
@@ -106,6 +106,7 @@ fn write_label<D: Disk>(disk: &mut D, cylinders: u32, word: u32) -> Result<(), F
             block: ROOT_BLOCK,
             word,
         },
+        version: NEWEST,
     };
     disk.write(BlockNo(LABEL), &label.encode())?;
     disk.barrier() // now there is a volume

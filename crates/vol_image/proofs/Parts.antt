@@ -1,6 +1,6 @@
 -- What the entry says of a block that an object holds, or that is a shadow root.
 use Rattle.std.proofs.Common.{◌≡◌, ◌≢◌, ◌⊎◌, inl, inr, ℕ, ◌+◌, ◌*◌, ◌<◌, List, [], ◌∷◌, length, Bool, true, false, cond, Some, None, Option, refl, sym, ◌∙◌, ap, subst, arith}
-use Rattle.vol_image.proofs.Words.{Allocated, BelongsTo, BlockState, Free, Graph, Held, Holds, Image, IntendAllocate, IntendDeallocate, IsBlockOf, IsHeldBy, IsLoose, IsTaken, IsTree, Leaf, Level, MapEntry, Node, Object, EntryPart, Place, Puid, ReadsAs, Root, ShadowRoot, block_at, entry_in, filter, first_or, is_committed, is_fixed, levels_of, map_in_image, nat_tests, part_at, part_in, part_of, place_at, place_from, range_with_len, same_Some, shadows, sight, source, stands_for, tree_in, tree_of}
+use Rattle.vol_image.proofs.Words.{Allocated, BelongsTo, BlockState, Free, Graph, Held, Holds, Image, IntendAllocate, IntendDeallocate, IsBlockOf, IsHeldBy, IsLoose, IsTaken, IsTree, Leaf, Span, Level, MapEntry, Node, Object, EntryPart, Place, Puid, ReadsAs, Root, ShadowRoot, block_at, entry_in, filter, first_or, is_committed, is_fixed, levels_of, map_in_image, nat_tests, part_at, part_in, part_of, place_at, place_from, range_with_len, same_Some, shadows, sight, source, stands_for, tree_in, tree_of}
 use Rattle.block_tree.specs.declared.root.Root as roots
 use Rattle.vol_image.proofs.Views.{held_part}
 
@@ -11,6 +11,7 @@ is_inner Root = false
 is_inner ShadowRoot = false
 is_inner (Node n) = true
 is_inner (Leaf n) = true
+is_inner (Span n) = true
 
 pub not_root : (p : Place) → is_inner p ≡ true → p ≢ Root
 not_root p is same = let no : true ≡ false = sym is ∙ ap is_inner same in cc
@@ -74,6 +75,7 @@ shadow_entry r e h = at e.state e.place h refl refl
     at IntendAllocate (Some Root) q u v = cc
     at IntendAllocate (Some (Node n)) q u v = cc
     at IntendAllocate (Some (Leaf n)) q u v = cc
+    at IntendAllocate (Some (Span n)) q u v = cc
     at IntendAllocate (Some ShadowRoot) q u v = (λ free. cc, v, grind (arith, nat_tests))
 
 pub shadow_taken : (image : Image) (r n : ℕ) → stands_for r (entry_in image n) ≡ true → IsPlaced image n r ShadowRoot

@@ -1,6 +1,6 @@
 -- A place names one path, and below a root a block stands at one path.
 use Rattle.std.proofs.Common.{◌≡◌, ◌≢◌, ℕ, zero, suc, ◌+◌, ◌*◌, ◌%◌, ◌/◌, ◌<◌, ◌≤◌, List, [], ◌∷◌, length, inl, inr, Some, refl, sym, ◌∙◌, ap, subst, arith}
-use Rattle.vol_image.proofs.Words.{Held, Image, IsTree, Leaf, Level, Node, Object, EntryPart, Place, Root, ShadowRoot, below, block_at, cases_lt, div-mul-add, end_of, get_or_past, leaf_pointers, length-map-range_with_len, levels_of, mod-mul-add, number_at, part_at, place_above, place_at, place_from, place_number, pointer, pointers_of, same_Some, tree_in, tree_of}
+use Rattle.vol_image.proofs.Words.{Held, Image, IsTree, Leaf, Span, Level, Node, Object, EntryPart, Place, Root, ShadowRoot, below, block_at, cases_lt, div-mul-add, end_of, get_or_past, leaf_pointers, length-map-range_with_len, levels_of, mod-mul-add, number_at, part_at, place_above, place_at, place_from, place_number, pointer, pointers_of, same_Some, tree_in, tree_of}
 use Rattle.block_tree.specs.declared.root.Root as roots
 use Rattle.vol_image.proofs.Views.{held_is, held_part}
 
@@ -17,6 +17,7 @@ rank : Place → ℕ
 rank Root = 9
 rank ShadowRoot = 9
 rank (Leaf n) = 0
+rank (Span n) = 2
 rank (Node n) = 1
 
 rank_above : (levels : List Level) (n : ℕ) → length levels ≤ 1 → rank (place_above levels n) ≡ length levels

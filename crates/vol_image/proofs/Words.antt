@@ -14,7 +14,7 @@ pub use Rattle.cfs_base.specs.declared.identifier.Puid.{Puid}
 pub use Rattle.cfs_base.specs.declared.kind.Kind.{Kind}
 pub use Rattle.cfs_base.specs.declared.kind.Kind.TheVariants.{Index, Normal, Special}
 pub use Rattle.cfs_base.specs.declared.kind.Place.{Place}
-pub use Rattle.cfs_base.specs.declared.kind.Place.TheVariants.{Leaf, Node, Root, ShadowRoot}
+pub use Rattle.cfs_base.specs.declared.kind.Place.TheVariants.{Leaf, Node, Root, ShadowRoot, Span}
 pub use Rattle.cyl_map.proofs.Volumes.{block_at-with_entry, entry_in-set, entry_in-with_entry_other, entry_in-with_entry_same, length-with_entry, map_in_image, same_or_not}
 pub use Rattle.cyl_map.specs.Entry.{IsEntry, place_number}
 pub use Rattle.cyl_map.specs.Map.{entry_at}
@@ -44,7 +44,6 @@ pub use Rattle.ufs_model.specs.declared.limits.TheConstants.{FAN_OUT}
 pub use Rattle.ufs_model.specs.declared.object.Object.{Object}
 pub use Rattle.vol_image.specs.Commit.{IsDraft, IsReadBy, MaySettle, Settles, with_commit_bit, root_from_source}
 pub use Rattle.vol_image.specs.Count.{blocks_held, held_at_depth, levels_held}
-pub use Rattle.vol_image.specs.Fault.{Fault, HasLabel, IsReachedIn, NamesNothing, Next, Shows, TheRoot, shown_tree}
 pub use Rattle.vol_image.specs.Frame.{ChangesMaps, Frames, IsAtRest, IsBlockOf, IsHeldBy, IsLoose, MayChange, StandsForNone}
 pub use Rattle.vol_image.specs.Part.{BelongsTo, IsTaken, OwnsItself, EntryPart, RootsOwnThemselves, SameAt, is_committed, is_fixed, part_at, part_in, part_of, stands_for}
 pub use Rattle.vol_image.specs.Reading.{IsTree, bare_object, held_in, leaf_content, leaf_in, slot_in}

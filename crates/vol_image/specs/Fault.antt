@@ -1,9 +1,13 @@
--- What may be wrong with a volume: each fault with its number, and the block that it names.
-use Rattle.std.specs.Prelude.{◌≡◌, ◌≢◌, ◌⊎◌, ℕ, ◌+◌, ◌*◌, ◌/◌, ◌<◌, ◌≤◌, true, List, [], ◌∷◌, ◌++◌, length, get_or}
-use Rattle.std.specs.Prelude.{slice_get, Some, None}
+-- What may be wrong with a volume: each fault with its number, and the block that it names. An image is read on past a
+-- fault: only what a pointer or an identifier that is wrong leads to isn't.
+use Rattle.std.specs.Prelude.{◌≡◌, ◌≢◌, ◌⊎◌, ℕ, ◌+◌, ◌*◌, ◌/◌, ◌<◌, ◌≤◌, Bool, true, false, not, ◌&&◌, ◌==◌}
+use Rattle.std.specs.Prelude.{if◌then◌else◌, List, [], ◌∷◌, ◌++◌, length, filter, get_or, slice_get, count_by, Option, Some, None}
+use Rattle.std.specs.List.{range_with_len}
 use Rattle.cfs_base.specs.Codes as codes
 use Rattle.cfs_base.specs.Disk.{Image, block_at}
 use Rattle.cfs_base.specs.declared.identifier.Puid.{Puid}
+use Rattle.cfs_base.specs.declared.kind.Kind.TheVariants as kinds
+use Rattle.cfs_base.specs.declared.kind.Place.{Place}
 use Rattle.cfs_base.specs.declared.kind.Place.TheVariants as places
 use Rattle.vol_label.specs.declared.label.Label.{Label}
 use Rattle.vol_label.specs.Label as labels
@@ -19,30 +23,67 @@ use Rattle.ufs_model.specs.declared.object.Index.{Index}
 use Rattle.ufs_model.specs.Identifier.{is_among}
 use Rattle.ufs_model.specs.Numbers.{has_number}
 use Rattle.ufs_model.specs.Object.{leaves_in}
-use Rattle.ufs_model.specs.Graph.{Graph, is_there, referred}
-use Rattle.ufs_model.specs.Reach.{rooted}
-use Rattle.vol_image.specs.Part.{BelongsTo, part_at, is_fixed, reserved}
+use Rattle.ufs_model.specs.Graph.{Graph, object_at, referred}
+use Rattle.vol_image.specs.Part.{BelongsTo, EntryPart, part_at, is_fixed, reserved, stands_for}
 use Rattle.vol_image.specs.Seen.{Held, Tree, tree_in, place_at}
 use Rattle.vol_image.specs.Reading.{object_with, leaf_in}
-use Rattle.vol_image.specs.Sight.{shadows, source}
-use Rattle.vol_image.specs.Sound.{Holds, IsClosedGraph, LeavesFour}
 
--- ---- what is looked at
+-- ---- how an object is read
 
--- the tree by which an object is read
+-- the commit bit stands, in an entry that is the block's own
+abbrev pub has_own_bit : ℕ → Option EntryPart → Bool
+has_own_bit r None = false
+has_own_bit r (Some p) = p.committed && (p.owner == r)
+
+-- the shadow roots that stand for an object
+unfoldable pub standing : Image → ℕ → List ℕ
+standing image r = if has_own_bit r (part_at image r) then filter (λ n. stands_for r (entry_in image n))
+    (range_with_len 0 (length image)) else []
+
+-- the one that stands, and else the root: of several none is taken
+abbrev pub one_or : ℕ → List ℕ → ℕ
+one_or r [] = r
+one_or r (s ∷ []) = s
+one_or r (s ∷ t ∷ ss) = r
+
+-- the block from which an object is read
+abbrev pub reader : Image → ℕ → ℕ
+reader image r = one_or r (standing image r)
+
+-- the content of that block, and the tree by which the object is read
+abbrev pub shown_root : Image → ℕ → List ℕ
+shown_root image r = block_at image (reader image r)
+
 abbrev pub shown_tree : Image → ℕ → Tree
-shown_tree image r = tree_in image (block_at image (source image r))
+shown_tree image r = tree_in image (shown_root image r)
 
--- The image shows this object: the block by which it is read is a root, and so is its root block, of the same kind and
--- word.
-pub record Shows (image : Image) (r : ℕ) (root : Root) (o : Object) : Type 0 where
+abbrev pub HasNoRoot : List ℕ → Type 0
+HasNoRoot content = (root : Root) → ¬ IsRootBlock content root
+
+-- a root of the same kind and word
+pub record IsSameSort (own root : Root) : Type 0 where
+  pub kind : root.kind ≡ own.kind
+  pub word : root.word ≡ own.word
+
+-- The block from which the object is read is a root, and so is its root block, of the same kind and word.
+pub record IsShownRoot (image : Image) (r : ℕ) (root : Root) : Type 0 where
   pub own : Root
   pub own_spelled : IsRootBlock (block_at image r) own
-  pub spelled : IsRootBlock (block_at image (source image r)) root
-  pub same_kind : root.kind ≡ own.kind
-  pub same_word : root.word ≡ own.word
-  pub one_shadow : length (shadows image r) ≤ 1
+  pub spelled : IsRootBlock (shown_root image r) root
+  pub same : IsSameSort own root
+
+-- it is the root of an index of 64 slots
+pub record HasRootSlots (root : Root) : Type 0 where
+  pub index : root.kind ≡ kinds.Index
+  pub size : root.size ≡ 8 * ROOT_SLOTS
+
+-- The image shows this object: it is read so, and a root index is one of 64 slots.
+pub record Shows (image : Image) (r : ℕ) (root : Root) (o : Object) : Type 0 where
+  pub read : IsShownRoot image r root
+  pub sort : r ≡ 2 → HasRootSlots root
   pub object : object_with root (leaf_in (shown_tree image r)) ≡ o
+
+-- ---- what is reached
 
 -- the volume has this label
 pub record HasLabel (image : Image) (label : Label) : Type 0 where
@@ -59,24 +100,97 @@ abbrev pub NamesNothing : Image → Puid → Type 0
 NamesNothing image x = (x.block ≡ 0)
     ⊎ ((length image ≤ x.block) ⊎ ((root : Root) × IsRootBlock (block_at image x.block) root × (root.word ≢ x.word)))
 
--- what is shown of the root index, if anything, is an index of 64 slots
-abbrev pub IsRootIndex : Image → ℕ → Type 0
-IsRootIndex image r = (root : Root) (o : Object) → Shows image r root o
-    → (index : Index) × (o ≡ objects.Index index) × (length index.slots ≡ ROOT_SLOTS)
-
--- The objects that are reached from the root index, each as the image shows it. What names nothing isn't followed, and
--- of a root index of another sort nothing is.
+-- The rooted objects: the root index, and those that a slot of one that is shown names. What names nothing isn't followed.
 pub data IsReachedIn (image : Image) : Puid → Type 0 where
-  TheRoot : (label : Label) → HasLabel image label → IsRootIndex image label.root.block → IsReachedIn image label.root
+  TheRoot : (label : Label) → HasLabel image label → IsReachedIn image label.root
   Next : (i x : Puid) (root : Root) (o : Object) → IsReachedIn image i → Shows image i.block root o
       → is_among x (referred o) ≡ true → NamesRoot image x → IsReachedIn image x
 
--- the block with the pointer at the end of a path: the root for the first
-abbrev pub holder : Image → ℕ → List ℕ → ℕ
-holder image r [] = source image r
-holder image r (k ∷ path) = tree_of image (block_at image (source image r)) (k ∷ path)
+-- The graph has what is shown: the objects that are reached, each as it is shown.
+pub record IsShownGraph (image : Image) (g : Graph) : Type 0 where
+  pub reached : (id : Puid) (o : Object) → object_at g id ≡ Some o → IsReachedIn image id
+  pub all : (id : Puid) → IsReachedIn image id → (o : Object) × (object_at g id ≡ Some o)
+  pub shows : (id : Puid) (o : Object) → object_at g id ≡ Some o → (root : Root) × Shows image id.block root o
 
--- ---- the faults, each with its number and the block that it names
+-- ---- the blocks of one object
+
+-- a block of the disk is used by the object with this root block, at a place of it
+pub data IsUsed (image : Image) (r : ℕ) : Place → ℕ → Type 0 where
+  AsRoot : IsUsed image r places.Root r
+  InTree : (root : Root) (o : Object) (path : List ℕ) (h : Held) → Shows image r root o
+      → (shown_tree image r).below path ≡ Some h → h.block < length image
+      → IsUsed image r (place_at (levels_of (shown_root image r)) path) h.block
+
+-- the block with the pointer at the end of a path: that of the root for the first
+abbrev pub holder : Image → ℕ → List ℕ → ℕ
+holder image r [] = reader image r
+holder image r (k ∷ path) = tree_of image (shown_root image r) (k ∷ path)
+
+-- a leaf of the object, on the disk
+pub record HasLeaf (image : Image) (r : ℕ) (root : Root) (o : Object) (leaf : ℕ) (h : Held) : Type 0 where
+  pub shows : Shows image r root o
+  pub here : leaf_in (shown_tree image r) leaf ≡ Some h
+  pub on_disk : h.block < length image
+
+-- block s is no root, or one of another kind or word than root block r
+abbrev pub IsOtherShadow : Image → (r s : ℕ) → Type 0
+IsOtherShadow image r s = (shadow : Root) → IsRootBlock (block_at image s) shadow
+    → (own : Root) × IsRootBlock (block_at image r) own × (shadow.kind ≡ own.kind → shadow.word ≢ own.word)
+
+-- ---- the faults of one object, each with its number and the block that it names
+
+pub data ObjectFault (image : Image) (r : ℕ) : ℕ → ℕ → Type 0 where
+  -- the root block is none
+  NoRoot : HasNoRoot (block_at image r) → ObjectFault image r codes.no_root r
+  -- a shadow root that stands is none, or of another kind or word than the root
+  NoShadow : (s : ℕ) → has_number s (standing image r) ≡ true → IsOtherShadow image r s
+      → ObjectFault image r codes.no_root s
+  -- a pointer leads past the disk
+  PastDisk : (root : Root) (o : Object) (path : List ℕ) (k : ℕ) → Shows image r root o
+      → length image ≤ tree_of image (shown_root image r) (path ++ k ∷ [])
+      → ObjectFault image r codes.past_disk (holder image r path)
+  -- the entry of a block that it uses is Free, or has another owner or place
+  NotOwned : (place : Place) (n : ℕ) → IsUsed image r place n → ¬ BelongsTo r place (part_at image n)
+      → ObjectFault image r codes.not_owned n
+  -- an identifier in a slot names no object; or the root index is none of 64 slots
+  SlotNamesNothing : (x : Puid) (root : Root) (index : Index) (s : ℕ) (h : Held)
+      → HasLeaf image r root (objects.Index index) (s / LEAF_SLOTS) h
+      → slice_get index.slots s ≡ Some (Some x) → NamesNothing image x
+      → ObjectFault image r codes.names_nothing h.block
+  NoRootIndex : (root : Root) → r ≡ 2 → IsShownRoot image r root → ¬ HasRootSlots root
+      → ObjectFault image r codes.names_nothing 2
+  -- two shadow roots stand for it
+  TwoShadows : 2 ≤ length (standing image r) → ObjectFault image r codes.two_shadows r
+  -- a leaf is held at or past the size
+  PastSize : (root : Root) (o : Object) (leaf : ℕ) (h : Held) → HasLeaf image r root o leaf h
+      → leaves_in root.size ≤ leaf → ObjectFault image r codes.late_leaf h.block
+  -- a byte past the size is no fill byte
+  NotFilled : (root : Root) (o : Object) (leaf i : ℕ) (h : Held) → HasLeaf image r root o leaf h
+      → i < 512 → root.size ≤ 512 * leaf + i → get_or h.content i 0 ≢ root.fill
+      → ObjectFault image r codes.late_byte h.block
+  -- a node that is held leads to nothing
+  DeadEnd : (root : Root) (o : Object) (path : List ℕ) (h : Held) → Shows image r root o
+      → (shown_tree image r).below path ≡ Some h → h.block < length image
+      → length path < length (levels_of (shown_root image r))
+      → ((k : ℕ) → (shown_tree image r).below (path ++ k ∷ []) ≡ None)
+      → ObjectFault image r codes.dead_end h.block
+
+-- ---- the faults of the volume
+
+-- a rooted object uses the block
+pub record IsKeptBlock (image : Image) (n : ℕ) : Type 0 where
+  pub id : Puid
+  pub place : Place
+  pub reached : IsReachedIn image id
+  pub used : IsUsed image id.block place n
+
+-- So many blocks are left: those that are no map block, not the label, and not kept.
+pub record LeavesBlocks (image : Image) (left : ℕ) : Type 0 where
+  pub taken : List Bool
+  pub size : length taken ≡ length image
+  pub only : (n : ℕ) → get_or taken n false ≡ true → (is_fixed n ≡ true) ⊎ IsKeptBlock image n
+  pub all : (n : ℕ) → n < length image → (is_fixed n ≡ true) ⊎ IsKeptBlock image n → get_or taken n false ≡ true
+  pub count : left ≡ count_by not taken
 
 pub data Fault (image : Image) : ℕ → ℕ → Type 0 where
   -- the label's cylinders are not the disk's
@@ -86,57 +200,13 @@ pub data Fault (image : Image) : ℕ → ℕ → Type 0 where
   NoEntry : (n : ℕ) → n < length image → entry_in image n ≡ None → Fault image codes.no_entry (map_of n)
   RootOfAnother : (n : ℕ) (e : MapEntry) → entry_in image n ≡ Some e → e.place ≡ Some places.Root → e.owner ≢ n
       → Fault image codes.no_entry (map_of n)
-  -- the root block of a reached object is none
-  NoRoot : (id : Puid) → IsReachedIn image id → ((root : Root) → ¬ IsRootBlock (block_at image id.block) root)
-      → Fault image codes.no_root id.block
-  -- a shadow root that stands is none, or of another kind or word than the root
-  NoShadow : (id : Puid) (own : Root) (s : ℕ) → IsReachedIn image id → IsRootBlock (block_at image id.block) own
-      → has_number s (shadows image id.block) ≡ true
-      → ((shadow : Root) → IsRootBlock (block_at image s) shadow → shadow.kind ≡ own.kind → shadow.word ≢ own.word)
-      → Fault image codes.no_root s
-  -- a pointer leads past the disk
-  PastDisk : (id : Puid) (root : Root) (o : Object) (path : List ℕ) (k : ℕ) → IsReachedIn image id
-      → Shows image id.block root o
-      → length image ≤ tree_of image (block_at image (source image id.block)) (path ++ k ∷ [])
-      → Fault image codes.past_disk (holder image id.block path)
-  -- the entry of a block of a tree is Free, or has another owner or place
-  NotOwned : (id : Puid) (root : Root) (o : Object) (path : List ℕ) (h : Held) → IsReachedIn image id
-      → Shows image id.block root o → (shown_tree image id.block).below path ≡ Some h → h.block < length image
-      → ¬ BelongsTo id.block (place_at (levels_of (block_at image (source image id.block))) path) h.part
-      → Fault image codes.not_owned h.block
-  RootNotOwned : (id : Puid) (own : Root) → IsReachedIn image id → IsRootBlock (block_at image id.block) own
-      → ¬ BelongsTo id.block places.Root (part_at image id.block) → Fault image codes.not_owned id.block
   -- a map block or the label is not reserved
   NotReserved : (n : ℕ) → n < length image → is_fixed n ≡ true → entry_in image n ≢ Some reserved
       → Fault image codes.not_owned n
-  -- an identifier in a slot, or the label's, names no object; or the root index is none of 64 slots
-  SlotNamesNothing : (i x : Puid) (root : Root) (index : Index) (s : ℕ) (h : Held) → IsReachedIn image i
-      → Shows image i.block root (objects.Index index) → slice_get index.slots s ≡ Some (Some x)
-      → leaf_in (shown_tree image i.block) (s / LEAF_SLOTS) ≡ Some h → h.block < length image → NamesNothing image x
-      → Fault image codes.names_nothing h.block
+  -- the label's identifier names no object
   LabelNamesNothing : (label : Label) → HasLabel image label → NamesNothing image label.root
       → Fault image codes.names_nothing 1
-  NoRootIndex : (label : Label) (root : Root) (o : Object) → HasLabel image label → Shows image label.root.block root o
-      → ((index : Index) → o ≡ objects.Index index → length index.slots ≢ ROOT_SLOTS)
-      → Fault image codes.names_nothing 2
-  -- two shadow roots stand for one object
-  TwoShadows : (id : Puid) (own : Root) → IsReachedIn image id → IsRootBlock (block_at image id.block) own
-      → 2 ≤ length (shadows image id.block) → Fault image codes.two_shadows id.block
-  -- a leaf is held at or past the size
-  PastSize : (id : Puid) (root : Root) (o : Object) (leaf : ℕ) (h : Held) → IsReachedIn image id
-      → Shows image id.block root o → leaf_in (shown_tree image id.block) leaf ≡ Some h → h.block < length image
-      → leaves_in root.size ≤ leaf → Fault image codes.late_leaf h.block
-  -- a byte past the size is no fill byte
-  NotFilled : (id : Puid) (root : Root) (o : Object) (leaf i : ℕ) (h : Held) → IsReachedIn image id
-      → Shows image id.block root o → leaf_in (shown_tree image id.block) leaf ≡ Some h → h.block < length image
-      → i < 512 → root.size ≤ 512 * leaf + i
-      → get_or h.content i 0 ≢ root.fill → Fault image codes.late_byte h.block
-  -- a node that is held leads to no leaf
-  DeadEnd : (id : Puid) (root : Root) (o : Object) (path : List ℕ) (h : Held) → IsReachedIn image id
-      → Shows image id.block root o → (shown_tree image id.block).below path ≡ Some h → h.block < length image
-      → length path < length (levels_of (block_at image (source image id.block)))
-      → ((k : ℕ) → (shown_tree image id.block).below (path ++ k ∷ []) ≡ None) → Fault image codes.dead_end h.block
-  -- beside the maps, the label and the objects that are reached, fewer than 4 blocks are left
-  NoRoom : (g : Graph) → Holds image g → IsClosedGraph g
-      → ((x : Puid) → is_there g x ≡ true → is_among x (rooted g) ≡ true) → ¬ LeavesFour (length image) g
-      → Fault image codes.too_full 0
+  -- a rooted object has this fault
+  InObject : (id : Puid) (code n : ℕ) → IsReachedIn image id → ObjectFault image id.block code n → Fault image code n
+  -- fewer than 4 blocks are left
+  TooFull : (left : ℕ) → LeavesBlocks image left → left < 4 → Fault image codes.too_full 0

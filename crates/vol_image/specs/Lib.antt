@@ -5,6 +5,7 @@ pub mod Sight
 pub mod Count
 pub mod Sound
 pub mod Fault
+pub mod Faults
 pub mod Survives
 pub mod Frame
 pub mod Commit

@@ -2,7 +2,7 @@
 use Rattle.std.specs.Prelude.{◌≡◌, ◌≢◌, ℕ, Bool, true, false, ◌&&◌, ◌||◌, ◌==◌, ◌%◌, Option, Some, None}
 use Rattle.cfs_base.specs.Disk.{Image, block_at}
 use Rattle.cfs_base.specs.declared.kind.Place.{Place}
-use Rattle.cfs_base.specs.declared.kind.Place.TheVariants.{Root, ShadowRoot, Node, Leaf}
+use Rattle.cfs_base.specs.declared.kind.Place.TheVariants.{Root, ShadowRoot, Node, Leaf, Span}
 use Rattle.cyl_map.specs.declared.state.BlockState.{BlockState}
 use Rattle.cyl_map.specs.declared.state.BlockState.TheVariants.{Free, Allocated, IntendAllocate, IntendDeallocate}
 use Rattle.cyl_map.specs.declared.entry.MapEntry.{MapEntry}
@@ -75,6 +75,7 @@ is_shadow_place (Some Root) = false
 is_shadow_place (Some ShadowRoot) = true
 is_shadow_place (Some (Node n)) = false
 is_shadow_place (Some (Leaf n)) = false
+is_shadow_place (Some (Span n)) = false
 
 -- a block with this entry is a shadow root that stands for the object with this root block
 abbrev pub stands_for : ℕ → Option MapEntry → Bool

@@ -19,6 +19,10 @@ first_or r (s ∷ ss) = s
 abbrev pub source : Image → ℕ → ℕ
 source image r = first_or r (shadows image r)
 
+-- the tree by which it is read
+abbrev pub source_tree : Image → ℕ → Tree
+source_tree image r = tree_in image (block_at image (source image r))
+
 -- the root's part and content, the shadow roots that stand, and the tree by which the object is read
 pub record Sight : Type 0 where
   pub part : Option EntryPart

@@ -1,6 +1,5 @@
 -- Sound images, and the graph as which one reads.
 use Rattle.std.specs.Prelude.{◌≡◌, ℕ, ◌+◌, ◌*◌, ◌/◌, ◌<◌, ◌≤◌, true, false, List, length, filter, replicate, Some}
-use Rattle.std.specs.List.{sum_by}
 use Rattle.cfs_base.specs.Disk.{Image, block_at}
 use Rattle.cfs_base.specs.declared.identifier.Puid.{Puid}
 use Rattle.cfs_base.specs.declared.kind.Place.TheVariants.{Root}
@@ -15,10 +14,10 @@ use Rattle.ufs_model.specs.declared.object.Object.{Object}
 use Rattle.ufs_model.specs.declared.object.Object.TheVariants as objects
 use Rattle.ufs_model.specs.declared.object.Index.{Index}
 use Rattle.ufs_model.specs.Identifier.{is_among, rises}
-use Rattle.ufs_model.specs.Object.{blocks_of}
 use Rattle.ufs_model.specs.Graph.{Graph, ids_of, object_at, is_there}
 pub use Rattle.ufs_model.specs.Graph.{IsClosedGraph}
 use Rattle.ufs_model.specs.Reach.{rooted}
+pub use Rattle.ufs_model.specs.Room.{graph_blocks}
 use Rattle.vol_image.specs.Part.{BelongsTo, RootsOwnThemselves, part_at, is_fixed, reserved}
 use Rattle.vol_image.specs.Reading.{IsTree}
 use Rattle.vol_image.specs.Sight.{Sight, sight}
@@ -68,10 +67,6 @@ pub record Holds (image : Image) (g : Graph) : Type 0 where
   -- 5: the map blocks and the label are reserved
   pub fixed : (n : ℕ) → n < length image → is_fixed n ≡ true → entry_in image n ≡ Some reserved
   pub objects : (id : Puid) (o : Object) → object_at g id ≡ Some o → ReadsAs (length image) id (sight image id.block) o
-
--- how many blocks the objects of a graph take
-abbrev pub graph_blocks : Graph → ℕ
-graph_blocks g = sum_by (λ e. blocks_of e.1) g.objects
 
 -- 11: beside the maps, the label and the graph's objects at least 4 blocks of a disk of this size are left
 abbrev pub LeavesFour : ℕ → Graph → Type 0

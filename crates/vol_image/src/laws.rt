@@ -17,7 +17,6 @@ ghost use Rattle.ufs_model.specs.declared.object.Object.{Object};
 ghost use Rattle.ufs_model.specs.declared.object.Object.TheVariants as objects;
 ghost use Rattle.vol_image.specs.Commit.{IsDraft, IsReadBy, MaySettle, Settles, with_commit_bit, root_from_source};
 ghost use Rattle.vol_image.specs.Count.{blocks_held, levels_held};
-ghost use Rattle.vol_image.specs.Fault.{Fault};
 ghost use Rattle.vol_image.specs.Frame.{ChangesMaps, Frames, IsAtRest, IsBlockOf, IsHeldBy, IsLoose, StandsForNone};
 ghost use Rattle.vol_image.specs.Part.{IsTaken, OwnsItself, is_fixed, stands_for};
 ghost use Rattle.vol_image.specs.Reading.{IsTree, bare_object};
@@ -158,11 +157,6 @@ pub fn one_reading()
 pub fn rooted_part_is_read()
     ensures { (image : Image) (g : Graph) → Holds image g → IsClosedGraph g → LeavesFour (length image) (rooted_part g)
         → IsSoundAs image (rooted_part g) }
-{}
-
-/// A sound image has none of the faults.
-pub fn sound_without_fault()
-    ensures { (image : Image) (g : Graph) (code block : ℕ) → IsSoundAs image g → ¬ Fault image code block }
 {}
 
 /// The blocks of an object by the model are those that its tree holds, level by level, and each stands at one path.

@@ -12,6 +12,8 @@ pub struct Label {
     pub cylinders: u32,
     /// The root index, whose root block is block 2.
     pub root: Puid,
+    /// 1, or 2 where objects may be wide.
+    pub version: u32,
 }
 
 /// Why a block is no label that is read here.
@@ -19,15 +21,15 @@ pub struct Label {
 pub enum LabelFault {
     #[error("not a volume")]
     NotVolume,
-    /// A label of another version than 1.
+    /// A label of another version than 1 and 2.
     #[error("a volume of version {found}")]
     Version { found: u32 },
 }
 
 /// What each volume begins with.
 const MAGIC: [u8; 4] = *b"CFS1";
-/// The version that is read and written.
-const VERSION: u32 = 1;
+/// The version of a volume that is made now.
+pub const NEWEST: u32 = 2;
 /// A volume has at least one cylinder, and at most so many.
 const MOST_CYLINDERS: u32 = 65_536;
 /// The root block of the root index.
@@ -48,7 +50,7 @@ impl Label {
             return Err(LabelFault::NotVolume);
         }
         let found = block.u32_at(4);
-        if found != VERSION {
+        if !is_version(found) {
             return Err(LabelFault::Version { found });
         }
         let label = Label {
@@ -57,6 +59,7 @@ impl Label {
                 block: block.u32_at(12),
                 word: block.u32_at(16),
             },
+            version: found,
         };
         if !label.is_one() {
             return Err(LabelFault::NotVolume);
@@ -74,7 +77,7 @@ impl Label {
     {
         let mut block = Block::zero();
         block.put_u32(0, u32::from_be_bytes(MAGIC));
-        block.put_u32(4, VERSION);
+        block.put_u32(4, self.version);
         block.put_u32(8, self.cylinders);
         block.put_u32(12, self.root.block);
         block.put_u32(16, self.root.word);
@@ -85,6 +88,16 @@ impl Label {
     fn is_one(self) -> bool
         ensures { IsTrue result ↔ spec.IsLabel self }
     {
-        1 <= self.cylinders && self.cylinders <= MOST_CYLINDERS && self.root.block == ROOT_BLOCK
+        is_version(self.version)
+            && 1 <= self.cylinders
+            && self.cylinders <= MOST_CYLINDERS
+            && self.root.block == ROOT_BLOCK
     }
+}
+
+/// Whether a volume of this version is read.
+fn is_version(version: u32) -> bool
+    ensures { result ≡ spec.is_version version }
+{
+    version == 1 || version == NEWEST
 }

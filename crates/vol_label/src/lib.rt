@@ -5,4 +5,4 @@
 
 mod label;
 
-pub use label::{Label, LabelFault};
+pub use label::{Label, LabelFault, NEWEST};

@@ -1,6 +1,6 @@
 -- What tests say of an entry.
 use Rattle.std.proofs.Common.{◌≡◌, ◌≢◌, ◌⊎◌, inl, inr, ℕ, Bool, true, false, ◌&&◌, Option, Some, None, refl, sym, ◌∙◌, ap, ◌==◌}
-use Rattle.vol_owners.proofs.Words.{Allocated, BlockState, Free, Image, IntendAllocate, IntendDeallocate, IsTaken, Leaf, MapEntry, Node, Place, Root, RootsOwnThemselves, ShadowRoot, and_from, and_left, and_parts, both_ways, entry_in, eq-eqb, eqb-true, is_free_entry, is_had, is_leaving, is_made, is_meant, is_owned_by, is_placed, is_root, is_root_place, is_some, is_taken, owner_of, stands_for}
+use Rattle.vol_owners.proofs.Words.{Allocated, BlockState, Free, Image, IntendAllocate, IntendDeallocate, IsTaken, Leaf, Span, MapEntry, Node, Place, Root, RootsOwnThemselves, ShadowRoot, and_from, and_left, and_parts, both_ways, entry_in, eq-eqb, eqb-true, is_free_entry, is_had, is_leaving, is_made, is_meant, is_owned_by, is_placed, is_root, is_root_place, is_some, is_taken, owner_of, stands_for}
 
 -- ---- a test that no Free block passes
 
@@ -101,6 +101,7 @@ root_owner image own test n h = at (entry_in image n) refl h
     root_is (Some ShadowRoot) q = cc
     root_is (Some (Node k)) q = cc
     root_is (Some (Leaf k)) q = cc
+    root_is (Some (Span k)) q = cc
 
     at : (entry : Option MapEntry) → entry_in image n ≡ entry → is_root test entry ≡ true → owner_of (entry_in image n) ≡ n
     at None is q = cc
@@ -127,4 +128,5 @@ stands_meant r (Some e) h = at e.state e.place h
     at IntendAllocate (Some Root) q = cc
     at IntendAllocate (Some (Node n)) q = cc
     at IntendAllocate (Some (Leaf n)) q = cc
+    at IntendAllocate (Some (Span n)) q = cc
     at IntendAllocate (Some ShadowRoot) q = eq-eqb r e.owner (sym (eqb-true e.owner r q))

@@ -15,11 +15,11 @@ fixed_map j = grind (arith, nat_tests)
 not_fixed : (j n : ℕ) → 64 * j + 1 ≤ n → n < 64 * j + 64 → 2 ≤ n → is_fixed n ≡ false
 not_fixed j n from below past = grind (arith, nat_tests)
 
-abbrev fixed_one : ℕ → ℕ
+abbrev pub fixed_one : ℕ → ℕ
 fixed_one n = one_of (is_fixed n)
 
 -- the map block of each cylinder, and the label
-fixed_count : (c : ℕ) → 1 ≤ c → sum_run fixed_one 0 (64 * c) ≡ c + 1
+pub fixed_count : (c : ℕ) → 1 ≤ c → sum_run fixed_one 0 (64 * c) ≡ c + 1
 fixed_count zero some = absurd (omega arith)
 fixed_count (suc zero) some =
     omega (arith, run-suc fixed_one 0 63, run-suc fixed_one 1 62, run_none fixed_one 2 62 (λ n le lt. ap one_of (not_fixed 0 n (omega arith) (omega arith) (omega arith))))

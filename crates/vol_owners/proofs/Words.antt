@@ -6,7 +6,7 @@ unfoldable pub use Rattle.block_tree.specs.Tree.{levels_of, path_to}
 pub use Rattle.cfs_base.specs.Disk.{Image, block_at}
 pub use Rattle.cfs_base.specs.declared.identifier.Puid.{Puid}
 pub use Rattle.cfs_base.specs.declared.kind.Place.{Place}
-pub use Rattle.cfs_base.specs.declared.kind.Place.TheVariants.{Leaf, Node, Root, ShadowRoot}
+pub use Rattle.cfs_base.specs.declared.kind.Place.TheVariants.{Leaf, Node, Root, ShadowRoot, Span}
 pub use Rattle.cyl_map.proofs.Volumes.{block_at-with_entry, entry_in-set, entry_in-with_entry_other, entry_in-with_entry_same, length-with_entry, same_or_not}
 pub use Rattle.cyl_map.specs.Entry.{IsEntry}
 pub use Rattle.cyl_map.specs.Volume.{AreMaps, free_from, is_free_entry, is_free_in}

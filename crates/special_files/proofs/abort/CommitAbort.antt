@@ -1,11 +1,13 @@
 -- A draft whose blocks become Free.
-use Rattle.std.proofs.Common.{◌≡◌, ◌≢◌, inl, inr, ⊎_elim, ℕ, Bool, true, false, IsTrue, List, ◌∷◌, ◌++◌, length, Option, Some, None, Ok, Err, refl, sym, ◌∙◌, ap, subst, not}
-use Rattle.special_files.proofs.Words.{AbortEnds, Accounts, AreCounts, AreTaken, BlockState, ChangesOnly, DraftView, Drafting, Drafts, Dropped, Flip, Flips, Frame, Ghosts, Graph, HasDraft, Holds, Image, IsMadeRoot, IsOn, IsOpenTo, IsSameDisk, IsTaken, Kept, Leaves, MapEntry, MayFlip, MayPut, Nothing, Object, OnOk, Opened, OwnsNothing, Puid, Result, Root, ShadowRoot, Trouble, Undo, and_from, and_parts, both_ways, carries_framed, cases_Bool, changed_entry, changes_begin, content_of, created_if, draft_goes_on, entry_in, entry_in_table, false_from_ne_true, flipped, flips, frames_begin, frames_hold, free_unowned, given_all, had_not_meant, has_number, here, is_damage, is_free_entry, is_free_in, is_meant, is_meant_for, is_owned_by, is_placed, is_taken, keeps_frame, making_ends, may_take_back, no_shadow_stands, not_map, object_at, of_draft, of_drafts, on_ok, opened_as, option_to_list, owner_is, placed_taken, same_Some, shadow_taken, stands_meant, taken_apart, then, undoing, undone, undone_in, undone_stands, undone_valid, unheld_entry, wider, without_draft}
+use Rattle.std.proofs.Common.{◌≡◌, ◌≢◌, inl, inr, ⊎_elim, ℕ, Bool, true, false, IsTrue, List, ◌∷◌, ◌++◌, length, Option, Some, None, Ok, Err, refl, sym, ◌∙◌, ap, subst}
+use Rattle.special_files.proofs.Words.{AbortEnds, Accounts, AreCounts, AreTaken, BlockState, ChangesOnly, Course, DraftView, Drafting, Drafts, Dropped, Flips, Frame, Ghosts, Graph, HasDraft, Holds, Image, IsMadeRoot, IsOn, IsOpenTo, IsSameDisk, Kept, Leaves, MapEntry, MayPut, MayTurn, Nothing, Object, OnOk, Opened, OwnsNothing, Puid, Result, Root, ShadowRoot, Trouble, Undo, and_from, and_parts, both_ways, carries_framed, cases_Bool, changed_if, changes_begin, content_of, created_if, draft_goes_on, entry_in, entry_in_table, false_from_ne_true, frames_begin, frames_hold, free_unowned, given_all, had_not_meant, has_number, is_damage, is_free_entry, is_free_in, is_meant, is_meant_for, is_owned_by, is_placed, is_taken, keeps_frame, making_ends, may_take_back, no_shadow_stands, not_map, numbers_differ, object_at, of_draft, of_drafts, on_ok, opened_as, option_to_list, owner_is, placed_taken, same_Some, shadow_taken, stands_meant, taken_apart, then, turned, undoing, undone, undone_in, undone_stands, undone_valid, unheld_entry, wider, without_draft}
 use Rattle.vol_owners.proofs.Entries.{root_placed}
+use Rattle.cyl_map.proofs.Mapped.{mapped_is, mapped_stays}
+use Rattle.intentions.proofs.Turned.{first_number, has_either, has_first, has_second, more_numbers, option_has, option_is, turned_is, turned_on, whole_on}
+use Rattle.cyl_map.specs.Mapped.{AreWhole, IsMapped, mapped}
 use Rattle.special_files.proofs.Begun.{store_still}
 use Rattle.special_files.proofs.commit.CommitEntries.{meant_not_free, undone_free}
-use Rattle.special_files.proofs.commit.CommitFlips.{counts_given_all}
-use Rattle.intentions.proofs.Flips.{flipped_append, flipped_block, flipped_on, flips_entry, if_at, first_number, may_append, may_flips, more_numbers, option_has, option_is, option_once}
+use Rattle.special_files.proofs.commit.CommitFlips.{counts_given_all, differ_append, given_append, option_once}
 use Rattle.special_files.proofs.commit.CommitRoles.{one_owner}
 use Rattle.special_files.proofs.Made.{IsNewRoot, draft_made, made_apart, made_meant, made_root}
 use Rattle.special_files.proofs.commit.CommitWhole.{tree_inner}
@@ -13,50 +15,31 @@ use Rattle.special_files.proofs.Meant.{meant_is, meant_loose, no_shadow}
 use Rattle.special_files.proofs.View.{draft_of, view}
 
 module _ (a : Image) (g : Graph) (ds : Drafts) (id : Puid) (o : Object) (k0 : Kept) (d : Opened) (taken : List ℕ) (had : Accounts a g ds) (at : object_at g id ≡ Some o) (alone : ds id ≡ Some d) (draft : HasDraft a id d) (lists : AreTaken a id d taken) where
-  -- the shadow root, if it has one
-  abbrev pub own : List ℕ
+  abbrev w : Course
+  w = Frame a g
+
+  -- the shadow root, if it has one, and the root of an object that was to be made
+  abbrev own : List ℕ
   own = option_to_list d.shadow
 
-  own_is : (n : ℕ) → has_number n (option_to_list d.shadow) ≡ true → d.shadow ≡ Some n
-  own_is n is = option_is d.shadow n is
+  abbrev made : List ℕ
+  made = option_to_list d.created
+
+  abbrev owners : List ℕ
+  owners = id.block ∷ option_to_list d.created
+
+  abbrev pub claims : List ℕ
+  claims = undoing taken d.shadow d.created
+
+  -- A block was meant for one of these, and the claim may be taken back.
+  record Claimed (n : ℕ) : Type 0 where
+    owner : ℕ
+    meant : is_meant_for a owner n ≡ true
+    among : has_number owner (id.block ∷ option_to_list d.created) ≡ true
+    may : (e : MapEntry) → entry_in a n ≡ Some e → MayPut (Frame a g) n e (undone e)
 
   own_meant : (n : ℕ) → has_number n (option_to_list d.shadow) ≡ true → is_meant_for a id.block n ≡ true
-  own_meant n is = stands_meant id.block (entry_in a n) (draft.shadow n (own_is n is))
-
-  own_not_taken : (n : ℕ) → has_number n (option_to_list d.shadow) ≡ true → has_number n taken ≡ false
-  own_not_taken n is = lists.no_shadow n (own_is n is)
-
-  may_undo : (n : ℕ) → is_meant_for a id.block n ≡ true → ((e : MapEntry) → entry_in a n ≡ Some e → e.place ≢ Some Root) → (e : MapEntry) × (entry_in a n ≡ Some e) × MayPut (Frame a g) n e (changed_entry Undo e)
-  may_undo n meant no_root =
-      let t = (meant_is a id.block n meant).taken in
-      let begun = changes_begin (λ e. of_draft id.block e) a g had.holds in
-      (t.is, t.here, may_take_back a g n t.is (meant_loose a a g ds id o had at begun had.holds n meant) (no_shadow a a g ds id o had at begun t.is) (entry_in_table a n t.is t.here) (no_root t.is t.here))
-
-  may1 : MayFlip (Frame a g) a (flips Undo taken)
-  may1 = may_flips (Frame a g) Undo taken a lists.once (λ n is. may_undo n (lists.meant n is) (λ e here root.
-      let inner = tree_inner a (length a) id.block (content_of d) d.root d.draft.object draft.tree n (lists.stands n is) in
-      inner.no_root (ap (λ (x : MapEntry). x.place) (same_Some _ _ (sym inner.taken.here ∙ here)) ∙ root)))
-
-  abbrev pub b1 : Image
-  b1 = flipped a (flips Undo taken)
-
-  abbrev pub b2 : Image
-  b2 = flipped b1 (flips Undo (option_to_list d.shadow))
-
-  b1_entry : (m : ℕ) → entry_in b1 m ≡ if_at (has_number m taken) Undo (entry_in a m)
-  b1_entry m = flips_entry (Frame a g) Undo taken a lists.once may1 m
-
-  may2 : MayFlip (Frame a g) b1 (flips Undo (option_to_list d.shadow))
-  may2 = may_flips (Frame a g) Undo (option_to_list d.shadow) b1 (option_once d.shadow) (λ n is.
-      let may = may_undo n (own_meant n is) (λ e here root.
-      let shadow = shadow_taken a id.block n (draft.shadow n (own_is n is)) in
-      let no : Some ShadowRoot ≡ Some Root = sym shadow.place_is ∙ ap (λ (x : MapEntry). x.place) (same_Some _ _ (sym shadow.taken.here ∙ here)) ∙ root in cc) in
-      (may.0, b1_entry n ∙ ap (λ (b : Bool). if_at b Undo (entry_in a n)) (own_not_taken n is) ∙ may.1, may.2))
-
-  b2_entry : (m : ℕ) → entry_in b2 m ≡ if_at (has_number m (option_to_list d.shadow)) Undo (entry_in b1 m)
-  b2_entry m = flips_entry (Frame a g) Undo (option_to_list d.shadow) b1 (option_once d.shadow) may2 m
-
-  -- ---- the root of an object that was to be made
+  own_meant n is = stands_meant id.block (entry_in a n) (draft.shadow n (option_is d.shadow n is))
 
   made_is : (n : ℕ) → has_number n (option_to_list d.created) ≡ true → IsMadeRoot a n
   made_is n there = draft_made a g ds had id d alone n (option_is d.created n there)
@@ -67,116 +50,141 @@ module _ (a : Image) (g : Graph) (ds : Drafts) (id : Puid) (o : Object) (k0 : Ke
   made_not_meant : (n : ℕ) → has_number n (option_to_list d.created) ≡ true → is_meant_for a id.block n ≡ false
   made_not_meant n there = false_from_ne_true _ (λ meant. made_apart a had.holds.own n (made_is n there) id.block (had.objects id o at) (one_owner is_meant is_meant n id.block (entry_in a n) (made_meant a had.holds.own n (made_is n there)) meant))
 
-  b2_kept : (m : ℕ) → is_meant_for a id.block m ≡ false → entry_in b2 m ≡ entry_in a m
-  b2_kept m none =
-      b2_entry m ∙ (λ i. if_at (false_from_ne_true _ (λ is. both_ways _ none (own_meant m is)) i) Undo (entry_in b1 m))
-      ∙ b1_entry m ∙ (λ i. if_at (false_from_ne_true _ (λ is. both_ways _ none (lists.meant m is)) i) Undo (entry_in a m))
+  of_object : (n : ℕ) → is_meant_for a id.block n ≡ true → ((e : MapEntry) → entry_in a n ≡ Some e → e.place ≢ Some Root) → Claimed n
+  of_object n meant no_root =
+      let begun = changes_begin (λ e. of_draft id.block e) a g had.holds in
+      record {
+        owner = id.block;
+        meant = meant;
+        among = first_number id.block (option_to_list d.created);
+        may = λ e here. may_take_back a g n e (meant_loose a a g ds id o had at begun had.holds n meant) (no_shadow a a g ds id o had at begun e) (entry_in_table a n e here) (no_root e here);
+      }
 
-  b2_made : (n : ℕ) → (there : has_number n (option_to_list d.created) ≡ true) → entry_in b2 n ≡ Some (made_at n there).at.taken.is
-  b2_made n there = b2_kept n (made_not_meant n there) ∙ (made_at n there).at.taken.here
-
-  abbrev pub b3 : Image
-  b3 = flipped b2 (flips Undo (option_to_list d.created))
-
-  may3 : MayFlip (Frame a g) b2 (flips Undo (option_to_list d.created))
-  may3 = may_flips (Frame a g) Undo (option_to_list d.created) b2 (option_once d.created) (λ n there.
+  of_made : (n : ℕ) → has_number n (option_to_list d.created) ≡ true → Claimed n
+  of_made n there =
       let root = (made_at n there).at in
-      let e = root.taken.is in
-      let gone : undone e ≡ unheld_entry = ap (λ (s : BlockState). undone_in s e) (made_at n there).state in (
-        e,
-        b2_made n there,
-        (
-          undone_valid e (entry_in_table a n e root.taken.here),
-          λ at_root. (let no : None ≡ Some Root = ap (λ (x : MapEntry). x.place) (sym gone) ∙ at_root in cc),
-          record {
-            apart = taken_apart a g had.holds n n root.taken;
-            keeps = λ held. absurd (both_ways _ (had_not_meant held.0.block (entry_in a n) ((had.objects held.0 held.1 held.2).each n held.3)) (root_placed is_meant (entry_in a n) (made_is n there).entered));
-            standing = λ x p found bit. undone_stands x.block e ∙ sym (no_shadow_stands x.block e (λ at_shadow. (let no : Some Root ≡ Some ShadowRoot = sym root.place_is ∙ at_shadow in cc)));
-          },
-        ),
-      ))
+      record {
+        owner = n;
+        meant = made_meant a had.holds.own n (made_is n there);
+        among = more_numbers id.block n (option_to_list d.created) there;
+        may = λ e here.
+            let same : root.taken.is ≡ e = same_Some _ _ (sym root.taken.here ∙ here) in
+            let gone : undone e ≡ unheld_entry = ap (λ (s : BlockState). undone_in s e) (ap (λ (x : MapEntry). x.state) (sym same) ∙ (made_at n there).state) in
+            let place : e.place ≡ Some Root = ap (λ (x : MapEntry). x.place) (sym same) ∙ root.place_is in (
+              undone_valid e (entry_in_table a n e here),
+              λ at_root. (let no : None ≡ Some Root = ap (λ (x : MapEntry). x.place) (sym gone) ∙ at_root in cc),
+              record {
+                apart = taken_apart a g had.holds n n root.taken;
+                keeps = λ held. absurd (both_ways _ (had_not_meant held.0.block (entry_in a n) ((had.objects held.0 held.1 held.2).each n held.3)) (root_placed is_meant (entry_in a n) (made_is n there).entered));
+                standing = λ x p found bit. undone_stands x.block e ∙ sym (no_shadow_stands x.block e (λ at_shadow. (let no : Some Root ≡ Some ShadowRoot = sym place ∙ at_shadow in cc)));
+              },
+            );
+      }
 
-  b3_entry : (m : ℕ) → entry_in b3 m ≡ if_at (has_number m (option_to_list d.created)) Undo (entry_in b2 m)
-  b3_entry m = flips_entry (Frame a g) Undo (option_to_list d.created) b2 (option_once d.created) may3 m
+  claim : (n : ℕ) → has_number n claims ≡ true → Claimed n
+  claim n there = elim (has_either n taken (own ++ made) there) [
+    | inl is ↦ of_object n (lists.meant n is) (λ e here root.
+        let inner = tree_inner a (length a) id.block (content_of d) d.root d.draft.object draft.tree n (lists.stands n is) in
+        inner.no_root (ap (λ (x : MapEntry). x.place) (same_Some _ _ (sym inner.taken.here ∙ here)) ∙ root))
+    | inr more ↦ elim (has_either n own made more) [
+      | inl is ↦ of_object n (own_meant n is) (λ e here root.
+          let shadow = shadow_taken a id.block n (draft.shadow n (option_is d.shadow n is)) in
+          let no : Some ShadowRoot ≡ Some Root = sym shadow.place_is ∙ ap (λ (x : MapEntry). x.place) (same_Some _ _ (sym shadow.taken.here ∙ here)) ∙ root in cc)
+      | inr is ↦ of_made n is
+    ]
+  ]
 
-  pub b3_on : IsOn (Frame a g) b3
-  b3_on = flipped_on (Frame a g) (flips Undo (option_to_list d.created)) b2 had.holds (flipped_on (Frame a g) (flips Undo (option_to_list d.shadow)) b1 had.holds (flipped_on (Frame a g) (flips Undo taken) a had.holds (frames_begin a g had.holds) may1) may2) may3
+  -- all that was meant for the object is among them, and so is what was to be made
+  meant_there : (m : ℕ) → is_meant_for a id.block m ≡ true → has_number m claims ≡ true
+  meant_there m meant = ⊎_elim (λ is. has_second m taken (own ++ made) (has_first m own made (option_has d.shadow m is))) (λ there. has_first m taken (own ++ made) there) (lists.all m meant)
 
-  -- ---- all
+  made_there : (c : ℕ) → d.created ≡ Some c → has_number c claims ≡ true
+  made_there c is = has_second c taken (own ++ made) (has_second c own made (option_has d.created c is))
 
-  pub all_may : MayFlip (Frame a g) a (undoing taken d.shadow d.created)
-  all_may = may_append (Frame a g) (flips Undo taken) (flips Undo (option_to_list d.shadow) ++ flips Undo (option_to_list d.created)) a may1 (may_append (Frame a g) (flips Undo (option_to_list d.shadow)) (flips Undo (option_to_list d.created)) b1 may2 may3)
+  -- ---- the image with all of them taken back
 
-  pub all_is : flipped a (undoing taken d.shadow d.created) ≡ b3
-  all_is = flipped_append (flips Undo taken) (flips Undo (option_to_list d.shadow) ++ flips Undo (option_to_list d.created)) a ∙ flipped_append (flips Undo (option_to_list d.shadow)) (flips Undo (option_to_list d.created)) b1
+  abbrev pub b : Image
+  b = mapped (turned (λ m. Undo) claims) a
 
-  state_of : (r n : ℕ) (e : MapEntry) → is_meant_for a r n ≡ true → entry_in a n ≡ Some e → (is_free_entry (Some e) ≡ false) × (is_free_entry (Some (undone e)) ≡ true)
-  state_of r n e meant here =
-      let m = meant_is a r n meant in
+  pub all_may : MayTurn (Frame a g) a (λ m. Undo) claims
+  all_may n there =
+      let c = claim n there in
+      let t = (meant_is a c.owner n c.meant).taken in
+      (t.is, t.here, c.may t.is t.here)
+
+  begins : IsOn (Frame a g) a
+  begins = frames_begin a g had.holds
+
+  whole : AreWhole a
+  whole = whole_on w (λ m. Undo) had.holds a begins
+
+  pub b_is : IsMapped (turned (λ m. Undo) claims) a b
+  b_is = turned_is w (λ m. Undo) had.holds claims a begins all_may
+
+  pub b_same : (c : Image) → IsMapped (turned (λ m. Undo) claims) a c → c ≡ b
+  b_same c is = sym (mapped_is (turned (λ m. Undo) claims) a c whole is)
+
+  b_on : IsOn (Frame a g) b
+  b_on = turned_on w (λ m. Undo) had.holds claims a b begins all_may b_is
+
+  state_of : (n : ℕ) (e : MapEntry) → has_number n claims ≡ true → entry_in a n ≡ Some e → (is_free_entry (Some e) ≡ false) × (is_free_entry (Some (undone e)) ≡ true)
+  state_of n e there here =
+      let c = claim n there in
+      let m = meant_is a c.owner n c.meant in
       let state = ap (λ (x : MapEntry). x.state) (same_Some _ _ (sym here ∙ m.taken.here)) ∙ m.state in
       (meant_not_free e state, undone_free e state)
 
-  pub counts_now : AreCounts a k0 → AreCounts b3 (given_all (given_all (given_all k0 taken) (option_to_list d.shadow)) (option_to_list d.created))
-  counts_now counts =
-      counts_given_all (Frame a g) Undo (option_to_list d.created) b2 (given_all (given_all k0 taken) (option_to_list d.shadow)) (option_once d.created) may3
-      (counts_given_all (Frame a g) Undo (option_to_list d.shadow) b1 (given_all k0 taken) (option_once d.shadow) may2
-      (counts_given_all (Frame a g) Undo taken a k0 lists.once may1 counts (λ n e is here. state_of id.block n e (lists.meant n is) here))
-      (λ n e is here. state_of id.block n e (own_meant n is) (sym (b1_entry n ∙ ap (λ (b : Bool). if_at b Undo (entry_in a n)) (own_not_taken n is)) ∙ here)))
-      (λ n e is here. state_of n n e (made_meant a had.holds.own n (made_is n is)) (sym (b2_kept n (made_not_meant n is)) ∙ here))
+  freed_there : (n : ℕ) → has_number n claims ≡ true → is_free_in b n ≡ true
+  freed_there n there =
+      let t = (meant_is a (claim n there).owner n (claim n there).meant).taken in
+      ap is_free_entry (b_is.entries n t.is t.here ∙ ap (λ (x : Bool). Some (changed_if x Undo t.is)) there) ∙ (state_of n t.is there t.here).1
 
-  -- what was meant is Free now, and the root that was made; all else is as it was
-  freed_meant : (m : ℕ) → is_meant_for a id.block m ≡ true → is_free_in b3 m ≡ true
-  freed_meant m meant =
-      ap is_free_entry (b3_entry m ∙ (λ i. if_at (false_from_ne_true _ (λ there. both_ways _ (made_not_meant m there) meant) i) Undo (entry_in b2 m)))
-      ∙ ⊎_elim
-      (λ is. ap is_free_entry (b2_entry m ∙ (λ i. if_at (is i) Undo (entry_in b1 m)) ∙ ap (if_at true Undo) (b1_entry m ∙ (λ i. if_at (own_not_taken m is i) Undo (entry_in a m)) ∙ t.here)) ∙ (state_of id.block m t.is meant t.here).1)
-      (λ not. ap is_free_entry (b2_entry m ∙ (λ i. if_at (not i) Undo (entry_in b1 m)) ∙ b1_entry m ∙ (λ i. if_at (in_taken not i) Undo (entry_in a m)) ∙ ap (if_at true Undo) t.here) ∙ (state_of id.block m t.is meant t.here).1)
-      (cases_Bool (has_number m (option_to_list d.shadow)))
-    where
-      t : IsTaken a m id.block
-      t = (meant_is a id.block m meant).taken
+  kept : (m : ℕ) → has_number m claims ≡ false → entry_in b m ≡ entry_in a m
+  kept m none = mapped_stays (turned (λ k. Undo) claims) a b whole b_is m (λ e here. ap (λ (x : Bool). changed_if x Undo e) none)
 
-      in_taken : has_number m (option_to_list d.shadow) ≡ false → has_number m taken ≡ true
-      in_taken not = ⊎_elim (λ is. absurd (both_ways _ not (option_has d.shadow m is))) (λ there. there) (lists.all m meant)
+  pub freed : (c : ℕ) → d.created ≡ Some c → is_free_in b c ≡ true
+  freed c is = freed_there c (made_there c is)
 
-  freed_made : (m : ℕ) → has_number m (option_to_list d.created) ≡ true → is_free_in b3 m ≡ true
-  freed_made m there =
-      ap is_free_entry (b3_entry m ∙ (λ i. if_at (there i) Undo (entry_in b2 m)) ∙ ap (if_at true Undo) (b2_made m there))
-      ∙ (state_of m m (made_at m there).at.taken.is (made_meant a had.holds.own m (made_is m there)) (made_at m there).at.taken.here).1
+  -- what holds of a block that is Free now, and of one as it was
+  either : (P : ℕ → Type 0) → ((m : ℕ) → is_free_in b m ≡ true → P m) → ((m : ℕ) → has_number m claims ≡ false → entry_in b m ≡ entry_in a m → P m) → (m : ℕ) → P m
+  either P free same m = ⊎_elim (λ there. free m (freed_there m there)) (λ none. same m none (kept m none)) (cases_Bool (has_number m claims))
 
-  pub freed : (c : ℕ) → d.created ≡ Some c → is_free_in b3 c ≡ true
-  freed c is = freed_made c (option_has d.created c is)
-
-  kept : (m : ℕ) → is_meant_for a id.block m ≡ false → has_number m (option_to_list d.created) ≡ false → entry_in b3 m ≡ entry_in a m
-  kept m none other = b3_entry m ∙ (λ i. if_at (other i) Undo (entry_in b2 m)) ∙ b2_kept m none
-
-  pub none_meant : (m : ℕ) → is_meant_for b3 id.block m ≡ false
-  none_meant m = ⊎_elim (λ is. free_unowned is_meant refl id.block (entry_in b3 m) (freed_meant m is)) (λ none.
-      ⊎_elim (λ there. free_unowned is_meant refl id.block (entry_in b3 m) (freed_made m there)) (λ other. ap (is_owned_by is_meant id.block) (kept m none other) ∙ none) (cases_Bool (has_number m (option_to_list d.created)))) (cases_Bool (is_meant_for a id.block m))
+  pub none_meant : (m : ℕ) → is_meant_for b id.block m ≡ false
+  none_meant = either (λ m. is_meant_for b id.block m ≡ false) (λ m free. free_unowned is_meant refl id.block (entry_in b m) free)
+      (λ m none same. false_from_ne_true _ (λ meant. both_ways _ none (meant_there m (ap (is_owned_by is_meant id.block) (sym same) ∙ meant))))
 
   -- nothing is left of what was to be made
-  pub none_left : (c : ℕ) → d.created ≡ Some c → OwnsNothing b3 c
-  none_left c is m = ⊎_elim (λ meant. free_unowned is_taken refl c (entry_in b3 m) (freed_meant m meant)) (λ none.
-      ⊎_elim (λ there. free_unowned is_taken refl c (entry_in b3 m) (freed_made m there)) (λ other. ap (is_owned_by is_taken c) (kept m none other) ∙ false_from_ne_true _ (λ of_c.
-      both_ways _ other (subst (λ (k : ℕ). has_number k (option_to_list d.created) ≡ true) (sym ((made_is c (option_has d.created c is)).alone m of_c)) (option_has d.created c is)))) (cases_Bool (has_number m (option_to_list d.created)))) (cases_Bool (is_meant_for a id.block m))
+  pub none_left : (c : ℕ) → d.created ≡ Some c → OwnsNothing b c
+  none_left c is = either (λ m. is_owned_by is_taken c (entry_in b m) ≡ false) (λ m free. free_unowned is_taken refl c (entry_in b m) free)
+      (λ m none same. false_from_ne_true _ (λ of_c. both_ways _ none (subst (λ (k : ℕ). has_number k claims ≡ true) (sym ((made_is c (option_has d.created c is)).alone m (ap (is_owned_by is_taken c) (sym same) ∙ of_c))) (made_there c is))))
 
-  meant_of : (r m : ℕ) → is_meant_for a r m ≡ true → has_number r (id.block ∷ option_to_list d.created) ≡ true → IsOpenTo (λ e. of_drafts (id.block ∷ option_to_list d.created) e) (entry_in a m)
-  meant_of r m meant among =
-      let two = and_parts (is_placed is_meant (entry_in a m)) _ meant in
-      inr (placed_taken is_meant refl (entry_in a m) two.0, and_from _ _ two.0 (subst (λ (n : ℕ). has_number n (id.block ∷ option_to_list d.created) ≡ true) (owner_is is_meant r (entry_in a m) meant) among))
-
-  pub only_meant : ChangesOnly (λ e. of_drafts (id.block ∷ option_to_list d.created) e) a b3
+  pub only_meant : ChangesOnly (λ e. of_drafts (id.block ∷ option_to_list d.created) e) a b
   only_meant = record {
-    size = b3_on.size;
-    maps = b3_on.maps;
-    own = b3_on.own;
-    label = b3_on.label;
-    fixed = b3_on.fixed;
-    entries = λ m. ⊎_elim (λ is. inr (meant_of id.block m is (first_number id.block (option_to_list d.created)), inl (freed_meant m is))) (λ none.
-        ⊎_elim (λ there. inr (meant_of m m (made_meant a had.holds.own m (made_is m there)) (more_numbers id.block m (option_to_list d.created) there), inl (freed_made m there))) (λ other. inl (kept m none other))
-        (cases_Bool (has_number m (option_to_list d.created)))) (cases_Bool (is_meant_for a id.block m));
-    contents = λ m loose. inl (flipped_block (flips Undo (option_to_list d.created)) b2 m (not_map m loose) ∙ flipped_block (flips Undo (option_to_list d.shadow)) b1 m (not_map m loose) ∙ flipped_block (flips Undo taken) a m (not_map m loose));
+    size = b_on.size;
+    maps = b_on.maps;
+    own = b_on.own;
+    label = b_on.label;
+    fixed = b_on.fixed;
+    entries = λ m. ⊎_elim (λ there. inr (opened m (claim m there), inl (freed_there m there))) (λ none. inl (kept m none)) (cases_Bool (has_number m claims));
+    contents = λ m loose. inl (b_is.contents m (not_map m loose));
   }
+    where
+      opened : (m : ℕ) → Claimed m → IsOpenTo (λ e. of_drafts owners e) (entry_in a m)
+      opened m c =
+          let two = and_parts (is_placed is_meant (entry_in a m)) _ c.meant in
+          inr (placed_taken is_meant refl (entry_in a m) two.0, and_from _ _ two.0 (subst (λ (n : ℕ). has_number n owners ≡ true) (owner_is is_meant c.owner (entry_in a m) c.meant) c.among))
+
+  claims_differ : numbers_differ claims ≡ true
+  claims_differ = differ_append taken (own ++ made) lists.once
+      (differ_append own made (option_once d.shadow) (option_once d.created) (λ n is. false_from_ne_true _ (λ there. both_ways _ (made_not_meant n there) (own_meant n is))))
+      (λ n is. false_from_ne_true _ (λ there. elim (has_either n own made there) [
+        | inl shadow ↦ both_ways _ (lists.no_shadow n (option_is d.shadow n shadow)) is
+        | inr new ↦ both_ways _ (made_not_meant n new) (lists.meant n is)
+      ]))
+
+  pub counts_now : AreCounts a k0 → AreCounts b (given_all (given_all (given_all k0 taken) (option_to_list d.shadow)) (option_to_list d.created))
+  counts_now counts = subst (AreCounts b) (given_append k0 taken (own ++ made) ∙ given_append (given_all k0 taken) own made)
+      (counts_given_all w had.holds Undo claims a k0 claims_differ begins all_may counts (λ n e there here. state_of n e there here))
 
 module _ {D : Type 0} {g : Ghosts D} {d0 : D} {k0 : Kept} {was : Drafting} (v : DraftView g d0 k0 was) {taken : List ℕ} (lists : AreTaken (g.content d0) v.id (opened_as was v.draft) taken) where
   abbrev d : Opened
@@ -188,15 +196,17 @@ module _ {D : Type 0} {g : Ghosts D} {d0 : D} {k0 : Kept} {was : Drafting} (v : 
   draft : HasDraft (g.content d0) v.id (opened_as was v.draft)
   draft = draft_of v
 
-  abbrev pub plan : List Flip
+  abbrev pub plan : List ℕ
   plan = undoing taken was.shadow was.created
 
-  may : MayFlip (Frame (g.content d0) v.graph) (g.content d0) plan
+  may : MayTurn (Frame (g.content d0) v.graph) (g.content d0) (λ m. Undo) plan
   may = all_may a v.graph v.ds v.id v.object k0 d taken v.store.account v.at v.opened.alone draft lists
 
-  dropped : {d1 : D} (n t : ℕ) → Flips g n t plan d0 d1 (Ok tt) → Dropped g v.graph v.ds v.id was.created d0 d1 (given_all (given_all (given_all k0 taken) (option_to_list was.shadow)) (option_to_list was.created))
+  dropped : {d1 : D} (n t : ℕ) → Flips g n t Undo plan d0 d1 (Ok tt) → Dropped g v.graph v.ds v.id was.created d0 d1 (given_all (given_all (given_all k0 taken) (option_to_list was.shadow)) (option_to_list was.created))
   dropped {d1} n t f =
-      let content : g.content d1 ≡ b3 a v.graph v.ds v.id v.object k0 d taken v.store.account v.at v.opened.alone draft lists = f.put v.store.carries.tells ∙ all_is a v.graph v.ds v.id v.object k0 d taken v.store.account v.at v.opened.alone draft lists in
+      let frame = keeps_frame g v.graph d0 v.store.carries in
+      let content : g.content d1 ≡ b a v.graph v.ds v.id v.object k0 d taken v.store.account v.at v.opened.alone draft lists =
+      b_same a v.graph v.ds v.id v.object k0 d taken v.store.account v.at v.opened.alone draft lists (g.content d1) (f.put (Frame a v.graph) v.store.account.holds frame may) in
       let only = subst (ChangesOnly (λ e. of_drafts (v.id.block ∷ option_to_list was.created) e) a) (sym content) (only_meant a v.graph v.ds v.id v.object k0 d taken v.store.account v.at v.opened.alone draft lists) in
       let nothing = subst (λ (i : Image). (x : ℕ) → is_meant_for i v.id.block x ≡ false) (sym content) (none_meant a v.graph v.ds v.id v.object k0 d taken v.store.account v.at v.opened.alone draft lists) in
       record {
@@ -210,19 +220,19 @@ module _ {D : Type 0} {g : Ghosts D} {d0 : D} {k0 : Kept} {was : Drafting} (v : 
         only = only;
       }
     where
-      by : (x : Option ℕ) → was.created ≡ x → g.content d1 ≡ b3 a v.graph v.ds v.id v.object k0 d taken v.store.account v.at v.opened.alone draft lists → ChangesOnly (λ e. of_drafts (v.id.block ∷ option_to_list x) e) a (g.content d1) → ((x : ℕ) → is_meant_for (g.content d1) v.id.block x ≡ false) → Accounts (g.content d1) v.graph (without_draft v.id v.ds)
+      by : (x : Option ℕ) → was.created ≡ x → g.content d1 ≡ b a v.graph v.ds v.id v.object k0 d taken v.store.account v.at v.opened.alone draft lists → ChangesOnly (λ e. of_drafts (v.id.block ∷ option_to_list x) e) a (g.content d1) → ((x : ℕ) → is_meant_for (g.content d1) v.id.block x ≡ false) → Accounts (g.content d1) v.graph (without_draft v.id v.ds)
       by None none content only nothing = draft_goes_on a (g.content d1) v.graph v.ds v.id v.object None v.store.account v.at nothing only (sym (ap created_if v.opened.alone ∙ none))
       by (Some c) is content only nothing = making_ends a (g.content d1) v.graph v.ds v.id v.object None v.store.account v.at nothing c only (ap created_if v.opened.alone ∙ is) refl
           (subst (λ (i : Image). OwnsNothing i c) (sym content) (none_left a v.graph v.ds v.id v.object k0 d taken v.store.account v.at v.opened.alone draft lists c is))
 
-  pub abort_ends : {d1 : D} {n t : ℕ} {r : Result (Unit {0}) Trouble} {after : Kept} → Flips g n t plan d0 d1 r → OnOk r (after ≡ given_all (given_all (given_all k0 taken) (option_to_list was.shadow)) (option_to_list was.created)) → AbortEnds g v.graph v.ds v.id was.created d0 d1 after r
+  pub abort_ends : {d1 : D} {n t : ℕ} {r : Result (Unit {0}) Trouble} {after : Kept} → Flips g n t Undo plan d0 d1 r → OnOk r (after ≡ given_all (given_all (given_all k0 taken) (option_to_list was.shadow)) (option_to_list was.created)) → AbortEnds g v.graph v.ds v.id was.created d0 d1 after r
   abort_ends {d1} {n} {t} {r} {after} f given = record {
     done = all r f given;
     leaves = wider g d0 d1 (IsOn (Frame a v.graph)) (λ c. Holds c v.graph) (f.leaves (Frame a v.graph) v.store.account.holds (keeps_frame g v.graph d0 v.store.carries) may) (λ c on. frames_hold a c v.graph v.store.account.holds on);
     sound = f.sound (Frame a v.graph) v.store.account.holds (keeps_frame g v.graph d0 v.store.carries) may;
   }
     where
-      all : (r : Result (Unit {0}) Trouble) → Flips g n t plan d0 d1 r → OnOk r (after ≡ given_all (given_all (given_all k0 taken) (option_to_list was.shadow)) (option_to_list was.created)) → OnOk r (Dropped g v.graph v.ds v.id was.created d0 d1 after)
+      all : (r : Result (Unit {0}) Trouble) → Flips g n t Undo plan d0 d1 r → OnOk r (after ≡ given_all (given_all (given_all k0 taken) (option_to_list was.shadow)) (option_to_list was.created)) → OnOk r (Dropped g v.graph v.ds v.id was.created d0 d1 after)
       all (Ok u) f is = subst (Dropped g v.graph v.ds v.id was.created d0 d1) (sym is) (dropped n t f)
       all (Err e) f is = tt
 

@@ -1,6 +1,6 @@
 -- What of a block's entry becomes in a commit.
 use Rattle.std.proofs.Common.{◌≡◌, ◌≢◌, ℕ, Bool, true, false, Option, Some, None, refl, sym, ◌∙◌, ap}
-use Rattle.special_files.proofs.Words.{Allocated, BlockState, Free, IntendAllocate, IntendDeallocate, Leaf, MapEntry, Node, Place, Root, ShadowRoot, and_parts, false≢true, finished, finished_in, is_committed, is_free, is_free_state, is_had, is_meant, is_owned_by, is_some, part_in, part_of, released, released_at, released_in, undone, undone_in, with_bit, with_bit_at, without_bit, ◌&&◌, ◌==◌}
+use Rattle.special_files.proofs.Words.{Allocated, BlockState, Free, IntendAllocate, IntendDeallocate, Leaf, Span, MapEntry, Node, Place, Root, ShadowRoot, and_parts, false≢true, finished, finished_in, is_committed, is_free, is_free_state, is_had, is_meant, is_owned_by, is_some, part_in, part_of, released, released_at, released_in, undone, undone_in, with_bit, with_bit_at, without_bit, ◌&&◌, ◌==◌}
 
 -- ---- whether a block is Free
 
@@ -19,6 +19,7 @@ released_free e = at e.place
     at (Some ShadowRoot) = refl
     at (Some (Node n)) = in_state e.state
     at (Some (Leaf n)) = in_state e.state
+    at (Some (Span n)) = in_state e.state
 
 pub with_bit_free : (e : MapEntry) → is_free (with_bit e) ≡ is_free e
 with_bit_free e = at e.place
@@ -29,6 +30,7 @@ with_bit_free e = at e.place
     at (Some ShadowRoot) = refl
     at (Some (Node n)) = refl
     at (Some (Leaf n)) = refl
+    at (Some (Span n)) = refl
 
 -- what is meant becomes the object's, or Free again
 module _ (e : MapEntry) (meant : e.state ≡ IntendAllocate) where
@@ -73,6 +75,7 @@ module _ (r : ℕ) (e : MapEntry) (had : is_owned_by is_had r (Some e) ≡ true)
       at (Some ShadowRoot) is = absurd (no_shadow is)
       at (Some (Node n)) is = ap (λ (s : BlockState). (released_in s e).state) state_is
       at (Some (Leaf n)) is = ap (λ (s : BlockState). (released_in s e).state) state_is
+      at (Some (Span n)) is = ap (λ (s : BlockState). (released_in s e).state) state_is
 
   pub dropped_free : is_free (finished (released e)) ≡ true
   dropped_free = ap (λ (s : BlockState). is_free (finished_in s (released e))) dropped_state
@@ -91,6 +94,7 @@ bits_same test r e = at e.place
     at (Some ShadowRoot) = refl
     at (Some (Node n)) = refl
     at (Some (Leaf n)) = refl
+    at (Some (Span n)) = refl
 
 pub no_bit : (e : MapEntry) → is_committed (part_of (Some (without_bit e))) ≡ false
 no_bit e = at e.state

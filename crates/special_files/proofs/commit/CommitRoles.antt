@@ -2,7 +2,7 @@
 use Rattle.std.proofs.Common.{◌≡◌, ◌≢◌, ◌⊎◌, inl, inr, ⊎_elim, ℕ, Bool, true, false, List, [], ◌∷◌, length, Option, Some, None, refl, sym, ◌∙◌, ap, subst}
 use Rattle.special_files.proofs.Words.{Allocated, AreMaps, BlockState, ChangesOnly, Free, HasItsBlocks, Image, IntendAllocate, IntendDeallocate, IsBlockOf, IsOpenTo, MapEntry, RootsOwnThemselves, StandsIn, Tree, and_parts, block_at, both_ways, entry_in, false_from_ne_true, first_or, free_unowned, had_not_meant, had_or_meant, has_number, is_committed, is_fixed, is_free_in, is_had, is_leaving, is_meant, is_meant_for, is_owned_by, is_taken, no_shadows, of_owners, of_taken, option_to_list, owner_is, part_at, same_Some, sight, tree_in}
 use Rattle.intentions.proofs.Drafts.{owners_open}
-use Rattle.intentions.proofs.Flips.{first_number, more_numbers}
+use Rattle.intentions.proofs.Turned.{first_number, more_numbers}
 
 -- the block is the root with this number, or stands in this tree
 abbrev pub Stands : ℕ → Tree → ℕ → Type 0

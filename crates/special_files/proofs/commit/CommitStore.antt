@@ -4,7 +4,7 @@ use Rattle.special_files.proofs.Words.{Accounts, AreDraftParts, ChangesOnly, Com
 use Rattle.block_tree.specs.declared.root.Root as roots
 use Rattle.special_files.proofs.View.{read_leaves}
 use Rattle.special_files.proofs.CommitDraft.{AtShadow}
-use Rattle.intentions.proofs.Flips.{first_number, option_is}
+use Rattle.intentions.proofs.Turned.{first_number, option_is}
 use Rattle.special_files.proofs.Made.{bare_has, bare_kept, bare_unmeant, content_kept, made_apart, made_kept, made_root, still_made, draft_made}
 use Rattle.vol_owners.proofs.Drafts.{each_draft}
 use Rattle.vol_owners.proofs.Owners.{no_draft}

@@ -1,10 +1,17 @@
 -- The images of a commit, one after another.
 use Rattle.std.proofs.Common.{◌≡◌, ◌≢◌, inl, inr, ℕ, ◌%◌, Bool, true, false, List, [], ◌∷◌, ◌++◌, length, set, Option, Some, None, refl, sym, ◌∙◌, ap, subst}
-use Rattle.special_files.proofs.Words.{ClearBit, Commits, Copies, Course, Finish, Flip, Frame, Free, Graph, Holds, Image, IntendAllocate, IntendDeallocate, IsDraft, IsEntry, IsOn, IsPlaced, IsReady, IsRootBlock, IsTaken, IsToFinish, IsTree, MapEntry, MayFlip, MayPut, Object, Place, Puid, Release, Root, Settling, ShadowRoot, StandsIn, Tree, Undo, bit_valid, block_at, changed_entry, commits, with_commit_bit, copied_settles, copies, entry_in, entry_in-with_entry_same, entry_in_table, eqb-true, false_from_ne_true, false≢true, flipped, flips, frames_begin, frames_hold, has_number, is_had, is_inner, is_meant_for, is_owned_by, levels_of, may_clear, may_finish, may_finish_made, may_release, may_undo, ne_eqb, not_map, option_to_list, or_cases, part_at, part_of, place_inner, released, released_keeps, root_placed, same_Some, same_tree, settling, shadow_taken, sight, stands_for, still_to_finish, taken_apart, tree_in, tree_placed, with_bit, with_bit_at, with_entry, with_object, ◌==◌}
+use Rattle.special_files.proofs.Words.{Commits, Copies, ClearBit, Course, Finish, Frame, Free, Graph, Holds, Image, IntendAllocate, IntendDeallocate, IsDraft, IsEntry, IsOn, IsOpenTo, IsPlaced, IsReady, IsRootBlock, IsTaken, IsToFinish, IsTree, MapEntry, MayPut, MayTurn, Object, Place, Puid, Release, Root, Settling, ShadowRoot, StandsIn, Tree, bit_valid, block_at, changed_entry, changed_if, commits, copied_settles, copies, entry_in, entry_in-with_entry_same, entry_in_table, false_from_ne_true, false≢true, frames_begin, frames_hold, has_number, is_had, is_inner, is_meant_for, is_owned_by, is_taken, levels_of, may_finish, may_finish_made, may_release, may_undo, ne_eqb, not_map, of_owners, option_to_list, part_at, part_of, place_inner, released, released_keeps, root_placed, same_Some, same_tree, shadow_taken, sight, stands_for, still_to_finish, taken_apart, taken_of, tree_in, tree_placed, turned, with_bit, with_bit_at, with_commit_bit, with_entry, with_object, without_bit, ◌==◌}
+use Rattle.std.proofs.lemmas.Bool.{eq-eqb}
 use Rattle.block_tree.specs.declared.root.Root as roots
+use Rattle.cyl_alloc.specs.Left.{LeftCommit}
+use Rattle.intentions.proofs.Drafts.{owners_open}
+use Rattle.cyl_map.proofs.Mapped.{mapped_by, mapped_stays}
+use Rattle.intentions.proofs.Settled.{settled_is, settled_on, settled_stays}
+use Rattle.intentions.proofs.Turned.{first_number, has_either, has_first, has_second, more_numbers, option_has, option_is, turned_is, turned_on, whole_on}
+use Rattle.intentions.specs.Left.{AreOpen, how_for, how_left, settled}
+use Rattle.cyl_map.specs.Mapped.{AreWhole, IsMapped, mapped}
 use Rattle.special_files.proofs.Begun.{own_tree}
 use Rattle.special_files.proofs.commit.CommitEntries.{dropped_state}
-use Rattle.intentions.proofs.Flips.{flipped_append, flipped_block, flipped_on, flips_entry, if_at, length-flipped, may_append, may_flips, option_is, option_once}
 use Rattle.special_files.proofs.commit.CommitRoles.{stands_block}
 use Rattle.special_files.proofs.Made.{IsNewRoot, made_apart, made_meant, made_root}
 use Rattle.special_files.proofs.Meant.{meant_is}
@@ -24,12 +31,19 @@ tree_inner a size r content root o fits n at =
     absurd (false≢true (sym outer ∙ ap is_inner (same_Some _ _ (sym same ∙ p.place_is)) ∙ place_inner (levels_of content) at.path)) in
     subst (IsInner a r) at.is (record { taken = p.taken; no_root = not Root refl; no_shadow = not ShadowRoot refl })
 
--- numbers of a list of one
-pub only_one : (s n : ℕ) → has_number n (s ∷ []) ≡ true → s ≡ n
-only_one s n is = elim (or_cases (s == n) false is) [ inl same ↦ eqb-true s n same | inr never ↦ cc ]
+-- what is left of a commit: a block that is taken, one that is dropped, the root of an object that is made, the shadow root
+pub data LeftPart (s : ℕ) (taken dropped : List ℕ) (created : Option ℕ) (m : ℕ) : Type 0 where
+  Taken : has_number m taken ≡ true → LeftPart s taken dropped created m
+  Dropped : has_number m dropped ≡ true → LeftPart s taken dropped created m
+  Entered : created ≡ Some m → LeftPart s taken dropped created m
+  Shadow : m ≡ s → LeftPart s taken dropped created m
 
-pub not_only : (s n : ℕ) → n ≢ s → has_number n (s ∷ []) ≡ false
-not_only s n apart = rw (ne_eqb s n (λ same. apart (sym same))) refl
+-- all but the shadow root are finished
+abbrev pub is_shadow : {s : ℕ} {taken dropped : List ℕ} {created : Option ℕ} {m : ℕ} → LeftPart s taken dropped created m → Bool
+is_shadow (Taken is) = false
+is_shadow (Dropped is) = false
+is_shadow (Entered is) = false
+is_shadow (Shadow is) = true
 
 module _ {a : Image} {g : Graph} {id : Puid} {was o : Object} {s : ℕ} {taken dropped : List ℕ} {created : Option ℕ} (ready : IsReady a g id was o s taken dropped created) where
   abbrev r : ℕ
@@ -82,38 +96,41 @@ module _ {a : Image} {g : Graph} {id : Puid} {was o : Object} {s : ℕ} {taken d
   -- ---- what is dropped is released
 
   abbrev pub a1 : Image
-  a1 = flipped a (flips Release dropped)
+  a1 = mapped (turned (λ m. Release) dropped) a
 
-  may_drop : (h : Graph) (n : ℕ) → has_number n dropped ≡ true → (e : MapEntry) × (entry_in a n ≡ Some e) × MayPut (Frame a h) n e (changed_entry Release e)
-  may_drop h n is =
+  pub release_may : (h : Graph) → MayTurn (Frame a h) a (λ m. Release) dropped
+  release_may h n is =
       let t = (dropped_inner n is).taken in
       (t.is, t.here, may_release a h n t.is (taken_apart a g ready.holds n id.block t) (entry_in_table a n t.is t.here) (ready.holds.own n t.is t.here))
 
-  pub release_may : (h : Graph) → MayFlip (Frame a h) a (flips Release dropped)
-  release_may h = may_flips (Frame a h) Release dropped a ready.dropped_once (may_drop h)
+  pub whole : AreWhole a
+  whole = whole_on (Frame a g) (λ m. Release) ready.holds a (frames_begin a g ready.holds)
 
-  pub a1_entry : (m : ℕ) → entry_in a1 m ≡ if_at (has_number m dropped) Release (entry_in a m)
-  a1_entry m = flips_entry (Frame a g) Release dropped a ready.dropped_once (release_may g) m
+  pub a1_turns : IsMapped (turned (λ m. Release) dropped) a a1
+  a1_turns = turned_is (Frame a g) (λ m. Release) ready.holds dropped a (frames_begin a g ready.holds) (release_may g)
 
   pub a1_block : (m : ℕ) → m % 64 ≢ 0 → block_at a1 m ≡ block_at a m
-  a1_block m real = flipped_block (flips Release dropped) a m real
+  a1_block m real = a1_turns.contents m real
 
   pub a1_holds : Holds a1 g
-  a1_holds = frames_hold a a1 g ready.holds (flipped_on (Frame a g) (flips Release dropped) a ready.holds (frames_begin a g ready.holds) (release_may g))
+  a1_holds = frames_hold a a1 g ready.holds (turned_on (Frame a g) (λ m. Release) ready.holds dropped a a1 (frames_begin a g ready.holds) (release_may g) a1_turns)
 
-  if_released : (b : Bool) (entry : Option MapEntry) → ((e : MapEntry) → entry ≡ Some e → IsEntry e) → (part_of (if_at b Release entry) ≡ part_of entry) × ((x : ℕ) → stands_for x (if_at b Release entry) ≡ stands_for x entry)
-  if_released false entry valid = (refl, λ x. refl)
-  if_released true None valid = (refl, λ x. refl)
-  if_released true (Some e) valid = let keeps = released_keeps e (valid e refl) in (keeps.part, keeps.stands)
+  -- it keeps its part
+  abbrev AreAlike : Option MapEntry → Option MapEntry → Type 0
+  AreAlike was now = (part_of now ≡ part_of was) × ((x : ℕ) → stands_for x now ≡ stands_for x was)
 
-  a1_same : (m : ℕ) → (part_of (if_at (has_number m dropped) Release (entry_in a m)) ≡ part_of (entry_in a m)) × ((x : ℕ) → stands_for x (if_at (has_number m dropped) Release (entry_in a m)) ≡ stands_for x (entry_in a m))
-  a1_same m = if_released (has_number m dropped) (entry_in a m) (λ e here. entry_in_table a m e here)
+  a1_same : (m : ℕ) → AreAlike (entry_in a m) (entry_in a1 m)
+  a1_same m = mapped_by AreAlike (turned (λ k. Release) dropped) a a1 whole a1_turns m (refl, λ x. refl) (λ e here. at (has_number m dropped) e (entry_in_table a m e here))
+    where
+      at : (b : Bool) (e : MapEntry) → IsEntry e → AreAlike (Some e) (Some (changed_if b Release e))
+      at false e valid = (refl, λ x. refl)
+      at true e valid = (let keeps = released_keeps e valid in (keeps.part, keeps.stands))
 
   a1_part : (m : ℕ) → part_at a1 m ≡ part_at a m
-  a1_part m = ap part_of (a1_entry m) ∙ (a1_same m).0
+  a1_part m = (a1_same m).0
 
   a1_stands : (x m : ℕ) → stands_for x (entry_in a1 m) ≡ stands_for x (entry_in a m)
-  a1_stands x m = ap (stands_for x) (a1_entry m) ∙ (a1_same m).1 x
+  a1_stands x m = (a1_same m).1 x
 
   pub real : (n : ℕ) → IsTaken a n id.block → n % 64 ≢ 0
   real n t = not_map n (taken_apart a g ready.holds n id.block t)
@@ -132,7 +149,7 @@ module _ {a : Image} {g : Graph} {id : Puid} {was o : Object} {s : ℕ} {taken d
     stands = a1_stands id.block s ∙ ready.draft.stands;
     shadow = ready.draft.shadow;
     same = λ root is. ready.draft.same root (subst (λ (c : List ℕ). IsRootBlock c root) (a1_block id.block (real id.block root_taken)) is);
-    tree = subst (λ (n : ℕ). IsTree n id.block (tree_in a1 (block_at a1 s)) ready.draft.shadow o) (sym (length-flipped (flips Release dropped) a)) (subst (λ (t : Tree). IsTree (length a) id.block t ready.draft.shadow o) (sym a1_tree) ready.draft.tree);
+    tree = subst (λ (n : ℕ). IsTree n id.block (tree_in a1 (block_at a1 s)) ready.draft.shadow o) (sym a1_turns.size) (subst (λ (t : Tree). IsTree (length a) id.block t ready.draft.shadow o) (sym a1_tree) ready.draft.tree);
   }
     where
       root_taken : IsTaken a id.block id.block
@@ -164,21 +181,23 @@ module _ {a : Image} {g : Graph} {id : Puid} {was o : Object} {s : ℕ} {taken d
   pub a3_entry : (m : ℕ) → m ≢ id.block → entry_in a3 m ≡ entry_in a1 m
   a3_entry m other = copy.entries m ∙ bit.entries m other
 
-  a3_root : entry_in a3 id.block ≡ Some (with_bit a1_root.taken.is)
-  a3_root = copy.entries id.block ∙ entry_in-with_entry_same a1 id.block (with_bit a1_root.taken.is) a1_root.taken.is a1_root.taken.here
-      (subst IsEntry (sym with_bit_is) (bit_valid a1_root.taken.is a1_root.place_is (entry_in_table a1 id.block a1_root.taken.is a1_root.taken.here)))
+  pub bit_valid_at : IsEntry (with_bit a1_root.taken.is)
+  bit_valid_at = subst IsEntry (sym with_bit_is) (bit_valid a1_root.taken.is a1_root.place_is (entry_in_table a1 id.block a1_root.taken.is a1_root.taken.here))
     where
       with_bit_is : with_bit a1_root.taken.is ≡ with_commit_bit a1_root.taken.is
       with_bit_is = ap (λ p. with_bit_at p a1_root.taken.is) a1_root.place_is
 
+  a3_root : entry_in a3 id.block ≡ Some (with_bit a1_root.taken.is)
+  a3_root = copy.entries id.block ∙ entry_in-with_entry_same a1 id.block (with_bit a1_root.taken.is) a1_root.taken.is a1_root.taken.here bit_valid_at
+
   -- ---- what is to be finished
 
-  -- of a block that is dropped, and one that is taken
+  -- of a block that is dropped, and one that isn't
   pub a1_dropped : (n : ℕ) → (is : has_number n dropped ≡ true) → entry_in a1 n ≡ Some (released (dropped_inner n is).taken.is)
-  a1_dropped n is = a1_entry n ∙ ap (λ (b : Bool). if_at b Release (entry_in a n)) is ∙ ap (if_at true Release) (dropped_inner n is).taken.here
+  a1_dropped n is = a1_turns.entries n (dropped_inner n is).taken.is (dropped_inner n is).taken.here ∙ ap (λ (b : Bool). Some (changed_if b Release (dropped_inner n is).taken.is)) is
 
   pub a1_kept : (n : ℕ) → has_number n dropped ≡ false → entry_in a1 n ≡ entry_in a n
-  a1_kept n is = a1_entry n ∙ ap (λ (b : Bool). if_at b Release (entry_in a n)) is
+  a1_kept n is = mapped_stays (turned (λ m. Release) dropped) a a1 whole a1_turns n (λ e here. ap (λ (b : Bool). changed_if b Release e) is)
 
   pub had_entry : (n : ℕ) → (is : has_number n dropped ≡ true) → is_owned_by is_had id.block (Some (dropped_inner n is).taken.is) ≡ true
   had_entry n is = ap (is_owned_by is_had id.block) (sym (dropped_inner n is).taken.here) ∙ dropped_had n is
@@ -214,52 +233,19 @@ module _ {a : Image} {g : Graph} {id : Puid} {was o : Object} {s : ℕ} {taken d
   may_end : (n : ℕ) → IsToFinish a1 id.block (block_at a1 s) n → (e : MapEntry) × (entry_in a3 n ≡ Some e) × MayPut course n e (changed_entry Finish e)
   may_end n to1 = let to = now_to_finish n to1 in (to.taken.is, to.taken.here, may_finish a3 after id o s copy.copied n to to.taken.is (inl refl))
 
-  -- ---- one change after another
+  -- ---- what is left
 
-  abbrev pub b1 : Image
-  b1 = flipped a3 (flips Finish taken)
+  abbrev pub rest : List ℕ
+  rest = taken ++ (dropped ++ (option_to_list created ++ s ∷ []))
 
-  abbrev pub b2 : Image
-  b2 = flipped b1 (flips Finish dropped)
-
-  abbrev pub bm : Image
-  bm = flipped b2 (flips Finish (option_to_list created))
-
-  abbrev pub b3 : Image
-  b3 = flipped bm (flips Undo (s ∷ []))
-
-  abbrev pub b4 : Image
-  b4 = flipped b3 (flips ClearBit (id.block ∷ []))
-
-  pub may1 : MayFlip course a3 (flips Finish taken)
-  may1 = may_flips course Finish taken a3 ready.once (λ n is. may_end n (finish_taken n is))
-
-  pub b1_entry : (m : ℕ) → entry_in b1 m ≡ if_at (has_number m taken) Finish (entry_in a3 m)
-  b1_entry m = flips_entry course Finish taken a3 ready.once may1 m
-
-  pub may2 : MayFlip course b1 (flips Finish dropped)
-  may2 = may_flips course Finish dropped b1 ready.dropped_once (λ n is.
-      let may = may_end n (finish_dropped n is) in
-      (may.0, b1_entry n ∙ ap (λ (b : Bool). if_at b Finish (entry_in a3 n)) (dropped_not_taken n is) ∙ may.1, may.2))
-
-  pub b2_entry : (m : ℕ) → entry_in b2 m ≡ if_at (has_number m dropped) Finish (entry_in b1 m)
-  b2_entry m = flips_entry course Finish dropped b1 ready.dropped_once may2 m
-
-  pub shadow_not_taken : has_number s taken ≡ false
-  shadow_not_taken = false_from_ne_true _ (λ there. inner_shadow s (taken_inner s there) refl)
+  abbrev pub left : LeftCommit
+  left = record { root = id.block; shadow = s; rest = taken ++ (dropped ++ (option_to_list created ++ s ∷ [])); copied = false }
 
   pub shadow_not_dropped : has_number s dropped ≡ false
   shadow_not_dropped = false_from_ne_true _ (λ there. inner_shadow s (dropped_inner s there) refl)
 
-  root_not_taken : has_number id.block taken ≡ false
-  root_not_taken = false_from_ne_true _ (λ there. inner_root id.block (taken_inner id.block there) refl)
-
   pub root_not_dropped : has_number id.block dropped ≡ false
   root_not_dropped = false_from_ne_true _ (λ there. inner_root id.block (dropped_inner id.block there) refl)
-
-  -- a block that is neither taken nor dropped
-  b2_same : (m : ℕ) → has_number m taken ≡ false → has_number m dropped ≡ false → entry_in b2 m ≡ entry_in a3 m
-  b2_same m one two = b2_entry m ∙ ap (λ (b : Bool). if_at b Finish (entry_in b1 m)) two ∙ b1_entry m ∙ ap (λ (b : Bool). if_at b Finish (entry_in a3 m)) one
 
   -- the root of an object that is made is none of these
   pub made_root_at : (n : ℕ) → created ≡ Some n → IsNewRoot a n
@@ -279,77 +265,104 @@ module _ {a : Image} {g : Graph} {id : Puid} {was o : Object} {s : ℕ} {taken d
   pub made_not_inner : (n : ℕ) → created ≡ Some n → IsInner a id.block n → ⊥
   made_not_inner n is inner = let c = (made_root_at n is).at in inner.no_root (ap (λ (e : MapEntry). e.place) (same_Some _ _ (sym inner.taken.here ∙ c.taken.here)) ∙ c.place_is)
 
-  pub made_not_taken : (n : ℕ) → created ≡ Some n → has_number n taken ≡ false
-  made_not_taken n is = false_from_ne_true _ (λ there. made_not_inner n is (taken_inner n there))
-
   pub made_not_dropped : (n : ℕ) → created ≡ Some n → has_number n dropped ≡ false
   made_not_dropped n is = false_from_ne_true _ (λ there. made_not_inner n is (dropped_inner n there))
 
-  -- a block that isn't that root
-  pub no_made : (n : ℕ) → (created ≡ Some n → ⊥) → has_number n (option_to_list created) ≡ false
-  no_made n none = false_from_ne_true _ (λ there. none (option_is created n there))
+  abbrev pub Part : ℕ → Type 0
+  Part m = LeftPart s taken dropped created m
 
-  pub b2_made : (n : ℕ) → (is : created ≡ Some n) → entry_in b2 n ≡ Some (made_root_at n is).at.taken.is
-  b2_made n is = b2_same n (made_not_taken n is) (made_not_dropped n is) ∙ a3_entry n (made_not_root n is) ∙ a1_kept n (made_not_dropped n is) ∙ (made_root_at n is).at.taken.here
+  pub part_is : (m : ℕ) → has_number m rest ≡ true → Part m
+  part_is m there = elim (has_either m taken (dropped ++ (option_to_list created ++ s ∷ [])) there) [
+    | inl is ↦ Taken is
+    | inr more ↦ elim (has_either m dropped (option_to_list created ++ s ∷ []) more) [
+      | inl is ↦ Dropped is
+      | inr more ↦ elim (has_either m (option_to_list created) (s ∷ []) more) [
+        | inl is ↦ Entered (option_is created m is)
+        | inr is ↦ Shadow (sym (same_Some _ _ (option_is (Some s) m is)))
+      ]
+    ]
+  ]
 
-  pub may_made : MayFlip course b2 (flips Finish (option_to_list created))
-  may_made = may_flips course Finish (option_to_list created) b2 (option_once created) (λ n there.
-      let is = option_is created n there in
-      let c = (made_root_at n is).at in (
-        c.taken.is,
-        b2_made n is,
-        may_finish_made a3 after id o s copy.copied n c.taken.is (entry_in_table a n c.taken.is c.taken.here) c.place_is c.taken.owned
-            (λ leaves. (let clash : IntendAllocate ≡ IntendDeallocate = sym (made_root_at n is).state ∙ leaves in cc)) (taken_apart a g ready.holds n n c.taken) (made_not_root n is),
-      ))
+  pub in_rest : (m : ℕ) → Part m → has_number m rest ≡ true
+  in_rest m (Taken is) = has_first m taken (dropped ++ (option_to_list created ++ s ∷ [])) is
+  in_rest m (Dropped is) = has_second m taken (dropped ++ (option_to_list created ++ s ∷ [])) (has_first m dropped (option_to_list created ++ s ∷ []) is)
+  in_rest m (Entered is) = has_second m taken (dropped ++ (option_to_list created ++ s ∷ [])) (has_second m dropped (option_to_list created ++ s ∷ []) (has_first m (option_to_list created) (s ∷ []) (option_has created m is)))
+  in_rest m (Shadow is) = has_second m taken (dropped ++ (option_to_list created ++ s ∷ [])) (has_second m dropped (option_to_list created ++ s ∷ []) (has_second m (option_to_list created) (s ∷ []) (subst (λ (k : ℕ). has_number k (s ∷ []) ≡ true) (sym is) (first_number s []))))
 
-  pub bm_entry : (m : ℕ) → entry_in bm m ≡ if_at (has_number m (option_to_list created)) Finish (entry_in b2 m)
-  bm_entry m = flips_entry course Finish (option_to_list created) b2 (option_once created) may_made m
+  pub shadow_is : (m : ℕ) (p : Part m) → (m == s) ≡ is_shadow p
+  shadow_is m (Taken is) = ne_eqb m s (inner_shadow m (taken_inner m is))
+  shadow_is m (Dropped is) = ne_eqb m s (inner_shadow m (dropped_inner m is))
+  shadow_is m (Entered is) = ne_eqb m s (made_not_shadow m is)
+  shadow_is m (Shadow is) = eq-eqb m s is
 
-  bm_same : (m : ℕ) → (created ≡ Some m → ⊥) → entry_in bm m ≡ entry_in b2 m
-  bm_same m none = bm_entry m ∙ ap (λ (b : Bool). if_at b Finish (entry_in b2 m)) (no_made m none)
+  pub not_root : (m : ℕ) → Part m → m ≢ id.block
+  not_root m (Taken is) = inner_root m (taken_inner m is)
+  not_root m (Dropped is) = inner_root m (dropped_inner m is)
+  not_root m (Entered is) = made_not_root m is
+  not_root m (Shadow is) = λ root_is. root_shadow (sym root_is ∙ is)
+
+  pub root_not_left : has_number id.block rest ≡ false
+  root_not_left = false_from_ne_true _ (λ there. not_root id.block (part_is id.block there) refl)
+
+  made_a3 : (n : ℕ) → (is : created ≡ Some n) → entry_in a3 n ≡ Some (made_root_at n is).at.taken.is
+  made_a3 n is = a3_entry n (made_not_root n is) ∙ a1_kept n (made_not_dropped n is) ∙ (made_root_at n is).at.taken.here
 
   a3_shadow : entry_in a3 s ≡ Some shadow.taken.is
   a3_shadow = a3_entry s (λ same. root_shadow (sym same)) ∙ a1_kept s shadow_not_dropped ∙ shadow.taken.here
 
-  pub bm_shadow : entry_in bm s ≡ Some shadow.taken.is
-  bm_shadow = bm_same s (λ is. made_not_shadow s is refl) ∙ b2_same s shadow_not_taken shadow_not_dropped ∙ a3_shadow
+  may_be : (n : ℕ) → (p : Part n) → (e : MapEntry) × (entry_in a3 n ≡ Some e) × MayPut course n e (changed_entry (how_for (is_shadow p)) e)
+  may_be n (Taken is) = may_end n (finish_taken n is)
+  may_be n (Dropped is) = may_end n (finish_dropped n is)
+  may_be n (Entered is) = (let c = (made_root_at n is).at in (
+    c.taken.is,
+    made_a3 n is,
+    may_finish_made a3 after id o s copy.copied n c.taken.is (entry_in_table a n c.taken.is c.taken.here) c.place_is c.taken.owned
+        (λ leaves. (let clash : IntendAllocate ≡ IntendDeallocate = sym (made_root_at n is).state ∙ leaves in cc)) (taken_apart a g ready.holds n n c.taken) (made_not_root n is),
+  ))
+  may_be n (Shadow is) = subst (λ (k : ℕ). (e : MapEntry) × (entry_in a3 k ≡ Some e) × MayPut course k e (changed_entry (how_for true) e)) (sym is)
+      (shadow.taken.is, a3_shadow, may_undo a3 after id o s copy.copied copy.committed.stands shadow.taken.is a3_shadow)
 
-  pub may3 : MayFlip course bm (flips Undo (s ∷ []))
-  may3 = may_flips course Undo (s ∷ []) bm refl (λ n is. subst (λ (k : ℕ). (e : MapEntry) × (entry_in bm k ≡ Some e) × MayPut course k e (changed_entry Undo e)) (only_one s n is)
-      (shadow.taken.is, bm_shadow, may_undo a3 after id o s copy.copied copy.committed.stands shadow.taken.is a3_shadow))
+  pub all_may : MayTurn course a3 (how_left left) rest
+  all_may n there =
+      let p = part_is n there in
+      let may = may_be n p in
+      (may.0, may.1, subst (λ (b : Bool). MayPut course n may.0 (changed_entry (how_for b) may.0)) (sym (shadow_is n p)) may.2)
 
-  pub b3_entry : (m : ℕ) → entry_in b3 m ≡ if_at (has_number m (s ∷ [])) Undo (entry_in bm m)
-  b3_entry m = flips_entry course Undo (s ∷ []) bm refl may3 m
+  -- each is of the object, or it is the root that is made
+  pub all_open : AreOpen (id.block ∷ option_to_list created) a3 rest
+  all_open n there = by (part_is n there)
+    where
+      of_object : IsTaken a3 n id.block → IsOpenTo (λ e. of_owners (id.block ∷ option_to_list created) e) (entry_in a3 n)
+      of_object taken = owners_open id.block (id.block ∷ option_to_list created) (entry_in a3 n) (first_number id.block (option_to_list created)) (taken_of a3 n id.block taken)
 
-  b3_on : IsOn course b3
-  b3_on = flipped_on course (flips Undo (s ∷ [])) bm copy.copied (flipped_on course (flips Finish (option_to_list created)) b2 copy.copied (flipped_on course (flips Finish dropped) b1 copy.copied (flipped_on course (flips Finish taken) a3 copy.copied begins may1) may2) may_made) may3
+      by : Part n → IsOpenTo (λ e. of_owners (id.block ∷ option_to_list created) e) (entry_in a3 n)
+      by (Taken is) = of_object (now_to_finish n (finish_taken n is)).taken
+      by (Dropped is) = of_object (now_to_finish n (finish_dropped n is)).taken
+      by (Entered is) = owners_open n (id.block ∷ option_to_list created) (entry_in a3 n) (more_numbers id.block n (option_to_list created) (option_has created n is))
+          (ap (is_owned_by is_taken n) (made_a3 n is ∙ sym (made_root_at n is).at.taken.here) ∙ taken_of a n n (made_root_at n is).at.taken)
+      by (Shadow is) = of_object (subst (λ (k : ℕ). IsTaken a3 k id.block) (sym is) (shadow_taken a3 id.block s copy.committed.stands).taken)
 
-  pub b3_root : entry_in b3 id.block ≡ Some (with_bit a1_root.taken.is)
-  b3_root = b3_entry id.block ∙ ap (λ (b : Bool). if_at b Undo (entry_in bm id.block)) (not_only s id.block root_shadow) ∙ bm_same id.block (λ is. made_not_root id.block is refl) ∙ b2_same id.block root_not_taken root_not_dropped ∙ a3_root
+  -- ---- what is to come
 
-  pub may4 : MayFlip course b3 (flips ClearBit (id.block ∷ []))
-  may4 = may_flips course ClearBit (id.block ∷ []) b3 refl (λ n is. subst (λ (k : ℕ). (e : MapEntry) × (entry_in b3 k ≡ Some e) × MayPut course k e (changed_entry ClearBit e)) (only_one id.block n is)
-      (with_bit a1_root.taken.is, b3_root, may_clear a3 after id o s copy.copied b3 (with_bit a1_root.taken.is) b3_on b3_root))
+  abbrev pub b4 : Image
+  b4 = mapped (settled left) a3
 
-  pub b4_entry : (m : ℕ) → entry_in b4 m ≡ if_at (has_number m (id.block ∷ [])) ClearBit (entry_in b3 m)
-  b4_entry m = flips_entry course ClearBit (id.block ∷ []) b3 refl may4 m
+  pub b4_is : IsMapped (settled left) a3 b4
+  b4_is = settled_is a3 after id o left refl copy.copied a3 begins all_may
 
   pub b4_on : IsOn course b4
-  b4_on = flipped_on course (flips ClearBit (id.block ∷ [])) b3 copy.copied b3_on may4
+  b4_on = settled_on a3 after id o left refl copy.copied a3 begins all_may
 
-  abbrev pub all : List Flip
-  all = settling taken dropped (option_to_list created) s ++ flips ClearBit (id.block ∷ [])
+  pub whole3 : AreWhole a3
+  whole3 = whole_on course (how_left left) copy.copied a3 begins
 
-  settling_is : flipped a3 (settling taken dropped (option_to_list created) s) ≡ b3
-  settling_is =
-      flipped_append (flips Finish taken) (flips Finish dropped ++ (flips Finish (option_to_list created) ++ flips Undo (s ∷ []))) a3
-      ∙ flipped_append (flips Finish dropped) (flips Finish (option_to_list created) ++ flips Undo (s ∷ [])) b1 ∙ flipped_append (flips Finish (option_to_list created)) (flips Undo (s ∷ [])) b2
+  -- a block of the rest
+  pub b4_part : (m : ℕ) (p : Part m) (e : MapEntry) → entry_in a3 m ≡ Some e → entry_in b4 m ≡ Some (changed_entry (how_for (is_shadow p)) e)
+  b4_part m p e here = b4_is.entries m e here ∙ (λ i. Some (changed_if (ne_eqb m id.block (not_root m p) i) ClearBit (changed_if (in_rest m p i) (how_for (shadow_is m p i)) e)))
 
-  pub all_is : flipped a3 all ≡ b4
-  all_is = flipped_append (settling taken dropped (option_to_list created) s) (flips ClearBit (id.block ∷ [])) a3 ∙ ap (λ (i : Image). flipped i (flips ClearBit (id.block ∷ []))) settling_is
+  -- and one that isn't
+  pub b4_other : (m : ℕ) → m ≢ id.block → (Part m → ⊥) → entry_in b4 m ≡ entry_in a3 m
+  b4_other m other none = mapped_stays (settled left) a3 b4 whole3 b4_is m (λ e here. settled_stays left m e other (false_from_ne_true _ (λ there. none (part_is m there))))
 
-  pub all_may : MayFlip course a3 all
-  all_may = may_append course (settling taken dropped (option_to_list created) s) (flips ClearBit (id.block ∷ [])) a3
-      (may_append course (flips Finish taken) (flips Finish dropped ++ (flips Finish (option_to_list created) ++ flips Undo (s ∷ []))) a3 may1
-      (may_append course (flips Finish dropped) (flips Finish (option_to_list created) ++ flips Undo (s ∷ [])) b1 may2 (may_append course (flips Finish (option_to_list created)) (flips Undo (s ∷ [])) b2 may_made may3)))
-      (subst (λ (i : Image). MayFlip course i (flips ClearBit (id.block ∷ []))) (sym settling_is) may4)
+  pub b4_root : entry_in b4 id.block ≡ Some (without_bit (with_bit a1_root.taken.is))
+  b4_root = b4_is.entries id.block (with_bit a1_root.taken.is) a3_root ∙ (λ i. Some (changed_if (eq-eqb id.block id.block refl i) ClearBit (changed_if (root_not_left i) (how_left left id.block) (with_bit a1_root.taken.is))))

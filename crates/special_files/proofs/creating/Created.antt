@@ -2,7 +2,7 @@
 use Rattle.std.proofs.Common.{◌≡◌, ◌≢◌, inl, ⊎_elim, ℕ, ◌+◌, ◌/◌, ◌%◌, true, false, List, [], ◌∷◌, length, Option, Some, None, Ok, Err, refl, sym, ◌∙◌, ap, subst, arith, eq-eqb}
 use Rattle.special_files.proofs.Words.{Accounts, ChangesOnly, DraftView, Drafting, Drafts, EndsCall, FillCall, FillsDraft, FillsIfIndex, Free, Ghosts, GoesTo, HasDraft, HasTried, Image, Index, IsBareRoot, IsEntry, IsLeastFree, IsMadeRoot, IsOpen, IsOpenTo, IsRootBlock, Kept, MapEntry, Opened, Puid, Refused, Result, Root, SameBeside, StoreHas, Swap, Tree, after_try, and_from, and_parts, block_at, block_at-with_entry, both_ways, changes_entry, changes_then, changes_wider, created_if, draft_takes, entry_in, entry_in-set, entry_in-with_entry_other, entry_in-with_entry_same, free_is_loose, has_met_damage, has_number, in_image, intended, is_fixed, is_free_in, is_full_refusal, is_had, is_made, is_meant, is_owned_by, is_placed, is_taken, length-with_entry, making_begins, ne_eqb, node_pointers, not_map, of_draft, of_drafts, of_taken, opened_as, owner_of, part_of, pointers_of, puid_at, root_spelling, same_Some, same_or_not, same_tree, still_top, taken_apart, then, tree_in, tree_placed, tried_then, with_entry, with_opened}
 use Rattle.cyl_map.specs.Volume.{is_free_entry}
-use Rattle.intentions.proofs.Flips.{first_number, more_numbers, option_is}
+use Rattle.intentions.proofs.Turned.{first_number, more_numbers, option_is}
 use Rattle.special_files.specs.Creates.{CreatesBeside, CreatesIfIndex, HasImage, RootEnds, IsBare, MakesBesideCall, Spells, adopting, created_draft, with_root}
 use Rattle.special_files.proofs.Endings.{ends_as, ends_err, ends_then, ends_wider, not_untried, still_ends, still_room, still_sound}
 use Rattle.special_files.proofs.Made.{bare_kept, content_kept, made_kept}

@@ -7,10 +7,10 @@ use Rattle.cfs_base.specs.declared.kind.Kind.TheVariants as kinds
 use Rattle.cfs_base.specs.declared.refusal.Trouble.TheVariants as trouble
 use Rattle.cyl_alloc.proofs.Counted.{counts_content, counts_taken}
 use Rattle.cyl_map.specs.Volume.{is_free_entry}
-use Rattle.intentions.proofs.Flips.{no_damage}
+use Rattle.intentions.proofs.Turned.{no_damage}
 use Rattle.intentions.proofs.Settling.{may_claim}
 use Rattle.intentions.specs.Calls.{ChangesEntry}
-use Rattle.intentions.specs.declared.change.Change.TheVariants.{Claim}
+use Rattle.intentions.specs.declared.change.EntryChange.TheVariants.{Claim}
 use Rattle.special_files.specs.Creates.{HasImage, MayBeMade, RootEnds, made_of, with_root}
 use Rattle.special_files.proofs.Amid.{framed_carries, framed_holds, written_framed}
 use Rattle.special_files.proofs.Meant.{free_is}
@@ -73,7 +73,7 @@ module _ {D : Type 0} {g : Ghosts D} {graph : Graph} {ds : Drafts} {d0 : D} {k0 
   unclaimed {d1 = d1} t k1 is = record {
     done = tt;
     leaves = is.holds graph was.0 store.carries was.1 may;
-    sound = sound_after t (no_damage g n (Claim Root n) d0 d1 (Frame a graph) holds (keeps_frame g graph d0 store.carries) was.0 was.1 t is.refused);
+    sound = sound_after t (no_damage g n d0 d1 (Frame a graph) holds (keeps_frame g graph d0 store.carries) was.0 was.1 t is.refused);
   }
 
   -- and then written

@@ -11,10 +11,10 @@ use Rattle.special_files.proofs.Trees.{node_at}
 -- ---- entries of claims
 
 pub leaf_entry : (l r : ℕ) → l < leaf_limit → r ≢ 0 → r < 2 ^ 32 → IsEntry (intended (Leaf l) r)
-leaf_entry l r below some small = record { in_table = rw (le-leb l (leaf_limit - 1) (omega arith), lt-ltb 0 r (omega (arith, some)), lt-ltb r (2 ^ 32) small) refl }
+leaf_entry l r below some small = record { in_table = rw (le-leb l 1048575 (omega arith), lt-ltb 0 r (omega (arith, some)), lt-ltb r (2 ^ 32) small) refl }
 
 pub node_entry : (n r : ℕ) → n < node_pointers.count → r ≢ 0 → r < 2 ^ 32 → IsEntry (intended (Node n) r)
-node_entry n r below some small = record { in_table = rw (le-leb n (node_pointers.count - 1) (omega arith), lt-ltb 0 r (omega (arith, some)), lt-ltb r (2 ^ 32) small) refl }
+node_entry n r below some small = record { in_table = rw (le-leb n 8191 (omega arith), lt-ltb 0 r (omega (arith, some)), lt-ltb r (2 ^ 32) small) refl }
 
 -- the part of a block with such an entry, which is meant for its owner
 pub intended_part : (image : Image) (n r : ℕ) (p : Place) → entry_in image n ≡ Some (intended p r) → BelongsTo r p (part_at image n)

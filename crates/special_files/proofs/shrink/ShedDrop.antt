@@ -2,7 +2,7 @@
 use Rattle.std.proofs.Common.{◌≡◌, ◌≢◌, ℕ, ◌+◌, ◌*◌, ◌/◌, ◌%◌, ◌^◌, ◌<◌, ◌≤◌, Bool, true, false, IsTrue, List, length, Ok, Err, refl, sym, ◌∙◌, ap, subst, arith, inl, inr, if◌then◌else◌, not}
 use Rattle.block_tree.specs.Reads.{IsPast}
 use Rattle.special_files.proofs.Ways.{node_is_read}
-use Rattle.special_files.proofs.Words.{HasNode, AreClaimed, AreShed, BlockNo, ChangesOnly, Claims, ClaimsAndDrops, DraftView, Drafting, Drafts, DropCall, DropsFrom, EndsCall, Flips, Forgets, GetsDraftNode, Ghosts, GoesHolding, Graph, Had, HasTried, Holds, Image, IsDraftTrouble, IsFarRoot, IsRead, KeepsOne, Kept, Leaves, MakesAtMost, NoBlock, NoWrite, Way, OnlyReads, Opened, Puid, Put, PutsWithin, Refused, Result, Trouble, Undo, Whole, Within, WritesDraftBlock, border_claims, border_takes, both_ways, cases_Bool, cases_lt, entry_in, eqb-true, flips, get_or_past, given_all, has_met_damage, is_damage, is_fresh_node, is_full_refusal, leaf_pointers, leaves_at, leaves_below, length-map-range_with_len, ne_eqb, number_at, of_draft, one_unless, opened_as, pointer_to_node, pointers_of, reads_make, reads_within, refusal_after, refused_by, still_top, sum, then_tried, top_of, tried_then, trouble_after_try, ◌==◌, way_leaves, blocks_limit, drop_calls, drop_tries, leaf_limit, node_pointers}
+use Rattle.special_files.proofs.Words.{HasNode, AreClaimed, AreShed, BlockNo, ChangesOnly, Claims, ClaimsAndDrops, DraftView, Drafting, Drafts, DropCall, DropsFrom, EndsCall, Flips, Forgets, GetsDraftNode, Ghosts, GoesHolding, Graph, Had, HasTried, Holds, Image, IsDraftTrouble, IsFarRoot, IsRead, KeepsOne, Kept, Leaves, MakesAtMost, NoBlock, NoWrite, Way, OnlyReads, Opened, Puid, Put, PutsWithin, Refused, Result, Trouble, Undo, Whole, Within, WritesDraftBlock, border_claims, border_takes, both_ways, cases_Bool, cases_lt, entry_in, eqb-true, get_or_past, given_all, has_met_damage, is_damage, is_fresh_node, is_full_refusal, leaf_pointers, leaves_at, leaves_below, length-map-range_with_len, ne_eqb, number_at, of_draft, one_unless, opened_as, pointer_to_node, pointers_of, reads_make, reads_within, refusal_after, refused_by, still_top, sum, then_tried, top_of, tried_then, trouble_after_try, ◌==◌, way_leaves, blocks_limit, drop_calls, drop_tries, leaf_limit, node_pointers}
 use Rattle.std.proofs.lemmas.Bool.{eq-eqb}
 use Rattle.cfs_base.specs.declared.refusal.Refused.TheVariants as refusals
 use Rattle.cfs_base.specs.declared.refusal.Trouble.TheVariants as trouble
@@ -116,17 +116,17 @@ module _ {D : Type 0} {g : Ghosts D} {d0 d1 : D} {k0 : Kept} {was : Drafting} (u
         shed1 : AreShed b u.id d f ns
         shed1 = subst (λ (i : Image). AreShed i u.id d f ns) (sym reads.content) shed
 
-        leaves_undone : (r : Result (Unit {0}) Trouble) → Flips g n t (flips Undo ns) d2 d3 r → Leaves g d0 d3 (λ c. Holds c u.graph)
+        leaves_undone : (r : Result (Unit {0}) Trouble) → Flips g n t Undo ns d2 d3 r → Leaves g d0 d3 (λ c. Holds c u.graph)
         leaves_undone r undone = images_since reads d3 _ (shed_leaves u1 (ready puts).amid (ready puts).put shed1 d3 n t r undone)
 
-        pub drop_undo_err : {P : Type 0} (e : Trouble) → Flips g n t (flips Undo ns) d2 d3 (Err (trouble_after_try e)) → (tried : Bool) (told : Refused) → told ≡ refusal_after tried (refused_by e) → GoesHolding {A = Unit {0}} g u.graph P d0 d3 (Err told)
+        pub drop_undo_err : {P : Type 0} (e : Trouble) → Flips g n t Undo ns d2 d3 (Err (trouble_after_try e)) → (tried : Bool) (told : Refused) → told ≡ refusal_after tried (refused_by e) → GoesHolding {A = Unit {0}} g u.graph P d0 d3 (Err told)
         drop_undo_err e undone tried told same = record {
           done = tt;
           leaves = leaves_undone _ undone;
           sound = ap has_met_damage same ∙ still_sound tried (refused_by e) (damaged_by e (untried_damage e (shed_sound u1 (ready puts).amid (ready puts).put shed1 d3 n t _ undone)));
         }
 
-        pub drop_done : Flips g n t (flips Undo ns) d2 d3 (Ok tt) → (k3 : Kept) → k3 ≡ given_all k2 ns → (now : Drafting) → Forgets f y.0 was now → GoesHolding {A = Unit {0}} g u.graph (DropsFrom g u.graph u.ds u.id f d0 d3 k3 was now) d0 d3 (Ok tt)
+        pub drop_done : Flips g n t Undo ns d2 d3 (Ok tt) → (k3 : Kept) → k3 ≡ given_all k2 ns → (now : Drafting) → Forgets f y.0 was now → GoesHolding {A = Unit {0}} g u.graph (DropsFrom g u.graph u.ds u.id f d0 d3 k3 was now) d0 d3 (Ok tt)
         drop_done undone k3 given now forgets = record {
           done = drops_since reads (shed_drops u1
               (subst (IsAmid g u.graph u.id d1 d3) (sym given) (shed_amid u1 (ready puts).amid (ready puts).put shed1 d3 n t undone))

@@ -1,11 +1,13 @@
 -- The device calls that drop leaves from a draft: the node of the first is written without them, and claims are taken back.
 use Rattle.std.proofs.Common.{◌≡◌, ◌≢◌, ◌⊎◌, inl, inr, ℕ, ◌/◌, ◌%◌, ◌^◌, ◌<◌, ◌≤◌, Bool, true, false, List, [], ◌∷◌, length, Ok, Some, refl, sym, ◌∙◌, ap, subst, get_or-set_other, get_or-set_same, arith}
-use Rattle.special_files.proofs.Words.{AreClaimed, AreCounts, AreShed, BelongsTo, BlockNo, ChangesOnly, Claims, ClaimsAndDrops, Course, DraftView, Drafting, Drafts, Flips, Frame, GetsDraftNode, Ghosts, Graph, Had, HasDraft, Holds, IfErr, Image, IsOn, IsPathPast, IsShed, Kept, Leaves, MapEntry, MayFlip, Node, Object, Opened, Puid, Refused, Result, Root, StoreHas, Trouble, Undo, WritesDraftBlock, block_at, block_at-with_entry, both_ways, carries_framed, cases_Bool, changes_then, claimed_by, content_of, entry_in, entry_in-set, entry_in-with_entry_other, entry_in-with_entry_same, entry_in_table, false_from_ne_true, flipped, flips, frames_begin, frames_hold, free_is_loose, free_unowned, given_all, has_number, held, held_at, held_there, in_image, intended, is_damage, is_free_entry, is_free_in, is_meant, is_meant_for, is_owned_by, keeps_frame, leaf_limit, leaf_pointers, leaves_at, length-with_entry, may_take_back, node_claims, node_place, not_map, numbers_differ, object_at, of_draft, one_path, opened_as, part_at, part_of, pointer, pointer_to_node, root_spelling, same_Some, slice_index, taken_apart, tree_in, tree_of, tree_placed, undone, wider}
+use Rattle.special_files.proofs.Words.{AreClaimed, AreCounts, AreShed, BelongsTo, BlockNo, ChangesOnly, Claims, ClaimsAndDrops, Course, DraftView, Drafting, Drafts, Flips, Frame, GetsDraftNode, Ghosts, Graph, Had, HasDraft, Holds, IfErr, Image, IsOn, IsPathPast, IsShed, Kept, Leaves, MapEntry, MayTurn, Node, Object, Opened, Puid, Refused, Result, Root, StoreHas, Trouble, Undo, WritesDraftBlock, block_at, block_at-with_entry, both_ways, carries_framed, cases_Bool, changed_if, changes_then, claimed_by, content_of, entry_in, entry_in-set, entry_in-with_entry_other, entry_in-with_entry_same, entry_in_table, false_from_ne_true, frames_begin, frames_hold, free_is_loose, free_unowned, given_all, has_number, held, held_at, held_there, in_image, intended, is_damage, is_free_entry, is_free_in, is_meant, is_meant_for, is_owned_by, keeps_frame, leaf_limit, leaf_pointers, leaves_at, length-with_entry, may_take_back, node_claims, node_place, not_map, numbers_differ, object_at, of_draft, one_path, opened_as, part_at, part_of, pointer, pointer_to_node, root_spelling, same_Some, slice_index, taken_apart, tree_in, tree_of, tree_placed, turned, undone, wider}
 use Rattle.std.proofs.Math.ListN.{length-set}
 use Rattle.special_files.proofs.Amid.{IsAmid, amid_leaves, claim_leaves, claimed, write_leaves, wrote}
 use Rattle.special_files.proofs.commit.CommitEntries.{meant_not_free, undone_free}
 use Rattle.special_files.proofs.commit.CommitFlips.{counts_given_all}
-use Rattle.intentions.proofs.Flips.{flipped_block, flipped_on, flips_entry, if_at, length-flipped, may_flips}
+use Rattle.cyl_map.proofs.Mapped.{block_at-mapped, length-mapped, mapped_is, mapped_stays}
+use Rattle.intentions.proofs.Turned.{turned_is, turned_on, whole_on}
+use Rattle.cyl_map.specs.Mapped.{IsMapped, mapped}
 use Rattle.special_files.proofs.commit.CommitWhole.{tree_inner}
 use Rattle.special_files.proofs.Fresh.{fresh_there, read_leaf_is, small_image, unfresh}
 use Rattle.special_files.proofs.Levels.{Tell}
@@ -29,19 +31,26 @@ module _ {D : Type 0} (g : Ghosts D) (graph : Graph) (ds : Drafts) (id : Puid) (
   course = Frame middle graph
 
   abbrev after : Image
-  after = flipped middle (flips Undo ns)
+  after = mapped (turned (λ m. Undo) ns) middle
 
-  may : MayFlip course middle (flips Undo ns)
-  may = may_flips course Undo ns middle once (λ v is.
+  may : MayTurn course middle (λ m. Undo) ns
+  may v is =
       let t = (meant_is middle id.block v (meant v is)).taken in (
         t.is,
         t.here,
         may_take_back middle graph v t.is (meant_loose (g.content start) middle graph ds id o store.account at amid.only amid.carries.holds v (meant v is))
             (no_shadow (g.content start) middle graph ds id o store.account at amid.only t.is) (entry_in_table middle v t.is t.here) (no_root v is t.is t.here),
-      ))
+      )
 
-  pub undone_entry : (v : ℕ) → entry_in after v ≡ if_at (has_number v ns) Undo (entry_in middle v)
-  undone_entry v = flips_entry course Undo ns middle once may v
+  begins : IsOn course middle
+  begins = frames_begin middle graph amid.carries.holds
+
+  turns : IsMapped (turned (λ m. Undo) ns) middle after
+  turns = turned_is course (λ m. Undo) amid.carries.holds ns middle begins may
+
+  -- the rest stays
+  pub undone_left : (v : ℕ) → has_number v ns ≡ false → entry_in after v ≡ entry_in middle v
+  undone_left v not = mapped_stays (turned (λ m. Undo) ns) middle after (whole_on course (λ m. Undo) amid.carries.holds middle begins) turns v (λ e here. ap (λ (b : Bool). changed_if b Undo e) not)
 
   state : (v : ℕ) (e : MapEntry) → has_number v ns ≡ true → entry_in middle v ≡ Some e → (is_free_entry (Some e) ≡ false) × (is_free_entry (Some (undone e)) ≡ true)
   state v e is here =
@@ -52,11 +61,11 @@ module _ {D : Type 0} (g : Ghosts D) (graph : Graph) (ds : Drafts) (id : Puid) (
   pub now_free : (v : ℕ) → has_number v ns ≡ true → is_free_in after v ≡ true
   now_free v is =
       let t = (meant_is middle id.block v (meant v is)).taken in
-      ap is_free_entry (undone_entry v ∙ (λ i. if_at (is i) Undo (t.here i))) ∙ (state v t.is is t.here).1
+      ap is_free_entry (turns.entries v t.is t.here ∙ ap (λ (b : Bool). Some (changed_if b Undo t.is)) is) ∙ (state v t.is is t.here).1
 
   only : ChangesOnly (λ e. of_draft id.block e) middle after
   only =
-      let on = flipped_on course (flips Undo ns) middle amid.carries.holds (frames_begin middle graph amid.carries.holds) may in
+      let on = turned_on course (λ m. Undo) amid.carries.holds ns middle after begins may turns in
       record {
         size = on.size;
         maps = on.maps;
@@ -65,25 +74,28 @@ module _ {D : Type 0} (g : Ghosts D) (graph : Graph) (ds : Drafts) (id : Puid) (
         fixed = on.fixed;
         entries = λ v. elim (cases_Bool (has_number v ns)) [
           | inl is ↦ inr (meant_open id.block (entry_in middle v) (meant v is), inl (now_free v is))
-          | inr not ↦ inl (undone_entry v ∙ ap (λ (b : Bool). if_at b Undo (entry_in middle v)) not)
+          | inr not ↦ inl (undone_left v not)
         ];
-        contents = λ v loose. inl (flipped_block (flips Undo ns) middle v (not_map v loose));
+        contents = λ v loose. inl (turns.contents v (not_map v loose));
       }
 
   module _ (n t : ℕ) where
-    pub undo_leaves : (r : Result (Unit {0}) Trouble) → Flips g n t (flips Undo ns) mid new r → Leaves g start new (λ c. Holds c graph)
+    pub undo_leaves : (r : Result (Unit {0}) Trouble) → Flips g n t Undo ns mid new r → Leaves g start new (λ c. Holds c graph)
     undo_leaves r f = amid_leaves g graph ds id o start space store at mid new kept amid (wider g mid new (IsOn course) (λ c. Holds c graph) (f.leaves course amid.carries.holds (keeps_frame g graph mid amid.carries) may)
         (λ c on. frames_hold middle c graph amid.carries.holds on))
 
-    pub undo_sound : (r : Result (Unit {0}) Trouble) → Flips g n t (flips Undo ns) mid new r → IfErr r (λ e. is_damage e ≡ false)
+    pub undo_sound : (r : Result (Unit {0}) Trouble) → Flips g n t Undo ns mid new r → IfErr r (λ e. is_damage e ≡ false)
     undo_sound r f = f.sound course amid.carries.holds (keeps_frame g graph mid amid.carries) may
 
-    pub undone_amid : Flips g n t (flips Undo ns) mid new (Ok tt) → IsAmid g graph id start new (given_all kept ns)
+    pub undone_is : Flips g n t Undo ns mid new (Ok tt) → g.content new ≡ mapped (turned (λ m. Undo) ns) (g.content mid)
+    undone_is f = sym (mapped_is (turned (λ m. Undo) ns) middle (g.content new) (whole_on course (λ m. Undo) amid.carries.holds middle begins) (f.put course amid.carries.holds (keeps_frame g graph mid amid.carries) may))
+
+    pub undone_amid : Flips g n t Undo ns mid new (Ok tt) → IsAmid g graph id start new (given_all kept ns)
     undone_amid f =
-        let content : g.content new ≡ after = f.put amid.carries.tells in
+        let content = undone_is f in
         record {
           carries = carries_framed g middle graph new amid.carries.holds (f.keeps course amid.carries.holds (keeps_frame g graph mid amid.carries) may);
-          counts = subst (λ (i : Image). AreCounts i (given_all kept ns)) (sym content) (counts_given_all course Undo ns middle kept once may amid.counts state);
+          counts = subst (λ (i : Image). AreCounts i (given_all kept ns)) (sym content) (counts_given_all course amid.carries.holds Undo ns middle kept once begins may amid.counts state);
           only = changes_then _ (g.content start) middle (g.content new) amid.only (subst (ChangesOnly (λ e. of_draft id.block e) middle) (sym content) only);
           leaves = undo_leaves (Ok tt) f;
         }
@@ -271,30 +283,27 @@ module _ {D : Type 0} {g : Ghosts D} {d0 d2 : D} {k0 k2 : Kept} {was : Drafting}
       let inner = tree_inner base (length base) u.id.block (content_of mine_d) was.root u.draft.object base_draft.tree v (record { path = is.path; held = held base v; there = ap (held_at base) is.there ∙ held_there base v real; is = refl }) in
       inner.no_root (ap (λ (x : MapEntry). x.place) (same_Some _ _ (sym inner.taken.here ∙ sym (same_entry v is) ∙ here)) ∙ root)
 
-  pub shed_leaves : (r : Result (Unit {0}) Trouble) → Flips g n t (flips Undo ns) d2 d3 r → Leaves g d0 d3 (λ c. Holds c u.graph)
+  pub shed_leaves : (r : Result (Unit {0}) Trouble) → Flips g n t Undo ns d2 d3 r → Leaves g d0 d3 (λ c. Holds c u.graph)
   shed_leaves r f = undo_leaves g u.graph u.ds u.id u.object d0 k0 u.store u.at d2 d3 k2 ns amid shed.once meant no_root n t r f
 
-  pub shed_sound : (r : Result (Unit {0}) Trouble) → Flips g n t (flips Undo ns) d2 d3 r → IfErr r (λ e. is_damage e ≡ false)
+  pub shed_sound : (r : Result (Unit {0}) Trouble) → Flips g n t Undo ns d2 d3 r → IfErr r (λ e. is_damage e ≡ false)
   shed_sound r f = undo_sound g u.graph u.ds u.id u.object d0 k0 u.store u.at d2 d3 k2 ns amid shed.once meant no_root n t r f
 
-  module _ (flips_done : Flips g n t (flips Undo ns) d2 d3 (Ok tt)) where
+  module _ (flips_done : Flips g n t Undo ns d2 d3 (Ok tt)) where
     pub shed_amid : IsAmid g u.graph u.id d0 d3 (given_all k2 ns)
     shed_amid = undone_amid g u.graph u.ds u.id u.object d0 k0 u.store u.at d2 d3 k2 ns amid shed.once meant no_root n t flips_done
 
-    at_end : g.content d3 ≡ flipped b (flips Undo ns)
-    at_end = flips_done.put amid.carries.tells
-
-    entry_end : (v : ℕ) → entry_in (g.content d3) v ≡ if_at (has_number v ns) Undo (entry_in b v)
-    entry_end v = ap (λ (i : Image). entry_in i v) at_end ∙ undone_entry g u.graph u.ds u.id u.object d0 k0 u.store u.at d2 d3 k2 ns amid shed.once meant no_root v
+    at_end : g.content d3 ≡ mapped (turned (λ m. Undo) ns) b
+    at_end = undone_is g u.graph u.ds u.id u.object d0 k0 u.store u.at d2 d3 k2 ns amid shed.once meant no_root n t flips_done
 
     block_end : (v : ℕ) → v % 64 ≢ 0 → block_at (g.content d3) v ≡ block_at b v
-    block_end v real = ap (λ (i : Image). block_at i v) at_end ∙ flipped_block (flips Undo ns) b v real
+    block_end v real = ap (λ (i : Image). block_at i v) at_end ∙ block_at-mapped (turned (λ m. Undo) ns) b v real
 
     entry_left : (v : ℕ) → has_number v ns ≡ false → entry_in (g.content d3) v ≡ entry_in b v
-    entry_left v not = entry_end v ∙ ap (λ (x : Bool). if_at x Undo (entry_in b v)) not
+    entry_left v not = ap (λ (i : Image). entry_in i v) at_end ∙ undone_left g u.graph u.ds u.id u.object d0 k0 u.store u.at d2 d3 k2 ns amid shed.once meant no_root v not
 
     long_end : length (g.content d3) ≡ length b
-    long_end = ap (length {A = List ℕ}) at_end ∙ length-flipped (flips Undo ns) b
+    long_end = ap (length {A = List ℕ}) at_end ∙ length-mapped (turned (λ m. Undo) ns) b
 
     pub shed_order : (es : List MapEntry) → AreClaimed es base b → ClaimsAndDrops u.id.block es base (g.content d3)
     shed_order es claims = record {

@@ -1,15 +1,15 @@
-use Rattle.std.proofs.Common.{◌≡◌, ◌+◌, ◌-◌, ◌/◌, ◌%◌, ◌<◌, ◌≤◌, min}
-use Rattle.block_tree.proofs.Words.{AreQuiet, HasNoDeadEnd, OnlyReads, Tells, root_spelling, leaf_pointers, node_pointers}
+use Rattle.std.proofs.Common.{ℕ, ◌+◌, ◌-◌, Option, Some, None}
+use Rattle.block_tree.proofs.Words.{leaf_limit, root_spelling}
+use Rattle.block_tree.proofs.Walks.{IsWalked}
 use Rattle.block_tree.proofs.walk.walk_held.Given as goal
 
-abbrev pub invariant-loop-node : goal.invariant-loop-node
-invariant-loop-node g l = record {
-  at : l.next / leaf_pointers.count ≡ l.node;
-  on : l.from ≤ l.next;
-  few_nodes : l.node - l.from / leaf_pointers.count ≤ node_pointers.count;
-  whole : l.from / leaf_pointers.count < l.node → l.next % leaf_pointers.count ≡ 0;
-  quiet : Tells g.D.Disk l.initial.disk → AreQuiet (g.D.Disk.content l.initial.disk) (g.D.Disk.blocks l.initial.disk) (root_spelling l.root) l.from l.next;
-  reads : OnlyReads g.D.Disk (l.node - l.from / leaf_pointers.count) l.initial.disk l.disk;
-  few : Tells g.D.Disk l.initial.disk → HasNoDeadEnd (g.D.Disk.content l.initial.disk) (root_spelling l.root)
-      → g.D.Disk.calls l.disk ≤ g.D.Disk.calls l.initial.disk + min 1 (l.node - l.from / leaf_pointers.count);
-}
+abbrev pub invariant-loop-next : goal.invariant-loop-next
+invariant-loop-next g l = IsWalked g.D.Disk (root_spelling l.root) l.from l.initial.disk l.disk l.next
+
+-- the leaves that are left, and one
+abbrev pub left : Option ℕ → ℕ
+left None = 0
+left (Some n) = 1 + (leaf_limit - n)
+
+abbrev pub decreases-loop-next : goal.decreases-loop-next
+decreases-loop-next g l = left l.next

@@ -17,7 +17,7 @@ use Rattle.cfs_core.specs.Kernel.{Kernel, Handle}
 use Rattle.cfs_core.specs.Handles.{root_at}
 use Rattle.cfs_core.specs.StandsFor.{HasCollection, CoreServes}
 use Rattle.cfs_core.proofs.DraftRoots.{draft_root}
-use Rattle.finisher.proofs.Passed.{is_passed}
+use Rattle.cfs_base.proofs.Passed.{is_passed}
 use Rattle.cfs_core.proofs.collecting.mark.Goals as goal
 
 pub returns-then-has_rescue : goal.returns-then-has_rescue

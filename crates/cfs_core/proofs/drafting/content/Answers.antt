@@ -2,7 +2,7 @@ use Rattle.std.proofs.Common.{◌≡◌, ℕ, ◌+◌, ◌++◌, take, drop, len
 use Rattle.cfs_core.proofs.Words.{is_range, take-append_seam}
 use Rattle.ufs_model.specs.declared.asked.Reply.TheVariants as replies
 use Rattle.cfs_core.proofs.Rewritten.{draft_cause, sound_told}
-use Rattle.cfs_core.proofs.Passed.{passed}
+use Rattle.cfs_base.proofs.Passed.{passed}
 use Rattle.cfs_core.specs.Looks.{IsDraftCause}
 use Rattle.special_files.specs.Refusal.{has_met_damage, top_of}
 use Rattle.cfs_core.proofs.drafting.content.Goals as goal

@@ -2,7 +2,7 @@ use Rattle.std.proofs.Common.{refl, sym, ◌∙◌, ap, arith}
 use Rattle.cfs_core.proofs.Words.{slot_reply}
 use Rattle.cfs_core.proofs.Looked.{inside}
 use Rattle.cfs_core.proofs.Rewritten.{draft_cause, sound_told}
-use Rattle.finisher.proofs.Passed.{is_passed}
+use Rattle.cfs_base.proofs.Passed.{is_passed}
 use Rattle.cfs_core.proofs.filling.look_in.Goals as goal
 
 pub returns-in-Some : goal.returns-in-Some

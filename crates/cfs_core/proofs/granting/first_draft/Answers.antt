@@ -3,7 +3,7 @@ use Rattle.cfs_base.proofs.Went.{makes_none}
 use Rattle.cfs_core.proofs.Words.{Drafting}
 use Rattle.cfs_core.proofs.MayOpen.{begun_open, refusal_so}
 use Rattle.cfs_core.proofs.Openings.{or_memory}
-use Rattle.finisher.proofs.Passed.{is_passed}
+use Rattle.cfs_base.proofs.Passed.{is_passed}
 use Rattle.cfs_core.proofs.granting.first_draft.Goals as goal
 
 pub returns-in_default-clause-begins : goal.returns-in_default-clause-begins

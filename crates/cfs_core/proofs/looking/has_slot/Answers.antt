@@ -1,6 +1,6 @@
 use Rattle.std.proofs.Common.{refl, ℕ, ap, nat_lt, arith}
 use Rattle.cfs_core.proofs.Calm.{calm_root}
-use Rattle.finisher.proofs.Passed.{is_passed}
+use Rattle.cfs_base.proofs.Passed.{is_passed}
 use Rattle.cfs_core.proofs.looking.has_slot.Goals as goal
 
 pub returns-clause-exact : goal.returns-clause-exact

@@ -3,7 +3,7 @@ use Rattle.cfs_core.proofs.Words.{slot_reply}
 use Rattle.ufs_model.specs.declared.object.Object.TheVariants as objects
 use Rattle.cfs_core.proofs.Looked.{beyond, found}
 use Rattle.cfs_core.proofs.Calm.{calm_root, calm_slot, knows_on}
-use Rattle.finisher.proofs.Passed.{is_passed}
+use Rattle.cfs_base.proofs.Passed.{is_passed}
 use Rattle.cfs_core.proofs.looking.look.Goals as goal
 
 pub returns-then-slot-count-clause-exact : goal.returns-then-slot-count-clause-exact

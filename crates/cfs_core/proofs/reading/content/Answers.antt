@@ -6,7 +6,7 @@ use Rattle.cfs_core.proofs.Calm.{calm_after, knows_on, range_parts, rooted}
 use Rattle.leaf_changes.proofs.Tops.{far_block}
 use Rattle.leaf_changes.specs.Tops.{root_top}
 use Rattle.cfs_base.proofs.Calls.{reads_within}
-use Rattle.finisher.proofs.Passed.{is_passed}
+use Rattle.cfs_base.proofs.Passed.{is_passed}
 use Rattle.cfs_core.proofs.reading.content.Goals as goal
 
 pub read-requires-clause-inside : goal.read-requires-clause-inside

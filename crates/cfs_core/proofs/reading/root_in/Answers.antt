@@ -1,6 +1,6 @@
 use Rattle.ufs_model.specs.declared.object.Object.TheVariants as objects
 use Rattle.cfs_core.proofs.Calm.{calm_trouble, told_never}
-use Rattle.finisher.proofs.Passed.{is_passed}
+use Rattle.cfs_base.proofs.Passed.{is_passed}
 use Rattle.std.proofs.Common.{refl}
 use Rattle.cfs_core.proofs.reading.root_in.Goals as goal
 

@@ -1,7 +1,7 @@
 use Rattle.std.proofs.Common.{sym, subst, ◌∙◌, Err}
 use Rattle.cfs_recover.proofs.Words.{IsFaultOf, MatchResult, Ok, Result}
-use Rattle.cfs_recover.proofs.Counted.{four_are_left, too_few_left}
-use Rattle.cfs_recover.proofs.Finished.{held_in, in_held, walk_full, walk_sound}
+use Rattle.cfs_recover.proofs.Finished.{held_in, in_held, walk_sound}
+use Rattle.cfs_recover.proofs.Room.{four_are_left, too_few_left}
 use Rattle.cfs_recover.proofs.survey.check_walked.Goals as goal
 
 -- both ways of a check say more
@@ -24,5 +24,5 @@ returns c image grounds walk noted =
       held = held_in image label grounds w walk none noted;
       all = in_held image label grounds w walk none noted;
     })
-    (λ d many. subst (IsFaultOf image) (sym many.0) (walk_full image label grounds w walk none noted (too_few_left image label grounds w walk none noted marks many.1)))
+    (λ d many. subst (IsFaultOf image) (sym many.0) (too_few_left image label grounds w walk none noted marks many.1))
     c.check_room.ensures

@@ -1,4 +1,4 @@
-use Rattle.std.proofs.Common.{◌<◌, List, length, refl, sym, ◌∙◌, subst, arith}
+use Rattle.std.proofs.Common.{List, refl, sym, ◌∙◌, subst}
 use Rattle.cfs_recover.proofs.Words.{AreMapsOf, MapEntry}
 use Rattle.cfs_recover.proofs.Good.{noted_on}
 use Rattle.cfs_recover.proofs.Refused.{caused_err}
@@ -11,8 +11,7 @@ pub returns-clause-told : goal.returns-clause-told
 returns-clause-told g c image stored grounds are =
     let one = subst (λ (ms : List (List MapEntry)). AreMapsOf image ms) (sym c.deref.ensures.value) are in
     let two = subst (λ (ms : List (List MapEntry)). AreMapsOf image ms) (sym c.deref-2.ensures.value) are in
-    let first : 0 < length image = omega (arith, grounds.size, c.requires.few.some) in
-    let standing = c.in_ok-standing.ensures.told image one (grounds.fixed 0 first refl) in
+    let standing = c.in_ok-standing.ensures.told image one in
     let begun = c.in_ok-walk.ensures.told image c.args.grounds.now.label (stored.size ∙ sym c.blocks-2.ensures) grounds.has refl in
     let walked = c.in_ok-walk_all.ensures.told image c.args.grounds.now.label (record { stored = stored; maps_are = two; walk = begun }) standing grounds.has in
     record {

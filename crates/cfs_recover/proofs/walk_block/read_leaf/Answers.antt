@@ -15,7 +15,7 @@ returns-in_err-check_rest-clause-told g c image owner done stored walk has last 
     let below : twig.block < length image = omega (arith, stored.size, c.requires) in
     let wrong = c.in_err-check_rest.ensures in
     told_err _ _ _ _ c.from_residual-in_err-check_rest.ensures.1
-    (subst (IsFaultOf image) (sym wrong.0) (late_byte image owner c.args.root.now twig has last below (subst (λ (b : List ℕ). IsNotFilled c.args.root.now twig.number b) (c.in_ok-content.ensures.told image stored) wrong.1)))
+    (subst (IsFaultOf image) (sym wrong.0) (late_byte image owner c.args.root.now twig has last below (subst (λ (b : List ℕ). IsNotFilled c.args.root.now.size c.args.root.now.fill twig.number b) (c.in_ok-content.ensures.told image stored) wrong.1)))
 
 pub returns-in_err-note_leaf-clause-told : goal.returns-in_err-note_leaf-clause-told
 returns-in_err-note_leaf-clause-told g c image owner done stored walk has last =
@@ -37,7 +37,7 @@ returns-clause-told g c image owner done stored walk has last =
       c.in_ok-note_leaf.ensures.told image done walk (λ index. subst (λ (b : List ℕ). AreNamed image b c.args.root.now.size twig.number twig.block) (sym bytes)
           (slots_named image owner c.args.root.now twig has last index below (stored.blocks twig.block below).long)),
       record {
-        filled = subst (λ (b : List ℕ). IsFilled c.args.root.now twig.number b) bytes c.in_ok-check_rest.ensures;
+        filled = subst (λ (b : List ℕ). IsFilled c.args.root.now.size c.args.root.now.fill twig.number b) bytes c.in_ok-check_rest.ensures;
         noted = λ index. subst (λ (b : List ℕ). AreNoted c.note_leaf.new.walk b c.args.root.now.size twig.number) bytes (c.in_ok-note_leaf.ensures.noted index);
       },
     )

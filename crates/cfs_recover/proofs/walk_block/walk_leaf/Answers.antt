@@ -20,6 +20,6 @@ hold-requires g c = omega (arith, c.requires.there, c.requires.room, c.in_ok-rea
 pub returns-clause-told : goal.returns-clause-told
 returns-clause-told g c image owner done stored walk has last =
     let read = c.in_ok-read_leaf.ensures.told image owner done stored walk has last in (
-      c.hold.ensures.told image done read.0 (block_kept image owner c.args.root.now c.args.twig has),
+      c.hold.ensures.told image done read.0 (block_kept image owner c.args.root.now c.args.twig has (omega (arith, stored.size, c.requires.there))),
       leaf_on image owner c.args.root.now _ _ c.hold.ensures.grows _ _ (record { within = c.in_ok-check_leaf.ensures; read = read.1 }),
     )

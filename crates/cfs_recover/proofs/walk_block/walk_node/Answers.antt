@@ -15,6 +15,6 @@ pub returns-clause-told : goal.returns-clause-told
 returns-clause-told g c image owner done root stored walk has more =
     let leaves = c.decode-node.ensures.pointers ∙ ap (pointers_of leaf_pointers) (c.in_ok-content.ensures.told image stored) in
     let some = c.in_ok-check_node.ensures in (
-      c.hold.ensures.told image done walk (block_kept image owner root c.args.twig has),
+      c.hold.ensures.told image done walk (block_kept image owner root c.args.twig has (omega (arith, stored.size, c.requires.there))),
       record { leaves = leaves; leads_on = (some.0, λ none. some.1 (ap (λ (ns : List ℕ). get_or ns some.0 0) leaves ∙ none)) },
     )

@@ -1,7 +1,8 @@
-use Rattle.std.proofs.Common.{◌∙◌, sym, Some}
+use Rattle.std.proofs.Common.{◌∙◌, ap, sym, Some}
 use Rattle.collector_steps.proofs.Words.{block_at, err_from_is_err_and, tells_on}
 use Rattle.collector_steps.proofs.Damage.{draft_refused, root_refused}
-use Rattle.collector_steps.proofs.Found.{after_following, after_last, alive_there, following_on, holds_any_or_none}
+use Rattle.collector_steps.proofs.Found.{alive_there, following_on, holds_any_or_none}
+use Rattle.collector_steps.specs.Scan.{or_own}
 use Rattle.collector_steps.proofs.Found.{last_on, own_holds, told_any}
 use Rattle.collector_steps.proofs.scan.read_draft.Goals as goal
 
@@ -28,7 +29,7 @@ returns-in-Some-clause-found g c = λ tells alive own_alive.
       record {
         step = c.in_ok-step.ensures.step tells alive;
         content = c.in_ok-step.ensures.content tells;
-        next = after_following any.0 c.in_ok-step.step c.in-Some.next (sym c.following.ensures ∙ c.in-Some.is);
+        next = sym (ap (or_own any.0) (sym c.following.ensures ∙ c.in-Some.is));
       },
     )
 
@@ -52,7 +53,7 @@ returns-clause-found g c = λ tells alive own_alive.
       record {
         step = c.in_ok-step.ensures.step tells alive;
         content = c.in_ok-step.ensures.content tells;
-        next = c.after_last.ensures ∙ after_last any c.in_ok-step.step (sym c.following.ensures ∙ c.in_default.is);
+        next = c.after_last.ensures ∙ sym (ap (or_own any) (sym c.following.ensures ∙ c.in_default.is));
       },
     )
 

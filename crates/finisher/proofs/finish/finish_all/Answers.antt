@@ -8,7 +8,7 @@ use Rattle.cyl_alloc.specs.Space.{Kept}
 use Rattle.cfs_base.proofs.Runs.{still_tells}
 use Rattle.cfs_base.specs.Calls.{MakesAtMost}
 use Rattle.finisher.specs.Runs.{Spends, calls_by_map, tries_by_map}
-use Rattle.finisher.proofs.Passed.{is_passed, mapped_err, mapped_ok, passed}
+use Rattle.cfs_base.proofs.Passed.{is_passed, mapped_err, mapped_ok, passed}
 use Rattle.finisher.proofs.Calls.{goes_since, goes_then, made_all, made_err, made_then, none_left, since_damage, since_parts, some_left}
 use Rattle.finisher.specs.Going.{Ends, calls_left, tries_left}
 use Rattle.cfs_base.specs.declared.refusal.Trouble.{Trouble}

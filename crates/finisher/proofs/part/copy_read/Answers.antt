@@ -1,5 +1,7 @@
 use Rattle.std.proofs.Common.{arith, Some, ◌∙◌, ap, sym}
+use Rattle.block_tree.specs.Reads.{is_damage}
 use Rattle.cfs_base.specs.Disk.{Image, block_at}
+use Rattle.cfs_base.proofs.Passed.{is_passed}
 use Rattle.finisher.proofs.Calls.{goes_reads, goes_then, goes_told, reads_end}
 use Rattle.finisher.proofs.part.copy_read.Goals as goal
 
@@ -15,3 +17,12 @@ returns-clause-goes g c = λ l space un root shadow.
 
 pub returns-clause-ends : goal.returns-clause-ends
 returns-clause-ends g c = λ k. reads_end g.D.Disk c.args.disk.now c.read_shadow.new.disk c.copy.new.disk 1 c.in_ok-read_shadow.ensures.reads 2 2 3 k c.copy.result (c.copy.ensures.ends k) c.copy.ensures.told (omega arith)
+
+pub returns-in_err-read_shadow-clause-goes : goal.returns-in_err-read_shadow-clause-goes
+returns-in_err-read_shadow-clause-goes g c = λ l space un root shadow. rw (is_passed _ _ c.from_residual.ensures.1) (record {
+  goes = λ graph was. tt;
+  comes = λ graph was. tt;
+  leaves = (goes_reads g.D.Disk c.args.disk.now c.read_shadow.new.disk c.read_shadow.new.disk 1 c.in_err-read_shadow.ensures.reads space (Some l)).leaves;
+  sound = λ graph was. ap is_damage c.in_err-read_shadow.ensures.refused.0;
+  store = λ graph drafts was. tt;
+})

@@ -1,5 +1,5 @@
 use Rattle.std.proofs.Common.{rules}
-use Rattle.finisher.proofs.Passed.{is_passed}
+use Rattle.cfs_base.proofs.Passed.{is_passed}
 use Rattle.finisher.proofs.AtOnce.{load_failed, run_after, run_done, run_failed}
 use Rattle.finisher.proofs.run.flip_run.Goals as goal
 

@@ -1,7 +1,7 @@
 use Rattle.index_drafts.proofs.Words.{◌≡◌, Err, Ok, after_try, bare_object, arith, rules, Refused}
 use Rattle.index_drafts.specs.Creates.{CreatesIn}
 use Rattle.index_drafts.proofs.Drafts.{fill_ends, filled_or_not, least_stops, made_not, make_stops}
-use Rattle.index_drafts.proofs.Passed.{fine, handed, mapped, passed}
+use Rattle.cfs_base.proofs.Passed.{fine, handed, mapped, passed}
 use Rattle.special_files.proofs.SlotNeed.{slot_need_is}
 use Rattle.special_files.proofs.View.{read_leaves}
 use Rattle.index_drafts.proofs.creating.create_in.Goals as goal

@@ -2,7 +2,7 @@ use Rattle.index_drafts.proofs.Words.{Ok, Err, ap, EndsCall, Trouble, enters_end
 use Rattle.cfs_base.proofs.Runs.{on}
 use Rattle.index_drafts.proofs.Makings.{all_ends, barrier_ends, barrier_stops, claim_leaves, made, stops, write_leaves, write_stops, wrote}
 use Rattle.leaf_changes.specs.Tops.{still_top}
-use Rattle.index_drafts.proofs.Passed.{passed}
+use Rattle.cfs_base.proofs.Passed.{passed}
 use Rattle.index_drafts.proofs.creating.make_at.Goals as goal
 
 pub returns-in_err-claim-clause-makes : goal.returns-in_err-claim-clause-makes

@@ -2,7 +2,7 @@ use Rattle.index_ops.proofs.Words.{◌+◌, ◌*◌, ◌<◌, inr, refl, sym, ap
 use Rattle.block_tree.specs.declared.root.Root as roots
 use Rattle.index_ops.specs.Changes.{IsIndexRefusal}
 use Rattle.index_ops.proofs.Begun.{has_slot}
-use Rattle.index_ops.proofs.Passed.{passed}
+use Rattle.cfs_base.proofs.Passed.{passed}
 use Rattle.special_files.specs.Begins.{BeginsDirect}
 use Rattle.special_files.specs.View.{GoesTo}
 use Rattle.index_ops.proofs.changing.begin.Goals as goal

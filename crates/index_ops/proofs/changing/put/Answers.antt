@@ -2,7 +2,7 @@ use Rattle.index_ops.proofs.Words.{rules, is_some, ◌≡◌, ◌∙◌, None, S
 use Rattle.index_ops.specs.Changes.{FillsIndex, IsIndexRefusal}
 use Rattle.index_ops.proofs.Begun.{commit_refused, index_refusal}
 use Rattle.index_ops.proofs.Filling.{fill_commits, fill_settles, fill_stops}
-use Rattle.index_ops.proofs.Passed.{mapped, mapped_err, passed}
+use Rattle.cfs_base.proofs.Passed.{mapped, passed, tells_err}
 use Rattle.special_files.specs.Refusal.{top_of}
 use Rattle.std.specs.Prelude.{IfErr}
 use Rattle.index_ops.proofs.changing.put.Goals as goal
@@ -46,7 +46,7 @@ returns-clause-refused g c =
     let none = call.stays.created ∙ ap (λ (x : Drafting). x.created) c.in_ok-draft.ensures.begun in
     let tried = call.tried (ap is_some c.in-Some.is) in
     let since = λ (t : Trouble). refused_by (trouble_after_try t) in
-    mapped_err _ (IsIndexRefusal G c.args.index.0 c.args.slot c.args.disk.now d3 c.commit_swap.new.space) since c.commit_swap.result _ (mapped since _ _ c.map_err.ensures.cases (λ e k is. search rules)) c.commit_swap.ensures.call.refused (λ t why.
+    tells_err _ (IsIndexRefusal G c.args.index.0 c.args.slot c.args.disk.now d3 c.commit_swap.new.space) since c.commit_swap.result _ (mapped since _ _ c.map_err.ensures.cases (λ e k is. search rules)) c.commit_swap.ensures.call.refused (λ t why.
     index_refusal G c.args.index.0 c.args.slot c.args.disk.now d1 d3 c.commit_swap.new.space c.in_ok-draft.draft c.in_ok-draft.ensures.begun c.in_ok-draft.ensures.root 1 c.in_ok-draft.ensures.reads _
     (commit_refused G (top_of c.in_ok-draft.draft) d1 c.fill.new.disk d3 c.begin.new.space c.fill.new.space c.commit_swap.new.space 8 4 _ _ call.ends tried now.at now.created call.stays.at
     (λ far. let no : None ≡ Some far.n = sym none ∙ far.is in cc) t why))

@@ -4,7 +4,7 @@ use Rattle.index_ops.proofs.Making.{least_stops, placed}
 use Rattle.leaf_changes.specs.Tops.{still_top}
 use Rattle.special_files.proofs.Refusals.{if_err, refusal_as}
 use Rattle.special_files.specs.Refusal.{top_of}
-use Rattle.index_ops.proofs.Passed.{passed}
+use Rattle.cfs_base.proofs.Passed.{passed}
 use Rattle.index_ops.specs.Changes.{IsIndexRefusal}
 use Rattle.index_ops.specs.Creates.{PlacesIn}
 use Rattle.special_files.specs.Creates.{IsOpenMap}

@@ -4,7 +4,7 @@ use Rattle.index_ops.specs.Creates.{MakeEnds}
 use Rattle.index_ops.proofs.Begun.{commit_refused, since}
 use Rattle.index_ops.proofs.Making.{make_commits, make_stops}
 use Rattle.special_files.specs.Refusal.{top_of}
-use Rattle.index_ops.proofs.Passed.{fine, handed, mapped, passed}
+use Rattle.cfs_base.proofs.Passed.{fine, handed, mapped, passed}
 use Rattle.std.proofs.Common.{rules}
 use Rattle.std.specs.Prelude.{IfErr}
 use Rattle.index_ops.proofs.creating.make_at.Goals as goal

@@ -2,7 +2,7 @@ use Rattle.intentions.proofs.Reading.{store_reads}
 use Rattle.intentions.proofs.Shown.{root_tree, shown_tells}
 use Rattle.index_ops.proofs.Words.{ℕ, ◌/◌, ◌%◌, sym, ◌∙◌, ap, arith, List, Image, reads_then, tells_on, root_spelling, leaf_bytes, slot_in}
 use Rattle.index_ops.proofs.Indices.{root_slot, root_sound, slot_after_root, slot_is, slot_sound}
-use Rattle.index_ops.proofs.Passed.{passed}
+use Rattle.cfs_base.proofs.Passed.{passed}
 use Rattle.index_ops.specs.Causes.{IsSlotTrouble}
 use Rattle.index_ops.specs.Reads.{FindsIn}
 use Rattle.std.specs.Prelude.{IfErr}

@@ -1,7 +1,7 @@
 use Rattle.intentions.proofs.Reading.{store_reads}
 use Rattle.intentions.proofs.Shown.{root_tree, shown_tells}
 use Rattle.index_ops.proofs.Indices.{root_sound, slots_are}
-use Rattle.index_ops.proofs.Passed.{passed}
+use Rattle.cfs_base.proofs.Passed.{passed}
 use Rattle.index_ops.specs.Reads.{CountsSlots}
 use Rattle.index_ops.proofs.reading.slots.Goals as goal
 

@@ -1,5 +1,7 @@
-use Rattle.std.proofs.Common.{◌≡◌, subst, rules}
-use Rattle.intentions.proofs.Words.{Leaves, MapEntry, OnOk, entries_of, with_entry}
+use Rattle.std.proofs.Common.{◌≡◌, true, subst, rules}
+use Rattle.cfs_base.proofs.Passed.{passed}
+use Rattle.cfs_base.specs.declared.refusal.Trouble.TheVariants as trouble
+use Rattle.intentions.proofs.Words.{IfErr, IsGoodMap, Leaves, MapEntry, OnOk, Tells, entries_of, with_entry}
 use Rattle.intentions.specs.Entries as entries
 use Rattle.intentions.proofs.Changes.{nothing_more, rewrites_bit}
 use Rattle.intentions.proofs.bit.change_bit.Goals as goal
@@ -36,7 +38,7 @@ returns-in_err-entry g c =
         refused = search rules;
         unless_tried = search rules;
         whole = search rules;
-        whole_tried = search rules;
+        whole_tried = passed (λ r. IfErr r (λ t. t ≡ trouble.Disk true → Tells g.D.Disk old → IsGoodMap (g.D.Disk.content old) c.args.root.0)) c.from_residual.result c.in_err-entry.field-0.0 c.from_residual.ensures.1 (λ is. absurd (let no = c.in_err-entry.ensures.untried in cc));
         calls = search rules;
       };
     }

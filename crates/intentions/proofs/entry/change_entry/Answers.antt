@@ -1,5 +1,5 @@
 use Rattle.std.proofs.Common.{◌≡◌, sym, subst, rules}
-use Rattle.intentions.proofs.Passed.{passed}
+use Rattle.cfs_base.proofs.Passed.{passed}
 use Rattle.intentions.proofs.Words.{ChangesEntry, Image, IsMapOf, Leaves, MapEntry, Written, entries_of, left_now, map_of, map_with, with_entry}
 use Rattle.intentions.specs.Entries as entries
 use Rattle.intentions.proofs.Changes.{nothing_more, refused_after_reads, rewrites}

@@ -4,7 +4,7 @@ use Rattle.cyl_map.specs.Entry.{spelling}
 use Rattle.cyl_map.specs.Map.{SpellsMap}
 use Rattle.cyl_map.specs.Volume.{with_bytes}
 use Rattle.cyl_map.specs.declared.entry.MapEntry.{MapEntry}
-use Rattle.intentions.proofs.Loaded.{loaded_entry, loaded_flip, loaded_valid}
+use Rattle.intentions.proofs.Loaded.{loaded_entry, loaded_valid}
 use Rattle.intentions.proofs.entry.change_in.Goals as goal
 
 pub of-requires-clause-entry : goal.of-requires-clause-entry
@@ -20,7 +20,4 @@ pub returns-clause-was : goal.returns-clause-was
 returns-clause-was c = loaded_entry c.args.map.now c.args.block.0 c.entry_in-entry.result c.requires.spells c.entry_in-entry.ensures
 
 pub returns-clause-now : goal.returns-clause-now
-returns-clause-now c = λ image same.
-    let n = c.args.block.0 in
-    loaded_flip c.args.map.now n c.entry_in-entry.result c.requires.spells c.entry_in-entry.ensures image same c.args.how
-    ∙ ap (λ (e : MapEntry). with_bytes c.args.map.now (n % 64) (spelling e)) (sym c.of.ensures.value) ∙ sym c.put_in.ensures
+returns-clause-now c = c.put_in.ensures ∙ ap (λ (e : MapEntry). with_bytes c.args.map.now (c.args.block.0 % 64) (spelling e)) c.of.ensures.value

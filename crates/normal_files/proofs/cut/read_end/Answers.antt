@@ -7,7 +7,7 @@ use Rattle.block_tree.specs.Along.{CutsRootPast, IsTo, way_leaves}
 use Rattle.block_tree.specs.Way.{CutsAt}
 use Rattle.block_tree.specs.declared.node.Node as nodes
 use Rattle.leaf_changes.specs.Tops.{root_top}
-use Rattle.normal_files.proofs.Passed.{is_passed}
+use Rattle.cfs_base.proofs.Passed.{is_passed}
 use Rattle.normal_files.proofs.cut.read_end.Goals as goal
 
 pub returns-clause-read : goal.returns-clause-read

@@ -1,5 +1,5 @@
 use Rattle.std.proofs.Common.{rules}
-use Rattle.normal_files.proofs.Passed.{is_passed}
+use Rattle.cfs_base.proofs.Passed.{is_passed}
 use Rattle.normal_files.proofs.free.free.Goals as goal
 
 pub returns-in_err-release-clause-follows : goal.returns-in_err-release-clause-follows

@@ -2,7 +2,7 @@ use Rattle.normal_files.proofs.Words.{◌≡◌, ℕ, ◌+◌, ◌*◌, Ok, subs
 use Rattle.normal_files.specs.Frees.{FreesTo, GivesLeaves}
 use Rattle.normal_files.specs.Limits.{free_leaves_calls, free_leaves_tries}
 use Rattle.normal_files.proofs.FreedRun.{frees_err, leaves_follow, leaves_on}
-use Rattle.normal_files.proofs.Passed.{is_passed}
+use Rattle.cfs_base.proofs.Passed.{is_passed}
 use Rattle.cfs_base.proofs.Went.{went_as}
 use Rattle.normal_files.proofs.free.free_leaves.Goals as goal
 use Rattle.leaf_changes.specs.Tops.{root_top}

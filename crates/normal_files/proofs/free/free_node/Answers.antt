@@ -3,7 +3,7 @@ use Rattle.normal_files.specs.Limits.{free_calls, free_tries, free_leaves_calls,
 use Rattle.normal_files.proofs.Freed.{follows_on}
 use Rattle.normal_files.proofs.FreedRun.{after_read, node_err, node_on, node_unread, read_follows, unread_follows}
 use Rattle.normal_files.proofs.Refusals.{node_trouble}
-use Rattle.normal_files.proofs.Passed.{is_passed}
+use Rattle.cfs_base.proofs.Passed.{is_passed}
 use Rattle.normal_files.proofs.free.free_node.Goals as goal
 use Rattle.leaf_changes.specs.Tops.{root_top}
 

@@ -3,7 +3,7 @@ use Rattle.normal_files.specs.Frees.{FreesTo, GivesNodes}
 use Rattle.normal_files.specs.Limits.{free_node_calls, free_node_tries, free_nodes_calls, free_nodes_tries}
 use Rattle.normal_files.proofs.Freed.{follows_on}
 use Rattle.normal_files.proofs.FreedRun.{frees_err, nodes_on}
-use Rattle.normal_files.proofs.Passed.{is_passed}
+use Rattle.cfs_base.proofs.Passed.{is_passed}
 use Rattle.normal_files.proofs.free.free_nodes.Goals as goal
 use Rattle.leaf_changes.specs.Tops.{root_top}
 

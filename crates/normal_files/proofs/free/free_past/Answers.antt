@@ -3,7 +3,7 @@ use Rattle.normal_files.specs.Limits.{free_calls, free_tries, free_leaves_calls,
 use Rattle.normal_files.proofs.Freed.{follows_on}
 use Rattle.normal_files.proofs.FreedRun.{end_err, end_first, end_node, end_rest}
 use Rattle.cfs_base.proofs.Went.{went_as}
-use Rattle.normal_files.proofs.Passed.{is_passed}
+use Rattle.cfs_base.proofs.Passed.{is_passed}
 use Rattle.normal_files.proofs.free.free_past.Goals as goal
 use Rattle.std.proofs.Common.{ap}
 use Rattle.block_tree.specs.declared.node.Node as nodes

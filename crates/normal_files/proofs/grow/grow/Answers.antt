@@ -2,7 +2,7 @@ use Rattle.normal_files.proofs.Words.{Err, IsTrue, List, ℕ, Ok, sym, subst, ar
 use Rattle.normal_files.specs.Steps.{WritesBlock}
 use Rattle.normal_files.proofs.Come.{come_err, come_then, come_wrote, come_none, write_stopped}
 use Rattle.normal_files.proofs.Grown.{flushed_images, grown_entries, grown_stores, written_images}
-use Rattle.normal_files.proofs.Passed.{is_passed}
+use Rattle.cfs_base.proofs.Passed.{is_passed}
 use Rattle.normal_files.proofs.grow.grow.Goals as goal
 
 pub returns-in_err-write_block-clause-grown : goal.returns-in_err-write_block-clause-grown

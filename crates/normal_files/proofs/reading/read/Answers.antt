@@ -4,7 +4,7 @@ use Rattle.normal_files.proofs.LeafReads.{leaf_is_read, part_is, read_before, re
 use Rattle.normal_files.proofs.Refusals.{stopped_is, stopped_undamaged, tells_after, trouble_after_reads, way_refused}
 use Rattle.normal_files.proofs.Trees.{near_tree}
 use Rattle.ufs_model.specs.declared.object.Object.TheVariants as objects
-use Rattle.normal_files.proofs.Passed.{is_passed}
+use Rattle.cfs_base.proofs.Passed.{is_passed}
 use Rattle.normal_files.proofs.reading.read.Goals as goal
 use Rattle.leaf_changes.specs.Tops.{root_top}
 

@@ -3,7 +3,7 @@ use Rattle.normal_files.specs.Ends.{is_damaged}
 use Rattle.cfs_base.proofs.Went.{reads_none}
 use Rattle.normal_files.proofs.FileCalls.{becomes_on, damage_same, handed_file, images_read, none_on, read_troubled, shrink_refused, troubled_untried, becomes_as, file_size, partly_as, view, view_on, shrink_on_disk}
 use Rattle.normal_files.proofs.Refusals.{root_trouble, stopped_undamaged}
-use Rattle.normal_files.proofs.Passed.{is_passed}
+use Rattle.cfs_base.proofs.Passed.{is_passed}
 use Rattle.normal_files.proofs.resizing.resize.Goals as goal
 use Rattle.leaf_changes.specs.Tops.{disk_top}
 

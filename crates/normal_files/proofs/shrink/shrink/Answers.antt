@@ -6,7 +6,7 @@ use Rattle.normal_files.specs.Steps.{HasCome}
 use Rattle.normal_files.proofs.FileCalls.{becomes_on, cut_of, drop_troubled, images_read, later_ends, near_of, next_root, none_on, read_troubled, root_images, shrunk_ends, stop_troubled, trim_images}
 use Rattle.normal_files.proofs.Refusals.{stopped_later, tells_after}
 use Rattle.cfs_base.proofs.Went.{told_as}
-use Rattle.normal_files.proofs.Passed.{is_passed, mapped, mapped_err}
+use Rattle.cfs_base.proofs.Passed.{is_passed, mapped, tells_err}
 use Rattle.normal_files.proofs.shrink.shrink.Goals as goal
 use Rattle.normal_files.proofs.shrink.shrink.Goals.{After-map_err}
 use Rattle.leaf_changes.specs.Tops.{root_top}
@@ -66,5 +66,5 @@ begun reads told calls tried last = record {
 }
 
 pub returns-clause-refused : goal.returns-clause-refused
-returns-clause-refused g c = mapped_err _ _ trouble_after_try c.free_past.result _ (since g c) (drop_troubled g.D.Disk (root_top c.args.at.0 c.args.root.now) c.args.disk.now c.free_past.new.disk c.free_past.result
+returns-clause-refused g c = tells_err _ _ trouble_after_try c.free_past.result _ (since g c) (drop_troubled g.D.Disk (root_top c.args.at.0 c.args.root.now) c.args.disk.now c.free_past.new.disk c.free_past.result
     (begun c.in_ok-end.ensures.reads c.in_ok-trim.ensures.told c.in_ok-trim.ensures.calls c.in_ok-trim.ensures.made c.in_ok-write_through.ensures.ends) c.free_past.ensures.follows) (λ e why. why)

@@ -1,10 +1,10 @@
 use Rattle.std.proofs.Common.{◌≡◌, ℕ, ◌*◌, ◌<◌, List, Option, refl, sym, ◌∙◌, ap, subst}
-use Rattle.special_files.proofs.Words.{All, Flips, Ghosts, Kept, Result, Trouble, given_all, number_if, option_to_list, undoing}
+use Rattle.special_files.proofs.Words.{All, Flips, Ghosts, Kept, Result, Trouble, Undo, given_all, number_if, option_to_list, undoing}
 use Rattle.special_files.proofs.abort.CommitAbort.{abort_ends}
 use Rattle.special_files.proofs.abort.give_up.Goals as goal
 
 -- the same of the draft's parts
-flips_of : {D : Type 0} {g : Ghosts D} {n t : ℕ} (taken : List ℕ) {shadow was_shadow made was_made : Option ℕ} {d0 d1 : D} {r : Result (Unit {0}) Trouble} → was_shadow ≡ shadow → was_made ≡ made → Flips g n t (undoing taken shadow made) d0 d1 r → Flips g n t (undoing taken was_shadow was_made) d0 d1 r
+flips_of : {D : Type 0} {g : Ghosts D} {n t : ℕ} (taken : List ℕ) {shadow was_shadow made was_made : Option ℕ} {d0 d1 : D} {r : Result (Unit {0}) Trouble} → was_shadow ≡ shadow → was_made ≡ made → Flips g n t Undo (undoing taken shadow made) d0 d1 r → Flips g n t Undo (undoing taken was_shadow was_made) d0 d1 r
 flips_of taken shadow made f = rw (shadow, made) f
 
 pub give_all-requires : goal.give_all-requires

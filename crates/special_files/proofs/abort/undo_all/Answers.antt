@@ -1,6 +1,6 @@
 use Rattle.std.proofs.Common.{◌+◌, ◌*◌, ◌++◌, length, arith}
-use Rattle.special_files.proofs.Words.{Undo, flips, number_if, option_to_list}
-use Rattle.finisher.proofs.Passed.{is_passed}
+use Rattle.special_files.proofs.Words.{Undo, number_if, option_to_list}
+use Rattle.cfs_base.proofs.Passed.{is_passed}
 use Rattle.special_files.proofs.commit.CommitRuns.{flips_stop, flips_then}
 use Rattle.special_files.proofs.abort.undo_all.Goals as goal
 
@@ -17,7 +17,7 @@ returns-in_err-flip_all g c =
     let made = option_to_list (number_if c.args.created) in
     record {
       flips = rw (is_passed _ _ c.from_residual.ensures.1)
-          (flips_stop g.D.Disk c.args.disk.now c.flip_all.new.disk (2 * nt) nt (2 * nt + (2 + 2)) (nt + (1 + 1)) (flips Undo c.args.taken.now) (flips Undo s ++ flips Undo made) _ (omega arith) (omega arith) c.in_err-flip_all.ensures.flips);
+          (flips_stop g.D.Disk Undo c.args.disk.now c.flip_all.new.disk (2 * nt) nt (2 * nt + (2 + 2)) (nt + (1 + 1)) c.args.taken.now (s ++ made) _ (omega arith) (omega arith) c.in_err-flip_all.ensures.flips);
     }
 
 pub returns-in_err-flip_made : goal.returns-in_err-flip_made
@@ -27,8 +27,8 @@ returns-in_err-flip_made g c =
     let made = option_to_list (number_if c.args.created) in
     record {
       flips = rw (is_passed _ _ c.from_residual-in_err-flip_made.ensures.1)
-          (flips_then g.D.Disk (flips Undo c.args.taken.now) (flips Undo s ++ flips Undo made) c.args.disk.now c.flip_all.new.disk c.flip_made.new.disk (2 * nt) nt (2 + 2) (1 + 1) c.in_ok-flip_all.ensures.flips _
-          (flips_stop g.D.Disk c.flip_all.new.disk c.flip_made.new.disk 2 1 (2 + 2) (1 + 1) (flips Undo s) (flips Undo made) _ (omega arith) (omega arith) c.in_err-flip_made.ensures.flips));
+          (flips_then g.D.Disk Undo c.args.taken.now (s ++ made) c.args.disk.now c.flip_all.new.disk c.flip_made.new.disk (2 * nt) nt (2 + 2) (1 + 1) c.in_ok-flip_all.ensures.flips _
+          (flips_stop g.D.Disk Undo c.flip_all.new.disk c.flip_made.new.disk 2 1 (2 + 2) (1 + 1) s made _ (omega arith) (omega arith) c.in_err-flip_made.ensures.flips));
     }
 
 pub returns : goal.returns
@@ -37,6 +37,6 @@ returns g c =
     let s = option_to_list (number_if c.args.shadow) in
     let made = option_to_list (number_if c.args.created) in
     record {
-      flips = flips_then g.D.Disk (flips Undo c.args.taken.now) (flips Undo s ++ flips Undo made) c.args.disk.now c.flip_all.new.disk c.flip_made-2.new.disk (2 * nt) nt (2 + 2) (1 + 1) c.in_ok-flip_all.ensures.flips _
-          (flips_then g.D.Disk (flips Undo s) (flips Undo made) c.flip_all.new.disk c.flip_made.new.disk c.flip_made-2.new.disk 2 1 2 1 c.in_ok-flip_made.ensures.flips _ c.flip_made-2.ensures.flips);
+      flips = flips_then g.D.Disk Undo c.args.taken.now (s ++ made) c.args.disk.now c.flip_all.new.disk c.flip_made-2.new.disk (2 * nt) nt (2 + 2) (1 + 1) c.in_ok-flip_all.ensures.flips _
+          (flips_then g.D.Disk Undo s made c.flip_all.new.disk c.flip_made.new.disk c.flip_made-2.new.disk 2 1 2 1 c.in_ok-flip_made.ensures.flips _ c.flip_made-2.ensures.flips);
     }

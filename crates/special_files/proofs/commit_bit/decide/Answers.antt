@@ -2,7 +2,7 @@ use Rattle.std.proofs.Common.{◌≡◌, ◌+◌, ◌*◌, false, length, Ok, Er
 use Rattle.special_files.proofs.Words.{CommitFails, Trouble, is_damage, makes_then, puid_at, still_top}
 use Rattle.special_files.proofs.CommitDone.{bit_leaves, bit_put, bit_sound, leaves_then, makes_more, release_leaves, release_sound}
 use Rattle.special_files.proofs.commit.CommitRuns.{fails_after, map_fails}
-use Rattle.finisher.proofs.Passed.{is_passed}
+use Rattle.cfs_base.proofs.Passed.{is_passed}
 use Rattle.intentions.specs.Runs.{runs}
 use Rattle.special_files.proofs.commit_bit.decide.Goals as goal
 

@@ -1,5 +1,5 @@
 use Rattle.std.proofs.Common.{arith}
-use Rattle.finisher.proofs.Passed.{is_passed}
+use Rattle.cfs_base.proofs.Passed.{is_passed}
 use Rattle.special_files.proofs.creating.NewRoots.{claimed, root_entry, unclaimed}
 use Rattle.special_files.proofs.creating.claim_root.Goals as goal
 

@@ -1,5 +1,5 @@
 use Rattle.std.proofs.Common.{arith}
-use Rattle.finisher.proofs.Passed.{is_passed}
+use Rattle.cfs_base.proofs.Passed.{is_passed}
 use Rattle.special_files.proofs.Endings.{ends_wider, then_written}
 use Rattle.special_files.proofs.creating.NewRoots.{root_entry, root_made}
 use Rattle.special_files.proofs.creating.make_root.Goals as goal

@@ -1,6 +1,6 @@
 use Rattle.std.proofs.Common.{◌<◌, get_or}
 use Rattle.intentions.proofs.Runs.{first_is}
-use Rattle.finisher.proofs.Passed.{mapped_err, mapped_ok, passed}
+use Rattle.cfs_base.proofs.Passed.{mapped_err, mapped_ok, passed}
 use Rattle.special_files.proofs.commit.CommitRuns.{run_failed, run_unread, run_written}
 use Rattle.special_files.proofs.Words.{All-get_or, FlipsRun, trouble_after_try}
 use Rattle.special_files.proofs.flips.flip_run.Goals as goal

@@ -1,5 +1,5 @@
 use Rattle.std.proofs.Common.{◌≡◌, ◌*◌, ◌<◌, if◌then◌else◌, Bool, true, false, length, get_or, Err, refl, sym, ◌∙◌, ap, subst, arith}
-use Rattle.special_files.proofs.Words.{All-get_or, Flips, MapEntry, Trouble, Undo, flips, then_tried, trouble_after_try}
+use Rattle.special_files.proofs.Words.{All-get_or, Flips, MapEntry, Trouble, Undo, then_tried, trouble_after_try}
 use Rattle.cfs_base.specs.declared.refusal.Trouble.TheVariants as trouble
 use Rattle.special_files.proofs.commit.CommitRuns.{flips_fail, flips_on, one_done, one_failed}
 use Rattle.special_files.proofs.freed.undo_listed.Goals as goal
@@ -16,7 +16,7 @@ pub returns-in-Err-clause-flips : goal.returns-in-Err-clause-flips
 returns-in-Err-clause-flips g c =
     let i = c.loop-block.block-index in
     let below : get_or c.args.blocks.now i 0 < g.D.Disk.blocks c.loop-block.disk = omega (arith, All-get_or (λ n. n < g.D.Disk.blocks c.args.disk.now) c.args.blocks.now i 0 c.loop-block-test.true c.requires, c.loop-block.invariant.so_far.calls.same.size) in
-    subst (λ (t : Trouble). Flips g.D.Disk (2 * length c.args.blocks.now) (length c.args.blocks.now) (flips Undo c.args.blocks.now) c.args.disk.now c.change_entry.new.disk (Err t)) (sym (ap trouble_after_try c.since.ensures ∙ since_once c.loop-block.tried c.in-Err.trouble))
+    subst (λ (t : Trouble). Flips g.D.Disk (2 * length c.args.blocks.now) (length c.args.blocks.now) Undo c.args.blocks.now c.args.disk.now c.change_entry.new.disk (Err t)) (sym (ap trouble_after_try c.since.ensures ∙ since_once c.loop-block.tried c.in-Err.trouble))
     (flips_fail g.D.Disk Undo c.args.blocks.now i c.args.disk.now c.loop-block.disk c.change_entry.new.disk c.loop-block-test.true c.loop-block.invariant.so_far (trouble_after_try c.in-Err.trouble)
     (one_failed g.D.Disk (get_or c.args.blocks.now i 0) Undo c.loop-block.disk c.change_entry.new.disk MapEntry below c.in-Err.trouble c.in-Err.ensures.changes))
 

@@ -1,7 +1,7 @@
 use Rattle.std.proofs.Common.{◌≡◌, ◌≢◌, ℕ, Bool, Option, Some, None, Result, Ok, Err, refl, sym, ◌∙◌, ap, subst, true, false, not, IfErr, IsSome, is_some, option_copied, option_map}
 use denote.Ref.{Bor}
 use Rattle.cfs_core.proofs.Words.{Ghosts, session_grant, grant_of, refusal_of, Refused, Reply, shown, State, table_of, Tuid}
-use Rattle.open_table.specs.declared.grant.Grant as handles
+use Rattle.open_table.specs.declared.grant.OpenGrant as handles
 use Rattle.ufs_model.specs.declared.asked.Reply.TheVariants as replies
 use Rattle.ufs_model.specs.declared.asked.Request.TheVariants as asks
 use Rattle.cfs_base.specs.declared.refusal.Refused.TheVariants as refusals
@@ -16,14 +16,14 @@ use Rattle.cfs_core.proofs.Granted.{close_goes, close_none}
 use Rattle.cfs_core.proofs.Readied.{ready_at, sized_taken, sized_with}
 use Rattle.cfs_core.proofs.Handled.{grants_with, none_taken}
 use Rattle.cfs_core.proofs.Words.{refused_by}
-use Rattle.finisher.proofs.Passed.{is_passed}
+use Rattle.cfs_base.proofs.Passed.{is_passed}
 use Rattle.cfs_core.proofs.kernel.Core.close.Goals as goal
 
-is_none_of : (o : Option handles.Grant) → is_some o ≡ false → o ≡ None
+is_none_of : (o : Option handles.OpenGrant) → is_some o ≡ false → o ≡ None
 is_none_of None is = refl
 is_none_of (Some x) is = cc
 
-is_some_of : (o : Option handles.Grant) → is_some o ≡ true → IsSome o
+is_some_of : (o : Option handles.OpenGrant) → is_some o ≡ true → IsSome o
 is_some_of None is = cc
 is_some_of (Some x) is = refl
 
@@ -56,7 +56,7 @@ returns-then-is_none-2 g c =
     let k : Kernel _ = record { disk = c.self.inside.disk; root = c.self.inside.root; directory = c.self.inside.directory; space = c.self.inside.space; words = c.self.inside.words; handles = c.self.inside.handles.handles; collections = c.self.inside.collections; stop = c.self.inside.stop } in
     let none = c.take.ensures.draft ∙ sym c.draft.ensures ∙ none_copied c.draft.result (c.is_none-2.ensures ∙ ap not c.if-is_none-2.true) in
     subst (λ x. Tries g.D.Disk x c.close_bare.new.self c.args.who (asks.Close c.args.grant c.args.commit) (Ok c.close_bare.result)) c.self.view_is
-    (subst (λ ss. Tries g.D.Disk (record k { handles = ss }) c.close_bare.new.self c.args.who (asks.Close c.args.grant c.args.commit) (Ok c.close_bare.result)) (c.take.ensures.kept none) c.close_bare.ensures)
+    (subst (λ ss. Tries g.D.Disk (record k { handles = ss }) c.close_bare.new.self c.args.who (asks.Close c.args.grant c.args.commit) (Ok c.close_bare.result)) (c.take.ensures.kept none) (c.close_bare.ensures c.args.commit))
 
 -- ---- with one
 

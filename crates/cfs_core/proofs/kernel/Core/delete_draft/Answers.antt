@@ -9,7 +9,7 @@ use Rattle.cfs_core.proofs.Fitting.{has_grant}
 use Rattle.cfs_core.proofs.Indexed.{exact_here, goes_delete, index, of_index, tries_undeleted, tries_unlooked}
 use Rattle.cfs_core.proofs.Refilled.{delete_alters}
 use Rattle.cfs_core.proofs.Views.{FindsGrant}
-use Rattle.finisher.proofs.Passed.{is_passed}
+use Rattle.cfs_base.proofs.Passed.{is_passed}
 use Rattle.cfs_core.proofs.kernel.Core.delete_draft.Goals as goal
 
 pub look_drafted-requires : goal.look_drafted-requires

@@ -13,7 +13,7 @@ use Rattle.cfs_core.proofs.Joined.{damaged_since, full_since, done_decides, done
 use Rattle.cfs_core.proofs.Putting.{delete_short, not_short, tries_put, tries_want_on}
 use Rattle.cfs_core.proofs.Refusing.{delete_holds, delete_need, delete_out}
 use Rattle.cfs_core.proofs.Words.{refused_by}
-use Rattle.finisher.proofs.Passed.{is_passed}
+use Rattle.cfs_base.proofs.Passed.{is_passed}
 use Rattle.cfs_core.proofs.kernel.Core.empty.Goals as goal
 
 pub returns-in_err-room : goal.returns-in_err-room

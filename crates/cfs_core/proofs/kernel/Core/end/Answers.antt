@@ -12,7 +12,7 @@ use Rattle.cfs_core.proofs.Ending.{closed_handles, tries_ended, tries_unended}
 use Rattle.cfs_core.proofs.Views.{held_in}
 use Rattle.cfs_core.proofs.Readied.{ready_for, sized_but, sized_with}
 use Rattle.cfs_core.proofs.Handled.{grants_with}
-use Rattle.finisher.proofs.Passed.{is_passed}
+use Rattle.cfs_base.proofs.Passed.{is_passed}
 use Rattle.cfs_core.proofs.kernel.Core.end.Goals as goal
 
 pub end_draft-requires : goal.end_draft-requires

@@ -1,6 +1,6 @@
 use Rattle.std.proofs.Common.{◌≡◌, Bool, List, true, false, ◌&&◌, refl, is_some, IsTrue, sym, ◌∙◌, ap, subst, Option, if◌then◌else◌}
 use Rattle.cfs_core.proofs.Words.{Direct, few_each, is_grant_table, is_open, is_open_for_writing, is_writing, meets_a_grant, Mode, open_mode, none_collide, Puid, State, table_of, tuids_differ}
-use Rattle.open_table.specs.declared.grant.Grant.{Grant}
+use Rattle.open_table.specs.declared.grant.OpenGrant.{OpenGrant}
 use Rattle.cfs_core.specs.Kernel.{grants_in}
 use Rattle.cfs_core.proofs.kernel.Core.is_met.Goals as goal
 
@@ -8,7 +8,7 @@ met : (s : State) (id : Puid) (alone : Bool) (mode : Option Mode) → is_some mo
 met s id true mode all written = all
 met s id false mode all written = written
 
-held : (gs : List Grant) → IsTrue (is_grant_table gs) → none_collide gs ≡ true
+held : (gs : List OpenGrant) → IsTrue (is_grant_table gs) → none_collide gs ≡ true
 held gs is = at (none_collide gs) (tuids_differ gs) (few_each gs) is
   where
     at : (a b c : Bool) → IsTrue (a && b && c) → a ≡ true

@@ -8,7 +8,7 @@ use Rattle.cfs_core.proofs.Joined.{since_err, since_ok, tries_on_since, tries_on
 use Rattle.cfs_core.proofs.Putting.{tries_want_on}
 use Rattle.cfs_core.proofs.Placed.{kind_is, named_decides, one_block, tries_made, tries_short, tries_unmade, unmade_never}
 use Rattle.cfs_core.proofs.Words.{refused_by}
-use Rattle.finisher.proofs.Passed.{is_passed}
+use Rattle.cfs_base.proofs.Passed.{is_passed}
 use Rattle.cfs_core.proofs.kernel.Core.make.Goals as goal
 
 err_is : (r : Result Puid Refused) (e f : Refused) → r ≡ Err e → r ≡ Err f → f ≡ e

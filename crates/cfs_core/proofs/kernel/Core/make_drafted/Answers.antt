@@ -12,7 +12,7 @@ use Rattle.cfs_core.proofs.Readied.{all_on_disk, sized_put}
 use Rattle.cfs_core.proofs.Rewritten.{stays_of}
 use Rattle.cfs_core.proofs.Views.{IsHeld, held_in}
 use Rattle.cfs_core.proofs.Words.{refused_by}
-use Rattle.finisher.proofs.Passed.{is_passed}
+use Rattle.cfs_base.proofs.Passed.{is_passed}
 use Rattle.cfs_core.proofs.kernel.Core.make_drafted.Goals as goal
 
 pub create-made-requires-clause-has : goal.create-made-requires-clause-has

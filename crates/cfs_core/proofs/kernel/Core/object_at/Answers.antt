@@ -7,7 +7,7 @@ use Rattle.cfs_core.specs.Ways.{unfit_of}
 use Rattle.cfs_core.proofs.Answering.{tries_refusal, unfit_plain}
 use Rattle.cfs_core.proofs.Serving.{kind_is, kind_there, object_listed}
 use Rattle.cfs_core.proofs.Ways.{arrives, lacking, locked, no_name, read_only, refused_way, unfit_on_way}
-use Rattle.finisher.proofs.Passed.{is_passed}
+use Rattle.cfs_base.proofs.Passed.{is_passed}
 use Rattle.std.specs.Option.{ok_or}
 use Rattle.cfs_core.specs.Calls.{Tries}
 use Rattle.cfs_core.proofs.kernel.Core.object_at.Goals as goal

@@ -2,7 +2,7 @@ use Rattle.std.proofs.Common.{◌≡◌, ◌≢◌, inl, inr, Bool, true, Option
 use Rattle.cfs_base.proofs.Went.{reads_none}
 use Rattle.cfs_core.proofs.Words.{Drafting, Draws, fault_of, is_locked, directory_kind, list_all, refusal_of, Refused, Reply, State, Trouble, Tuid, word}
 use Rattle.cfs_base.specs.declared.refusal.Refused.TheVariants as refusals
-use Rattle.open_table.specs.declared.grant.Grant.{Grant}
+use Rattle.open_table.specs.declared.grant.OpenGrant.{OpenGrant}
 use Rattle.ufs_model.specs.declared.asked.Reply.TheVariants as replies
 use Rattle.ufs_model.specs.declared.asked.Request.TheVariants as asks
 use Rattle.cfs_core.specs.Calls.{Tries}
@@ -19,7 +19,7 @@ use Rattle.cfs_core.proofs.Joined.{ok_is, since_err, since_ok, tries_since, trie
 use Rattle.cfs_core.proofs.Readied.{all_push}
 use Rattle.cfs_core.proofs.Serving.{there_is}
 use Rattle.cfs_core.proofs.Words.{refused_by}
-use Rattle.finisher.proofs.Passed.{is_passed}
+use Rattle.cfs_base.proofs.Passed.{is_passed}
 use Rattle.cfs_core.proofs.kernel.Core.open_for.Goals as goal
 
 -- only where a draft is wanted can it be refused
@@ -55,7 +55,7 @@ returns-in-Some-fault g c =
     let listed = ap (λ x. directory_kind x.directory.named c.args.id) c.self.view_is ∙ sym c.kind.ensures.kind ∙ c.in-Some.is in
     let gs = grants_in c.reserve.new.self.handles in
     let tuid : Tuid = record { draw = c.drawn.result + 1; word = c.ahead.result } in
-    let grant : Grant = (record { tuid = tuid; session = c.args.who; id = c.args.id; mode = c.args.mode }) in
+    let grant : OpenGrant = (record { tuid = tuid; session = c.args.who; id = c.args.id; mode = c.args.mode }) in
     subst (λ r. Tries g.D.Disk c.args.self.now (record k { handles = c.reserve.new.self.handles }) c.args.who request (Ok r)) (sym c.reply_to_fault.ensures)
     (subst (λ x. Tries g.D.Disk x (record k { handles = c.reserve.new.self.handles }) c.args.who request (Ok (reply_to_fault c.in-Some-fault.fault))) c.self.view_is
     (subst (λ ss. Tries g.D.Disk k (record k { handles = ss }) c.args.who request (Ok (reply_to_fault c.in-Some-fault.fault))) (sym c.reserve.ensures.handles)
@@ -87,7 +87,7 @@ returns-in_err-tried g c =
     let listed : directory_kind k.directory.named c.args.id ≡ Some c.in-Some.kind = ap (λ x. directory_kind x.directory.named c.args.id) c.self.view_is ∙ sym c.kind.ensures.kind ∙ c.in-Some.is in
     let gs = grants_in c.reserve.new.self.handles in
     let tuid : Tuid = record { draw = c.drawn.result + 1; word = c.ahead.result } in
-    let grant : Grant = (record { tuid = tuid; session = c.args.who; id = c.args.id; mode = c.args.mode }) in
+    let grant : OpenGrant = (record { tuid = tuid; session = c.args.who; id = c.args.id; mode = c.args.mode }) in
     let tuid_is : tuid ≡ record { draw = k.words.drawn + 1; word = word k.words.seed (k.words.drawn + 1) } =
     ap (λ n. record { draw = n + 1; word = c.ahead.result }) c.drawn.ensures ∙ ap (λ w. record { draw = c.self.inside.words.drawn + 1; word = w }) c.ahead.ensures in
     let none : fault_of gs grant ≡ None = sym c.fault.ensures ∙ c.in_default-fault.is in
@@ -111,7 +111,7 @@ returns-in_err-draft g c =
     let listed : directory_kind k.directory.named c.args.id ≡ Some c.in-Some.kind = ap (λ x. directory_kind x.directory.named c.args.id) c.self.view_is ∙ sym c.kind.ensures.kind ∙ c.in-Some.is in
     let gs = grants_in c.reserve.new.self.handles in
     let tuid : Tuid = record { draw = c.drawn.result + 1; word = c.ahead.result } in
-    let grant : Grant = (record { tuid = tuid; session = c.args.who; id = c.args.id; mode = c.args.mode }) in
+    let grant : OpenGrant = (record { tuid = tuid; session = c.args.who; id = c.args.id; mode = c.args.mode }) in
     let tuid_is : tuid ≡ record { draw = k.words.drawn + 1; word = word k.words.seed (k.words.drawn + 1) } =
     ap (λ n. record { draw = n + 1; word = c.ahead.result }) c.drawn.ensures ∙ ap (λ w. record { draw = c.self.inside.words.drawn + 1; word = w }) c.ahead.ensures in
     let none : fault_of gs grant ≡ None = sym c.fault.ensures ∙ c.in_default-fault.is in
@@ -134,7 +134,7 @@ pub invariant_of-self-2 : goal.invariant_of-self-2
 invariant_of-self-2 g c =
     let G = g.D.Disk in
     let tuid : Tuid = record { draw = c.drawn.result + 1; word = c.ahead.result } in
-    let grant : Grant = (record { tuid = tuid; session = c.args.who; id = c.args.id; mode = c.args.mode }) in
+    let grant : OpenGrant = (record { tuid = tuid; session = c.args.who; id = c.args.id; mode = c.args.mode }) in
     let begins = subst (λ w. Begins G c.args.id.block w c.finish_if.new.disk c.first_draft.new.disk c.finish_if.new.space c.first_draft.new.space (Ok c.in_ok-draft.draft)) (c.in_ok-room.ensures.room ∙ c.gets_draft-wanted.ensures) (subst (λ r. Begins G c.args.id.block (is_some c.in_ok-room.room) c.finish_if.new.disk c.first_draft.new.disk c.finish_if.new.space c.first_draft.new.space r) (since_ok c.in_ok-tried.tried c.first_draft.result c.in_ok-draft.draft (sym c.since.ensures ∙ c.in_ok-draft.was)) c.first_draft.ensures.begins) in
     let next = ap (λ (w : Draws). w.drawn) c.next.ensures.drawn in
     let below = subst (λ n. c.args.id.block < n) (sym c.self.invariant.room) (subst (λ x. c.args.id.block < G.blocks x.disk) (sym c.self.view_is) (c.kind.ensures.on_disk (subst (λ o. IsSome o) (sym c.in-Some.is) refl))) in
@@ -158,7 +158,7 @@ returns g c =
     let listed : directory_kind k.directory.named c.args.id ≡ Some c.in-Some.kind = ap (λ x. directory_kind x.directory.named c.args.id) c.self.view_is ∙ sym c.kind.ensures.kind ∙ c.in-Some.is in
     let gs = grants_in c.reserve.new.self.handles in
     let tuid : Tuid = record { draw = c.drawn.result + 1; word = c.ahead.result } in
-    let grant : Grant = (record { tuid = tuid; session = c.args.who; id = c.args.id; mode = c.args.mode }) in
+    let grant : OpenGrant = (record { tuid = tuid; session = c.args.who; id = c.args.id; mode = c.args.mode }) in
     let tuid_is : tuid ≡ record { draw = k.words.drawn + 1; word = word k.words.seed (k.words.drawn + 1) } =
     ap (λ n. record { draw = n + 1; word = c.ahead.result }) c.drawn.ensures ∙ ap (λ w. record { draw = c.self.inside.words.drawn + 1; word = w }) c.ahead.ensures in
     let none : fault_of gs grant ≡ None = sym c.fault.ensures ∙ c.in_default-fault.is in

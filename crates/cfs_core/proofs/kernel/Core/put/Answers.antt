@@ -10,7 +10,7 @@ use Rattle.cfs_core.proofs.Joined.{done_decides, done_never, tries_on_since, tri
 use Rattle.cfs_core.proofs.Putting.{tries_full, tries_put, tries_want_on}
 use Rattle.cfs_core.proofs.Refusing.{retain_need, retain_out}
 use Rattle.cfs_core.proofs.Words.{refused_by}
-use Rattle.finisher.proofs.Passed.{is_passed}
+use Rattle.cfs_base.proofs.Passed.{is_passed}
 use Rattle.cfs_core.proofs.kernel.Core.put.Goals as goal
 
 pub returns-in_err-room : goal.returns-in_err-room

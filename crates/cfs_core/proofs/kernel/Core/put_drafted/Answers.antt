@@ -8,7 +8,7 @@ use Rattle.cfs_core.proofs.Joined.{where_unfinished}
 use Rattle.cfs_core.proofs.Readied.{all_on_disk, sized_put}
 use Rattle.cfs_core.proofs.Refilled.{tries_redrafted}
 use Rattle.cfs_core.proofs.Words.{refused_by}
-use Rattle.finisher.proofs.Passed.{is_passed}
+use Rattle.cfs_base.proofs.Passed.{is_passed}
 use Rattle.cfs_core.proofs.kernel.Core.put_drafted.Goals as goal
 
 pub put-ended-requires-clause-has : goal.put-ended-requires-clause-has

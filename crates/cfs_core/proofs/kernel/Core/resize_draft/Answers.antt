@@ -19,7 +19,7 @@ use Rattle.cfs_core.proofs.Readied.{all_on_disk, sized_put}
 use Rattle.cfs_core.proofs.Refilled.{tries_redrafted}
 use Rattle.cfs_core.proofs.Views.{FindsGrant}
 use Rattle.cfs_core.proofs.Words.{refused_by}
-use Rattle.finisher.proofs.Passed.{is_passed}
+use Rattle.cfs_base.proofs.Passed.{is_passed}
 use Rattle.cfs_core.proofs.kernel.Core.resize_draft.Goals as goal
 
 within : (size : ℕ) → size ≤ most_bytes → nat_lt most_bytes size ≡ false

@@ -17,7 +17,7 @@ use Rattle.cfs_core.proofs.Joined.{left_none, tries_unfinished}
 use Rattle.cfs_core.proofs.Refusing.{resize_goes, resize_range}
 use Rattle.leaf_changes.specs.Tops.{disk_top}
 use Rattle.cfs_core.proofs.Words.{refused_by}
-use Rattle.finisher.proofs.Passed.{is_passed}
+use Rattle.cfs_base.proofs.Passed.{is_passed}
 use Rattle.cfs_core.proofs.kernel.Core.resize_object.Goals as goal
 
 above : (size : ℕ) → most_bytes < size → nat_lt most_bytes size ≡ true

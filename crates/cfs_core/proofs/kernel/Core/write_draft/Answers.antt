@@ -18,7 +18,7 @@ use Rattle.cfs_core.proofs.Readied.{all_on_disk, sized_put}
 use Rattle.cfs_core.proofs.Refilled.{tries_redrafted}
 use Rattle.cfs_core.proofs.Views.{FindsGrant}
 use Rattle.cfs_core.proofs.Words.{refused_by}
-use Rattle.finisher.proofs.Passed.{is_passed}
+use Rattle.cfs_base.proofs.Passed.{is_passed}
 use Rattle.cfs_core.proofs.kernel.Core.write_draft.Goals as goal
 
 pub returns-then-not-is_range : goal.returns-then-not-is_range

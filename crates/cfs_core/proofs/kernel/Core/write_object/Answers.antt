@@ -22,7 +22,7 @@ use Rattle.cfs_core.proofs.Refusing.{write_goes, write_range}
 use Rattle.leaf_changes.proofs.Tops.{far_block}
 use Rattle.leaf_changes.specs.Tops.{root_top}
 use Rattle.cfs_core.proofs.Words.{refused_by}
-use Rattle.finisher.proofs.Passed.{is_passed}
+use Rattle.cfs_base.proofs.Passed.{is_passed}
 use Rattle.cfs_core.proofs.kernel.Core.write_object.Goals as goal
 
 pub returns-in-Err : goal.returns-in-Err

@@ -18,5 +18,5 @@ pub returns-clause-left : goal.returns-clause-left
 returns-clause-left c =
     let l : Collecting = record { marks = c.shade_all.new.marks; rescues = c.clear-2.new.self; phase = phases.Marking; steps = 1; added = 0 } in
     let room : c.args.directory.now.room ≤ volume_of l = omega (arith, c.requires.blocks, c.shade_all.ensures.blocks, c.clear.ensures.blocks, ap volume_of c.self.view_is) in
-    begins_with l c.args.directory.now c.args.roots.now c.room-room.ensures.listing room refl c.clear-2.ensures.none
+    begins_with l c.args.directory.now c.args.roots.now c.directories_are_listings.ensures room refl c.clear-2.ensures.none
     (c.shade_all.ensures.shaded ∙ ap (all_shaded c.args.directory.now.named c.args.roots.now) c.clear.ensures.none)

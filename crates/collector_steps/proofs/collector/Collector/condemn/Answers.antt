@@ -12,7 +12,7 @@ take_unmarked-requires c =
     let inside = c.self.inside in
     let phase = ap (λ (k : Collecting). k.phase) c.self.view_is ∙ c.requires.phase in
     let ready = subst (λ (p : Phase). IsPhaseReady p (blocks_marked inside.marks) (vec_capacity inside.condemned)) phase c.self.invariant.1.ready in
-    let room = few_named c.args.directory.now c.room-room.ensures.listing in
+    let room = few_named c.args.directory.now c.directories_are_listings.ensures in
     let none : vec_len inside.condemned ≡ 0 = inside.condemned.ok.0 ∙ ap length c.self.invariant.0 in
     rw (c.replace-gone.ensures.value) (omega (arith, ready, room, c.requires.blocks, ap volume_of c.self.view_is, none))
 

@@ -101,7 +101,7 @@ returns-clause-less g c =
     let directory = c.args.directory.now in
     let found = c.in_ok-found.found in
     let ids = ids_read found.step c.read_place.new.into in
-    let less = read_less (volume_of k) directory c.room-room.ensures.listing c.requires.blocks (colours_in k) c.in-Some.grey
+    let less = read_less (volume_of k) directory c.directories_are_listings.ensures c.requires.blocks (colours_in k) c.in-Some.grey
     ids found.next (first_here g c) c.in_ok-found.ensures.on in
     let colours = c.read_on.ensures.read
     ∙ ap (λ (colours : Colours). read directory.named (ids, found.next) colours) (ap colours_in c.self.view_is) in

@@ -29,5 +29,5 @@ returns-clause-keeps c = λ s image state named is.
 
 pub returns-clause-less : goal.returns-clause-less
 returns-clause-less c =
-    takes_less c.args.self.now _ (c.shade_rescued.ensures.blocks ∙ ap volume_of c.self.view_is) c.args.directory.now c.room-room.ensures.listing c.requires.blocks c.requires.phase
+    takes_less c.args.self.now _ (c.shade_rescued.ensures.blocks ∙ ap volume_of c.self.view_is) c.args.directory.now c.directories_are_listings.ensures c.requires.blocks c.requires.phase
     (ap (λ (k : Collecting). k.phase) c.self.view_is) c.requires.waits (returns-clause-taken c)

@@ -15,6 +15,6 @@ returns c = (
         owned = grind (arith, nat_tests);
       }),
   λ is.
-      let passes = spelled_passes c.args.self.now c.args.bytes.now (omega (arith, c.place_number.ensures)) is in
+      let passes = spelled_passes c.args.self.now c.args.bytes.now is in
       grind (arith, nat_tests),
 )

@@ -1,5 +1,5 @@
 use Rattle.index_drafts.proofs.Words.{Drafting}
-use Rattle.index_drafts.proofs.Passed.{passed}
+use Rattle.cfs_base.proofs.Passed.{passed}
 use Rattle.special_files.specs.Begins.{BeginsDraft}
 use Rattle.special_files.specs.View.{GoesTo}
 use Rattle.index_drafts.proofs.draft.IndexDraft.begin.Goals as goal

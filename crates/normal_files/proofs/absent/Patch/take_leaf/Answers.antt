@@ -4,7 +4,7 @@ use Rattle.normal_files.specs.Ends.{Halts, is_damaged}
 use Rattle.normal_files.specs.Takes.{Claims, GetsNode, Had, leaf_takes}
 use Rattle.normal_files.proofs.Ending.{leaf_gone, leaf_halts, node_halts}
 use Rattle.normal_files.proofs.TakeLeaf.{leaf_err, leaf_taken, node_err, write_leaves}
-use Rattle.normal_files.proofs.Passed.{fine, handed, is_passed, mapped}
+use Rattle.cfs_base.proofs.Passed.{fine, handed, is_passed, mapped}
 use Rattle.normal_files.specs.Steps.{WritesBlock}
 use Rattle.normal_files.proofs.absent.Patch.take_leaf.Goals as goal
 use Rattle.normal_files.proofs.absent.Patch.take_leaf.Goals.{After-from_residual-in_err-node, After-write_block}

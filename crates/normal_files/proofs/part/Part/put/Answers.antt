@@ -2,7 +2,7 @@ use Rattle.std.proofs.Common.{rules}
 use Rattle.normal_files.proofs.Words.{Ok, Err, Trouble, Some, ap, ◌≡◌, ℕ, ◌∙◌, refl, sym, subst, arith}
 use Rattle.normal_files.specs.Steps.{IsAmid, told_after}
 use Rattle.normal_files.proofs.Come.{come_err, come_none, come_then, come_within, done_as}
-use Rattle.normal_files.proofs.Passed.{fine, handed, is_passed, mapped}
+use Rattle.cfs_base.proofs.Passed.{fine, handed, is_passed, mapped}
 use Rattle.normal_files.proofs.part.Part.put.Goals as goal
 use Rattle.normal_files.proofs.part.Part.put.Goals.{After-from_residual, After-either-tried}
 

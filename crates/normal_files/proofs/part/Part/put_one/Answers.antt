@@ -1,7 +1,7 @@
 use Rattle.normal_files.proofs.Words.{refl}
 use Rattle.normal_files.proofs.Come.{come_none}
 use Rattle.normal_files.proofs.PutParts.{one_absent, one_done, one_leaves, one_long}
-use Rattle.normal_files.proofs.Passed.{is_passed}
+use Rattle.cfs_base.proofs.Passed.{is_passed}
 use Rattle.normal_files.proofs.part.Part.put_one.Goals as goal
 
 pub returns-then-block-eq0-clause-puts : goal.returns-then-block-eq0-clause-puts

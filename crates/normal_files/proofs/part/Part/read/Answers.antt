@@ -2,7 +2,7 @@ use Rattle.normal_files.proofs.Words.{◌≡◌, ℕ, ◌/◌, ◌∙◌, ap, ar
 use Rattle.normal_files.specs.Laid.{node_of}
 use Rattle.normal_files.proofs.Refusals.{way_refused}
 use Rattle.normal_files.proofs.Ways.{no_places, unread_top, unread_way, way_own, way_top}
-use Rattle.normal_files.proofs.Passed.{is_passed}
+use Rattle.cfs_base.proofs.Passed.{is_passed}
 use Rattle.normal_files.proofs.part.Part.read.Goals as goal
 
 pub returns-in_err-get-clause-refused : goal.returns-in_err-get-clause-refused

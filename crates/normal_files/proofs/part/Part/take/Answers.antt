@@ -7,7 +7,7 @@ use Rattle.normal_files.specs.Steps.{WritesBlock}
 use Rattle.block_tree.specs.declared.node.Node as nodes
 use Rattle.normal_files.proofs.Ending.{gone_within}
 use Rattle.normal_files.proofs.TakeOne.{no_node, node_gone, node_leaves, node_stops, node_taken}
-use Rattle.normal_files.proofs.Passed.{is_passed}
+use Rattle.cfs_base.proofs.Passed.{is_passed}
 use Rattle.normal_files.proofs.part.Part.take.Goals as goal
 
 pub returns-in_err-next-clause-ends : goal.returns-in_err-next-clause-ends

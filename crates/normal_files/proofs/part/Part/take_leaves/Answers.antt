@@ -7,7 +7,7 @@ use Rattle.normal_files.proofs.Ways.{to_other}
 use Rattle.normal_files.specs.Takes.{HasTaken}
 use Rattle.normal_files.proofs.Ending.{gone_none, still_sound}
 use Rattle.normal_files.proofs.TakeOne.{run_ends, run_passed, run_stops, taken_begins}
-use Rattle.normal_files.proofs.Passed.{fine, handed, is_passed, mapped}
+use Rattle.cfs_base.proofs.Passed.{fine, handed, is_passed, mapped}
 use Rattle.normal_files.proofs.part.Part.take_leaves.Goals as goal
 use Rattle.normal_files.proofs.part.Part.take_leaves.Goals.{After-from_residual}
 

@@ -6,7 +6,7 @@ use Rattle.normal_files.specs.Takes.{is_held, leaf_takes}
 use Rattle.normal_files.proofs.Led.{led_more}
 use Rattle.normal_files.proofs.TakeOne.{at_leaf, one_taken}
 use Rattle.normal_files.proofs.TakeRun.{held_passed}
-use Rattle.normal_files.proofs.Passed.{is_passed}
+use Rattle.cfs_base.proofs.Passed.{is_passed}
 use Rattle.normal_files.proofs.part.Part.take_one.Goals as goal
 
 pub returns-then-block-ne0-clause-takes : goal.returns-then-block-ne0-clause-takes

@@ -1,0 +1,13 @@
+pub mod Checked
+pub mod Findings
+pub mod Items
+pub mod Loaded
+pub mod Marks
+pub mod Mended
+pub mod Opened
+pub mod Roots
+pub mod Sized
+pub mod Sizes
+pub mod Surveyed
+pub mod Twigs
+pub mod Uses

@@ -1,0 +1,34 @@
+//! Blocks of objects' trees, looked at side by side.
+ghost use Rattle.std.specs.Prelude.{◌≡◌, IfOk, length};
+ghost use Rattle.std.specs.List.{AllZip};
+ghost use Rattle.cfs_check.specs.Findings.{IsLookAt};
+
+use crate::findings::{Findings, look_at};
+use crate::image::Image;
+use crate::roots::Roots;
+use crate::twig::Twig;
+use rayon::prelude::*;
+use std::alloc::{AllocError, Global};
+use std::thread::Threads;
+
+/// What is found of each of these blocks, in their order, in as many threads as there are processors.
+pub(crate) fn look_at_all<R: Threads + Sync>(
+    rt: &R,
+    alloc: Global,
+    image: &Image,
+    roots: &Roots,
+    twigs: &[Twig],
+) -> Result<Vec<Findings>, AllocError>
+    requires { roots.now.room ≡ length image.now }
+    ensures { IfOk result (λ found. AllZip (λ t f. IsLookAt image.now roots.now.blocks t f) twigs.now found.items) }
+{
+    twigs
+        .par_iter()
+        .map(
+            |twig: &Twig| -> Findings
+                requires { roots.now.room ≡ length image.now }
+                ensures { IsLookAt image.entry.now roots.entry.now.blocks twig.now result }
+            { look_at(image, roots, twig) },
+        )
+        .collect(rt, alloc)
+}

@@ -1,0 +1,35 @@
+//! Damaged volumes that are checked: a transcript of commands, one a line, each with what it answers. The gate gives it
+//! `stdin`, of which it must make `stdout`. Comments, which begin with `#`, and blank lines stay. The commands:
+//!
+//! - `disk BLOCKS`: so many zero blocks.
+//! - `at BLOCK PLACE HEX`: puts these bytes into a block, from a place on.
+//! - `entry BLOCK HEX`: puts these eight bytes as the entry of a block.
+//! - `copy FROM TO`: puts what a block has into another.
+//! - `keep`, `again`: remembers the blocks; has those again that were remembered.
+//! - `check`: each fault of the volume, or that it is sound, with the numbers of its objects and of the blocks that are
+//!   left.
+#![tactic(auto)]
+
+mod command;
+mod fault;
+mod volume;
+
+use command::answer;
+use std::io;
+use volume::Volume;
+
+fn main(rt: HostRuntime) -> io::Result<()> {
+    let mut volume = Volume::new(rt.alloc());
+    for line in rt.lines(rt.alloc()) {
+        let line = line?;
+        println!(&rt; "{}", line.as_str())?;
+        if line.as_str().is_empty() || line.as_str().starts_with('#') {
+            continue;
+        }
+        match answer(&rt, rt.alloc(), &mut volume, line.as_str()) {
+            Ok(text) => print!(&rt; "{}", text.as_str())?,
+            Err(fault) => println!(&rt; "{fault}")?,
+        }
+    }
+    Ok(())
+}

@@ -1,0 +1,10 @@
+pub mod Text
+pub mod Directory
+pub mod Names
+pub mod Chain
+pub mod Faults
+pub mod Calls
+pub mod Reading
+pub mod Opening
+pub mod Changing
+pub mod Making

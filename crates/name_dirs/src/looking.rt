@@ -1,0 +1,60 @@
+//! Names looked up and listed.
+ghost use Rattle.std.specs.Prelude.{◌≡◌, ◌<◌};
+ghost use Rattle.name_dirs.specs.Calls as spec;
+ghost use Rattle.name_dirs.specs.Faults.{OnAnyAsker, StopsWith};
+ghost use Rattle.ufs_model.specs.State.{State};
+
+use crate::asking::slot_of;
+use crate::fault::DirFault;
+use crate::opening::open;
+use crate::row::row_of;
+use crate::text::{Text, Texts};
+use cfs_base::{Puid, Session};
+use std::alloc::Global;
+use std::marker::Model;
+use ufs_model::Asker;
+
+/// What a name leads to.
+pub fn look<A: Asker>(
+    asker: &mut A,
+    alloc: Global,
+    who: Session,
+    dir: Puid,
+    name: &Text,
+) -> Result<Puid, DirFault>
+    requires words { A.words asker.old < 4294967290 }
+    ensures went { (s : State) → A.stands asker.old s → (t : State) × spec.ReadsOn A.Asker who asker.old asker.new s t
+        × StopsWith s t result × spec.LooksUp s t dir name.now result }
+    ensures spends { OnAnyAsker A.Asker 0 asker.old asker.new result }
+{
+    let table = open(asker, alloc, who, dir)?;
+    let Some(place) = table.place_of(&row_of(name.as_slice())) else {
+        return Err(DirFault::NoName);
+    };
+    slot_of(asker, alloc, who, dir, place)?.ok_or(DirFault::NoName)
+}
+
+/// The names that lead to something, in the order of their bytes.
+pub fn list<A: Asker>(
+    asker: &mut A,
+    alloc: Global,
+    who: Session,
+    dir: Puid,
+) -> Result<Texts, DirFault>
+    requires words { A.words asker.old < 4294967290 }
+    ensures went { (s : State) → A.stands asker.old s → (t : State) × spec.ReadsOn A.Asker who asker.old asker.new s t
+        × StopsWith s t result × spec.Lists s t dir result }
+    ensures spends { OnAnyAsker A.Asker 0 asker.old asker.new result }
+{
+    let table = open(asker, alloc, who, dir)?;
+    let mut names = Texts::new(alloc);
+    'places: for place in 1..table.slots {
+        let Some(name) = table.name_at(alloc, place)? else {
+            continue;
+        };
+        if slot_of(asker, alloc, who, dir, place)?.is_some() {
+            names.add(name)?;
+        }
+    }
+    Ok(names)
+}
