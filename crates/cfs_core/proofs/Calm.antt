@@ -1,5 +1,5 @@
 -- Calls that only read a file, as the core has them.
-use Rattle.std.proofs.Common.{◌≡◌, ◌≢◌, ℕ, ◌+◌, ◌≤◌, Bool, true, false, Err, refl, sym, ◌∙◌, subst, arith}
+use Rattle.std.proofs.Common.{◌≡◌, ◌≢◌, ℕ, ◌+◌, ◌≤◌, Bool, true, false, Ok, Err, Result, IfOk, refl, sym, ◌∙◌, subst, arith}
 use Rattle.cfs_base.proofs.Went.{reads_none}
 use Rattle.cfs_core.proofs.Words.{Ghosts, had_tried, HasStopped, Image, Index, has_met_damage, is_range, IsReadRefusal, nat_tests, Object, OnlyReads, reads_then, Refused, refused_by, stopped_after_reads, Trouble, trouble_had_tried}
 use Rattle.cfs_base.specs.declared.refusal.Refused.TheVariants as refusals
@@ -9,12 +9,12 @@ use Rattle.normal_files.specs.Refusal.{IsTrouble}
 use Rattle.block_tree.specs.declared.root.Root.{Root}
 use Rattle.cfs_base.specs.Run.{Tells}
 use Rattle.normal_files.specs.Standing.{IsRootAt}
-use Rattle.cfs_core.specs.Looks.{IsCalm, IsCalmCause, KnowsObject}
+use Rattle.cfs_core.specs.Looks.{IsCalm, IsCalmCause, KnowsObject, WasRead}
 use Rattle.cfs_base.proofs.Calls.{tells_on}
 use Rattle.intentions.proofs.Shown.{shown_reads, shown_tells}
 use Rattle.cfs_core.proofs.Rewritten.{sound_told}
-use Rattle.cfs_core.proofs.Damages.{outside_as, outside_file, outside_slot}
-use Rattle.index_ops.specs.Causes.{IsSlotTrouble, NoRoot}
+use Rattle.cfs_core.proofs.Damages.{outside_file, outside_leaf, outside_root}
+use Rattle.index_ops.specs.Causes.{IsLeafTrouble}
 use Rattle.ufs_model.specs.declared.object.Object.TheVariants as objects
 use Rattle.leaf_changes.specs.Tops.{Top, disk_top, still_top}
 
@@ -61,26 +61,33 @@ calm_trouble g sort n at old new t e is reads sound untried why = rw is
     untried_told (trouble.Disk tried) is = is
     untried_told (trouble.Damaged damage) is = refl
 
--- a slot that couldn't be read, after the number of them was
-pub calm_slot : {D B : Type 0} (g : Ghosts D) (slot at : ℕ) (old mid new : D) (t : Trouble) (e : Refused) → e ≡ refused_by t → OnlyReads g 1 old mid → OnlyReads g 3 mid new → ((i : Index) → KnowsObject g old at (objects.Index i) → is_damage t ≡ false) → IsSlotTrouble g at slot mid new t
-    → IsCalm {B = B} g objects.Index 4 at old new (Err e)
-calm_slot g slot at old mid new t e same first reads sound is = record { reads = reads_then g old mid new 1 3 4 first reads (omega arith); sound = λ i knows. sound_told t e same (sound i knows); cause = rw same (cause t is) }
+-- a leaf of an index that couldn't be read, after its root was
+pub calm_leaf : {D B : Type 0} (g : Ghosts D) (leaf at : ℕ) (root : Root) (old mid new : D) (t : Trouble) (e : Refused) → e ≡ refused_by t → WasRead g 1 at root old mid → OnlyReads g 2 mid new → ((i : Index) → KnowsObject g old at (objects.Index i) → is_damage t ≡ false) → IsLeafTrouble g at root leaf mid new t
+    → IsCalm {B = B} g objects.Index 3 at old new (Err e)
+calm_leaf g leaf at root old mid new t e same read reads sound is = record { reads = reads_then g old mid new 1 2 3 read.reads reads (omega arith); sound = λ i knows. sound_told t e same (sound i knows); cause = rw same (cause t is) }
   where
-    cause : (u : Trouble) → IsSlotTrouble g at slot mid new u → IsCalmCause g at old new (refused_by u)
-    cause (trouble.Disk tried) is = (is.0, stopped_after_reads g old mid new 1 false first (record { failed = is.1; tries = λ e. cc; no_try = λ e. reads.tries; untouched = λ e. reads.content }))
-    cause (trouble.Damaged damage) is =
-        outside_as (Tells g mid) (Tells g old) (g.content mid) (g.content old) (g.blocks mid) (g.blocks old) (λ x. x ≡ at) (λ x. x ≡ at) 0 0 damage (λ tells. tells_on g old mid mid 1 first tells) (sym first.content) (sym first.same.size) (λ x here. here) (λ x less. less)
-        (outside_slot g at slot mid damage is)
+    cause : (u : Trouble) → IsLeafTrouble g at root leaf mid new u → IsCalmCause g at old new (refused_by u)
+    cause (trouble.Disk tried) is = (is.0, stopped_after_reads g old mid new 1 false read.reads (record { failed = is.1; tries = λ e. cc; no_try = λ e. reads.tries; untouched = λ e. reads.content }))
+    cause (trouble.Damaged damage) is = outside_leaf g 1 at leaf root old mid new damage read.reads read.rooted is
 
 -- what lies in a range lies within the size, and is no more than is read at once
 pub range_parts : (size offset count : ℕ) → is_range size offset count ≡ true → (1 ≤ count) × (count ≤ 4096) × (offset + count ≤ size)
 range_parts size offset count is = (grind (arith, nat_tests), grind (arith, nat_tests), grind (arith, nat_tests))
 
--- the root of an index that couldn't be read
-pub calm_root : {D B : Type 0} (g : Ghosts D) (k at : ℕ) (old new : D) (t : Trouble) (e : Refused) → e ≡ refused_by t → OnlyReads g 1 old new → 1 ≤ k → ((i : Index) → KnowsObject g old at (objects.Index i) → is_damage t ≡ false) → IsRootTrouble g at old new t
-    → IsCalm {B = B} g objects.Index k at old new (Err e)
-calm_root g k at old new t e same reads few sound is = record { reads = reads_then g old old new 0 1 k (reads_none g 0 old) reads few; sound = λ i knows. sound_told t e same (sound i knows); cause = rw same (cause t is) }
+-- the root of an object that couldn't be read
+pub calm_root : {D A B : Type 0} (g : Ghosts D) (sort : A → Object) (at : ℕ) (old new : D) (t : Trouble) (e : Refused) → e ≡ refused_by t → OnlyReads g 1 old new → ((a : A) → KnowsObject g old at (sort a) → is_damage t ≡ false) → IsRootTrouble g at old new t
+    → IsCalm {B = B} g sort 1 at old new (Err e)
+calm_root g sort at old new t e same reads sound is = record { reads = reads; sound = λ a knows. sound_told t e same (sound a knows); cause = rw same (cause t is) }
   where
     cause : (u : Trouble) → IsRootTrouble g at old new u → IsCalmCause g at old new (refused_by u)
     cause (trouble.Disk tried) is = (is.0, subst (λ (b : Bool). HasStopped g b old new) is.0 is.1)
-    cause (trouble.Damaged damage) is = outside_slot g at 0 old damage (NoRoot is.0 is.1)
+    cause (trouble.Damaged damage) is = outside_root g at old new damage is
+
+-- what is so of any object is so of one sort
+pub calm_sort : {D A B : Type 0} (g : Ghosts D) (sort : A → Object) (n at : ℕ) (old new : D) (r : Result B Refused) → IsCalm g (λ (o : Object). o) n at old new r → IsCalm g sort n at old new r
+calm_sort g sort n at old new r calm = record { reads = calm.reads; sound = λ a knows. calm.sound (sort a) knows; cause = calm.cause }
+
+-- a root that was read is there
+pub read_rooted : {D : Type 0} (g : Ghosts D) (n at : ℕ) (old new : D) (r : Result Root Refused) → IfOk r (λ root. WasRead g n at root old new) → Tells g old → IfOk r (IsRootAt (g.content old) at)
+read_rooted g n at old new (Ok root) read tells = read.rooted tells
+read_rooted g n at old new (Err e) read tells = tt

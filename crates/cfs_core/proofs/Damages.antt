@@ -9,6 +9,7 @@ use Rattle.cfs_base.specs.declared.refusal.Damage.{Damage}
 use Rattle.cfs_base.specs.declared.refusal.Refused.TheVariants as refusals
 use Rattle.cfs_base.specs.declared.refusal.Trouble.TheVariants as troubles
 use Rattle.block_tree.proofs.Trees.{on_leads}
+use Rattle.block_tree.specs.Pointers.{node_pointers}
 use Rattle.block_tree.specs.Reads.{IsRootTrouble}
 use Rattle.block_tree.specs.Root.{IsRootBlock, root_spelling}
 use Rattle.block_tree.specs.declared.root.Root.{Root}
@@ -16,7 +17,7 @@ use Rattle.collector_steps.specs.Scan as scan
 use Rattle.block_tree.specs.Tree.{LeadsPast}
 use Rattle.collector_steps.specs.Scan.{IsIndexDamage}
 use Rattle.cyl_alloc.specs.Refusals.{IsNoMap}
-use Rattle.cyl_map.specs.Volume.{entry_in}
+use Rattle.cyl_map.specs.Volume.{entry_in, is_free_in}
 use Rattle.file_ops.specs.Changes as files
 use Rattle.file_ops.specs.Changes.{IsBesideDamage, IsFileDamage, IsPlaceDamage, is_resize, least_size}
 use Rattle.index_ops.specs.Causes as causes
@@ -29,13 +30,14 @@ use Rattle.special_files.specs.Refusal.{IsFarNode}
 use Rattle.ufs_model.specs.declared.change.Change.{Change}
 use Rattle.cfs_base.specs.declared.kind.FileKind.{FileKind}
 use Rattle.cfs_base.specs.declared.kind.FileKind.TheVariants as kinds
-use Rattle.cyl_alloc.specs.Space.{IsBadMap}
+use Rattle.cyl_alloc.specs.Space.{AreCounts, IsBadMap}
 use Rattle.cfs_core.specs.declared.collecting.Collections.{Collections}
 use Rattle.cfs_core.specs.Damage.{After, Before, FarBelow, FarDraft, FarDrafted, FarNode, FarRoot, FewLeft, IsDamageTold, IsOutside, IsRootHere, NoEntry, NoRoot, FindsFew, NotOwned, OpenMap, OtherCount, bytes_wanted}
 use Rattle.cfs_core.specs.Handles.{drafting_at, root_at}
 use Rattle.cfs_core.specs.Kernel.{Kernel}
 use Rattle.cyl_alloc.proofs.Miscounts.{miscounted_as}
-use Rattle.leaf_changes.specs.Tops.{Top, disk_top, still_top}
+use Rattle.leaf_changes.proofs.Tops.{far_block}
+use Rattle.leaf_changes.specs.Tops.{IsFarBlock, Top, disk_top, root_top, still_top}
 use Rattle.special_files.specs.Committing.{draft_top}
 
 -- the same in an image that is as it was, of a disk that is
@@ -93,6 +95,12 @@ module _ {D : Type 0} (g : Ghosts D) (old new : Kernel D) where
 
 -- ---- of a read
 
+-- of a block that the disk had before, which has a root of so many bytes
+pub told_of_root : {D : Type 0} (g : Ghosts D) (old new : Kernel D) (request : Request) (at : ℕ) (damage : Damage) → IsRootHere old (Some request) at → (bytes : ℕ) → bytes_wanted (Some request) ≡ bytes
+    → IsOutside (Tells g old.disk) (g.content old.disk) (g.blocks old.disk) (λ n. n ≡ at) bytes damage → IsDamageTold g old new (Some request) damage
+told_of_root g old new request at damage here bytes wants is =
+    Before (outside_as (Tells g old.disk) (Tells g old.disk) (g.content old.disk) (g.content old.disk) (g.blocks old.disk) (g.blocks old.disk) (λ n. n ≡ at) (IsRootHere old (Some request)) bytes (bytes_wanted (Some request)) damage (λ tells. tells) refl refl (λ n same. subst (IsRootHere old (Some request)) (sym same) here) (λ n less. omega (arith, less, wants)) is)
+
 -- of a block that the disk had before
 pub told_of_read : {D : Type 0} (g : Ghosts D) (old new : Kernel D) (request : Request) (at : ℕ) (damage : Damage) → IsRootHere old (Some request) at → IsOutside (Tells g old.disk) (g.content old.disk) (g.blocks old.disk) (λ n. n ≡ at) 0 damage → IsDamageTold g old new (Some request) damage
 told_of_read g old new request at damage here is =
@@ -104,14 +112,19 @@ module _ {D : Type 0} (g : Ghosts D) (old new : Kernel D) (request : Option Requ
   here_so : damage.block ≡ at → IsRootHere old request damage.block
   here_so same = subst (IsRootHere old request) (sym same) here
 
-  -- by a call that goes down from a root at the block
+  -- by a call that goes down from a root at the block: what is told proves a goal, and so does a root that leads past
+  -- the disk
+  module _ (top : Top) (same : top.block ≡ at) (Goal : Type 0) (told : IsDamageTold g old new request damage → Goal) (far : damage.code ≡ past_disk → damage.block ≡ at → top.IsFar (g.blocks new.disk) → Goal) where
+    pub told_down : special.IsDraftDamage g top old.disk new.disk new.space damage → Goal
+    told_down (special.NoMap code map there why) = told (After (NoEntry code map why))
+    told_down (special.OpenMap code block why) = told (OpenMap code block (λ tells counts. inr (why tells)))
+    told_down (special.OtherCount code why) = told (OtherCount code why)
+    told_down (special.NoRoot code block why) = told (After (NoRoot code (here_so (block ∙ same)) (λ tells root is. absurd (why tells root (rw block at is)))))
+    told_down (special.FarNode code why) = told (After (FarNode code (λ tells. subst (λ (n : ℕ). IsFarNode n (g.content new.disk) damage.block) size (why tells))))
+    told_down (special.FarRoot code block is) = far code (block ∙ same) is
+
   told_below : (top : Top) → top.block ≡ at → (damage.code ≡ past_disk → damage.block ≡ at → top.IsFar (g.blocks new.disk) → IsDamageTold g old new request damage) → special.IsDraftDamage g top old.disk new.disk new.space damage → IsDamageTold g old new request damage
-  told_below top same far (special.NoMap code map there why) = After (NoEntry code map why)
-  told_below top same far (special.OpenMap code block why) = OpenMap code block (λ tells counts. inr (why tells))
-  told_below top same far (special.OtherCount code why) = OtherCount code why
-  told_below top same far (special.NoRoot code block why) = After (NoRoot code (here_so (block ∙ same)) (λ tells root is. absurd (why tells root (rw block at is))))
-  told_below top same far (special.FarNode code why) = After (FarNode code (λ tells. subst (λ (n : ℕ). IsFarNode n (g.content new.disk) damage.block) size (why tells)))
-  told_below top same far (special.FarRoot code block is) = far code (block ∙ same) is
+  told_below top same far is = told_down top same (IsDamageTold g old new request damage) (λ told. told) far is
 
   -- from the root that the disk has
   pub far_on_disk : damage.code ≡ past_disk → damage.block ≡ at → (disk_top g at old.disk).IsFar (g.blocks old.disk) → IsDamageTold g old new request damage
@@ -160,18 +173,25 @@ module _ {D : Type 0} (g : Ghosts D) (old new : Kernel D) (request : Option Requ
     told_of_file kinds.Normal change bytes few is = of_place is
     told_of_file kinds.Special change bytes few is = told (of_beside change bytes few (subst (λ (n : ℕ). IsBesideDamage g n change old.disk new.disk new.space damage) same is))
 
-  -- ---- of an index
+-- ---- of an index
 
-  -- while a slot is filled
-  pub told_of_index : (slot : ℕ) → bytes_wanted request ≡ 8 * slot + 8 → IsIndexRefusal g at slot old.disk new.disk new.space (refusals.Damaged damage) → IsDamageTold g old new request damage
-  told_of_index slot bytes (inl is) = told_on_disk is
-  told_of_index slot bytes (inr short) = Before (NoRoot short.code (here_so short.block) (λ tells root is. rw bytes (short.short tells root (rw short.block at is))))
+-- changed from a root that was read of the block when the disk was so
+pub told_of_index : {D : Type 0} (g : Ghosts D) (n : ℕ) (base new : Kernel D) (d : D) (reads : OnlyReads g n base.disk d) (request : Option Request) (at : ℕ) (root : Root) → IsRootHere base request at → (Tells g base.disk → IsRootBlock (block_at (g.content base.disk) at) root)
+    → (damage : Damage) → g.blocks new.disk ≡ g.blocks d → IsIndexRefusal g (root_top at root) d new.disk new.space (refusals.Damaged damage) → IsDamageTold g base new request damage
+told_of_index g n base new d reads request at root here rooted damage size is =
+    told_down g (record base { disk = d }) new request at (on_it request here) damage size (root_top at root) refl (IsDamageTold g base new request damage) (told_then g base new n d request damage reads)
+    (λ code block far. far_on_disk g base new request at here damage (size ∙ reads.same.size) code block (λ tells. subst (λ (m : ℕ). IsFarBlock m (g.content base.disk) node_pointers at) (size ∙ reads.same.size) (far_block (g.blocks new.disk) at (g.content base.disk) root (rooted tells) far))) is
+  where
+    on_it : (r : Option Request) → IsRootHere base r at → IsRootHere (record base { disk = d }) r at
+    on_it None is = is
+    on_it (Some r) is = is
 
-  -- and where an object is made
-  pub told_of_making : (slot : ℕ) → bytes_wanted request ≡ 8 * slot + 8 → IsIndexRefusal g at slot old.disk new.disk new.space (refusals.Damaged damage) ⊎ IsOpenMap g old.disk old.space (refusals.Damaged damage) → IsDamageTold g old new request damage
-  told_of_making slot bytes (inl is) = told_of_index slot bytes is
-  told_of_making slot bytes (inr map) = (let same : damage ≡ record { block = 0; code = 2 } = (let is = map.is in cc) in
-      OpenMap (ap (λ (d : Damage). d.code) same) (ap (λ (d : Damage). d.block) same) (λ tells counts. inl (map.free tells counts)))
+-- and where an object is made
+pub told_of_making : {D : Type 0} (g : Ghosts D) (n : ℕ) (base new : Kernel D) (d : D) (reads : OnlyReads g n base.disk d) (request : Option Request) (at : ℕ) (root : Root) → IsRootHere base request at → (Tells g base.disk → IsRootBlock (block_at (g.content base.disk) at) root)
+    → (damage : Damage) → g.blocks new.disk ≡ g.blocks d → IsIndexRefusal g (root_top at root) d new.disk new.space (refusals.Damaged damage) ⊎ IsOpenMap g d base.space (refusals.Damaged damage) → IsDamageTold g base new request damage
+told_of_making g n base new d reads request at root here rooted damage size (inl is) = told_of_index g n base new d reads request at root here rooted damage size is
+told_of_making g n base new d reads request at root here rooted damage size (inr map) = (let same : damage ≡ record { block = 0; code = 2 } = (let is = map.is in cc) in
+    OpenMap (ap (λ (d : Damage). d.code) same) (ap (λ (d : Damage). d.block) same) (λ tells counts. inl (subst (λ (i : Image). is_free_in i 0 ≡ true) reads.content (map.free (tells_on g base.disk d d n reads tells) (subst (λ (i : Image). AreCounts i base.space) (sym reads.content) counts)))))
 
 -- ---- of an index that is read
 
@@ -184,9 +204,11 @@ far_leaf image size at root leaf damage is far =
     subst (λ (content : List ℕ). LeadsPast image size content at damage.block) (sym (spelled image at root is))
     (subst (LeadsPast image size (root_spelling root) at) (sym far.block) (on_leads image size (root_spelling root) leaf at far.pointer far.past))
 
-pub outside_slot : {D : Type 0} (g : Ghosts D) (at slot : ℕ) (old : D) (damage : Damage) → causes.IsSlotDamage g at slot old damage → IsOutside (Tells g old) (g.content old) (g.blocks old) (λ n. n ≡ at) 0 damage
-outside_slot g at slot old damage (causes.NoRoot is none) = NoRoot (ap (λ (d : Damage). d.code) is) (ap (λ (d : Damage). d.block) is) (λ tells root there. absurd (none tells root (rw (ap (λ (d : Damage). d.block) is) at there)))
-outside_slot g at slot old damage (causes.Far code far) = FarBelow code at refl (λ tells. let f = far tells in far_leaf (g.content old) (g.blocks old) at f.0 (slot / 64) damage f.1 f.2)
+-- a leaf of the index whose root was read when the disk was so
+pub outside_leaf : {D : Type 0} (g : Ghosts D) (n at leaf : ℕ) (root : Root) (old mid new : D) (damage : Damage) → OnlyReads g n old mid → (Tells g old → IsRootBlock (block_at (g.content old) at) root) → causes.IsLeafTrouble g at root leaf mid new (troubles.Damaged damage)
+    → IsOutside (Tells g old) (g.content old) (g.blocks old) (λ n. n ≡ at) 0 damage
+outside_leaf g n at leaf root old mid new damage reads rooted is = FarBelow is.0 at refl (λ tells. far_leaf (g.content old) (g.blocks old) at root leaf damage (rooted tells)
+    (subst (λ (c : Image). causes.IsFarLeaf c (g.blocks old) at root leaf damage) reads.content (subst (λ (size : ℕ). causes.IsFarLeaf (g.content mid) size at root leaf damage) reads.same.size (is.1 (tells_on g old mid mid n reads tells)))))
 
 pub outside_root : {D : Type 0} (g : Ghosts D) (at : ℕ) (old new : D) (damage : Damage) → IsRootTrouble g at old new (troubles.Damaged damage) → IsOutside (Tells g old) (g.content old) (g.blocks old) (λ n. n ≡ at) 0 damage
 outside_root g at old new damage is = NoRoot (ap (λ (d : Damage). d.code) is.0) (ap (λ (d : Damage). d.block) is.0) (λ tells root there. absurd (is.1 tells root (rw (ap (λ (d : Damage). d.block) is.0) at there)))

@@ -317,5 +317,10 @@ pub left_none : (w : Option LeftCommit) → is_some w ≡ false → w ≡ None
 left_none None is = refl
 left_none (Some l) is = cc
 
+-- only after a try can it be refused
+pub err_tried : {A : Type 0} (tried : Bool) (r : Result A Refused) (x : A) (e : Refused) → (tried ≡ false → r ≡ Ok x) → r ≡ Err e → tried ≡ true
+err_tried true r x e bare is = refl
+err_tried false r x e bare is = let no = sym (bare refl) ∙ is in cc
+
 pub ok_is : {A E : Type 0} (a b : A) → ◌≡◌ {A = Result A E} (Ok a) (Ok b) → a ≡ b
 ok_is a b is = cc

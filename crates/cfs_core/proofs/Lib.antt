@@ -60,3 +60,6 @@ mod Stepping
 mod Stepped
 mod Parted
 mod Waiting
+mod Onward
+mod Came
+mod Rereading

@@ -28,12 +28,12 @@ use Rattle.cfs_core.specs.Drafts.{MakesSo, TriesMakingWith}
 use Rattle.cfs_core.specs.Kernel.{Kernel, Handle}
 use Rattle.cfs_core.specs.Handles.{drafting_at, with_drafting}
 use Rattle.cfs_core.specs.Makes.{IsMaking, NamesMade}
-use Rattle.cfs_core.specs.Damage.{IsDamageTold}
+use Rattle.cfs_core.specs.Damage.{IsDamageTold, OpenMap}
 use Rattle.cfs_core.specs.StandsFor.{CoreServes, drafts_of_handles, free_to_come, sweeps_now}
 use Rattle.cfs_core.proofs.Altered.{all_rise, bare_with, fresh_few, need_by, not_beside, set_rises, still_special, unchanged}
 use Rattle.cfs_core.proofs.Answering.{disk_failed, full_still}
 use Rattle.cfs_core.proofs.Committed.{IsOutcome, LeavesThese, did_with, doubtful, uncut}
-use Rattle.cfs_core.proofs.Damages.{told_of_draft, told_of_making}
+use Rattle.cfs_core.proofs.Damages.{told_of_draft}
 use Rattle.cfs_core.proofs.Placed.{if_astray, one_block, root_is}
 use Rattle.cfs_core.proofs.Serving.{running, stays}
 use Rattle.cfs_core.proofs.Went.{cause_of, causes_met, went_so}
@@ -359,7 +359,9 @@ module _ {D : Type 0} (g : Ghosts D) (left_sized : (d : D) (t : ℕ) (c : Image)
       met_so : (damage : Damage) → Why (refusals.Damaged damage) → IsDamageTold g k mid (Some request) damage
       met_so damage (inl is) = told_of_draft g k mid (Some request) was.at (inr (inl (t.draw, was, drafting, refl))) damage makes.call.calls.same.size t.draw was drafting refl
           (damage_as g (top_of was) (draft_top was) refl k.disk disk space (λ far. FarRoots (inr far)) damage is)
-      met_so damage (inr map) = told_of_making g k mid (Some request) was.at (inr (inl (t.draw, was, drafting, refl))) damage makes.call.calls.same.size slot making.wants (inr map)
+      met_so damage (inr map) =
+          let same : damage ≡ record { block = 0; code = 2 } = (let is = map.is in cc) in
+          OpenMap (ap (λ (d : Damage). d.code) same) (ap (λ (d : Damage). d.block) same) (λ tells counts. inl (map.free tells counts))
 
       wants_so : (need : Need) → r ≡ Err (refusals.Full need) → IsWant (Some request) (sum k.space.free) need
       wants_so need is = elim (cases_lt (sum k.space.free) (1 + draft_takes was (slot / 64) + 4)) [

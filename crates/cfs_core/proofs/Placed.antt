@@ -1,16 +1,21 @@
 -- What the store says of an object that is made, as the core has it.
 use Rattle.std.proofs.Common.{Bool, ◌≡◌, ◌⊎◌, inl, inr, ⊎_elim, ℕ, ◌+◌, ◌<◌, ◌≤◌, List, [], ◌∷◌, length, true, false, None, Some, Result, Ok, Err, IsTrue, refl, sym, ◌∙◌, ap, subst, arith, ◌==◌, IfErr, sum, ◌/◌}
 use Rattle.cfs_base.proofs.Went.{reads_none}
-use Rattle.cfs_core.proofs.Words.{blocks_of, created, Ghosts, Graph, has_block, has_root_in, HasStopped, Holds, Image, Index, insert_entry, has_met_damage, IsIndexRefusal, IsLeastFree, IsOpenMap, Kept, keys_of-kinds_in, Kind, object_kind, kinds_of, list_any, made_of, Need, Object, OnlyReads, Puid, puid_cmp, PutsObject, refusal_of, Refused, Reply, Request, State, sum_is, target, wider, with_made, word, block_named}
+use Rattle.cfs_core.proofs.Words.{blocks_of, created, Ghosts, Graph, has_block, has_root_in, HasStopped, Holds, Image, Index, insert_entry, has_met_damage, IsIndexRefusal, IsLeastFree, IsOpenMap, Kept, keys_of-kinds_in, Kind, object_kind, kinds_of, list_any, made_of, Need, Object, OnlyReads, Puid, puid_cmp, PutsObject, refusal_of, Refused, Reply, Request, State, stopped_after_reads, sum_is, target, wider, with_made, word, block_named}
 use Rattle.cfs_base.specs.declared.refusal.Refused.TheVariants as refusals
+use Rattle.block_tree.specs.declared.root.Root.{Root}
+use Rattle.cfs_base.specs.Run.{Tells}
+use Rattle.leaf_changes.specs.Tops.{Top, root_top}
+use Rattle.normal_files.specs.Standing.{IsRootAt}
 use Rattle.special_files.specs.Committing.{puid_at}
+use Rattle.special_files.specs.Drafting.{begun_at}
 use Rattle.ufs_model.specs.declared.asked.Reply.TheVariants as replies
 use Rattle.ufs_model.specs.declared.object.Object.TheVariants as objects
 use Rattle.ufs_model.specs.declared.asked.Event.TheVariants as events
 use Rattle.std.specs.Prelude.{◌≢◌, IfOk, IsSome, Option}
 use Rattle.cyl_alloc.specs.Left.{LeftCommit}
 use Rattle.intentions.specs.Left.{StoreIs, final_image}
-use Rattle.cfs_core.specs.Calls.{Answers, ByWant, EndsSo, IsCause, IsInDoubt, IsShortOfBlocks, TriesOnWith, leaves_all}
+use Rattle.cfs_core.specs.Calls.{Answers, ByWant, EndsSo, IsCause, IsInDoubt, IsShortOfBlocks, RequestWent, TriesOnWith, leaves_all}
 use Rattle.cfs_core.specs.Kernel.{Kernel}
 use Rattle.cfs_core.specs.Damage.{NotOwned}
 use Rattle.cfs_core.specs.Makes.{IsAstray, IsMaking, NamesMade}
@@ -54,30 +59,30 @@ if_astray g old new request id directory (Ok reply) makes same room is = tt
 if_astray g old new request id directory (Err e) makes same room is =
     subst (IsCause g old new (Some request)) (sym is.is) (NotOwned request refl makes refl (rw (sym room, ap (λ (l : Listing). l.room) (sym same), ap (λ (l : Listing). l.named) (sym same)) is.why))
 
-stopped_so : {D : Type 0} (g : Ghosts D) (at slot : ℕ) (old new : D) (before after : Kept) (e : Refused) → IsIndexRefusal g at slot old new after e ⊎ IsOpenMap g old before e → (tried : Bool) → e ≡ refusals.Disk tried → HasStopped g tried old new
-stopped_so g at slot old new before after e (inl is) tried same = subst (IsIndexRefusal g at slot old new after) same is
-stopped_so g at slot old new before after e (inr map) tried same = let no = sym map.is ∙ same in cc
+stopped_so : {D : Type 0} (g : Ghosts D) (at : Top) (old new : D) (before after : Kept) (e : Refused) → IsIndexRefusal g at old new after e ⊎ IsOpenMap g old before e → (tried : Bool) → e ≡ refusals.Disk tried → HasStopped g tried old new
+stopped_so g at old new before after e (inl is) tried same = subst (IsIndexRefusal g at old new after) same is
+stopped_so g at old new before after e (inr map) tried same = let no = sym map.is ∙ same in cc
 
-never_full : {D : Type 0} (g : Ghosts D) (at slot : ℕ) (old new : D) (before after : Kept) (need : Need) → IsIndexRefusal g at slot old new after (refusals.Full need) ⊎ IsOpenMap g old before (refusals.Full need) → ⊥
-never_full g at slot old new before after need (inl none) = none
-never_full g at slot old new before after need (inr map) = let no = map.is in cc
+never_full : {D : Type 0} (g : Ghosts D) (at : Top) (old new : D) (before after : Kept) (need : Need) → IsIndexRefusal g at old new after (refusals.Full need) ⊎ IsOpenMap g old before (refusals.Full need) → ⊥
+never_full g at old new before after need (inl none) = none
+never_full g at old new before after need (inr map) = let no = map.is in cc
 
-never_wanted : {D : Type 0} (g : Ghosts D) (at slot : ℕ) (old new : D) (before after : Kept) → IsIndexRefusal g at slot old new after refusals.Memory ⊎ IsOpenMap g old before refusals.Memory → ⊥
-never_wanted g at slot old new before after (inl none) = none
-never_wanted g at slot old new before after (inr map) = let no = map.is in cc
+never_wanted : {D : Type 0} (g : Ghosts D) (at : Top) (old new : D) (before after : Kept) → IsIndexRefusal g at old new after refusals.Memory ⊎ IsOpenMap g old before refusals.Memory → ⊥
+never_wanted g at old new before after (inl none) = none
+never_wanted g at old new before after (inr map) = let no = map.is in cc
 
 module _ {D : Type 0} (g : Ghosts D) (left_sized : (d : D) (t : ℕ) (c : Image) → g.left_since d t c → length c ≡ g.blocks d) (sized : (d : D) → IsTrue (g.honest d) → length (g.content d) ≡ g.blocks d)
     (k : Kernel D) (d : D) (space : Kept) (room : k.directory.room ≡ g.blocks k.disk) (index : Puid) (slot : ℕ) (o : Object) (one : blocks_of o ≡ 1) (w : ℕ) (word_is : w ≡ word k.words.seed (k.words.drawn + 1))
-    (r : Result Puid Refused) (puts : PutsObject g index.block slot o w k.disk d k.space space r) (enough : 8 ≤ sum k.space.free) where
+    (r : Result Puid Refused) (root : Root) (puts : PutsObject g (begun_at index.block None root) slot o w k.disk d k.space space r) (enough : 8 ≤ sum k.space.free) where
   abbrev mid : Kernel D
   mid = record k { disk = d; space = space }
 
   size : g.blocks d ≡ g.blocks k.disk
   size = puts.calls.same.size
 
-  module _ (request : Request) (making : IsMaking request slot o) (s : State) (who : ℕ) (i : Index) (serves : CoreServes g k s) (none : k.stop ≡ None) (reach : Reaches s who request index (objects.Index i)) (shut : (drafts_of_handles k.handles s.grants) index ≡ None) (within : slot < length i.slots) (goes : refusal_of s who request ≡ None) where
+  module _ (request : Request) (making : IsMaking request slot o) (s : State) (who : ℕ) (i : Index) (serves : CoreServes g k s) (none : k.stop ≡ None) (reach : Reaches s who request index (objects.Index i)) (shut : (drafts_of_handles k.handles s.grants) index ≡ None) (within : slot < length i.slots) (goes : refusal_of s who request ≡ None) (rooted : IsRootAt (g.content k.disk) index.block root) where
     puts_it : PlacesIn (slot_view g k s serves index i reach.there shut slot within) o w d space r
-    puts_it = puts.places (slot_view g k s serves index i reach.there shut slot within)
+    puts_it = puts.places (slot_view g k s serves index i reach.there shut slot within) rooted
 
     word_drawn : w ≡ word k.words.seed (s.drawn + 1)
     word_drawn = word_is ∙ ap (λ n. word k.words.seed (n + 1)) (sym serves.front.drawn)
@@ -134,48 +139,52 @@ module _ {D : Type 0} (g : Ghosts D) (left_sized : (d : D) (t : ℕ) (c : Image)
         in_doubt g left_sized sized k mid size none s (created k.words.seed s who (target request) slot o some.0).1 who some.0 request (replies.Id (id_at some.0)) serves (with_made s.graph index i slot (id_at some.0) o) 3
         (outcome g k s who serves index i slot o one request making reach goes enough some.0 some.1) (leaves_at some.0 some.1) refl
 
-    as_it_was : (space ≡ k.space) × OnlyReads g 9 k.disk d → mid ≡ record k { disk = d }
+    as_it_was : (space ≡ k.space) × OnlyReads g 8 k.disk d → mid ≡ record k { disk = d }
     as_it_was two = ap (λ (x : Kept). record k { disk = d; space = x }) two.0
 
-    failed : (e : Refused) → (e ≡ refusals.Disk false → (space ≡ k.space) × OnlyReads g 9 k.disk d)
-        → (IsIndexRefusal g index.block slot k.disk d space e ⊎ IsOpenMap g k.disk k.space e) → has_met_damage e ≡ false → EndsSo g None k mid s who request (Err e)
-    failed (refusals.Full need) untried refused sound = absurd (never_full g index.block slot k.disk d k.space space need refused)
-    failed (refusals.Disk false) untried refused sound = let two = untried refl in disk_failed g left_sized sized 9 k mid two.1 (as_it_was two) s who serves none request
+    failed : (e : Refused) → (e ≡ refusals.Disk false → (space ≡ k.space) × OnlyReads g 8 k.disk d)
+        → (IsIndexRefusal g (root_top index.block root) k.disk d space e ⊎ IsOpenMap g k.disk k.space e) → has_met_damage e ≡ false → EndsSo g None k mid s who request (Err e)
+    failed (refusals.Full need) untried refused sound = absurd (never_full g (root_top index.block root) k.disk d k.space space need refused)
+    failed (refusals.Disk false) untried refused sound = let two = untried refl in disk_failed g left_sized sized 8 k mid two.1 (as_it_was two) s who serves none request
     failed (refusals.Disk true) untried refused sound = doubtful
     failed (refusals.Damaged damage) untried refused sound = cc
-    failed refusals.Memory untried refused sound = absurd (never_wanted g index.block slot k.disk d k.space space refused)
+    failed refusals.Memory untried refused sound = absurd (never_wanted g (root_top index.block root) k.disk d k.space space refused)
 
     sound_at : (e : Refused) → r ≡ Err e → has_met_damage e ≡ false
     sound_at e is = subst (λ (x : Result Puid Refused). IfErr x (λ f. has_met_damage f ≡ false)) is puts_it.sound
 
+    pub made_ends : (p : Puid) → r ≡ Ok p → (new : Kernel D) (result : Result Reply Refused) → NamesMade mid new p (object_kind o) result → EndsSo g None k new s who request result
+    made_ends = made
+
+    pub unmade_ends : (e : Refused) → r ≡ Err e → EndsSo g None k mid s who request (Err e)
+    unmade_ends e is = failed e
+        (subst (λ (x : Result Puid Refused). IfErr x (λ f. f ≡ refusals.Disk false → (space ≡ k.space) × OnlyReads g 8 k.disk d)) is puts.untried)
+        (subst (λ (x : Result Puid Refused). IfErr x (λ f. IsIndexRefusal g (root_top index.block root) k.disk d space f ⊎ IsOpenMap g k.disk k.space f)) is puts.refused)
+        (sound_at e is)
+
   module _ (request : Request) (making : IsMaking request slot o) where
-    pub tries_made : (p : Puid) → r ≡ Ok p → (new : Kernel D) (result : Result Reply Refused) → NamesMade mid new p (object_kind o) result → TriesOnWith g None k new index slot request result
-    tries_made p is new result names = record {
-      ends = λ s who i serves none reach shut within goes. made request making s who i serves none reach shut within goes p is new result names;
-      went = λ named. record {
-        plain = names.plain;
-        cause = causes_met g k new request result (if_astray g k new request p k.directory result making.makes refl room names.astray);
-        size = ap g.blocks names.disk ∙ size;
-        faults = omega (arith, ap g.faults names.disk, puts.calls.faults);
-        later = omega (arith, ap g.moment names.disk, puts.calls.later);
-        stop = names.stop;
-        collections = names.collections;
-        seed = names.seed;
-        kept = names.kept;
-        drawn = rw making.draw names.drawn;
-      };
+    pub made_went : (p : Puid) (new : Kernel D) (result : Result Reply Refused) → NamesMade mid new p (object_kind o) result → RequestWent g k new request result
+    made_went p new result names = record {
+      plain = names.plain;
+      cause = causes_met g k new request result (if_astray g k new request p k.directory result making.makes refl room names.astray);
+      size = ap g.blocks names.disk ∙ size;
+      faults = omega (arith, ap g.faults names.disk, puts.calls.faults);
+      later = omega (arith, ap g.moment names.disk, puts.calls.later);
+      stop = names.stop;
+      collections = names.collections;
+      seed = names.seed;
+      kept = names.kept;
+      drawn = rw making.draw names.drawn;
     }
 
-    pub tries_unmade : (e : Refused) → r ≡ Err e → TriesOnWith g None k mid index slot request (Err e)
-    tries_unmade e is = record {
-      ends = λ s who i serves none reach shut within goes. failed request making s who i serves none reach shut within goes e
-          (subst (λ (x : Result Puid Refused). IfErr x (λ f. f ≡ refusals.Disk false → (space ≡ k.space) × OnlyReads g 9 k.disk d)) is puts.untried)
-          (subst (λ (x : Result Puid Refused). IfErr x (λ f. IsIndexRefusal g index.block slot k.disk d space f ⊎ IsOpenMap g k.disk k.space f)) is puts.refused)
-          (sound_at request making s who i serves none reach shut within goes e is);
-      went = λ named. went_so g k d space k.handles size puts.calls.faults puts.calls.later request (Err e) tt (cause_of g k mid (Some request) e (stopped_so g index.block slot k.disk d k.space space e (rw is at puts.refused))
-          (λ damage same. told_of_making g k mid (Some request) index.block (inl named) damage size slot making.wants (rw same at (rw is at puts.refused)))
-          (λ need same. absurd (never_full g index.block slot k.disk d k.space space need (rw same at (rw is at puts.refused)))));
-    }
+    pub unmade_went : (e : Refused) → r ≡ Err e → (base : Kernel D) (n : ℕ) → OnlyReads g n base.disk k.disk → base.space ≡ k.space → has_root_in base.directory.named index.block ≡ true → (Tells g base.disk → IsRootAt (g.content base.disk) index.block root) → RequestWent g base (record base { disk = d; space = space }) request (Err e)
+    unmade_went e is base n reads kept named rooted =
+        let why = rw is at puts.refused in
+        went_so g base d space base.handles (size ∙ reads.same.size) (omega (arith, reads.faults, puts.calls.faults)) (omega (arith, reads.images.later, puts.calls.later)) request (Err e) tt
+        (cause_of g base (record base { disk = d; space = space }) (Some request) e (λ tried same. stopped_after_reads g base.disk k.disk d n tried reads (stopped_so g (root_top index.block root) k.disk d k.space space e why tried same))
+        (λ damage same. told_of_making g n base (record base { disk = d; space = space }) k.disk reads (Some request) index.block root (inl named) rooted damage size
+        (subst (λ (x : Kept). IsIndexRefusal g (root_top index.block root) k.disk d space (refusals.Damaged damage) ⊎ IsOpenMap g k.disk x (refusals.Damaged damage)) (sym kept) (rw same at why)))
+        (λ need same. absurd (never_full g (root_top index.block root) k.disk d k.space space need (rw same at why))))
 
 -- ---- too few blocks are Free
 
@@ -205,5 +214,5 @@ pub named_decides : {D : Type 0} (old new : Kernel D) (id : Puid) (kind : Kind) 
 named_decides old new id kind (Ok reply) names = (ap leaves_all names.told, λ is. cc)
 named_decides old new id kind (Err e) names = (tt, λ is. (let same : e ≡ refusals.Memory = cc in let no = sym same ∙ names.astray.is in cc))
 
-pub unmade_never : {D : Type 0} (g : Ghosts D) (at slot : ℕ) (old new : D) (before after : Kept) (e : Refused) → IsIndexRefusal g at slot old new after e ⊎ IsOpenMap g old before e → ◌≢◌ {A = Result Reply Refused} (Err e) (Err refusals.Memory)
-unmade_never g at slot old new before after e why = λ is. (let same : e ≡ refusals.Memory = cc in never_wanted g at slot old new before after (subst (λ (x : Refused). IsIndexRefusal g at slot old new after x ⊎ IsOpenMap g old before x) same why))
+pub unmade_never : {D : Type 0} (g : Ghosts D) (at : Top) (old new : D) (before after : Kept) (e : Refused) → IsIndexRefusal g at old new after e ⊎ IsOpenMap g old before e → ◌≢◌ {A = Result Reply Refused} (Err e) (Err refusals.Memory)
+unmade_never g at old new before after e why = λ is. (let same : e ≡ refusals.Memory = cc in never_wanted g at old new before after (subst (λ (x : Refused). IsIndexRefusal g at old new after x ⊎ IsOpenMap g old before x) same why))

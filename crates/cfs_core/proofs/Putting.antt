@@ -1,7 +1,7 @@
 -- What the store says of a slot that is filled or emptied, as the core has it.
 use Rattle.std.proofs.Common.{◌≡◌, inl, ℕ, ◌+◌, ◌*◌, ◌<◌, ◌≤◌, length, true, false, Option, None, Some, Result, Ok, Err, IsTrue, refl, sym, ◌∙◌, ap, subst, arith, sum, ◌⊎◌, inr, [], ◌∷◌, is_none, ◌/◌, set, IsSome}
 use Rattle.cfs_base.proofs.Went.{reads_none}
-use Rattle.cfs_core.proofs.Words.{creates, Ghosts, Image, Index, index_with, IsSpeakable, Kept, Need, OnlyReads, outcome_of, Puid, PutsSlot, Ref, refusal_of, Refused, Request, State, with_object, Object, Holds, slot_of, target, object_at-with_object, same_puid_itself, need_of, Direct, Through}
+use Rattle.cfs_core.proofs.Words.{creates, Ghosts, Image, Index, index_with, IsSpeakable, Kept, Need, OnlyReads, outcome_of, stopped_after_reads, Puid, PutsSlot, Ref, refusal_of, Refused, Request, State, with_object, Object, Holds, slot_of, target, object_at-with_object, same_puid_itself, need_of, Direct, Through}
 use Rattle.cfs_base.specs.declared.refusal.Refused.TheVariants as refusals
 use Rattle.ufs_model.specs.declared.asked.Event.TheVariants as events
 use Rattle.ufs_model.specs.declared.asked.Reply.TheVariants as replies
@@ -10,13 +10,17 @@ use Rattle.ufs_model.specs.declared.object.Object.TheVariants as objects
 use Rattle.cyl_alloc.specs.Left.{LeftCommit}
 use Rattle.intentions.specs.Left.{StoreIs, coming, final_image}
 use Rattle.index_ops.specs.Changes.{LeavesCommit, ChangesLeaf, FillsIndex, leaf_and_node}
-use Rattle.cfs_core.specs.Calls.{ByWant, EndsSo, IsShortOfBlocks, TriesOn, TriesOnWith, done_or, delete_floor}
+use Rattle.cfs_core.specs.Calls.{ByWant, EndsSo, IsShortOfBlocks, RequestWent, TriesOnWith, done_or, delete_floor}
 use Rattle.cfs_core.proofs.Stored.{account_in}
-use Rattle.cfs_core.specs.Damage.{bytes_wanted}
+use Rattle.block_tree.specs.declared.root.Root.{Root}
+use Rattle.cfs_base.specs.Run.{Tells}
+use Rattle.normal_files.specs.Standing.{IsRootAt}
+use Rattle.puid_space.specs.Directory.{has_root_in}
+use Rattle.special_files.specs.Drafting.{begun_at}
 use Rattle.cfs_core.specs.Kernel.{Kernel}
 use Rattle.cfs_core.specs.StandsFor.{CoreServes, drafts_of_handles}
 use Rattle.cfs_core.specs.Ways.{Reaches}
-use Rattle.cfs_core.proofs.Answering.{disk_failed, full_still, memory}
+use Rattle.cfs_core.proofs.Answering.{disk_failed, full_still}
 use Rattle.cfs_core.proofs.Changed.{object_did, object_in_doubt}
 use Rattle.cfs_core.proofs.Committed.{LeavesThese, uncut}
 use Rattle.cfs_core.proofs.Grown.{added_by, filled_blocks}
@@ -34,8 +38,8 @@ use Rattle.ufs_model.specs.State.{the_index}
 use Rattle.index_ops.specs.Changes as ops
 
 module _ {D : Type 0} (g : Ghosts D) (left_sized : (d : D) (t : ℕ) (c : Image) → g.left_since d t c → length c ≡ g.blocks d) (sized : (d : D) → IsTrue (g.honest d) → length (g.content d) ≡ g.blocks d)
-    (k : Kernel D) (d : D) (space : Kept) (index : Puid) (slot : ℕ) (what : Option Puid) (request : Request) (makes : creates request ≡ false) (bytes : bytes_wanted (Some request) ≡ 8 * slot + 8)
-    (speaks : IsSpeakable (events.Ask 0 request replies.Done)) (result : Result (Unit {0}) Refused) (puts : PutsSlot g index.block slot what k.disk d k.space space result)
+    (k : Kernel D) (d : D) (space : Kept) (index : Puid) (slot : ℕ) (what : Option Puid) (request : Request) (makes : creates request ≡ false)
+    (speaks : IsSpeakable (events.Ask 0 request replies.Done)) (result : Result (Unit {0}) Refused) (root : Root) (puts : PutsSlot g (begun_at index.block None root) slot what k.disk d k.space space result)
     (out : (s : State) (who : ℕ) (i : Index) → CoreServes g k s → Reaches s who request index (objects.Index i)
     → (outcome_of k.words.seed s who request 0 ≡ (replies.Done, (outcome_of k.words.seed s who request 0).1)) × Puts s (outcome_of k.words.seed s who request 0).1 index (index_with i slot what))
     (room : (s : State) (who : ℕ) (i : Index) → CoreServes g k s → Reaches s who request index (objects.Index i) → (¬ IsShortOfBlocks s who request (sum k.space.free)) × (added_by what + 4 ≤ sum k.space.free))
@@ -44,9 +48,9 @@ module _ {D : Type 0} (g : Ghosts D) (left_sized : (d : D) (t : ℕ) (c : Image)
   abbrev new : Kernel D
   new = record k { disk = d; space = space }
 
-  module _ (s : State) (who : ℕ) (i : Index) (serves : CoreServes g k s) (none : k.stop ≡ None) (reach : Reaches s who request index (objects.Index i)) (shut : (drafts_of_handles k.handles s.grants) index ≡ None) (inside : slot < length i.slots) (goes : refusal_of s who request ≡ None) where
+  module _ (s : State) (who : ℕ) (i : Index) (serves : CoreServes g k s) (none : k.stop ≡ None) (reach : Reaches s who request index (objects.Index i)) (shut : (drafts_of_handles k.handles s.grants) index ≡ None) (inside : slot < length i.slots) (goes : refusal_of s who request ≡ None) (rooted : IsRootAt (g.content k.disk) index.block root) where
     fills : FillsIndex (slot_view g k s serves index i reach.there shut slot inside) what d space result
-    fills = puts.fills (slot_view g k s serves index i reach.there shut slot inside)
+    fills = puts.fills (slot_view g k s serves index i reach.there shut slot inside) rooted
 
     size : g.blocks d ≡ g.blocks k.disk
     size = puts.calls.same.size
@@ -81,26 +85,28 @@ module _ {D : Type 0} (g : Ghosts D) (left_sized : (d : D) (t : ℕ) (c : Image)
     noted store (inr two) still = subst (λ (w : Option LeftCommit). IsSome w) (sym two.1.is) refl
     noted store (inl two) still = not_still store (two.0, ap (coming (g.content d)) two.1 ∙ still two.1)
 
-    ends : (r : Result (Unit {0}) Refused) → r ≡ result → EndsSo g None k new s who request (done_or r)
-    ends (Ok u) is =
+    put_so : (r : Result (Unit {0}) Refused) → r ≡ result → EndsSo g None k new s who request (done_or r)
+    put_so (Ok u) is =
         let changes = rw (← is) at fills.done in
         let leaf = rw (← is) at fills.leaf in
         object_did g left_sized sized k new size refl none s (outcome_of k.words.seed s who request 0).1 who request serves index (objects.Index i) (index_with i slot what) reach.there refl (added_by what) (filled_blocks i slot what) goes makes (speak who)
         (out s who i serves reach).0 (out s who i serves reach).1 (room s who i serves reach).0 (room s who i serves reach).1 left changes.store changes.only (takes changes.store leaf) (λ _. noted changes.store (rw (← is) at puts.left) (λ nothing. rw (← is) at (puts.still nothing)))
-    ends (Err (refusals.Full need)) is = absurd (rw (← is) at puts.refused)
-    ends (Err (refusals.Disk false)) is = let two = (rw (← is) at puts.untried) refl in disk_failed g left_sized sized 9 k new two.1 (ap (λ (x : Kept). record k { disk = d; space = x }) two.0) s who serves none request
-    ends (Err (refusals.Disk true)) is = object_in_doubt g left_sized sized k new size refl none s (outcome_of k.words.seed s who request 0).1 who request serves index (objects.Index i) (index_with i slot what) reach.there refl (added_by what) (filled_blocks i slot what) goes makes (speak who)
+    put_so (Err (refusals.Full need)) is = absurd (rw (← is) at puts.refused)
+    put_so (Err (refusals.Disk false)) is = let two = (rw (← is) at puts.untried) refl in disk_failed g left_sized sized 8 k new two.1 (ap (λ (x : Kept). record k { disk = d; space = x }) two.0) s who serves none request
+    put_so (Err (refusals.Disk true)) is = object_in_doubt g left_sized sized k new size refl none s (outcome_of k.words.seed s who request 0).1 who request serves index (objects.Index i) (index_with i slot what) reach.there refl (added_by what) (filled_blocks i slot what) goes makes (speak who)
         (out s who i serves reach).0 (out s who i serves reach).1 (room s who i serves reach).0 (room s who i serves reach).1 left
-    ends (Err (refusals.Damaged damage)) is = let no : true ≡ false = rw (← is) at fills.sound in cc
-    ends (Err refusals.Memory) is = absurd (rw (← is) at puts.refused)
+    put_so (Err (refusals.Damaged damage)) is = let no : true ≡ false = rw (← is) at fills.sound in cc
+    put_so (Err refusals.Memory) is = absurd (rw (← is) at puts.refused)
 
-  pub tries_put : TriesOnWith g None k new index slot request (done_or result)
-  tries_put = record {
-    ends = λ s who i serves none reach shut inside goes. ends s who i serves none reach shut inside goes result refl;
-    went = λ named. went_done g k d space k.handles puts.calls.same.size puts.calls.faults puts.calls.later request result (λ tried is. rw is at puts.refused)
-        (λ damage is. told_of_index g k new (Some request) index.block (inl named) damage puts.calls.same.size slot bytes (rw is at puts.refused))
-        (λ need is. absurd (rw is at puts.refused));
-  }
+    pub put_ends : EndsSo g None k new s who request (done_or result)
+    put_ends = put_so result refl
+
+  -- on any disk, told of a core from which only reads were made, of which the root was there
+  pub put_went : (base : Kernel D) (n : ℕ) → OnlyReads g n base.disk k.disk → has_root_in base.directory.named index.block ≡ true → (Tells g base.disk → IsRootAt (g.content base.disk) index.block root) → RequestWent g base (record base { disk = d; space = space }) request (done_or result)
+  put_went base n reads named rooted = went_done g base d space base.handles (puts.calls.same.size ∙ reads.same.size) (omega (arith, reads.faults, puts.calls.faults)) (omega (arith, reads.images.later, puts.calls.later)) request result
+      (λ tried is. stopped_after_reads g base.disk k.disk d n tried reads (rw is at puts.refused))
+      (λ damage is. told_of_index g n base (record base { disk = d; space = space }) k.disk reads (Some request) index.block root (inl named) rooted damage puts.calls.same.size (rw is at puts.refused))
+      (λ need is. absurd (rw is at puts.refused))
 
 -- ---- too few blocks are Free
 
@@ -168,12 +174,3 @@ delete_short g left_sized sized k index (Through t) slot floor is less enough = 
 
     few : sum k.space.free < 7
     few = omega (arith, is, less)
-
--- ---- memory is wanted
-
-pub tries_want_on : {D : Type 0} (g : Ghosts D) (left_sized : (d : D) (t : ℕ) (c : Image) → g.left_since d t c → length c ≡ g.blocks d) (sized : (d : D) → IsTrue (g.honest d) → length (g.content d) ≡ g.blocks d)
-    (k : Kernel D) (index : Puid) (slot : ℕ) (request : Request) (e : Refused) → e ≡ refusals.Memory → TriesOn g k k index slot request (Err e)
-tries_want_on g left_sized sized k index slot request e is = subst (λ (x : Refused). TriesOn g k k index slot request (Err x)) (sym is) (record {
-  ends = λ s who i serves none reach shut inside goes. memory g left_sized sized 0 k k (reads_none g 0 k.disk) refl s who serves none request;
-  went = λ named. went_so g k k.disk k.space k.handles refl (omega arith) (omega arith) request (Err refusals.Memory) tt tt;
-})

@@ -20,3 +20,5 @@ pub mod Rescues
 pub mod Sweeping
 pub mod Collect
 pub mod Tidy
+pub mod Visits
+pub mod Rereads

@@ -1,5 +1,6 @@
 -- Reads of an object.
 use Rattle.std.specs.Prelude.{◌≡◌, ℕ, ◌+◌, true, false, length, slice_range, if◌then◌else◌, IfErr, None, Result}
+use Rattle.block_tree.specs.declared.root.Root.{Root}
 use Rattle.cfs_base.specs.Calls.{HasStopped, OnlyReads}
 use Rattle.cfs_base.specs.declared.disk.Disk.{Ghosts}
 use Rattle.cfs_base.specs.declared.identifier.Puid.{Puid}
@@ -9,6 +10,7 @@ use Rattle.cfs_base.specs.declared.refusal.Refused.TheVariants as refusals
 use Rattle.cyl_alloc.specs.Space.{Kept}
 use Rattle.puid_space.specs.Directory.{has_root_in}
 use Rattle.leaf_changes.specs.Tops.{Top}
+use Rattle.normal_files.specs.Standing.{IsRootAt}
 use Rattle.special_files.specs.Refusal.{IsDraftDamage, has_met_damage}
 use Rattle.special_files.specs.View.{ShownView}
 use Rattle.ufs_model.specs.declared.asked.Reply.{Reply}
@@ -42,6 +44,11 @@ pub record KnowsObject {D : Type 0} (g : Ghosts D) (d : D) (at : ℕ) (o : Objec
   pub is : view.object ≡ o
 
 -- ---- calls that only read
+
+-- At most n reads were made since the disk was so, and this root was read of the block.
+pub record WasRead {D : Type 0} (g : Ghosts D) (n at : ℕ) (root : Root) (old now : D) : Type 0 where
+  pub reads : OnlyReads g n old now
+  pub rooted : Tells g old → IsRootAt (g.content old) at root
 
 -- a device call failed, and nothing had been tried; a block is damaged so; or memory is wanted
 abbrev pub IsReadCause : {D : Type 0} → Ghosts D → (Damage → Type 0) → D → D → Refused → Type 0

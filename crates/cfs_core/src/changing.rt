@@ -1,21 +1,23 @@
 //! Requests that change an index.
-ghost use Rattle.std.specs.Prelude.{◌≡◌, ◌≢◌, ◌<◌, ◌≤◌};
+ghost use Rattle.std.specs.Prelude.{◌≡◌, ◌≢◌, ℕ, ◌+◌, ◌*◌, ◌<◌, ◌≤◌};
+ghost use Rattle.block_tree.specs.Pointers.{size_limit};
 ghost use Rattle.cfs_core.specs.Calls.{Tries, TriesOn, delete_floor, done_or};
 ghost use Rattle.ufs_model.specs.Plain.{is_id};
 ghost use Rattle.ufs_model.specs.declared.asked.Ref.{Ref};
-ghost use Rattle.cfs_core.specs.Drafts.{HasNoneOf};
-ghost use Rattle.cfs_core.specs.StandsFor.{ServesIs};
-ghost use Rattle.ufs_model.specs.Limits.{most_slots};
-ghost use Rattle.ufs_model.specs.State.{State, draft_of};
-ghost use Rattle.ufs_model.specs.declared.asked.Wanted.TheVariants.{AnIndex};
+ghost use Rattle.cfs_core.specs.Rereads.{RereadsIndex};
+ghost use Rattle.cfs_core.specs.Visits.{CameTo};
+ghost use Rattle.cfs_core.specs.Kernel.{Kernel};
 ghost use Rattle.ufs_model.specs.declared.asked.Request.TheVariants as asks;
 
 use crate::finishing::{finish, since, take_room};
 use crate::kernel::Core;
 use crate::looking::{has_slot, look};
+use crate::visiting::{There, Visited, root_in};
 use crate::way::Way;
+use block_tree::Root;
 use cfs_base::{BlockNo, Damage, Disk, Puid, Refused, Session, code};
 use index_ops::{delete, retain};
+use special_files::ObjectDraft;
 use std::alloc::Global;
 use ufs_model::{RESERVE, Ref, Reply, Wanted};
 
@@ -47,6 +49,33 @@ pub(crate) fn done(ended: Result<(), Refused>) -> Result<Reply, Refused>
     Ok(Reply::Done)
 }
 
+/// The root of the index at a block, which has the slot: that which was read, or, where parts of a commit were made
+/// since, that which is there now.
+pub(crate) fn index_since<D: Disk>(
+    disk: &mut D,
+    at: BlockNo,
+    tried: bool,
+    read: &Root,
+    slot: u64,
+) -> Result<Root, Refused>
+    requires on_disk { at.0 < D.blocks disk.old }
+    requires within { 8 * slot + 8 ≤ read.now.size }
+    requires limit { read.now.size ≤ size_limit }
+    ensures { RereadsIndex D.Disk at.0 tried read.now slot disk.old disk.new result }
+{
+    if !tried {
+        return Ok(*read);
+    }
+    let root = root_in(disk, at)?;
+    if !has_slot(&root, slot) {
+        return Err(Refused::Damaged(Damage {
+            block: at.0,
+            code: code::NO_ROOT,
+        }));
+    }
+    Ok(root)
+}
+
 impl<D: Disk> Core<D> {
     /// Puts an identifier of an object into a slot.
     pub(crate) fn retain(
@@ -59,38 +88,20 @@ impl<D: Disk> Core<D> {
     ) -> Result<Reply, Refused>
         ensures { Tries D.Disk self.old self.new who (asks.Retain to slot id) result }
     {
-        match self.drafted(who, to, Wanted::AnIndex) {
-            Some(grant) => self.retain_draft(grant, slot, id),
-            None => self.retain_object(alloc, who, to, slot, id),
-        }
-    }
-
-    /// The same where the reference has no draft.
-    fn retain_object(
-        &mut self,
-        alloc: Global,
-        who: Session,
-        to: Ref,
-        slot: u64,
-        id: Puid,
-    ) -> Result<Reply, Refused>
-        requires bare { (s : State) → ServesIs D.Disk self.old s → HasNoneOf AnIndex (draft_of s who to) }
-        ensures { Tries D.Disk self.old self.new who (asks.Retain to slot id) result }
-    {
         let way = Way {
             to,
             also: Some(id),
             changes: true,
         };
-        let index = match self.index_at(who, way) {
-            Ok(index) => index,
-            Err(reply) => return Ok(reply),
-        };
-        let at = self.space.shown(BlockNo(index.block));
-        match has_slot(&mut self.disk, at, slot) {
-            Ok(true) => self.put(alloc, index, slot, id),
-            Ok(false) => Ok(Reply::Slot),
-            Err(refused) => Err(refused),
+        match self.visit(who, way, Wanted::AnIndex)? {
+            Visited::Refused(reply) => Ok(reply),
+            Visited::Draft(grant) => self.retain_draft(grant, slot, id),
+            Visited::Object(there) => {
+                if !has_slot(&there.root, slot) {
+                    return Ok(Reply::Slot);
+                }
+                self.put(alloc, &there, slot, id)
+            }
         }
     }
 
@@ -104,69 +115,64 @@ impl<D: Disk> Core<D> {
     ) -> Result<Reply, Refused>
         ensures { Tries D.Disk self.old self.new who (asks.Delete to slot) result }
     {
-        match self.drafted(who, to, Wanted::AnIndex) {
-            Some(grant) => self.delete_draft(grant, slot),
-            None => self.delete_object(alloc, who, to, slot),
-        }
-    }
-
-    /// The same where the reference has no draft.
-    fn delete_object(
-        &mut self,
-        alloc: Global,
-        who: Session,
-        to: Ref,
-        slot: u64,
-    ) -> Result<Reply, Refused>
-        requires bare { (s : State) → ServesIs D.Disk self.old s → HasNoneOf AnIndex (draft_of s who to) }
-        ensures { Tries D.Disk self.old self.new who (asks.Delete to slot) result }
-    {
         let way = Way {
             to,
             also: None,
             changes: true,
         };
-        let index = match self.index_at(who, way) {
-            Ok(index) => index,
-            Err(reply) => return Ok(reply),
-        };
-        let at = self.space.shown(BlockNo(index.block));
-        match look(&mut self.disk, at, slot) {
-            Ok(reply) => {
-                if holds_something(&reply) {
-                    self.empty(alloc, index, slot, floor_for(to))
-                } else {
-                    Ok(reply)
+        match self.visit(who, way, Wanted::AnIndex)? {
+            Visited::Refused(reply) => Ok(reply),
+            Visited::Draft(grant) => self.delete_draft(grant, slot),
+            Visited::Object(there) => {
+                let at = self.space.shown(BlockNo(there.id.block));
+                let reply = look(&mut self.disk, at, &there.root, slot)?;
+                if !holds_something(&reply) {
+                    return Ok(reply);
                 }
+                self.empty(alloc, &there, slot, floor_for(to))
             }
-            Err(refused) => Err(refused),
         }
     }
 
-    /// Puts an identifier into a slot that the index has.
-    fn put(&mut self, alloc: Global, index: Puid, slot: u64, id: Puid) -> Result<Reply, Refused>
-        requires on_disk { index.block < D.blocks self.old.disk }
-        requires some { index.block ≢ 0 }
-        requires few { slot < most_slots }
+    /// Puts an identifier into a slot that the index has, whose root was read before.
+    fn put(&mut self, alloc: Global, there: &There, slot: u64, id: Puid) -> Result<Reply, Refused>
+        requires on_disk { there.now.id.block < D.blocks self.old.disk }
+        requires some { there.now.id.block ≢ 0 }
+        requires within { 8 * slot + 8 ≤ there.now.root.size }
+        requires limit { there.now.root.size ≤ size_limit }
         requires id { id.block ≢ 0 }
-        ensures { (to : Ref) → TriesOn D.Disk self.old self.new index slot (asks.Retain to slot id) result }
+        ensures { (n : ℕ) (k : Kernel D) (to : Ref) → CameTo D.Disk n k self.old there.now.id there.now.root
+            → TriesOn D.Disk k self.new there.now.id slot (asks.Retain to slot id) result }
     {
         let room = take_room(alloc)?;
         let tried = finish(&mut self.disk, &mut self.space)?;
-        let at = BlockNo(index.block);
-        let ended = retain(room, &mut self.disk, &mut self.space, at, slot, id);
+        let at = BlockNo(there.id.block);
+        let root = since(
+            tried,
+            index_since(&mut self.disk, at, tried, &there.root, slot),
+        )?;
+        let draft = ObjectDraft::direct(room, at, &root);
+        let ended = retain(draft, &mut self.disk, &mut self.space, slot, id);
         since(tried, done(ended))
     }
 
     /// Empties a slot that holds something, where so many blocks stay Free beside it. On a disk that lies too few
     /// blocks may be Free for it.
-    fn empty(&mut self, alloc: Global, index: Puid, slot: u64, floor: u32) -> Result<Reply, Refused>
-        requires on_disk { index.block < D.blocks self.old.disk }
-        requires some { index.block ≢ 0 }
-        requires few { slot < most_slots }
+    fn empty(
+        &mut self,
+        alloc: Global,
+        there: &There,
+        slot: u64,
+        floor: u32,
+    ) -> Result<Reply, Refused>
+        requires on_disk { there.now.id.block < D.blocks self.old.disk }
+        requires some { there.now.id.block ≢ 0 }
+        requires within { 8 * slot + 8 ≤ there.now.root.size }
+        requires limit { there.now.root.size ≤ size_limit }
         requires floor { floor ≤ 4 }
-        ensures { (to : Ref) → floor ≡ delete_floor to
-            → TriesOn D.Disk self.old self.new index slot (asks.Delete to slot) result }
+        ensures { (n : ℕ) (k : Kernel D) (to : Ref) → floor ≡ delete_floor to
+            → CameTo D.Disk n k self.old there.now.id there.now.root
+            → TriesOn D.Disk k self.new there.now.id slot (asks.Delete to slot) result }
     {
         let room = take_room(alloc)?;
         let tried = finish(&mut self.disk, &mut self.space)?;
@@ -177,8 +183,13 @@ impl<D: Disk> Core<D> {
             }));
         }
         self.space.has_room(3, floor)?;
-        let at = BlockNo(index.block);
-        let ended = delete(room, &mut self.disk, &mut self.space, at, slot);
+        let at = BlockNo(there.id.block);
+        let root = since(
+            tried,
+            index_since(&mut self.disk, at, tried, &there.root, slot),
+        )?;
+        let draft = ObjectDraft::direct(room, at, &root);
+        let ended = delete(draft, &mut self.disk, &mut self.space, slot);
         since(tried, done(ended))
     }
 }

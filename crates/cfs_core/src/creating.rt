@@ -5,21 +5,21 @@ ghost use Rattle.cfs_core.specs.Calls.{Tries, TriesOn};
 ghost use Rattle.cfs_core.specs.Makes.{IsMaking, NamesMade, made_kind};
 ghost use Rattle.index_ops.specs.Creates.{PutsObject};
 ghost use Rattle.special_files.specs.Creates.{MayBeMade, made_of};
-ghost use Rattle.cfs_core.specs.Drafts.{HasNoneOf};
-ghost use Rattle.cfs_core.specs.StandsFor.{ServesIs};
-ghost use Rattle.ufs_model.specs.Limits.{most_slots};
-ghost use Rattle.ufs_model.specs.State.{State, draft_of};
-ghost use Rattle.ufs_model.specs.declared.asked.Wanted.TheVariants.{AnIndex};
+ghost use Rattle.block_tree.specs.Pointers.{size_limit};
+ghost use Rattle.cfs_core.specs.Kernel.{Kernel};
+ghost use Rattle.cfs_core.specs.Visits.{CameTo};
 ghost use Rattle.ufs_model.specs.declared.asked.Request.TheVariants as asks;
 ghost use Rattle.ufs_model.specs.declared.asked.Request.{Request};
 
+use crate::changing::index_since;
 use crate::finishing::{finish, since, take_room};
 use crate::kernel::Core;
 use crate::looking::has_slot;
+use crate::visiting::{There, Visited};
 use crate::way::Way;
 use cfs_base::{BlockNo, Damage, Disk, FileKind, Kind, Puid, Refused, Session, code};
 use index_ops::create;
-use special_files::bare_root;
+use special_files::{ObjectDraft, bare_root};
 use std::alloc::Global;
 use ufs_model::{MOST_SLOTS, Ref, Reply, Wanted};
 
@@ -47,40 +47,20 @@ impl<D: Disk> Core<D> {
         requires words { self.old.words.drawn < 4294967295 }
         ensures { Tries D.Disk self.old self.new who (asks.CreateFile kind fill to slot) result }
     {
-        match self.drafted(who, to, Wanted::AnIndex) {
-            Some(grant) => self.create_file_drafted(grant, kind, fill, slot),
-            None => self.create_file_object(alloc, who, kind, fill, to, slot),
-        }
-    }
-
-    /// The same where the reference has no draft.
-    fn create_file_object(
-        &mut self,
-        alloc: Global,
-        who: Session,
-        kind: FileKind,
-        fill: u8,
-        to: Ref,
-        slot: u64,
-    ) -> Result<Reply, Refused>
-        requires words { self.old.words.drawn < 4294967295 }
-        requires bare { (s : State) → ServesIs D.Disk self.old s → HasNoneOf AnIndex (draft_of s who to) }
-        ensures { Tries D.Disk self.old self.new who (asks.CreateFile kind fill to slot) result }
-    {
         let way = Way {
             to,
             also: None,
             changes: true,
         };
-        let index = match self.index_at(who, way) {
-            Ok(index) => index,
-            Err(reply) => return Ok(reply),
-        };
-        let at = self.space.shown(BlockNo(index.block));
-        match has_slot(&mut self.disk, at, slot) {
-            Ok(true) => self.make(alloc, index, slot, kind_of(kind), fill, 0),
-            Ok(false) => Ok(Reply::Slot),
-            Err(unread) => Err(unread),
+        match self.visit(who, way, Wanted::AnIndex)? {
+            Visited::Refused(reply) => Ok(reply),
+            Visited::Draft(grant) => self.create_file_drafted(grant, kind, fill, slot),
+            Visited::Object(there) => {
+                if !has_slot(&there.root, slot) {
+                    return Ok(Reply::Slot);
+                }
+                self.make(alloc, &there, slot, kind_of(kind), fill, 0)
+            }
         }
     }
 
@@ -96,70 +76,56 @@ impl<D: Disk> Core<D> {
         requires words { self.old.words.drawn < 4294967295 }
         ensures { Tries D.Disk self.old self.new who (asks.CreateIndex slots to slot) result }
     {
-        match self.drafted(who, to, Wanted::AnIndex) {
-            Some(grant) => self.create_index_drafted(grant, slots, slot),
-            None => self.create_index_object(alloc, who, slots, to, slot),
-        }
-    }
-
-    /// The same where the reference has no draft.
-    fn create_index_object(
-        &mut self,
-        alloc: Global,
-        who: Session,
-        slots: u64,
-        to: Ref,
-        slot: u64,
-    ) -> Result<Reply, Refused>
-        requires words { self.old.words.drawn < 4294967295 }
-        requires bare { (s : State) → ServesIs D.Disk self.old s → HasNoneOf AnIndex (draft_of s who to) }
-        ensures { Tries D.Disk self.old self.new who (asks.CreateIndex slots to slot) result }
-    {
         let way = Way {
             to,
             also: None,
             changes: true,
         };
-        let index = match self.index_at(who, way) {
-            Ok(index) => index,
-            Err(reply) => return Ok(reply),
-        };
-        let at = self.space.shown(BlockNo(index.block));
-        match has_slot(&mut self.disk, at, slot) {
-            Ok(true) => {
+        match self.visit(who, way, Wanted::AnIndex)? {
+            Visited::Refused(reply) => Ok(reply),
+            Visited::Draft(grant) => self.create_index_drafted(grant, slots, slot),
+            Visited::Object(there) => {
+                if !has_slot(&there.root, slot) {
+                    return Ok(Reply::Slot);
+                }
                 if slots == 0 || slots > MOST_SLOTS {
                     return Ok(Reply::Range);
                 }
-                self.make(alloc, index, slot, Kind::Index, 0, 8 * slots)
+                self.make(alloc, &there, slot, Kind::Index, 0, 8 * slots)
             }
-            Ok(false) => Ok(Reply::Slot),
-            Err(unread) => Err(unread),
         }
     }
 
-    /// Makes an object whose identifier is put into a slot that the index has.
+    /// Makes an object whose identifier is put into a slot that the index has, whose root was read before.
     fn make(
         &mut self,
         alloc: Global,
-        index: Puid,
+        there: &There,
         slot: u64,
         kind: Kind,
         fill: u8,
         size: u64,
     ) -> Result<Reply, Refused>
-        requires on_disk { index.block < D.blocks self.old.disk }
-        requires some { index.block ≢ 0 }
-        requires few { slot < most_slots }
+        requires on_disk { there.now.id.block < D.blocks self.old.disk }
+        requires some { there.now.id.block ≢ 0 }
+        requires within { 8 * slot + 8 ≤ there.now.root.size }
+        requires limit { there.now.root.size ≤ size_limit }
         requires made { MayBeMade kind fill size }
         requires words { self.old.words.drawn < 4294967295 }
-        ensures { (request : Request) → IsMaking request slot (made_of kind fill size)
-            → TriesOn D.Disk self.old self.new index slot request result }
+        ensures { (n : ℕ) (k : Kernel D) (request : Request) → IsMaking request slot (made_of kind fill size)
+            → CameTo D.Disk n k self.old there.now.id there.now.root
+            → TriesOn D.Disk k self.new there.now.id slot request result }
     {
-        let root = bare_root(kind, fill, size, self.words.ahead());
+        let new = bare_root(kind, fill, size, self.words.ahead());
         let room = take_room(alloc)?;
         let tried = finish(&mut self.disk, &mut self.space)?;
-        let at = BlockNo(index.block);
-        let made = create(room, &mut self.disk, &mut self.space, at, slot, &root);
+        let at = BlockNo(there.id.block);
+        let root = since(
+            tried,
+            index_since(&mut self.disk, at, tried, &there.root, slot),
+        )?;
+        let draft = ObjectDraft::direct(room, at, &root);
+        let made = create(draft, &mut self.disk, &mut self.space, slot, &new);
         let id = since(tried, made)?;
         since(tried, self.name(id, kind))
     }

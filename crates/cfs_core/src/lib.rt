@@ -19,6 +19,7 @@ mod reading;
 mod rescuing;
 mod stopping;
 mod tidying;
+mod visiting;
 mod way;
 mod writing;
 

@@ -3,23 +3,17 @@ ghost use Rattle.std.specs.Prelude.{◌≡◌, ◌≢◌, ◌<◌, ◌&&◌, ℕ
 ghost use Rattle.std.specs.Prelude.{is_some};
 ghost use Rattle.cfs_base.specs.declared.identifier.Puid.{Puid};
 ghost use Rattle.cfs_core.specs.Calls.{Tries};
-ghost use Rattle.cfs_core.specs.Drafts.{HasNoneOf};
-ghost use Rattle.cfs_core.specs.Looks.{ReachesAll};
-ghost use Rattle.cfs_core.specs.StandsFor.{ServesIs, drafts_of_handles};
+ghost use Rattle.cfs_core.specs.StandsFor.{ServesIs};
 ghost use Rattle.cfs_core.specs.Ways.{Arrives, GoesBy, is_gone, reads_by, unfit_of};
 ghost use Rattle.open_table.specs.Model.{is_writing};
 ghost use Rattle.puid_space.specs.Directory.{directory_kind};
-ghost use Rattle.ufs_model.specs.Graph.{object_at};
 ghost use Rattle.ufs_model.specs.Refusal.{goes_through_reading, meets_a_grant};
-ghost use Rattle.ufs_model.specs.State.{State, draft_of, named};
+ghost use Rattle.ufs_model.specs.State.{State, named};
 ghost use Rattle.ufs_model.specs.declared.asked.Request.{Request};
-ghost use Rattle.ufs_model.specs.declared.asked.Wanted.TheVariants.{AFile, AnIndex};
-ghost use Rattle.ufs_model.specs.declared.object.File.{File};
 ghost use Rattle.ufs_model.specs.declared.object.Object.{Object};
-ghost use Rattle.ufs_model.specs.declared.object.Object.TheVariants as objects;
 
 use crate::kernel::Core;
-use cfs_base::{Disk, FileKind, Kind, Mode, Puid, Session};
+use cfs_base::{Disk, Kind, Mode, Puid, Session};
 use open_table::OpenGrant;
 use ufs_model::{Ref, Reply, Wanted};
 
@@ -32,45 +26,14 @@ pub struct Way {
 }
 
 impl<D: Disk> Core<D> {
-    /// The index that a request of a session goes to, or its refusal on the way there. It has no draft. Its root block
-    /// is one of the disk's, and not block 0; nor is that of the object that is named besides.
-    pub(crate) fn index_at(&self, who: Session, way: Way) -> Result<Puid, Reply>
-        requires bare { (s : State) → ServesIs D.Disk self.now s → HasNoneOf AnIndex (draft_of s who way.to) }
-        ensures refused { IfErr result (λ reply. (request : Request) → GoesBy request AnIndex way
-            → Tries D.Disk self.now self.now who request (Ok reply)) }
-        ensures reached { IfOk result (λ id. (request : Request) → GoesBy request AnIndex way
-            → ReachesAll D.Disk objects.Index self.now who request id) }
-        ensures on_disk { IfOk result (λ id. id.block < D.blocks self.now.disk) }
-        ensures some { IfOk result (λ id. id.block ≢ 0) }
-        ensures also { IfOk result (λ id. (also : Puid) → way.also ≡ Some also → also.block ≢ 0) }
-    {
-        Ok(self.object_at(who, way, Wanted::AnIndex)?.0)
-    }
-
-    /// The file that a request of a session goes to, and its kind, or its refusal on the way there. It has no draft.
-    /// Its root block is one of the disk's, and not block 0.
-    pub(crate) fn file_at(&self, who: Session, way: Way) -> Result<(Puid, FileKind), Reply>
-        requires bare { (s : State) → ServesIs D.Disk self.now s → HasNoneOf AFile (draft_of s who way.to) }
-        ensures refused { IfErr result (λ reply. (request : Request) → GoesBy request AFile way
-            → Tries D.Disk self.now self.now who request (Ok reply)) }
-        ensures reached { IfOk result (λ two. (request : Request) → GoesBy request AFile way
-            → ReachesAll D.Disk objects.File self.now who request two.0) }
-        ensures kind { IfOk result (λ two. (s : State) (f : File) → ServesIs D.Disk self.now s
-            → object_at s.graph two.0 ≡ Some (objects.File f) → f.kind ≡ two.1) }
-        ensures on_disk { IfOk result (λ two. two.0.block < D.blocks self.now.disk) }
-        ensures some { IfOk result (λ two. two.0.block ≢ 0) }
-    {
-        let there = self.object_at(who, way, Wanted::AFile)?;
-        match there.1 {
-            Kind::Normal => Ok((there.0, FileKind::Normal)),
-            Kind::Special => Ok((there.0, FileKind::Special)),
-            Kind::Index => Err(Reply::NotFile),
-        }
-    }
-
     /// The object that a request of a session goes to, and its kind, which is wanted there, or its refusal on the way
     /// there.
-    fn object_at(&self, who: Session, way: Way, wants: Wanted) -> Result<(Puid, Kind), Reply>
+    pub(crate) fn object_at(
+        &self,
+        who: Session,
+        way: Way,
+        wants: Wanted,
+    ) -> Result<(Puid, Kind), Reply>
         ensures refused { IfErr result (λ reply. (request : Request) → GoesBy request wants way
             → Tries D.Disk self.now self.now who request (Ok reply)) }
         ensures arrived { IfOk result (λ two. (request : Request) → GoesBy request wants way

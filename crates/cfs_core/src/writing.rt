@@ -1,13 +1,15 @@
 //! Requests that change a file.
-ghost use Rattle.std.specs.Prelude.{◌≡◌, ◌≢◌, ◌<◌, false, true, IfErr, IfOk, None, Ok};
+ghost use Rattle.std.specs.Prelude.{◌≡◌, ◌≢◌, ◌<◌, ◌≤◌, ℕ, false, true, IfErr, IfOk, None, Ok, Some};
+ghost use Rattle.block_tree.specs.Pointers.{size_limit};
 ghost use Rattle.cfs_base.specs.Run.{Tells};
 ghost use Rattle.cfs_base.specs.declared.refusal.Refused.TheVariants as refusals;
 ghost use Rattle.cfs_core.specs.Calls.{Tries};
-ghost use Rattle.cfs_core.specs.Drafts.{HasNoneOf};
+ghost use Rattle.cfs_core.specs.Kernel.{Kernel};
 ghost use Rattle.cfs_core.specs.Looks.{IsCalm};
-ghost use Rattle.cfs_core.specs.StandsFor.{ServesIs};
+ghost use Rattle.cfs_core.specs.Visits.{ReachesObject, VisitsObject, changing_way};
+ghost use Rattle.cfs_core.specs.Ways.{unfit_of};
 ghost use Rattle.normal_files.specs.Standing.{IsRootAt};
-ghost use Rattle.ufs_model.specs.State.{State, draft_of};
+ghost use Rattle.ufs_model.specs.declared.asked.Ref.{Ref};
 ghost use Rattle.ufs_model.specs.declared.asked.Request.TheVariants as asks;
 ghost use Rattle.ufs_model.specs.declared.asked.Wanted.TheVariants.{AFile};
 ghost use Rattle.ufs_model.specs.declared.object.Object.TheVariants as objects;
@@ -15,10 +17,11 @@ ghost use Rattle.ufs_model.specs.declared.object.Object.TheVariants as objects;
 use crate::changing::done;
 use crate::finishing::{finish, room_for, since};
 use crate::kernel::Core;
-use crate::reading::{is_range, root_in};
+use crate::reading::is_range;
+use crate::visiting::{Reached, There, Visited, file_kind, root_in};
 use crate::way::Way;
 use block_tree::Root;
-use cfs_base::{BlockNo, Disk, Refused, Session};
+use cfs_base::{BlockNo, Disk, Kind, Puid, Refused, Session};
 use std::alloc::Global;
 use ufs_model::{MOST_BYTES, RESERVE, Ref, Reply, Wanted};
 
@@ -52,43 +55,43 @@ impl<D: Disk> Core<D> {
     ) -> Result<Reply, Refused>
         ensures { Tries D.Disk self.old self.new who (asks.Write to offset bytes.now) result }
     {
-        match self.drafted(who, to, Wanted::AFile) {
-            Some(grant) => self.write_draft(grant, offset, bytes),
-            None => self.write_object(alloc, who, to, offset, bytes),
-        }
-    }
-
-    /// The same where the reference has no draft.
-    fn write_object(
-        &mut self,
-        alloc: Global,
-        who: Session,
-        to: Ref,
-        offset: u64,
-        bytes: &[u8],
-    ) -> Result<Reply, Refused>
-        requires bare { (s : State) → ServesIs D.Disk self.old s → HasNoneOf AFile (draft_of s who to) }
-        ensures { Tries D.Disk self.old self.new who (asks.Write to offset bytes.now) result }
-    {
-        ufs_model::laws::are_bytes(bytes);
         let way = Way {
             to,
             also: None,
             changes: true,
         };
-        let (file, kind) = match self.file_at(who, way) {
-            Ok(there) => there,
-            Err(reply) => return Ok(reply),
-        };
-        let seen = self.space.shown(BlockNo(file.block));
-        let root = root_in(&mut self.disk, seen)?;
-        if !is_range(root.size, offset, bytes.len() as u64) {
+        match self.visit(who, way, Wanted::AFile)? {
+            Visited::Refused(reply) => Ok(reply),
+            Visited::Draft(grant) => self.write_draft(grant, offset, bytes),
+            Visited::Object(there) => self.write_object(alloc, &there, offset, bytes),
+        }
+    }
+
+    /// Writes bytes into a file that has no draft, whose root was read before.
+    fn write_object(
+        &mut self,
+        alloc: Global,
+        there: &There,
+        offset: u64,
+        bytes: &[u8],
+    ) -> Result<Reply, Refused>
+        requires on_disk { there.now.id.block < D.blocks self.old.disk }
+        requires some { there.now.id.block ≢ 0 }
+        requires fit { unfit_of AFile (Some there.now.kind) ≡ None }
+        requires limit { there.now.root.size ≤ size_limit }
+        ensures { (k : Kernel D) (to : Ref) (who : ℕ)
+            → VisitsObject D.Disk AFile (changing_way to) who k self.old there.now
+            → Tries D.Disk k self.new who (asks.Write to offset bytes.now) result }
+    {
+        if !is_range(there.root.size, offset, bytes.len() as u64) {
             return Ok(Reply::Range);
         }
+        ufs_model::laws::are_bytes(bytes);
+        let kind = file_kind(there.kind);
         let room = room_for(alloc, kind)?;
         let tried = finish(&mut self.disk, &mut self.space)?;
-        let at = BlockNo(file.block);
-        let root = since(tried, root_since(&mut self.disk, at, tried, root))?;
+        let at = BlockNo(there.id.block);
+        let root = since(tried, root_since(&mut self.disk, at, tried, there.root))?;
         let (disk, space) = (&mut self.disk, &mut self.space);
         let ended = file_ops::write(room, disk, space, at, kind, &root, offset, bytes, RESERVE);
         since(tried, done(ended))
@@ -104,39 +107,39 @@ impl<D: Disk> Core<D> {
     ) -> Result<Reply, Refused>
         ensures { Tries D.Disk self.old self.new who (asks.Resize to size) result }
     {
-        match self.drafted(who, to, Wanted::AFile) {
-            Some(grant) => self.resize_draft(grant, size),
-            None => self.resize_object(alloc, who, to, size),
-        }
-    }
-
-    /// The same where the reference has no draft.
-    fn resize_object(
-        &mut self,
-        alloc: Global,
-        who: Session,
-        to: Ref,
-        size: u64,
-    ) -> Result<Reply, Refused>
-        requires bare { (s : State) → ServesIs D.Disk self.old s → HasNoneOf AFile (draft_of s who to) }
-        ensures { Tries D.Disk self.old self.new who (asks.Resize to size) result }
-    {
-        let changes = true;
         let way = Way {
             to,
             also: None,
-            changes,
+            changes: true,
         };
-        let (file, kind) = match self.file_at(who, way) {
-            Ok(there) => there,
-            Err(reply) => return Ok(reply),
-        };
+        match self.reach(who, way, Wanted::AFile) {
+            Err(reply) => Ok(reply),
+            Ok(Reached::Draft(grant)) => self.resize_draft(grant, size),
+            Ok(Reached::Object { id, kind }) => self.resize_object(alloc, id, kind, size),
+        }
+    }
+
+    /// Sets the size of a file that has no draft.
+    fn resize_object(
+        &mut self,
+        alloc: Global,
+        id: Puid,
+        kind: Kind,
+        size: u64,
+    ) -> Result<Reply, Refused>
+        requires on_disk { id.block < D.blocks self.old.disk }
+        requires some { id.block ≢ 0 }
+        requires fit { unfit_of AFile (Some kind) ≡ None }
+        ensures { (to : Ref) (who : ℕ) → ReachesObject D.Disk AFile (changing_way to) who self.old id kind
+            → Tries D.Disk self.old self.new who (asks.Resize to size) result }
+    {
         if size > MOST_BYTES {
             return Ok(Reply::Range);
         }
+        let kind = file_kind(kind);
         let room = room_for(alloc, kind)?;
         let tried = finish(&mut self.disk, &mut self.space)?;
-        let at = BlockNo(file.block);
+        let at = BlockNo(id.block);
         let (disk, space) = (&mut self.disk, &mut self.space);
         let ended = file_ops::resize(room, disk, space, at, kind, size, RESERVE);
         since(tried, done(ended))

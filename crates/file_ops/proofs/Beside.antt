@@ -1,6 +1,6 @@
 -- A special file changed by a draft that is begun, changed and committed.
 use Rattle.file_ops.proofs.Words.{◌≡◌, inl, inr, ℕ, ◌+◌, ◌<◌, ◌≤◌, Bool, true, false, length, Option, Some, None, Ok, Err, refl, sym, ◌∙◌, ap, subst, arith, IfErr, OnOk, Result, sum, if_err, on_ok, HasStopped, HasTried, MakesAtMost, OnlyReads, Image, block_at, Leaves, Tells, Ghosts, Refused, makes_then, makes_within, reads_make, reads_then, stopped_after_reads, stopped_after_try, tells_on, then_tried, still_tells, then, wider, IsRootBlock, Root, Kept, is_untried, file_to_leaves, AreClaimed, Change, Overwrite, IsOldOrNew, Drafting, begun_at, need_beside, opened_as, EndsCall, damage_since, refusal_after_reads, has_met_damage, is_full_refusal, with_again, without_with, with_object, changed_object, changed_draft, Holds, one_root_block, Drafts, ChangesOnly, of_draft, of_owner, is_meant, is_placed, is_taken, and_from, and_parts, placed_taken, changes_then, changes_wider, MapEntry, reads_within, Draft, File, Object, SetSize}
-use Rattle.file_ops.specs.Changes.{BesideCall, ChangesFile, ChangesSo, ClaimsBeside, CommitsBeside, IsCommitRefusal, IsFileRefusal, MayChangeFile, NoneLeft, OfBlock, Short, claims_beside, is_resize, least_size, need_for}
+use Rattle.file_ops.specs.Changes.{BesideCall, ChangesFile, ChangesSo, ClaimsBeside, CommitsBeside, DirectCall, IsCommitRefusal, IsFileRefusal, MayChangeFile, NoneLeft, OfBlock, Short, claims_beside, is_resize, least_size, need_for}
 use Rattle.file_ops.specs.Limits.{change_calls, change_tries, drafted_calls}
 use Rattle.file_ops.proofs.Views.{Begun, DraftChanged, view_changed, handed, standing}
 use Rattle.cyl_alloc.specs.Left.{LeftCommit}
@@ -12,7 +12,7 @@ use Rattle.leaf_changes.proofs.Tops.{far_block}
 use Rattle.leaf_changes.specs.Tops.{IsFarRoot, disk_top, still_top}
 use Rattle.normal_files.proofs.FileCalls.{handed_file, images_read}
 use Rattle.special_files.proofs.Refusals.{damage_as, near_at, refusal_as}
-use Rattle.special_files.specs.Begins.{DirectCall, drafts_begun, equal_to}
+use Rattle.special_files.specs.Begins.{drafts_begun, equal_to}
 use Rattle.special_files.specs.Committing.{FarMade, FarRoots, FarShadow, IsFarPart, IsNoted, draft_top}
 use Rattle.special_files.specs.Limits.{changed_reads, commit_calls, commit_tries, resize_calls, resize_tries}
 use Rattle.special_files.specs.Refusal.{IsDraftRefusal, top_of}

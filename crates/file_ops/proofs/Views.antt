@@ -5,7 +5,8 @@ use Rattle.file_ops.specs.Changes.{MayChangeFile, claims_beside}
 use Rattle.intentions.proofs.Shown.{shown_tree}
 use Rattle.normal_files.specs.Calls.{Handed}
 use Rattle.normal_files.specs.Standing.{IsFileAt}
-use Rattle.special_files.specs.Begins.{BeginsDirect, DirectCall, drafts_begun, equal_to}
+use Rattle.file_ops.specs.Changes.{DirectCall}
+use Rattle.special_files.specs.Begins.{BeginsDirect, drafts_begun, equal_to}
 use Rattle.special_files.specs.View.{DraftView, GoesTo, ObjectView, ShownView}
 use Rattle.cfs_base.specs.declared.kind.FileKind.TheVariants as kinds
 use Rattle.ufs_model.specs.declared.object.Object.TheVariants as objects

@@ -1,9 +1,10 @@
 -- A file changed: a normal one in place, a special one beside itself as one commit.
 use Rattle.std.specs.Prelude.{◌≡◌, ◌⊎◌, ℕ, ◌+◌, ◌-◌, ◌/◌, ◌<◌, ◌≤◌, ◌||◌, Bool, true, false, List, [], length, sum}
-use Rattle.std.specs.Prelude.{None, Option, Result, IfErr, OnOk}
+use Rattle.std.specs.Prelude.{None, Option, Result, IfErr, IfOk, OnOk}
 use Rattle.cfs_base.specs.Calls.{HasStopped, MakesAtMost, OnlyReads}
 use Rattle.cfs_base.specs.Codes.{no_root, too_full}
 use Rattle.cfs_base.specs.Disk.{Image, block_at}
+use Rattle.cfs_base.specs.Refusals.{had_tried}
 use Rattle.cfs_base.specs.Run.{IsSettled, Leaves, Tells}
 use Rattle.cfs_base.specs.declared.disk.Disk.{Ghosts}
 use Rattle.cfs_base.specs.declared.identifier.Puid.{Puid}
@@ -22,7 +23,7 @@ use Rattle.cyl_map.specs.declared.entry.MapEntry.{MapEntry}
 use Rattle.file_ops.specs.Limits.{change_calls, change_tries, drafted_calls}
 use Rattle.intentions.specs.Left as commit
 use Rattle.intentions.specs.Left.{StoreIs}
-use Rattle.leaf_changes.specs.Tops.{Top, disk_top}
+use Rattle.leaf_changes.specs.Tops.{Top, disk_top, still_top}
 use Rattle.normal_files.specs.Ends.{IsNoSpace}
 use Rattle.normal_files.specs.Frees.{IsDropDamage, TakesNone}
 use Rattle.normal_files.specs.Order.{claims_of}
@@ -30,7 +31,7 @@ use Rattle.normal_files.specs.Refusal as normal
 use Rattle.normal_files.specs.Standing.{IsPartly}
 use Rattle.normal_files.specs.WriteRefusal.{is_untried, needs}
 use Rattle.special_files.specs.Committing.{Committed, IsAtBit, IsNoted, IsOldOrNew, TakesShadow, draft_top}
-use Rattle.special_files.specs.Drafting.{Drafting, none_of}
+use Rattle.special_files.specs.Drafting.{Drafting, begun_at, none_of}
 use Rattle.special_files.specs.Limits.{changed_reads, commit_calls, commit_tries}
 use Rattle.special_files.specs.Order.{claims_anew, claims_by_leaf}
 use Rattle.special_files.specs.Refusal as special
@@ -64,6 +65,19 @@ need_for kinds.Normal (Overwrite offset bytes) f = needs f offset (length bytes)
 need_for kinds.Normal (SetSize size) f = 0
 need_for kinds.Normal (Fill slot what) f = 0
 need_for kinds.Special change f = missing (written_anew change (objects.File f) []) [] + 1
+
+-- ---- begun
+
+-- how a draft without a shadow root is begun, on any disk: the root block alone is read
+pub record DirectCall {D : Type 0} (g : Ghosts D) (at : ℕ) (old new : D) (before after : Kept)
+    (result : Result Drafting Refused) : Type 0 where
+  pub begun : IfOk result (λ draft. draft ≡ begun_at at None draft.own)
+  pub root : Tells g old → IfOk result (λ draft. IsRootBlock (block_at (g.content old) at) draft.own)
+  pub refused : IfErr result (special.IsDraftRefusal g (still_top at) 0 old new after)
+  pub spare : IfErr result (λ e. is_full_refusal e ≡ false)
+  pub untried : IfErr result (λ e. had_tried e ≡ false)
+  pub space : after ≡ before
+  pub reads : OnlyReads g 1 old new
 
 -- ---- done
 

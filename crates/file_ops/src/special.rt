@@ -1,13 +1,23 @@
 //! A special file, changed beside itself as one commit.
-ghost use Rattle.std.specs.Prelude.{◌≡◌, ◌≢◌, ◌+◌, ◌*◌, ◌<◌, ◌≤◌, if◌then◌else◌, length, None, IfErr};
+ghost use Rattle.std.specs.Prelude.{◌≡◌, ◌≢◌, ◌+◌, ◌*◌, ◌<◌, ◌≤◌, if◌then◌else◌, length, false, None, IfErr, IfOk};
 ghost use Rattle.block_tree.specs.Pointers.{size_limit};
-ghost use Rattle.cfs_base.specs.Refusals.{refused_by, trouble_after_try};
+ghost use Rattle.block_tree.specs.Root.{IsRootBlock};
+ghost use Rattle.cfs_base.specs.Calls.{OnlyReads};
+ghost use Rattle.cfs_base.specs.Disk.{block_at};
+ghost use Rattle.cfs_base.specs.Refusals.{had_tried, refused_by, trouble_after_try};
+ghost use Rattle.cfs_base.specs.Run.{Tells};
 ghost use Rattle.cfs_base.specs.declared.kind.FileKind.TheVariants as kinds;
 ghost use Rattle.cfs_base.specs.declared.refusal.Refused.TheVariants as refused;
+ghost use Rattle.cyl_alloc.specs.Space.{Kept};
 ghost use Rattle.file_ops.specs.Changes as spec;
-ghost use Rattle.special_files.specs.View.{DraftView};
+ghost use Rattle.leaf_changes.specs.Tops.{still_top};
+ghost use Rattle.special_files.specs.Begins.{BeginsDirect};
+ghost use Rattle.special_files.specs.Drafting.{begun_at};
+ghost use Rattle.special_files.specs.Refusal.{IsDraftRefusal, is_full_refusal};
+ghost use Rattle.special_files.specs.View.{DraftView, GoesTo, ObjectView};
 ghost use Rattle.ufs_model.specs.declared.change.Change.TheVariants.{Overwrite, SetSize};
 
+use block_tree::read_root;
 use cfs_base::{BlockNo, Damage, Disk, Refused, Trouble, code};
 use cyl_alloc::Space;
 use special_files::{ObjectDraft, Room};
@@ -20,6 +30,26 @@ fn since(wrote: bool, trouble: Trouble) -> Refused
         return Refused::from(trouble.after_try());
     }
     Refused::from(trouble)
+}
+
+/// Begins the draft of the object at a block, without a shadow root. Nothing is written. `Damaged` names the root block,
+/// with code 3, which is none. Never `Full` or `Memory`.
+fn begin<D: Disk>(room: Room, disk: &mut D, at: BlockNo) -> Result<ObjectDraft, Refused>
+    requires some { at.0 ≢ 0 }
+    requires on_disk { at.0 < D.blocks disk.old }
+    ensures begins { (kept : Kept) (v : ObjectView D.Disk disk.old kept at.0)
+        → GoesTo D.Disk v.graph (BeginsDirect v disk.new kept) disk.old disk.new result }
+    ensures begun { IfOk result (λ draft. draft ≡ begun_at at.0 None draft.own) }
+    ensures root { Tells D.Disk disk.old → IfOk result (λ draft.
+        IsRootBlock (block_at (D.content disk.old) at.0) draft.own) }
+    ensures refused { (kept : Kept)
+        → IfErr result (IsDraftRefusal D.Disk (still_top at.0) 0 disk.old disk.new kept) }
+    ensures spare { IfErr result (λ e. is_full_refusal e ≡ false) }
+    ensures untried { IfErr result (λ e. had_tried e ≡ false) }
+    ensures reads { OnlyReads D.Disk 1 disk.old disk.new }
+{
+    let root = read_root(disk, at)?;
+    Ok(ObjectDraft::direct(room, at, &root))
 }
 
 /// Makes a draft its object. Where the draft wrote something before, each failure is one after a try.
@@ -69,7 +99,7 @@ pub(crate) fn write_beside<D: Disk>(
         space.old space.new result }
     ensures memory { IfErr result (λ e. e ≢ refused.Memory) }
 {
-    let mut draft = match ObjectDraft::begin_direct(room, disk, space, at) {
+    let mut draft = match begin(room, disk, at) {
         Ok(draft) => draft,
         Err(error) => return Err(error),
     };
@@ -103,7 +133,7 @@ pub(crate) fn resize_beside<D: Disk>(
         space.new result }
     ensures memory { IfErr result (λ e. e ≢ refused.Memory) }
 {
-    let mut draft = match ObjectDraft::begin_direct(room, disk, space, at) {
+    let mut draft = match begin(room, disk, at) {
         Ok(draft) => draft,
         Err(error) => return Err(error),
     };

@@ -1,16 +1,13 @@
 -- A draft of an index that was just begun: as calls are handed it, what changed once it is committed, and why it isn't.
 use Rattle.index_ops.proofs.Words.{[], ◌≡◌, ℕ, ◌*◌, ◌+◌, ◌/◌, ◌≤◌, false, cond, List, ◌∷◌, length, get_or, Option, None, Ok, Err, refl, sym, ◌∙◌, ap, subst, arith, inl, Result, option_to_list, and_from, and_parts, HasTried, OnlyReads, Image, block_at, refused_by, trouble_after_try, Ghosts, Refused, Trouble, IsRootBlock, root_spelling, MapEntry, AreClaimed, Leaf, Node, Kept, intended, StoreHas, Committed, Making, Drafting, IsOpen, begun_at, fresh_of, opened_as, EndsCall, SameBeside, leaf_claims, IsDraftRefusal, IsDraftTrouble, is_damage, has_met_damage, is_full_refusal, without_draft, begun_fresh, length-none, none_is, refusal_after_reads, refusal_of, trouble_after_tried, Draft, Object, Tree, tree_in, ChangesOnly, of_drafts, of_owners, is_meant, is_placed, is_taken, changes_then, changes_wider, placed_taken, without_with, with_opened, with_here}
 use Rattle.block_tree.specs.Pointers.{leaf_limit, leaf_pointers, node_pointers}
-use Rattle.block_tree.specs.declared.root.Root.{Root}
-use Rattle.index_ops.specs.Changes.{HasSlot, IsIndexRefusal, IsOneLeaf, TakesEntries, leaf_and_node}
-use Rattle.index_ops.proofs.Indices.{slots_are}
-use Rattle.cfs_base.specs.Run.{Tells}
+use Rattle.index_ops.specs.Changes.{IsIndexRefusal, IsOneLeaf, TakesEntries, leaf_and_node}
+use Rattle.cfs_base.proofs.Went.{reads_none}
 use Rattle.cfs_base.specs.declared.refusal.Refused.TheVariants as refused
 use Rattle.cfs_base.specs.declared.refusal.Trouble.TheVariants as trouble
-use Rattle.intentions.proofs.Shown.{root_tree, shown_has}
 use Rattle.intentions.specs.Left.{final_image}
-use Rattle.leaf_changes.proofs.Tops.{far_block}
-use Rattle.leaf_changes.specs.Tops.{IsFarRoot, Top, disk_top}
+use Rattle.leaf_changes.specs.Tops.{IsFarRoot, Top, root_top}
+use Rattle.special_files.proofs.Begun.{direct_begins}
 use Rattle.special_files.proofs.Refusals.{refusal_as, trouble_as}
 use Rattle.special_files.proofs.View.{draft_of}
 use Rattle.special_files.specs.Begins.{drafts_begun, equal_to}
@@ -32,6 +29,10 @@ module _ {D : Type 0} {g : Ghosts D} {d0 : D} {k0 : Kept} {at : ℕ} {was : Draf
 
   abbrev pub begun_view : {d1 : D} {k1 : Kept} → StoreHas g v.graph (drafts_begun v was) d1 k1 → DraftView g d1 k1 was
   begun_view store = record { graph = v.graph; ds = drafts_begun v was; id = v.id; object = v.object; draft = equal_to v.object; store = store; at = v.there; opened = begun_open }
+
+  -- the store has it where the block holds its root
+  pub begun_store : IsRootBlock (block_at (g.content d0) at) was.own → StoreHas g v.graph (drafts_begun v was) d0 k0
+  begun_store own = subst (λ (x : Drafting). StoreHas g v.graph (drafts_begun v x) d0 k0) (sym begun) (direct_begins v (reads_none g 0 d0) was.own own shut)
 
   -- without it there are the drafts that were
   pub begun_alone : without_draft v.id (drafts_begun v was) ≡ v.ds
@@ -98,22 +99,13 @@ commit_refused g at d0 d1 d2 k0 k1 k2 n t k x ended tried block created same nea
     not_full (trouble.Damaged damage) = refl
 
 -- what refuses a change of a draft that was just begun refuses the whole
-pub index_refusal : {D : Type 0} (g : Ghosts D) (at slot : ℕ) (d0 d1 d2 : D) (kept : Kept) (was : Drafting) → was ≡ begun_at at None was.own → (Tells g d0 → IsRootBlock (block_at (g.content d0) at) was.own) → (n : ℕ) → OnlyReads g n d0 d1
-    → (e : Refused) → IsDraftRefusal g (top_of was) 0 d1 d2 kept e × (is_full_refusal e ≡ false) → IsIndexRefusal g at slot d0 d2 kept e
-index_refusal g at slot d0 d1 d2 kept was begun root n reads e why =
-    by e why.1 (refusal_after_reads g (disk_top g at d0) d0 d1 d2 kept 0 n e reads (refusal_as g (top_of was) (disk_top g at d0) (ap (λ (x : Drafting). x.at) begun) d1 d2 kept
-    (λ far tells. far_block (g.blocks d2) at (g.content d0) was.own (root tells) (subst (λ (x : Drafting). IsFarRoot (g.blocks d2) x.root) begun far)) 0 e why.0))
+pub index_refusal : {D : Type 0} (g : Ghosts D) (d0 d1 d2 : D) (kept : Kept) (was : Drafting) → was ≡ begun_at was.at None was.own → (n : ℕ) → OnlyReads g n d0 d1
+    → (e : Refused) → IsDraftRefusal g (top_of was) 0 d1 d2 kept e × (is_full_refusal e ≡ false) → IsIndexRefusal g (root_top was.at was.own) d0 d2 kept e
+index_refusal g d0 d1 d2 kept was begun n reads e why =
+    by e why.1 (refusal_after_reads g (root_top was.at was.own) d0 d1 d2 kept 0 n e reads (refusal_as g (top_of was) (root_top was.at was.own) refl d1 d2 kept (λ far. subst (λ (x : Drafting). IsFarRoot (g.blocks d2) x.root) begun far) 0 e why.0))
   where
-    by : (e : Refused) → is_full_refusal e ≡ false → IsDraftRefusal g (disk_top g at d0) 0 d0 d2 kept e → IsIndexRefusal g at slot d0 d2 kept e
+    by : (e : Refused) → is_full_refusal e ≡ false → IsDraftRefusal g (root_top was.at was.own) 0 d0 d2 kept e → IsIndexRefusal g (root_top was.at was.own) d0 d2 kept e
     by (refused.Full need) spare is = cc
     by (refused.Disk tried) spare is = is
-    by (refused.Damaged damage) spare is = inl is
+    by (refused.Damaged damage) spare is = is
     by refused.Memory spare is = absurd is
-
--- ---- the slot is one of the index
-
-pub has_slot : {D : Type 0} {g : Ghosts D} {d0 : D} {k0 : Kept} {at slot : ℕ} (h : HasSlot g d0 k0 at slot) (own : Root) → IsRootBlock (block_at (g.content d0) at) own → 8 * slot + 8 ≤ own.size
-has_slot {g = g} {d0} {k0} h own is =
-    let v = h.view in
-    let there = subst (λ (n : ℕ). IsRootBlock (block_at (g.content d0) n) own) (sym v.root) is in
-    omega (arith, h.inside, slots_are (g.content d0) v.id.block v.object own (root_tree (shown_has g v.graph v.ds d0 k0 v.id v.object v.store v.there) own there) h.index h.is)

@@ -1,11 +1,11 @@
 -- A slot of an index filled by a draft that is begun, filled and committed.
-use Rattle.index_ops.proofs.Words.{[], ◌≡◌, ℕ, ◌/◌, List, Option, Some, None, Ok, Err, inl, inr, refl, sym, ◌∙◌, ap, subst, Result, OnlyReads, Image, Nothing, Leaves, Ghosts, Puid, Refused, Trouble, reads_then, then, wider, MapEntry, AreClaimed, AreCounts, Kept, StoreHas, IsOldOrNew, Committed, Makes, Making, Drafting, begun_at, opened_as, filled_draft, leaves_below, has_met_damage, store_reads, Swap, Graph, ids_of, object_at, with_object, rises, same_puid, Object, object_at-with_object, rises-with_object, same_entries, object_with, tree_in, block_at, true, false, cond, carries_on, same_puid_is, Accounts, Opened, ChangesOnly, of_owner, changes_begin, arith, Drafts, with_opened, with_again}
+use Rattle.index_ops.proofs.Words.{[], ◌≡◌, ℕ, ◌/◌, List, Option, Some, None, Ok, Err, inl, inr, refl, sym, ◌∙◌, ap, subst, Result, OnlyReads, Image, Nothing, Leaves, Ghosts, Puid, Refused, Trouble, IsRootBlock, then, wider, MapEntry, AreClaimed, AreCounts, Kept, StoreHas, IsOldOrNew, Committed, Makes, Making, Drafting, begun_at, opened_as, filled_draft, leaves_below, has_met_damage, store_reads, Swap, Graph, ids_of, object_at, with_object, rises, same_puid, Object, object_at-with_object, rises-with_object, same_entries, object_with, tree_in, block_at, true, false, cond, carries_on, same_puid_is, Accounts, Opened, ChangesOnly, of_owner, changes_begin, arith, Drafts, with_opened, with_again}
 use Rattle.index_ops.specs.Changes.{FillsIndex, HasSlot, SettlesDisk, index_with, leaf_and_node}
-use Rattle.index_ops.proofs.Begun.{ChangesOneLeaf, after_commit, begun_alone, begun_claims, begun_view, next_view, one_leaf, sound_by}
+use Rattle.index_ops.proofs.Begun.{ChangesOneLeaf, after_commit, begun_alone, begun_claims, begun_store, begun_view, next_view, one_leaf, sound_by}
 use Rattle.cyl_alloc.specs.Left.{LeftCommit}
 use Rattle.intentions.specs.Left.{StoreIs, StoreWith, coming, final_image}
 use Rattle.special_files.proofs.View.{draft_of, read_leaves}
-use Rattle.special_files.specs.Begins.{BeginsDirect, drafts_begun}
+use Rattle.special_files.specs.Begins.{drafts_begun}
 use Rattle.special_files.specs.Committing.{CommitEnds}
 use Rattle.special_files.specs.Fills.{FillsDraft, FillsIfIndex, IsSwapped}
 use Rattle.special_files.specs.View.{DraftView, GoesTo}
@@ -22,23 +22,22 @@ same_graph g id o up at = λ i. record g { objects = same_entries (with_object g
       | false ↦ λ other. refl
     ] refl
 
-module _ {D : Type 0} {g : Ghosts D} {d0 d1 : D} {k0 k1 : Kept} {at slot : ℕ} {was : Drafting} (h : HasSlot g d0 k0 at slot) (what : Option Puid) (begun : was ≡ begun_at at None was.own) (reads : OnlyReads g 1 d0 d1)
-    (begins : GoesTo g h.view.graph (BeginsDirect h.view d1 k1) d0 d1 (Ok was)) where
-  abbrev w : DraftView g d1 k1 was
-  w = begun_view h.view h.shut begun (begins.done h.shut)
+module _ {D : Type 0} {g : Ghosts D} {d0 : D} {k0 : Kept} {at slot : ℕ} {was : Drafting} (h : HasSlot g d0 k0 at slot) (what : Option Puid) (begun : was ≡ begun_at at None was.own) (own : IsRootBlock (block_at (g.content d0) at) was.own) where
+  abbrev w : DraftView g d0 k0 was
+  w = begun_view h.view h.shut begun (begun_store h.view h.shut begun own)
 
   abbrev pub Becomes : Image → Type 0
   Becomes = IsOldOrNew h.view.graph h.view.graph h.view.id (index_with h.index slot what)
 
   module _ (d2 : D) (k2 : Kept) (now : Drafting) where
     abbrev pub Goes : Result (Option Swap) Refused → Type 0
-    Goes r = (v : DraftView g d1 k1 was) → GoesTo g v.graph (FillsIfIndex v slot what d2 k2 now) d1 d2 r
+    Goes r = (v : DraftView g d0 k0 was) → GoesTo g v.graph (FillsIfIndex v slot what d2 k2 now) d0 d2 r
 
     abbrev e : Opened
     e = opened_as now (filled_draft h.index slot what w.draft)
 
     first : (r : Result (Option Swap) Refused) → Goes r → Leaves g d0 d2 Becomes
-    first r fills = then g d0 d1 d2 Becomes _ (wider g d0 d1 _ Becomes begins.leaves (λ c x. inl x)) (fills w).leaves (λ c x. inl x)
+    first r fills = wider g d0 d2 _ Becomes (fills w).leaves (λ c x. inl x)
 
     pub fill_stops : (e : Refused) → Goes (Err e) → FillsIndex h what d2 k2 (Err e)
     fill_stops e fills = record { done = tt; leaf = tt; leaves = first (Err e) fills; sound = (fills w).sound }
@@ -56,8 +55,7 @@ module _ {D : Type 0} {g : Ghosts D} {d0 d1 : D} {k0 k1 : Kept} {at slot : ℕ} 
             (commits (next_view w e.draft f.becomes.steps.store f.becomes.is_open) None created (f.swaps (ap (λ (x : Drafting). x.root) begun)))
 
         leaf : Committed g h.view.graph (with_opened h.view.id e (drafts_begun h.view was)) h.view.id (index_with h.index slot what) None d2 d3 k3 → ChangesOneLeaf (leaf_and_node (slot / 64) h.view.id.block) (slot / 64) h.view.id.block [] (g.content d0) (final_image g d3 k3)
-        leaf ch = subst (λ (a : Image). ChangesOneLeaf (leaf_and_node (slot / 64) h.view.id.block) (slot / 64) h.view.id.block [] a (final_image g d3 k3)) reads.content
-            (one_leaf w begun (slot / 64) (leaf_and_node (slot / 64) h.view.id.block) None f.becomes.is_open bare (subst (λ (es : List MapEntry). AreClaimed es (g.content d1) (g.content d2)) (begun_claims w begun (slot / 64)) (f.order refl)) f.beside f.becomes.steps.only ch)
+        leaf ch = one_leaf w begun (slot / 64) (leaf_and_node (slot / 64) h.view.id.block) None f.becomes.is_open bare (subst (λ (es : List MapEntry). AreClaimed es (g.content d0) (g.content d2)) (begun_claims w begun (slot / 64)) (f.order refl)) f.beside f.becomes.steps.only ch
 
         images : {q : Result (Unit {0}) Trouble} → CommitEnds g h.view.graph (with_opened h.view.id e (drafts_begun h.view was)) h.view.id (index_with h.index slot what) None d2 d3 k3 q → Leaves g d0 d3 Becomes
         images is = then g d0 d2 d3 Becomes Becomes (first (Ok (Some swap)) fills) is.leaves (λ c x. x)
@@ -79,10 +77,7 @@ module _ {D : Type 0} {g : Ghosts D} {d0 d1 : D} {k0 k1 : Kept} {at slot : ℕ} 
         by (Err t) is = record { done = tt; leaf = tt; leaves = images is; sound = sound_by t is.sound }
 
     -- nothing was to be put
-    module _ (fills : Goes (Ok None)) (same : now ≡ was) (kept : k2 ≡ k0) (more : OnlyReads g 2 d1 d2) (finished : k0.left ≡ None) (none : what ≡ None) where
-      both : OnlyReads g 3 d0 d2
-      both = reads_then g d0 d1 d2 1 2 3 reads more (omega arith)
-
+    module _ (fills : Goes (Ok None)) (same : now ≡ was) (kept : k2 ≡ k0) (reads : OnlyReads g 2 d0 d2) (finished : k0.left ≡ None) (none : what ≡ None) where
       left : k2.left ≡ None
       left = ap (λ (k : Kept). k.left) kept ∙ finished
 
@@ -90,7 +85,7 @@ module _ {D : Type 0} {g : Ghosts D} {d0 d1 : D} {k0 k1 : Kept} {at slot : ℕ} 
       same_object =
           let f = (fills w).done h.index h.is in
           ap (changed_object (Fill slot what)) (sym h.is) ∙ sym (draft_of (next_view w (filled_draft h.index slot what w.draft) f.becomes.steps.store f.becomes.is_open)).tree.object
-          ∙ (λ j. object_with (same j).root (leaves_below (more.content j) (same j).root)) ∙ (draft_of w).tree.object
+          ∙ (λ j. object_with (same j).root (leaves_below (reads.content j) (same j).root)) ∙ (draft_of w).tree.object
 
       same_objects : with_object h.view.graph h.view.id (index_with h.index slot what) ≡ h.view.graph
       same_objects = ap (with_object h.view.graph h.view.id) same_object ∙ same_graph h.view.graph h.view.id h.view.object h.view.store.ordered h.view.there
@@ -99,13 +94,13 @@ module _ {D : Type 0} {g : Ghosts D} {d0 d1 : D} {k0 k1 : Kept} {at slot : ℕ} 
       fill_settles {d3} r settles = by r settles
         where
           images : Leaves g d2 d3 Nothing → Leaves g d0 d3 Becomes
-          images is = then g d0 d2 d3 Becomes Nothing (read_leaves both) is (λ c x. absurd x)
+          images is = then g d0 d2 d3 Becomes Nothing (read_leaves reads) is (λ c x. absurd x)
 
           by : (q : Result (Unit {0}) Refused) → SettlesDisk g d2 d3 q → FillsIndex h what d3 k2 q
           by (Err e) is = record { done = tt; leaf = tt; leaves = images is.images; sound = ap has_met_damage is.refused }
           by (Ok tt) is =
-              let store = store_reads g h.view.graph h.view.ds d0 d2 k0 3 h.view.store both in
-              let stays : final_image g d3 k2 ≡ g.content d0 = ap (coming (g.content d3)) left ∙ is.content ∙ both.content in
+              let store = store_reads g h.view.graph h.view.ds d0 d2 k0 2 h.view.store reads in
+              let stays : final_image g d3 k2 ≡ g.content d0 = ap (coming (g.content d3)) left ∙ is.content ∙ reads.content in
               let then3 : StoreHas g h.view.graph h.view.ds d3 k0 = record {
                 carries = carries_on g h.view.graph d2 d3 store.carries is.content is.told is.images is.calls.same;
                 account = subst (λ (a : Image). Accounts a h.view.graph h.view.ds) (sym is.content) store.account;

@@ -1,5 +1,5 @@
 pub mod Words
-mod Indices
+pub mod Indices
 mod Begun
 mod Filling
 mod Making

@@ -1,26 +1,24 @@
 -- An index changed as one commit.
-use Rattle.std.specs.Prelude.{◌≡◌, ◌⊎◌, ℕ, ◌+◌, ◌*◌, ◌/◌, ◌<◌, false, List, [], ◌∷◌, length, Option, IfErr, OnErr, OnOk}
+use Rattle.std.specs.Prelude.{◌≡◌, ◌⊎◌, ℕ, ◌/◌, ◌<◌, false, List, [], ◌∷◌, length, Option, IfErr, OnErr, OnOk}
 use Rattle.std.specs.Prelude.{IsTrue, Result, None, true}
 use Rattle.cfs_base.specs.Calls.{HasStopped, MakesAtMost, OnlyReads}
-use Rattle.cfs_base.specs.Codes.{no_root}
 use Rattle.cfs_base.specs.Disk.{Image, Nothing, block_at}
 use Rattle.cfs_base.specs.Run.{IsSettled, Leaves, Tells}
 use Rattle.cfs_base.specs.declared.disk.Disk.{Ghosts}
 use Rattle.cfs_base.specs.declared.identifier.Puid.{Puid}
 use Rattle.cfs_base.specs.declared.kind.Place.TheVariants.{Leaf, Node}
-use Rattle.cfs_base.specs.declared.refusal.Damage.{Damage}
 use Rattle.cfs_base.specs.declared.refusal.Refused.{Refused}
 use Rattle.cfs_base.specs.declared.refusal.Refused.TheVariants as refusals
 use Rattle.block_tree.specs.Pointers.{leaf_pointers}
 use Rattle.block_tree.specs.Root.{IsRootBlock}
-use Rattle.block_tree.specs.declared.root.Root.{Root}
 use Rattle.claims.specs.Claims.{AreClaimed}
 use Rattle.cyl_alloc.specs.Left.{LeftCommit}
 use Rattle.cyl_alloc.specs.Space.{Kept, intended}
 use Rattle.cyl_map.specs.declared.entry.MapEntry.{MapEntry}
 use Rattle.intentions.specs.Left.{StoreIs, final_image}
 use Rattle.special_files.specs.Committing.{IsAtBit, IsNoted, IsOldOrNew, TakesShadow}
-use Rattle.leaf_changes.specs.Tops.{disk_top}
+use Rattle.leaf_changes.specs.Tops.{Top, root_top}
+use Rattle.special_files.specs.Drafting.{Drafting}
 use Rattle.special_files.specs.Leaves.{SameBeside}
 use Rattle.special_files.specs.Refusal.{IsDraftDamage, has_met_damage}
 use Rattle.special_files.specs.View.{IsShut, ObjectView}
@@ -90,23 +88,12 @@ pub record SettlesDisk {D : Type 0} (g : Ghosts D) (old new : D) (result : Resul
 
 -- ---- why it is refused
 
--- the refusal that it has no such slot
-abbrev pub short_at : ℕ → Refused
-short_at at = refusals.Damaged (record { block = at; code = no_root })
-
--- the root at this block has no such slot
-pub record IsShort {D : Type 0} (g : Ghosts D) (at slot : ℕ) (old : D) (damage : Damage) : Type 0 where
-  pub code : damage.code ≡ no_root
-  pub block : damage.block ≡ at
-  pub short : Tells g old → (root : Root) → IsRootBlock (block_at (g.content old) at) root → root.size < 8 * slot + 8
-
 -- a device call failed, or a block that was read is damaged
-abbrev pub IsIndexRefusal : {D : Type 0} → Ghosts D → (at slot : ℕ) → D → D → Kept → Refused → Type 0
-IsIndexRefusal g at slot old new kept (refusals.Full need) = ⊥
-IsIndexRefusal g at slot old new kept (refusals.Disk tried) = HasStopped g tried old new
-IsIndexRefusal g at slot old new kept (refusals.Damaged damage) =
-    IsDraftDamage g (disk_top g at old) old new kept damage ⊎ IsShort g at slot old damage
-IsIndexRefusal g at slot old new kept refusals.Memory = ⊥
+abbrev pub IsIndexRefusal : {D : Type 0} → Ghosts D → Top → D → D → Kept → Refused → Type 0
+IsIndexRefusal g at old new kept (refusals.Full need) = ⊥
+IsIndexRefusal g at old new kept (refusals.Disk tried) = HasStopped g tried old new
+IsIndexRefusal g at old new kept (refusals.Damaged damage) = IsDraftDamage g at old new kept damage
+IsIndexRefusal g at old new kept refusals.Memory = ⊥
 
 -- One commit is unfinished then, of the index at this block; or a slot that is empty was to be, and none is.
 abbrev pub LeavesCommit : ℕ → Option Puid → Option LeftCommit → Type 0
@@ -123,17 +110,18 @@ pub record FillsIndex {D : Type 0} {g : Ghosts D} {old : D} {before : Kept} {at 
   pub leaves : Leaves g old new (IsOldOrNew h.view.graph h.view.graph h.view.id (index_with h.index slot what))
   pub sound : IfErr result (λ e. has_met_damage e ≡ false)
 
--- A slot of the index at a block gets this, as one commit.
-pub record PutsSlot {D : Type 0} (g : Ghosts D) (at slot : ℕ) (what : Option Puid) (old new : D) (before after : Kept)
-    (result : Result (Unit {0}) Refused) : Type 0 where
-  pub fills : (h : HasSlot g old before at slot) → FillsIndex h what new after result
-  pub refused : IfErr result (IsIndexRefusal g at slot old new after)
+-- A slot of the index of which this draft was just begun gets this, as one commit, where the index has that root.
+pub record PutsSlot {D : Type 0} (g : Ghosts D) (draft : Drafting) (slot : ℕ) (what : Option Puid) (old new : D)
+    (before after : Kept) (result : Result (Unit {0}) Refused) : Type 0 where
+  pub fills : (h : HasSlot g old before draft.at slot) → IsRootBlock (block_at (g.content old) draft.at) draft.own
+      → FillsIndex h what new after result
+  pub refused : IfErr result (IsIndexRefusal g (root_top draft.at draft.own) old new after)
   -- before a write or barrier is tried all is as it was
-  pub untried : IfErr result (λ e. e ≡ refusals.Disk false → (after ≡ before) × OnlyReads g 9 old new)
+  pub untried : IfErr result (λ e. e ≡ refusals.Disk false → (after ≡ before) × OnlyReads g 8 old new)
   pub cylinders : length after.free ≡ length before.free
-  pub left : OnOk result (LeavesCommit at what after.left)
+  pub left : OnOk result (LeavesCommit draft.at what after.left)
   -- where none is, nothing changed
   pub still : after.left ≡ None → OnOk result (g.content new ≡ g.content old)
   -- where it is unfinished, its bit was tried
   pub bit : OnOk result (IsAtBit g old new after.left)
-  pub calls : MakesAtMost g 20 11 old new
+  pub calls : MakesAtMost g 19 11 old new

@@ -1,6 +1,8 @@
 -- An object made, and its identifier put into a slot of an index, as one commit.
 use Rattle.std.specs.Prelude.{◌≡◌, ◌⊎◌, ℕ, ◌/◌, [], ◌∷◌, length, false, IfErr, IfOk, OnOk, Result, Some}
+use Rattle.block_tree.specs.Root.{IsRootBlock}
 use Rattle.cfs_base.specs.Calls.{MakesAtMost, OnlyReads}
+use Rattle.cfs_base.specs.Disk.{block_at}
 use Rattle.cfs_base.specs.Run.{IsSettled, Leaves}
 use Rattle.cfs_base.specs.declared.disk.Disk.{Ghosts}
 use Rattle.cfs_base.specs.declared.identifier.Puid.{Puid}
@@ -12,7 +14,9 @@ use Rattle.cyl_alloc.specs.Space.{IsLeastFree, Kept, intended}
 use Rattle.index_ops.specs.Changes.{HasSlot, IsIndexRefusal, IsOneLeaf, TakesEntries, index_with, leaf_and_node}
 use Rattle.intentions.specs.Left.{StoreIs, final_image}
 use Rattle.special_files.specs.Committing.{IsAtBit, IsNoted, puid_at}
+use Rattle.leaf_changes.specs.Tops.{root_top}
 use Rattle.special_files.specs.Creates.{IsOpenMap}
+use Rattle.special_files.specs.Drafting.{Drafting}
 use Rattle.special_files.specs.Refusal.{has_met_damage}
 use Rattle.ufs_model.specs.Graph.{Graph, with_object}
 use Rattle.ufs_model.specs.declared.object.Index.{Index}
@@ -60,15 +64,18 @@ pub record PlacesIn {D : Type 0} {g : Ghosts D} {old : D} {before : Kept} {at sl
       × Holds c (with_made h.view.graph h.view.id h.index slot (puid_at b word) made)))
   pub sound : IfErr result (λ e. has_met_damage e ≡ false)
 
--- A slot of the index at a block gets an object that is made, with this word.
-pub record PutsObject {D : Type 0} (g : Ghosts D) (at slot : ℕ) (made : Object) (word : ℕ) (old new : D)
+-- A slot of the index of which this draft was just begun gets an object that is made, with this word, where the index
+-- has that root.
+pub record PutsObject {D : Type 0} (g : Ghosts D) (draft : Drafting) (slot : ℕ) (made : Object) (word : ℕ) (old new : D)
     (before after : Kept) (result : Result Puid Refused) : Type 0 where
-  pub places : (h : HasSlot g old before at slot) → PlacesIn h made word new after result
-  pub refused : IfErr result (λ e. IsIndexRefusal g at slot old new after e ⊎ IsOpenMap g old before e)
+  pub places : (h : HasSlot g old before draft.at slot) → IsRootBlock (block_at (g.content old) draft.at) draft.own
+      → PlacesIn h made word new after result
+  pub refused : IfErr result (λ e. IsIndexRefusal g (root_top draft.at draft.own) old new after e
+      ⊎ IsOpenMap g old before e)
   -- before a write or barrier is tried all is as it was
-  pub untried : IfErr result (λ e. e ≡ refusals.Disk false → (after ≡ before) × OnlyReads g 9 old new)
+  pub untried : IfErr result (λ e. e ≡ refusals.Disk false → (after ≡ before) × OnlyReads g 8 old new)
   pub cylinders : length after.free ≡ length before.free
   -- the commit is unfinished then
-  pub left : OnOk result ((l : LeftCommit) × IsNoted at after.left l)
+  pub left : OnOk result ((l : LeftCommit) × IsNoted draft.at after.left l)
   pub bit : OnOk result (IsAtBit g old new after.left)
-  pub calls : MakesAtMost g 24 13 old new
+  pub calls : MakesAtMost g 23 13 old new

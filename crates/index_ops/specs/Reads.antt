@@ -6,11 +6,6 @@ use Rattle.cfs_base.specs.declared.refusal.Trouble.{Trouble}
 use Rattle.ufs_model.specs.Object.{slot_of}
 use Rattle.ufs_model.specs.declared.object.Index.{Index}
 
--- how many slots it has; no damage is met
-pub record CountsSlots (i : Index) (result : Result ℕ Trouble) : Type 0 where
-  pub count : IfOk result (λ count. count ≡ length i.slots)
-  pub sound : IfErr result (λ trouble. is_damage trouble ≡ false)
-
 -- what one of its slots holds; no damage is met
 pub record FindsIn (i : Index) (slot : ℕ) (result : Result (Option Puid) Trouble) : Type 0 where
   pub found : slot < length i.slots → IfOk result (λ what. what ≡ slot_of i slot)

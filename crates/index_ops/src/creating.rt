@@ -1,28 +1,29 @@
 //! An object made, and its identifier put into a slot of an index.
 ghost use Rattle.std.specs.Prelude.{◌≡◌, ◌≢◌, ◌⊎◌, ◌+◌, ◌*◌, ◌<◌, ◌≤◌, false, length, sum, None, Err, IfErr, IfOk};
 ghost use Rattle.std.specs.Prelude.{OnOk};
+ghost use Rattle.block_tree.specs.Root.{IsRootBlock};
 ghost use Rattle.cfs_base.specs.Calls.{MakesAtMost, OnlyReads};
+ghost use Rattle.cfs_base.specs.Disk.{block_at};
 ghost use Rattle.cfs_base.specs.declared.refusal.Refused.TheVariants as refusals;
 ghost use Rattle.cyl_alloc.specs.Left.{LeftCommit};
 ghost use Rattle.cyl_alloc.specs.Space.{IsLeastFree};
 ghost use Rattle.index_ops.specs.Changes.{HasSlot, IsIndexRefusal};
 ghost use Rattle.index_ops.specs.Creates as spec;
+ghost use Rattle.leaf_changes.specs.Tops.{root_top};
 ghost use Rattle.special_files.specs.Committing.{IsAtBit, IsNoted, puid_at};
 ghost use Rattle.special_files.specs.Creates.{IsBare, IsOpenMap};
 ghost use Rattle.special_files.specs.Drafting.{begun_at};
 ghost use Rattle.special_files.specs.Refusal.{IsDraftRefusal, is_full_refusal, top_of};
-ghost use Rattle.ufs_model.specs.Limits.{most_slots};
 ghost use Rattle.vol_owners.specs.Account.{without_draft};
 ghost use Rattle.special_files.specs.View.{DraftView};
 ghost use Rattle.ufs_model.specs.declared.object.Index.{Index};
 ghost use Rattle.ufs_model.specs.declared.object.Object.TheVariants as objects;
 ghost use Rattle.vol_image.specs.Reading.{bare_object};
 
-use crate::changing::begin;
 use block_tree::Root;
 use cfs_base::{BlockNo, Disk, Puid, Refused};
 use cyl_alloc::Space;
-use special_files::{ObjectDraft, Room, least};
+use special_files::{ObjectDraft, least};
 
 /// Makes the object with this root at a Free block, fills the slot with it, and commits both.
 fn make_at<D: Disk>(
@@ -65,65 +66,64 @@ fn make_at<D: Disk>(
     })
 }
 
-/// Makes an object with this root, and puts its identifier into a slot of the index at a block.
+/// Makes an object with this root, and puts its identifier into a slot of the index of which this draft was just begun.
 fn make<D: Disk>(
-    room: Room,
+    draft: ObjectDraft,
     disk: &mut D,
     space: &mut Space,
-    index: BlockNo,
     slot: u64,
     root: &Root,
 ) -> Result<Puid, Refused>
-    requires some { index.0 ≢ 0 }
-    requires on_disk { index.0 < D.blocks disk.old }
+    requires begun { draft ≡ begun_at draft.at None draft.own }
+    requires on_disk { draft.at < D.blocks disk.old }
     requires size { D.blocks disk.old ≡ 64 * length space.old.free }
     requires left { space.old.left ≡ None }
-    requires few { slot < most_slots }
+    requires within { 8 * slot + 8 ≤ draft.own.size }
     requires room { 4 ≤ sum space.old.free }
     requires root { IsBare root.now }
-    ensures places { (h : HasSlot D.Disk disk.old space.old index.0 slot)
+    ensures places { (h : HasSlot D.Disk disk.old space.old draft.at slot)
+        → IsRootBlock (block_at (D.content disk.old) draft.at) draft.own
         → spec.PlacesIn h (bare_object root.now) root.now.word disk.new space.new result }
-    ensures refused { IfErr result (λ e. IsIndexRefusal D.Disk index.0 slot disk.old disk.new space.new e
+    ensures refused { IfErr result (λ e.
+        IsIndexRefusal D.Disk (root_top draft.at draft.own) disk.old disk.new space.new e
         ⊎ IsOpenMap D.Disk disk.old space.old e) }
     ensures untried { IfErr result (λ e. e ≡ refusals.Disk false → (space.new ≡ space.old)
-        × OnlyReads D.Disk 9 disk.old disk.new) }
+        × OnlyReads D.Disk 8 disk.old disk.new) }
     ensures cylinders { length space.new.free ≡ length space.old.free }
-    ensures left { OnOk result ((l : LeftCommit) × IsNoted index.0 space.new.left l) }
+    ensures left { OnOk result ((l : LeftCommit) × IsNoted draft.at space.new.left l) }
     ensures bit { OnOk result (IsAtBit D.Disk disk.old disk.new space.new.left) }
-    ensures calls { MakesAtMost D.Disk 24 13 disk.old disk.new }
+    ensures calls { MakesAtMost D.Disk 23 13 disk.old disk.new }
 {
-    let draft = begin(room, disk, space, index, slot)?;
     let block = least(disk, space)?;
     make_at(draft, disk, space, slot, block, root)
 }
 
-/// Makes the object with this root, a `bare_root`, and puts its identifier into a slot of the index at a block,
-/// whatever stood there, as one commit. Its block is the least-numbered Free one. `Full` where fewer than 4 blocks are
-/// Free beside the 4 that are left for deletes; no device call was made then. `Damaged` as in `retain`, and it names
-/// block 0, with code 2, where that map is Free by what it says itself.
+/// Makes the object with this root, a `bare_root`, and puts its identifier into a slot of the index of which this draft
+/// was just begun, whatever stood there, as one commit. Its block is the least-numbered Free one. `Full` where fewer
+/// than 4 blocks are Free beside the 4 that are left for deletes; no device call was made then. `Damaged` as in
+/// `retain`, and it names block 0, with code 2, where that map is Free by what it says itself.
 pub fn create<D: Disk>(
-    room: Room,
+    draft: ObjectDraft,
     disk: &mut D,
     space: &mut Space,
-    index: BlockNo,
     slot: u64,
     root: &Root,
 ) -> Result<Puid, Refused>
-    requires some { index.0 ≢ 0 }
-    requires on_disk { index.0 < D.blocks disk.old }
+    requires begun { draft ≡ begun_at draft.at None draft.own }
+    requires on_disk { draft.at < D.blocks disk.old }
     requires size { D.blocks disk.old ≡ 64 * length space.old.free }
     // No commit is unfinished.
     requires left { space.old.left ≡ None }
-    requires few { slot < most_slots }
+    requires within { 8 * slot + 8 ≤ draft.own.size }
     requires root { IsBare root.now }
     // Full exactly where 4 and 4 blocks aren't Free; nothing was done then.
     ensures full { sum space.old.free < 4 + 4
         → (result ≡ Err (refusals.Full (record { free = sum space.old.free; need = 4 })))
         × (disk.new ≡ disk.old) × (space.new ≡ space.old) }
     ensures makes { 4 + 4 ≤ sum space.old.free
-        → spec.PutsObject D.Disk index.0 slot (bare_object root.now) root.now.word disk.old disk.new space.old space.new
+        → spec.PutsObject D.Disk draft slot (bare_object root.now) root.now.word disk.old disk.new space.old space.new
         result }
 {
     space.has_room(4, 4)?;
-    make(room, disk, space, index, slot, root)
+    make(draft, disk, space, slot, root)
 }

@@ -9,4 +9,4 @@ mod reading;
 
 pub use changing::{delete, retain};
 pub use creating::create;
-pub use reading::{retrieve, slots};
+pub use reading::retrieve;

@@ -1,10 +1,10 @@
 //! An index, read.
-ghost use Rattle.std.specs.Prelude.{◌≡◌, ◌<◌, ◌≤◌, IfErr, IfOk};
+ghost use Rattle.std.specs.Prelude.{◌≡◌, ◌/◌, ◌<◌, IfErr, IfOk};
 ghost use Rattle.block_tree.specs.Pointers.{leaf_limit};
-ghost use Rattle.block_tree.specs.Reads.{IsRootTrouble};
-ghost use Rattle.block_tree.specs.Root.{root_spelling};
+ghost use Rattle.block_tree.specs.Root.{IsRootBlock, root_spelling};
 ghost use Rattle.block_tree.specs.Tree.{leaf_bytes};
 ghost use Rattle.cfs_base.specs.Calls.{OnlyReads};
+ghost use Rattle.cfs_base.specs.Disk.{block_at};
 ghost use Rattle.cfs_base.specs.Run.{Tells};
 ghost use Rattle.cyl_alloc.specs.Space.{Kept};
 ghost use Rattle.index_ops.specs.Causes as causes;
@@ -17,7 +17,7 @@ ghost use Rattle.ufs_model.specs.declared.object.Index.{Index};
 ghost use Rattle.ufs_model.specs.declared.object.Object.TheVariants as objects;
 ghost use Rattle.vol_owners.specs.Account.{Drafts};
 
-use block_tree::{Root, read_leaf, read_root};
+use block_tree::{Root, read_leaf};
 use cfs_base::{Block, BlockNo, Disk, Puid, Trouble};
 use leaf_changes::slot_at;
 
@@ -39,36 +39,23 @@ fn leaf_content<D: Disk>(
     Ok(content)
 }
 
-/// How many slots the index has that is shown at a block. `Damaged` names the block, with code 3, which is no root
-/// block.
-pub fn slots<D: Disk>(disk: &mut D, index: BlockNo) -> Result<u64, Trouble>
-    requires { index.0 < D.blocks disk.old }
-    ensures counts { (v : ShownView D.Disk disk.old index.0) (i : Index) → v.object ≡ objects.Index i
-        → spec.CountsSlots i result }
-    ensures most { IfOk result (λ count. count ≤ most_slots) }
-    ensures refused { IfErr result (IsRootTrouble D.Disk index.0 disk.old disk.new) }
-    ensures store { (graph : Graph) (ds : Drafts) (space : Kept) → StoreIs D.Disk graph ds disk.old space
-        → StoreIs D.Disk graph ds disk.new space }
-    ensures reads { OnlyReads D.Disk 1 disk.old disk.new }
-{
-    let root = read_root(disk, index)?;
-    Ok(root.size / 8)
-}
-
-/// What a slot of the index that is shown at a block holds: None where it is empty. The slot is one of the index.
-/// `Damaged` names the block, with code 3, which is no root block, or that block or a node, with code 4, where the
-/// pointer to the slot's leaf leads past the disk.
-pub fn retrieve<D: Disk>(disk: &mut D, index: BlockNo, slot: u64) -> Result<Option<Puid>, Trouble>
-    requires on_disk { index.0 < D.blocks disk.old }
+/// What a slot of the index with this root holds, which is shown at a block: None where it is empty. The slot is one of
+/// the index. `Damaged` names the block, or a node, with code 4, where the pointer to the slot's leaf leads past the
+/// disk.
+pub fn retrieve<D: Disk>(
+    disk: &mut D,
+    index: BlockNo,
+    root: &Root,
+    slot: u64,
+) -> Result<Option<Puid>, Trouble>
     requires few { slot < most_slots }
     ensures finds { (v : ShownView D.Disk disk.old index.0) (i : Index) → v.object ≡ objects.Index i
-        → spec.FindsIn i slot result }
-    ensures refused { IfErr result (causes.IsSlotTrouble D.Disk index.0 slot disk.old disk.new) }
+        → IsRootBlock (block_at (D.content disk.old) index.0) root.now → spec.FindsIn i slot result }
+    ensures refused { IfErr result (causes.IsLeafTrouble D.Disk index.0 root.now (slot / 64) disk.old disk.new) }
     ensures store { (graph : Graph) (ds : Drafts) (space : Kept) → StoreIs D.Disk graph ds disk.old space
         → StoreIs D.Disk graph ds disk.new space }
-    ensures reads { OnlyReads D.Disk 3 disk.old disk.new }
+    ensures reads { OnlyReads D.Disk 2 disk.old disk.new }
 {
-    let root = read_root(disk, index)?;
-    let content = leaf_content(disk, index, &root, (slot / 64) as u32)?;
+    let content = leaf_content(disk, index, root, (slot / 64) as u32)?;
     Ok(slot_at(&content, (slot % 64) as usize))
 }

@@ -40,7 +40,7 @@ abbrev pub BeginsDraft : {D : Type 0} {g : Ghosts D} {old : D} {before : Kept} {
     → Kept → Drafting → Type 0
 BeginsDraft v new after draft = IsShut v → OpensDraft v new after draft
 
--- the store has a draft without a shadow root besides
+-- the store has a draft without a shadow root besides, of the root that the block holds
 abbrev pub BeginsDirect : {D : Type 0} {g : Ghosts D} {old : D} {before : Kept} {at : ℕ} → ObjectView g old before at
     → D → Kept → Drafting → Type 0
 BeginsDirect {g = g} v new after draft = IsShut v → StoreHas g v.graph (drafts_begun v draft) new after
@@ -59,14 +59,3 @@ pub record BeginCall {D : Type 0} (g : Ghosts D) (at floor : ℕ) (old new : D) 
   pub cylinders : length after.free ≡ length before.free
   pub left : after.left ≡ before.left
   pub calls : MakesAtMost g 3 1 old new
-
--- and of one without a shadow root: the root block alone is read
-pub record DirectCall {D : Type 0} (g : Ghosts D) (at : ℕ) (old new : D) (before after : Kept)
-    (result : Result Drafting Refused) : Type 0 where
-  pub begun : IfOk result (λ draft. draft ≡ begun_at at None draft.own)
-  pub root : Tells g old → IfOk result (λ draft. IsRootBlock (block_at (g.content old) at) draft.own)
-  pub refused : IfErr result (IsDraftRefusal g (still_top at) 0 old new after)
-  pub spare : IfErr result (λ e. is_full_refusal e ≡ false)
-  pub untried : IfErr result (λ e. had_tried e ≡ false)
-  pub space : after ≡ before
-  pub reads : OnlyReads g 1 old new

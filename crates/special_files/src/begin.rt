@@ -1,7 +1,7 @@
 //! A draft begun.
-ghost use Rattle.std.specs.Prelude.{◌≡◌, ◌≢◌, ◌<◌, ◌≤◌, ◌*◌, length};
+ghost use Rattle.std.specs.Prelude.{◌≡◌, ◌≢◌, ◌<◌, ◌≤◌, ◌*◌, length, None};
 ghost use Rattle.block_tree.specs.Pointers.{leaf_limit, node_pointers, size_limit};
-ghost use Rattle.special_files.specs.Begins.{BeginCall, BeginsDirect, BeginsDraft, DirectCall};
+ghost use Rattle.special_files.specs.Begins.{BeginCall, BeginsDraft};
 ghost use Rattle.special_files.specs.Drafting.{begun_at, none_of, number_if};
 ghost use Rattle.special_files.specs.View.{GoesTo, ObjectView};
 
@@ -94,21 +94,13 @@ impl ObjectDraft {
         Ok(room.draft(at, Some(shadow), root))
     }
 
-    /// Begins a draft without a shadow root, which `commit` claims. Nothing is written. `Damaged` names the root block,
-    /// with code 3, which is none. Never `Full` or `Memory`.
-    pub fn begin_direct<D: Disk>(
-        room: Room,
-        disk: &mut D,
-        space: &mut Space,
-        at: BlockNo,
-    ) -> Result<ObjectDraft, Refused>
+    /// The draft without a shadow root of the object with this root at a block, which it equals; `commit` claims the
+    /// shadow root. It is the object's where the block holds that root.
+    pub fn direct(room: Room, at: BlockNo, root: &Root) -> ObjectDraft
         requires some { at.0 ≢ 0 }
-        requires on_disk { at.0 < D.blocks disk.old }
-        ensures begins { (v : ObjectView D.Disk disk.old space.old at.0)
-            → GoesTo D.Disk v.graph (BeginsDirect v disk.new space.new) disk.old disk.new result }
-        ensures call { DirectCall D.Disk at.0 disk.old disk.new space.old space.new result }
+        requires limit { root.now.size ≤ size_limit }
+        ensures { result ≡ begun_at at.0 None root.now }
     {
-        let root = read_root(disk, at)?;
-        Ok(room.draft(at, None, root))
+        room.draft(at, None, *root)
     }
 }

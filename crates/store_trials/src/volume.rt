@@ -4,12 +4,13 @@ ghost use Rattle.cfs_fakes.specs.Memory.{contents};
 ghost use Rattle.special_files.specs.Creates.{MayBeMade};
 
 use crate::laid::{LEAF_ENTRY, NODE_ENTRY, RESERVED, ROOT_ENTRY, block_of, get, put};
+use block_tree::read_root;
 use cfs_base::{
     Block, BlockNo, Bytes, Disk, Failed, FileKind, Kind, NoMemory, Place, Puid, Refused, Trouble,
 };
 use cfs_fakes::{MemoryDisk, Seen, Watched};
 use cyl_alloc::Space;
-use file_ops::{read, read_root, resize, write};
+use file_ops::{read, resize, write};
 use finisher::{finish_all, step};
 use index_ops::{create, delete, retain, retrieve};
 use special_files::{ObjectDraft, Room, bare_root};
@@ -117,13 +118,17 @@ impl Volume {
     ) -> Result<(), Refused>
         requires { MayBeMade kind fill size }
     {
-        if slot >= 64 || !self.is_ready() {
+        if !self.is_ready() {
             return Err(Refused::Memory);
         }
-        let (disk, space) = (&mut self.disk, &mut self.space);
         let room = Room::new(alloc)?;
-        let root = bare_root(kind, fill, size, word);
-        create(room, disk, space, BlockNo(2), slot, &root)?;
+        let root = read_root(&mut self.disk, BlockNo(2))?;
+        if slot >= root.size / 8 {
+            return Err(Refused::Memory);
+        }
+        let draft = ObjectDraft::direct(room, BlockNo(2), &root);
+        let (disk, space) = (&mut self.disk, &mut self.space);
+        create(draft, disk, space, slot, &bare_root(kind, fill, size, word))?;
         self.finish()
     }
 
@@ -155,14 +160,19 @@ impl Volume {
         slot: u64,
         what: Option<Puid>,
     ) -> Result<(), Refused> {
-        if at.0 == 0 || at.0 > 8 || slot >= 983_040 || !self.is_ready() {
+        if at.0 == 0 || at.0 > 8 || !self.is_ready() {
             return Err(Refused::Memory);
         }
         let room = Room::new(alloc)?;
+        let root = read_root(&mut self.disk, at)?;
+        if slot >= root.size / 8 {
+            return Err(Refused::Memory);
+        }
+        let draft = ObjectDraft::direct(room, at, &root);
         let (disk, space) = (&mut self.disk, &mut self.space);
         match what {
-            Some(id) if id.block != 0 => retain(room, disk, space, at, slot, id)?,
-            _ => delete(room, disk, space, at, slot)?,
+            Some(id) if id.block != 0 => retain(draft, disk, space, slot, id)?,
+            _ => delete(draft, disk, space, slot)?,
         }
         self.finish()
     }
@@ -220,11 +230,11 @@ impl Volume {
             return Err(Refused::Memory);
         }
         let room = Room::new(alloc)?;
-        let (disk, space) = (&mut self.disk, &mut self.space);
         if is_direct {
-            return ObjectDraft::begin_direct(room, disk, space, at);
+            let root = read_root(&mut self.disk, at)?;
+            return Ok(ObjectDraft::direct(room, at, &root));
         }
-        ObjectDraft::begin(room, disk, space, at, 4)
+        ObjectDraft::begin(room, &mut self.disk, &mut self.space, at, 4)
     }
 
     /// Writes bytes into a draft.
@@ -322,7 +332,8 @@ impl Volume {
         if at.0 >= self.disk.blocks() || slot >= 983_040 {
             return Err(Trouble::Disk { tried: false });
         }
-        retrieve(&mut self.disk, at, slot)
+        let root = read_root(&mut self.disk, at)?;
+        retrieve(&mut self.disk, at, &root, slot)
     }
 
     /// Claims a block for leaf 7 of the root index.

@@ -7,12 +7,12 @@ use Rattle.special_files.proofs.Levels.{none_is}
 use Rattle.file_ops.proofs.special.resize_beside.Goals as goal
 
 pub returns-in-Err-clause-changes : goal.returns-in-Err-clause-changes
-returns-in-Err-clause-changes g c = never_begun c.in-Err.error c.in-Err.ensures.call (λ v. (c.in-Err.ensures.begins v).sound)
+returns-in-Err-clause-changes g c = never_begun c.in-Err.error (record { begun = tt; root = λ tells. tt; refused = c.in-Err.ensures.refused c.args.space.now; spare = c.in-Err.ensures.spare; untried = c.in-Err.ensures.untried; space = refl; reads = c.begin.ensures.reads }) (λ v. (c.in-Err.ensures.begins c.args.space.now v).sound)
 
 pub returns-in-Err-resize-clause-changes : goal.returns-in-Err-resize-clause-changes
 returns-in-Err-resize-clause-changes g c =
     let r = c.in-Err-resize.ensures in
-    let b = begun_by c.in-Ok.ensures.begins c.in-Ok.ensures.call in
+    let b = begun_by (c.in-Ok.ensures.begins c.args.space.now) (record { begun = c.in-Ok.ensures.begun; root = c.in-Ok.ensures.root; refused = tt; spare = tt; untried = tt; space = refl; reads = c.begin.ensures.reads }) in
     refused_change {now = c.resize.new.self} (record {
       begun = b;
       goes = λ m. let x = r.goes (view_begun m b) in record { done = tt; leaves = x.leaves; sound = x.sound };
@@ -29,7 +29,7 @@ returns-in-Ok-resize-clause-changes g c =
     let r = c.in-Ok-resize.ensures in
     let s = r.call.stays in
     let w = c.has_fresh_nodes-wrote.ensures in
-    let b = begun_by c.in-Ok.ensures.begins c.in-Ok.ensures.call in
+    let b = begun_by (c.in-Ok.ensures.begins c.args.space.now) (record { begun = c.in-Ok.ensures.begun; root = c.in-Ok.ensures.root; refused = tt; spare = tt; untried = tt; space = refl; reads = c.begin.ensures.reads }) in
     let told = r.call.told (subst HasNoneFresh (sym b.call.begun) (record { leaves = none_is leaf_limit; nodes = none_is node_pointers.count })) in
     ended (record {
       begun = b;
@@ -42,3 +42,6 @@ returns-in-Ok-resize-clause-changes g c =
       few_tries = omega arith;
     })
     (λ none. refl) (λ yes. let some = w.some yes in told.tried some.0 some.1) (λ no. told.untried (w.none no)) c.commit.ensures.call c.commit.ensures.commits
+
+pub returns-in-Err-clause-memory : goal.returns-in-Err-clause-memory
+returns-in-Err-clause-memory g c = λ is. rw is at (c.in-Err.ensures.refused c.args.space.now)

@@ -1,0 +1,67 @@
+use Rattle.std.proofs.Common.{length, true, None, Some, refl, sym, ◌∙◌, ap, nat_lt}
+use Rattle.cfs_base.proofs.Passed.{is_passed}
+use Rattle.cyl_alloc.specs.Left.{block_shown}
+use Rattle.ufs_model.specs.declared.asked.Reply.TheVariants as replies
+use Rattle.ufs_model.specs.declared.asked.Request.TheVariants as asks
+use Rattle.ufs_model.specs.declared.object.Object.TheVariants as objects
+use Rattle.cfs_core.specs.declared.way.Way.{Way}
+use Rattle.cfs_core.proofs.Looked.{below, slots_read}
+use Rattle.cfs_core.proofs.Refusing.{beyond, retain_goes}
+use Rattle.cfs_core.proofs.Views.{knows_that}
+use Rattle.cfs_core.proofs.Came.{drafted_there, held_there, near_there, object_there, read_there, refused_there, shown_there, tries_on, turned_there}
+use Rattle.cfs_core.proofs.Words.{AnIndex}
+use Rattle.cfs_core.proofs.kernel.Core.retain.Goals as goal
+
+pub returns-in_err-reply : goal.returns-in_err-reply
+returns-in_err-reply g c = rw (is_passed _ _ c.from_residual.ensures.1) (c.in_err-reply.ensures (asks.Retain c.args.to c.args.slot c.args.id) (record { to = refl; each = λ s who. refl }))
+
+pub returns-in-Refused : goal.returns-in-Refused
+returns-in-Refused g c = refused_there g.D.Disk AnIndex (record { to = c.args.to; also = Some c.args.id; changes = true }) c.args.who c.args.self.now c.visit.new.self c.in_ok-reply.field-0 c.in_ok-reply.ensures c.in-Refused.reply c.in-Refused.is (asks.Retain c.args.to c.args.slot c.args.id) (record { to = refl; each = λ s who. refl })
+
+pub retain_draft-requires : goal.retain_draft-requires
+retain_draft-requires g c = held_there g.D.Disk AnIndex (record { to = c.args.to; also = Some c.args.id; changes = true }) c.args.who c.args.self.now c.visit.new.self c.in_ok-reply.field-0 c.in_ok-reply.ensures c.in-Draft.grant c.in-Draft.is
+
+pub returns-in-Draft : goal.returns-in-Draft
+returns-in-Draft g c = drafted_there g.D.Disk AnIndex (record { to = c.args.to; also = Some c.args.id; changes = true }) c.args.who c.args.self.now c.visit.new.self c.in_ok-reply.field-0 c.in_ok-reply.ensures c.in-Draft.grant c.in-Draft.is c.retain_draft.new.self c.retain_draft.result (λ to. asks.Retain to c.args.slot c.args.id) c.retain_draft.ensures
+
+pub has_slot-requires : goal.has_slot-requires
+has_slot-requires g c = (object_there g.D.Disk AnIndex (record { to = c.args.to; also = Some c.args.id; changes = true }) c.args.who c.args.self.now c.visit.new.self c.in_ok-reply.field-0 c.in_ok-reply.ensures c.in-Object.there c.in-Object.is).limit
+
+pub put-requires-clause-on_disk : goal.put-requires-clause-on_disk
+put-requires-clause-on_disk g c = near_there g.D.Disk AnIndex (record { to = c.args.to; also = Some c.args.id; changes = true }) c.args.who c.args.self.now c.visit.new.self c.in-Object.there (object_there g.D.Disk AnIndex (record { to = c.args.to; also = Some c.args.id; changes = true }) c.args.who c.args.self.now c.visit.new.self c.in_ok-reply.field-0 c.in_ok-reply.ensures c.in-Object.there c.in-Object.is)
+
+pub put-requires-clause-some : goal.put-requires-clause-some
+put-requires-clause-some g c = (object_there g.D.Disk AnIndex (record { to = c.args.to; also = Some c.args.id; changes = true }) c.args.who c.args.self.now c.visit.new.self c.in_ok-reply.field-0 c.in_ok-reply.ensures c.in-Object.there c.in-Object.is).reaches.some
+
+pub put-requires-clause-within : goal.put-requires-clause-within
+put-requires-clause-within g c = c.has_slot.ensures.has c.if-not-has_slot.false
+
+pub put-requires-clause-limit : goal.put-requires-clause-limit
+put-requires-clause-limit g c = (object_there g.D.Disk AnIndex (record { to = c.args.to; also = Some c.args.id; changes = true }) c.args.who c.args.self.now c.visit.new.self c.in_ok-reply.field-0 c.in_ok-reply.ensures c.in-Object.there c.in-Object.is).limit
+
+pub put-requires-clause-id : goal.put-requires-clause-id
+put-requires-clause-id g c = (object_there g.D.Disk AnIndex (record { to = c.args.to; also = Some c.args.id; changes = true }) c.args.who c.args.self.now c.visit.new.self c.in_ok-reply.field-0 c.in_ok-reply.ensures c.in-Object.there c.in-Object.is).reaches.also c.args.id refl
+
+pub returns-then-not-has_slot : goal.returns-then-not-has_slot
+returns-then-not-has_slot g c =
+    let way : Way = record { to = c.args.to; also = Some c.args.id; changes = true } in
+    let new = c.visit.new.self in
+    let there = c.in-Object.there in
+    let visits = object_there g.D.Disk AnIndex way c.args.who c.args.self.now new c.in_ok-reply.field-0 c.in_ok-reply.ensures there c.in-Object.is in
+    let at = block_shown new.space.left there.id.block in
+    let read = read_there g.D.Disk g.met.D.Disk.left_sized g.met.D.Disk.sized AnIndex way c.args.who c.args.self.now new there visits new refl at refl in
+    turned_there g.D.Disk g.met.D.Disk.left_sized g.met.D.Disk.sized AnIndex way c.args.who c.args.self.now new there visits new refl at refl (asks.Retain c.args.to c.args.slot c.args.id) (record { to = refl; each = λ s who. refl }) 1 new.disk replies.Slot tt read.reads
+    (λ s i serves r knows. beyond 0 s c.args.who c.args.to there.id i (asks.Retain c.args.to c.args.slot c.args.id) c.args.slot r refl (ap (nat_lt c.args.slot) (sym (slots_read read i knows)) ∙ sym c.has_slot.ensures.decides ∙ c.if-not-has_slot.true))
+
+pub returns-else-not-has_slot : goal.returns-else-not-has_slot
+returns-else-not-has_slot g c =
+    let way : Way = record { to = c.args.to; also = Some c.args.id; changes = true } in
+    let new = c.visit.new.self in
+    let there = c.in-Object.there in
+    let visits = object_there g.D.Disk AnIndex way c.args.who c.args.self.now new c.in_ok-reply.field-0 c.in_ok-reply.ensures there c.in-Object.is in
+    let at = block_shown new.space.left there.id.block in
+    let read = read_there g.D.Disk g.met.D.Disk.left_sized g.met.D.Disk.sized AnIndex way c.args.who c.args.self.now new there visits new refl at refl in
+    tries_on g.D.Disk c.args.self.now c.put.new.self c.args.who (asks.Retain c.args.to c.args.slot c.args.id) there.id c.args.slot c.put.result (visits.reaches.reached (asks.Retain c.args.to c.args.slot c.args.id) (record { to = refl; each = λ s who. refl })) (c.put.ensures 1 c.args.self.now c.args.to visits.came)
+    (λ s i serves r.
+    let inside = below c.args.slot (length i.slots) (ap (nat_lt c.args.slot) (sym (slots_read read i (knows_that g.D.Disk c.args.self.now s serves there.id (objects.Index i) at (shown_there g.D.Disk g.met.D.Disk.left_sized g.met.D.Disk.sized AnIndex way c.args.who c.args.self.now new there visits new refl at refl) r.there))) ∙ sym c.has_slot.ensures.decides ∙ c.if-not-has_slot.false) in
+    (inside, retain_goes 0 s c.args.who c.args.to there.id i c.args.slot c.args.id r inside))
