@@ -1,7 +1,7 @@
 """A slow reader of volumes, written from docs/FORMAT.md alone: what an image says, and what opening makes of it."""
 
 import struct
-from collections import defaultdict
+from collections import Counter, defaultdict
 from dataclasses import dataclass
 
 BLOCK = 512
@@ -66,6 +66,7 @@ class Volume:
         self.blocks = len(data) // BLOCK
         self.faults = set()
         self.objects = {}
+        self.reached = set()
         self.refusal = self.label()
         if self.refusal is None:
             self.maps()
@@ -224,6 +225,42 @@ class Volume:
         self.free = self.blocks - len(fixed | self.held())
         if self.free < 4:
             self.faults.add((0, 11))
+
+    def used(self):
+        """How often rooted objects use each block."""
+        used = Counter(self.reached)
+        for found in self.objects.values():
+            used.update(found.nodes.values())
+            used.update(found.leaves.values())
+        return used
+
+    def unhealed(self):
+        """The first fault that maps made anew don't heal: of the code of another thing than an entry, or of the entry of a
+        block that is used twice, or of a map block or the label that is used. None where they heal all."""
+        used = self.used()
+        for block, code in sorted(self.faults):
+            fixed = block % CYLINDER == 0 or block == 1
+            if code not in (2, 5) or code == 5 and (used[block] > 1 or fixed and used[block]):
+                return block, code
+        return None
+
+    def refused(self, fault=None):
+        """The end of the report where the volume is refused, for this fault if it is one."""
+        return f'volume {self.refusal or "damaged %d %d" % fault}\nstatus 3\n'
+
+    def checked(self):
+        """The report of a check."""
+        listed = sorted(self.faults)
+        if self.is_sound():
+            return f'sound {len(self.objects)} {self.free}\nstatus 0\n'
+        return ''.join(f'fault {block} {code}\n' for block, code in listed) + self.refused(*listed[:1])
+
+    def mended(self):
+        """The report of a mending, and what it makes of the image."""
+        fault = self.unhealed()
+        if self.refusal is not None or fault is not None:
+            return self.refused(fault), self.data
+        return 'status 0\n', self.recovered()
 
     def free_entries(self):
         """How many blocks the maps have as Free."""

@@ -87,11 +87,21 @@ fn file_blocks(pair: bool, cylinders: u32) -> u32
     }
 }
 
-/// Opens or makes the file of the volume, where one is named.
+/// Opens the file of a volume that is there, to read it alone or to write it too.
+fn open_existing(rt: &HostRuntime, path: &Path, reads: bool) -> io::Result<FileDisk> {
+    if reads {
+        FileDisk::read_only(rt, path.as_str())
+    } else {
+        FileDisk::existing(rt, path.as_str())
+    }
+}
+
+/// Opens or makes the file of the volume, where one is named; one that is there to read it alone, or to write it too.
 fn open_volume(
     rt: &HostRuntime,
     volume: &Option<Volume>,
     pair: bool,
+    reads: bool,
 ) -> Result<Option<FileDisk>, u8>
     requires { IfSome volume.now (HasCylinders pair) }
     ensures { IfOk result (λ d. FitsVolume volume.now
@@ -100,9 +110,7 @@ fn open_volume(
     match volume {
         None => Ok(None),
         Some(Volume::Existing { path }) => {
-            let disk = FileDisk::existing(rt, path.as_str()).map_err(|why| tell_path(
-                rt, path, &why,
-            ))?;
+            let disk = open_existing(rt, path, reads).map_err(|why| tell_path(rt, path, &why))?;
             Ok(Some(disk))
         }
         Some(Volume::Fresh { path, cylinders }) => {
@@ -177,8 +185,8 @@ fn made_file(volume: Option<Volume>, disk: &Option<FileDisk>) -> Option<Path> {
     }
 }
 
-/// Opens these files.
-fn open_files(rt: &HostRuntime, alloc: Global, files: &Files) -> Result<Opened, u8>
+/// Opens these files: a volume that is there to read it alone, or to write it too.
+fn open_files(rt: &HostRuntime, alloc: Global, files: &Files, reads: bool) -> Result<Opened, u8>
     requires { IfSome files.now.volume (HasCylinders files.now.pair) }
     ensures disk { IfOk result (λ o. FitsVolume files.now.volume
         (option_map (λ f. volume_blocks o.pair (⟦<FileDisk as Disk>⟧.blocks f)) o.disk)) }
@@ -186,7 +194,7 @@ fn open_files(rt: &HostRuntime, alloc: Global, files: &Files) -> Result<Opened, 
     ensures sinks { IfOk result (λ o. length o.sinks.items ≡ length files.now.sinks) }
 {
     let mut known = Known::new(alloc);
-    let disk = open_volume(rt, &files.volume, files.pair)?;
+    let disk = open_volume(rt, &files.volume, files.pair, reads)?;
     add_volume(rt, &mut known, &files.volume, &disk)?;
     let sources = open_sources(rt, alloc, &mut known, files.sources.as_slice())?;
     let sinks = open_sinks(rt, alloc, &mut known, files.sinks.as_slice())?;
@@ -221,7 +229,8 @@ pub(crate) fn open(
     let Ok(files) = command.files(alloc) else {
         return Err(tell_starved(rt));
     };
-    let opened = open_files(rt, alloc, &files)?;
+    let reads = matches!(command, Command::Check(_));
+    let opened = open_files(rt, alloc, &files, reads)?;
     let made = made_file(files.volume, &opened.disk);
     Ok(Opened { made, ..opened })
 }

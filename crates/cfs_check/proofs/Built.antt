@@ -34,8 +34,8 @@ use Rattle.vol_image.specs.Seen.{Held, place_above, place_at}
 use Rattle.cfs_recover.proofs.Objects as found
 use Rattle.cfs_check.specs.Items.{IsItemOf, IsUseOf, Item, ItemUses, ItsRoot, ItsTwig}
 use Rattle.cfs_check.specs.Twigs.{IsShownBy, Twig, twigs_of}
-unfoldable use Rattle.cfs_check.specs.Mended.{mended, mended_entries}
-use Rattle.cfs_check.specs.Mended.{mended_block, mended_entry, mended_map}
+unfoldable use Rattle.cfs_check.specs.Repair.{entries_below, mended}
+use Rattle.cfs_check.specs.Repair.{AreMapUses, mended_block, mended_entries, mended_entry, mended_map}
 use Rattle.cfs_check.specs.Sized.{AreSized}
 use Rattle.cfs_check.specs.Surveyed.{IsWholeSurvey}
 use Rattle.cfs_check.specs.Uses.{Use}
@@ -119,7 +119,7 @@ module _ (image : Image) (whole : AreSized image) (long : 3 ≤ length image) (f
   use_entry n (uses.By r p) is = item_entry is.1.item (w.only is.1.item is.1.its) r n p is.1.uses
   use_entry n uses.Twice is = record { in_table = refl }
 
-  pub entry_ok : (n : ℕ) → IsEntry (mended_entry (use_of n))
+  pub entry_ok : AreMapUses s.uses
   entry_ok n = elim (cases_lt n (length image)) [
     | inl below ↦ use_entry n (use_of n) (w.found.uses n below)
     | inr past ↦ subst (λ (u : Use). IsEntry (mended_entry u)) (sym (get_or_past s.uses n uses.Free (omega (arith, past, w.found.size)))) (record { in_table = refl })
@@ -138,7 +138,7 @@ module _ (image : Image) (whole : AreSized image) (long : 3 ≤ length image) (f
   unfolding mended
   block_is n below = get_or-map-range_with_len (mended_block image s.roots.blocks s.uses) 0 (length image) n n [] below (omega arith)
 
-  map_is : (j : ℕ) → 64 * j < length image → block_at b (64 * j) ≡ mended_map s.uses j
+  pub map_is : (j : ℕ) → 64 * j < length image → block_at b (64 * j) ≡ mended_map s.uses j
   map_is j below =
       let test : (64 * j % 64 == 0) ≡ true = grind (arith, nat_tests) in
       let same : 64 * j / 64 ≡ j = omega arith in
@@ -162,8 +162,8 @@ module _ (image : Image) (whole : AreSized image) (long : 3 ≤ length image) (f
 
   -- ---- its entries
 
-  is_map : (j : ℕ) → IsMap (mended_entries s.uses j)
-  unfolding mended_entries
+  pub is_map : (j : ℕ) → IsMap (mended_entries s.uses j)
+  unfolding entries_below
   is_map j = record {
     long = length-map-range_with_len (λ k. mended_entry (use_of (64 * j + k))) 0 64;
     each = All-from_get_or IsEntry (map (λ k. mended_entry (use_of (64 * j + k))) (range_with_len 0 64)) (mended_entry uses.Free)
@@ -171,7 +171,7 @@ module _ (image : Image) (whole : AreSized image) (long : 3 ≤ length image) (f
   }
 
   entry_of_map : (j k : ℕ) → k < 64 → slice_get (mended_entries s.uses j) k ≡ Some (mended_entry (use_of (64 * j + k)))
-  unfolding mended_entries
+  unfolding entries_below
   entry_of_map j k below =
       let es : List MapEntry = map (λ i. mended_entry (use_of (64 * j + i))) (range_with_len 0 64) in
       slice_get-get_or es k (mended_entry uses.Free) (omega (arith, below, length-map-range_with_len (λ i. mended_entry (use_of (64 * j + i))) 0 64))

@@ -43,7 +43,7 @@ some_place_or None None = inl refl
 some_place_or (Some p) (Some q) = elim (place_or p q) [ inl same ↦ inl (ap Some same) | inr other ↦ inr (λ is. other (let e : p ≡ q = cc in e)) ]
 some_place_or a b = inr (λ is. cc)
 
-entry_or : (a b : MapEntry) → (a ≡ b) ⊎ (a ≢ b)
+pub entry_or : (a b : MapEntry) → (a ≡ b) ⊎ (a ≢ b)
 entry_or a b = elim (state_or a.state b.state) [
   | inr other ↦ inr (λ is. other (ap (λ (e : MapEntry). e.state) is))
   | inl state ↦ elim (bool_or a.committed b.committed) [

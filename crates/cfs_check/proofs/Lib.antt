@@ -1,3 +1,4 @@
+pub mod Again
 pub mod Along
 pub mod Begun
 pub mod Built
@@ -5,13 +6,16 @@ pub mod Decided
 pub mod Entered
 pub mod Exact
 pub mod Ground
+pub mod Healing
 pub mod Known
 pub mod Listed
+pub mod MapBytes
 pub mod Marked
 pub mod Mending
 pub mod Noted
 pub mod Opening
 pub mod Placed
+pub mod Planned
 pub mod Reading
 pub mod Restored
 pub mod Right
@@ -26,3 +30,4 @@ pub mod Told
 pub mod Twigs
 pub mod Walking
 pub mod Whole
+pub mod Written

@@ -29,7 +29,9 @@ use Rattle.vol_image.specs.Part.{EntryPart, is_fixed, part_at, part_of, stands_f
 unfoldable use Rattle.vol_image.specs.Sight.{sight}
 use Rattle.vol_image.specs.Sound.{IsSoundAs, ReadsAs}
 use Rattle.cfs_recover.specs.Recovered.{IsClean}
-use Rattle.cfs_check.specs.Mended.{HasRoots, IsReadByOne, IsRootOf, MendsTo}
+use Rattle.cfs_check.specs.Mended.{IsReadByOne, IsRootOf, MendsTo}
+use Rattle.cfs_check.specs.Repair.{HasRoots}
+use Rattle.cfs_check.specs.Sized.{AreSized}
 
 -- ---- shadow roots that stand
 
@@ -86,7 +88,7 @@ fewer_pass P Q (n ∷ ns) less few = elim (P n) as (λ p. P n ≡ p → length (
     no_more [] none = refl
     no_more (x ∷ xs) none = absurd (omega arith)
 
-standing_none : (a : Image) (r : ℕ) → has_own_bit r (part_at a r) ≡ false → standing a r ≡ []
+pub standing_none : (a : Image) (r : ℕ) → has_own_bit r (part_at a r) ≡ false → standing a r ≡ []
 unfolding standing
 standing_none a r off = ap (λ (t : Bool). if t then filter (λ n. stands_for r (entry_in a n)) (range_with_len 0 (length a)) else []) off
 
@@ -122,7 +124,7 @@ module _ (b : Image) (g : Graph) (sound : IsSoundAs b g) (clean : IsClean b g) w
     root_inside = in_image b g sound.holds id.block rooted.taken.is rooted.taken.here
 
     -- and no commit bit
-    no_bit : has_own_bit id.block (part_at b id.block) ≡ false
+    pub no_bit : has_own_bit id.block (part_at b id.block) ≡ false
     no_bit =
         let e = rooted.taken.is in
         let tidy = clean.held id.block e rooted.taken.here (record { id = id; object = o; there = at; here = inl refl }) in
@@ -220,6 +222,7 @@ module _ (c : Image) (g : Graph) (b : Image) (mends : MendsTo c g b) (id : Puid)
   pub mends_root : MendsTo put g b
   mends_root = record {
     size = mends.size ∙ sym size;
+    whole = mends.whole;
     sound = mends.sound;
     clean = mends.clean;
     roots = read_on;
@@ -313,6 +316,7 @@ module _ (c : Image) (g : Graph) (b : Image) (mends : MendsTo c g b) (copied : H
   pub mends_map : MendsTo with_map g b
   mends_map = record {
     size = mends.size ∙ sym same_size;
+    whole = mends.whole;
     sound = mends.sound;
     clean = mends.clean;
     roots = map_read;
@@ -323,9 +327,10 @@ module _ (c : Image) (g : Graph) (b : Image) (mends : MendsTo c g b) (copied : H
   map_has_roots x p there = own_kept x p there ∙ copied x p there
 
 -- a sound volume that is clean is mended to itself
-pub mends_itself : (b : Image) (g : Graph) → IsSoundAs b g → IsClean b g → MendsTo b g b
-mends_itself b g sound clean = record {
+pub mends_itself : (b : Image) (g : Graph) → AreSized b → IsSoundAs b g → IsClean b g → MendsTo b g b
+mends_itself b g whole sound clean = record {
   size = refl;
+  whole = whole;
   sound = sound;
   clean = clean;
   roots = λ id o at.

@@ -1,6 +1,6 @@
 -- What mending makes of a volume whose faults are of entries alone is sound, and reads as was shown.
-use Rattle.std.proofs.Common.{◌≡◌, ◌≢◌, ◌⊎◌, inl, inr, ℕ, zero, suc, ◌+◌, ◌*◌, ◌/◌, ◌%◌, ◌<◌, ◌≤◌, ◌^◌, Bool, true, false, if◌then◌else◌, List, [], length, get_or, Option, Some, None, is_some, refl, sym, ◌∙◌, ap, subst, arith}
-use Rattle.std.proofs.lemmas.Bool.{cases_lt}
+use Rattle.std.proofs.Common.{◌≡◌, ◌≢◌, ◌⊎◌, inl, inr, ℕ, zero, suc, ◌+◌, ◌*◌, ◌/◌, ◌%◌, ◌<◌, ◌≤◌, ◌^◌, Bool, true, false, if◌then◌else◌, List, [], ◌∷◌, length, get_or, Option, Some, None, is_some, refl, sym, ◌∙◌, ap, subst, arith}
+use Rattle.std.proofs.lemmas.Bool.{cases_eq, cases_lt}
 use Rattle.std.specs.List.{range_with_len}
 use Rattle.std.specs.Prelude.{IsSome, filter}
 use Rattle.cfs_base.specs.Disk.{Image, block_at}
@@ -11,6 +11,7 @@ use Rattle.block_tree.specs.Root.{IsRootBlock}
 use Rattle.block_tree.specs.Tree.{levels_of, tree_of}
 use Rattle.block_tree.specs.declared.root.Root.{Root}
 use Rattle.cyl_alloc.specs.Space.{unheld_entry}
+use Rattle.cyl_map.proofs.Maps.{length-map_spelling}
 use Rattle.cyl_map.proofs.Volumes.{map_in_image}
 use Rattle.cyl_map.specs.Volume.{entry_in}
 use Rattle.cyl_map.specs.declared.entry.MapEntry.{MapEntry}
@@ -21,9 +22,10 @@ use Rattle.ufs_model.specs.Numbers.{has_number}
 use Rattle.ufs_model.specs.declared.object.Object.{Object}
 use Rattle.vol_image.proofs.Parts.{not_root, place_inner}
 use Rattle.vol_image.proofs.Paths.{held_some, held_there, some_held}
+use Rattle.vol_image.proofs.Rising.{here as at_head}
 use Rattle.vol_image.proofs.Steps.{not_map}
 use Rattle.vol_image.proofs.Views.{held, held_is}
-use Rattle.vol_image.specs.Fault.{AsRoot, InTree, IsKeptBlock, IsReachedIn, IsUsed, LeavesBlocks, Shows, shown_root, shown_tree}
+use Rattle.vol_image.specs.Fault.{AsRoot, InTree, IsKeptBlock, IsReachedIn, IsUsed, LeavesBlocks, Shows, one_or, reader, shown_root, shown_tree, standing}
 use Rattle.vol_image.specs.Part.{BelongsTo, is_committed, is_fixed, part_at, part_of, reserved, stands_for}
 use Rattle.vol_image.specs.Reading.{IsTree, leaf_in, object_with}
 use Rattle.vol_image.specs.Seen.{Held, place_at, tree_in}
@@ -36,16 +38,18 @@ use Rattle.cfs_recover.proofs.NoFault.{in_kept, kept_in}
 use Rattle.cfs_recover.specs.Recovered.{IsClean}
 use Rattle.cfs_recover.specs.Survey.{IsIn}
 use Rattle.cfs_check.specs.Items.{IsUseOf, IsUsedIn}
-use Rattle.cfs_check.specs.Mended.{IsReadByOne, IsRootOf, MendsTo, mended, mended_entry}
+use Rattle.cfs_check.specs.Mended.{IsReadByOne, IsRootOf, MendsTo}
+use Rattle.cfs_check.specs.Repair.{mended, mended_entries, mended_entry}
 use Rattle.cfs_check.specs.Sized.{AreSized}
 use Rattle.cfs_check.specs.Surveyed.{IsWholeSurvey}
 use Rattle.cfs_check.specs.Uses.{Use, unused_in}
 use Rattle.cfs_check.specs.declared.survey.Survey.{Survey}
 use Rattle.cfs_check.specs.declared.uses.Use.TheVariants as uses
-use Rattle.cfs_check.proofs.Built.{entry_is, other_is, root_is, same_size}
+use Rattle.cfs_check.proofs.Built.{entry_is, is_map, map_is, other_is, root_is, same_size}
 use Rattle.cfs_check.proofs.Reading.{HasGoodRoots, graph, graph_closed, graph_has, graph_rooted, in_graph, its_right, its_root, its_shown, object_of, one_stands, root_of, shown_word}
 use Rattle.cfs_check.proofs.SameTrees.{SameContent, path_same, same_object}
-use Rattle.cfs_check.proofs.Whole.{found_all, found_from, kept_back, leaves, root_some, used_back, used_in}
+use Rattle.cfs_check.proofs.Told.{stands_in}
+use Rattle.cfs_check.proofs.Whole.{found_all, found_from, kept_back, leaves, root_some, used_back, used_below, used_in}
 
 module _ (image : Image) (whole : AreSized image) (s : Survey) (w : IsWholeSurvey image s) (size : 64 * w.label.cylinders ≡ length image) (few : length image < 2 ^ 32) (only : HasGoodRoots image)
     (single : (n : ℕ) → n < length image → get_or s.uses n uses.Free ≢ uses.Twice) (room : 4 ≤ unused_in s.uses) where
@@ -344,13 +348,9 @@ module _ (image : Image) (whole : AreSized image) (s : Survey) (w : IsWholeSurve
 
   -- ---- how many blocks are left
 
-  used_below : (x : Puid) → IsReachedIn image x → (p : Place) (n : ℕ) → IsUsed image x.block p n → n < length image
-  used_below x reached p n AsRoot = root_below x reached
-  used_below x reached p n (InTree root o path h shows at below) = below
-
   kept_on : (n : ℕ) → IsKeptBlock image n → IsKeptBlock b n
   kept_on n kept =
-      let below = used_below kept.id kept.reached kept.place n kept.used in
+      let below = used_below image some kept.id kept.reached kept.place n kept.used in
       let at = by_use n kept.id.block kept.place below (used_in image whole s w kept.id kept.reached kept.place n kept.used) in
       in_kept b g holds (graph_closed image whole s w only) (graph_rooted image whole s w only) n (in_had n (record { below = below; owner = kept.id.block; place = kept.place; is = at.0 }))
 
@@ -385,9 +385,33 @@ module _ (image : Image) (whole : AreSized image) (s : Survey) (w : IsWholeSurve
           let o = object_there g x.0 (in_graph image whole s w only x.0 x.1) in
           absurd (none (x.0, o.0, o.1, x.2))
 
+  -- ---- its blocks have 512 bytes
+
+  reader_below : (r : ℕ) → r < length image → reader image r < length image
+  reader_below r below = at (standing image r) refl
+    where
+      at : (ss : List ℕ) → standing image r ≡ ss → one_or r ss < length image
+      at [] is = below
+      at (t ∷ []) is = (stands_in image r t (ap (has_number t) is ∙ at_head t [])).2
+      at (t ∷ u ∷ ss) is = below
+
+  sized : AreSized b
+  sized n below = elim (cases_eq (n % 64) 0) [
+    | inl map ↦
+        (let same : 64 * (n / 64) ≡ n = omega (arith, map) in
+        ap (length {A = ℕ}) (ap (block_at b) (sym same) ∙ map_is image whole some few s w (n / 64) (omega (arith, same, below, long)))
+        ∙ length-map_spelling (mended_entries s.uses (n / 64)) ∙ ap (λ (m : ℕ). 8 * m) (is_map image whole some few s w (n / 64)).long)
+    | inr apart ↦ at (has_number n s.roots.blocks) refl apart
+  ]
+    where
+      at : (t : Bool) → has_number n s.roots.blocks ≡ t → n % 64 ≢ 0 → length (block_at b n) ≡ 512
+      at true has apart = ap (length {A = ℕ}) (root_is image whole some few s w n (omega (arith, below, long)) apart has) ∙ whole (reader image n) (reader_below n (omega (arith, below, long)))
+      at false none apart = ap (length {A = ℕ}) (other_is image whole some few s w n apart none) ∙ whole n (omega (arith, below, long))
+
   pub mends_to : MendsTo image g b
   mends_to = record {
     size = long;
+    whole = sized;
     sound = sound;
     clean = clean;
     roots = λ id o at. read_by_one id ((graph_has image whole s w only).each id o at).0;

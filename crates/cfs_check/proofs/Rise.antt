@@ -103,6 +103,11 @@ module _ (marks : List Bool) where
       let small : (damage_at at.place).code < 12 = omega arith in
       (subst (λ (x : Damage). x.code < 12) (sym at.is) small, subst (λ (x : Damage). is_marked_damage marks x ≡ true) (sym at.is) (ap (λ (m : ℕ). get_or marks m false) (place_is at.place) ∙ at.marked))
 
+  pub marked_within : (n : ℕ) (d : Damage) → length marks ≡ 12 * n → Contains (damages_in marks) d → d.block < n
+  marked_within n d size (k, inside, is) =
+      let at = its_place (length marks) k d (slice_get-get_or (damages_in marks) k d inside ∙ ap Some is) in
+      omega (arith, at.before, size, ap (λ (x : Damage). x.block) at.is)
+
   pub in_marked : (d : Damage) → d.code < 12 → is_marked marks d.code d.block ≡ true → Contains (damages_in marks) d
   in_marked d small on = elim (cases_lt (mark_place d.code d.block) (length marks)) [
     | inl inside ↦ subst (Contains (damages_in marks)) (at_place d small) (has_place (length marks) (mark_place d.code d.block) inside on)

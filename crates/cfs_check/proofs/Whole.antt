@@ -76,6 +76,11 @@ root_some image long x (Next i y root o before shows refers names) = (positive y
     positive zero some = absurd (some refl)
     positive (suc n) some = omega arith
 
+-- and so is what it uses
+pub used_below : (image : Image) → 3 ≤ length image → (x : Puid) → IsReachedIn image x → (p : Place) (n : ℕ) → IsUsed image x.block p n → n < length image
+used_below image long x reached p n AsRoot = (root_some image long x reached).1
+used_below image long x reached p n (InTree root o path h shows at below) = below
+
 module _ (image : Image) (long : AreSized image) (s : Survey) (w : IsWholeSurvey image s) where
   -- ---- root blocks
 

@@ -5,6 +5,7 @@ pub mod Loaded
 pub mod Marks
 pub mod Mended
 pub mod Opened
+pub mod Repair
 pub mod Roots
 pub mod Sized
 pub mod Sizes

@@ -1,29 +1,21 @@
 -- What mending makes of a volume.
-use Rattle.std.specs.Prelude.{◌≡◌, ◌≢◌, ◌⊎◌, ℕ, ◌+◌, ◌*◌, ◌/◌, ◌%◌, ◌<◌, ◌≤◌, Bool, true, false, if◌then◌else◌, ◌==◌, List, length, map, get_or, Some, None}
-use Rattle.std.specs.List.{range_with_len}
+use Rattle.std.specs.Prelude.{◌≡◌, ◌≢◌, ◌⊎◌, ℕ, ◌%◌, ◌≤◌, List, length, Some}
 use Rattle.cfs_base.specs.Disk.{Image, block_at}
 use Rattle.cfs_base.specs.Run.{IsSettled}
 use Rattle.cfs_base.specs.declared.disk.Disk.{Ghosts}
 use Rattle.cfs_base.specs.declared.identifier.Puid.{Puid}
 use Rattle.block_tree.specs.declared.root.Root.{Root}
 use Rattle.block_tree.specs.Root.{IsRootBlock}
-use Rattle.cyl_alloc.specs.Space.{unheld_entry}
-use Rattle.cyl_map.specs.Map.{map_spelling}
-use Rattle.cyl_map.specs.declared.entry.MapEntry.{MapEntry}
-use Rattle.cyl_map.specs.declared.state.BlockState.TheVariants.{Allocated}
 use Rattle.ufs_model.specs.declared.object.Object.{Object}
 use Rattle.ufs_model.specs.Graph.{Graph, object_at}
-use Rattle.ufs_model.specs.Numbers.{has_number}
 use Rattle.vol_image.specs.Fault.{IsSameSort, shown_root, standing}
-use Rattle.vol_image.specs.Part.{reserved}
 use Rattle.vol_image.specs.Sound.{IsSoundAs}
 use Rattle.cfs_recover.specs.Grounds.{HasNoLabel, HasVersion}
 use Rattle.cfs_recover.specs.Recovered.{IsClean, IsUntouched, LeavesSinceBarrier}
 use Rattle.cfs_check.specs.Checked.{IsFirstUnhealed}
-use Rattle.cfs_check.specs.Uses.{Use}
+use Rattle.cfs_check.specs.Sized.{AreSized}
 use Rattle.cfs_check.specs.declared.mended.MendFault.{MendFault}
 use Rattle.cfs_check.specs.declared.mended.MendFault.TheVariants as faults
-use Rattle.cfs_check.specs.declared.uses.Use.TheVariants as uses
 
 -- the block is the root block of an object of the graph
 abbrev pub IsRootOf : Graph → ℕ → Type 0
@@ -39,18 +31,15 @@ pub record IsReadByOne (a : Image) (id : Puid) (content : List ℕ) : Type 0 whe
   pub same : IsSameSort own root
   pub shown : shown_root a id.block ≡ content
 
--- Image b is sound, reads as this graph and has nothing else. It has what image a has, but that each object's root block
--- has the root by which it is read there, and for its maps.
+-- Image b is sound, reads as this graph and has nothing else, in blocks of 512 bytes. It has what image a has, but that
+-- each object's root block has the root by which it is read there, and for its maps.
 pub record MendsTo (a : Image) (g : Graph) (b : Image) : Type 0 where
   pub size : length b ≡ length a
+  pub whole : AreSized b
   pub sound : IsSoundAs b g
   pub clean : IsClean b g
   pub roots : (id : Puid) (o : Object) → object_at g id ≡ Some o → IsReadByOne a id (block_at b id.block)
   pub others : (n : ℕ) → n % 64 ≢ 0 → ¬ IsRootOf g n → block_at b n ≡ block_at a n
-
--- each root block has its content in b already
-abbrev pub HasRoots : Image → Graph → Image → Type 0
-HasRoots c g b = (id : Puid) (o : Object) → object_at g id ≡ Some o → block_at c id.block ≡ block_at b id.block
 
 -- it is made of what the disk held
 pub record IsMended {D : Type 0} (g : Ghosts D) (old new : D) : Type 0 where
@@ -71,28 +60,3 @@ IsMendFault image faults.NotVolume = HasNoLabel image
 IsMendFault image (faults.Version found) = HasVersion image found
 IsMendFault image (faults.Damaged d) = IsFirstUnhealed image d
 IsMendFault image faults.Memory = Unit {0}
-
--- ---- the blocks that are written
-
--- the entry of a block that is used so
-abbrev pub mended_entry : Use → MapEntry
-mended_entry uses.Free = unheld_entry
-mended_entry uses.Fixed = reserved
-mended_entry (uses.By owner place) = record { state = Allocated; committed = false; place = Some place; owner = owner }
-mended_entry uses.Twice = unheld_entry
-
--- the entries of a cylinder
-unfoldable pub mended_entries : List Use → ℕ → List MapEntry
-mended_entries of j = map (λ k. mended_entry (get_or of (64 * j + k) uses.Free)) (range_with_len 0 64)
-
-abbrev pub mended_map : List Use → ℕ → List ℕ
-mended_map of j = map_spelling (mended_entries of j)
-
--- a block: a map, a root block that was found, or another
-abbrev pub mended_block : Image → List ℕ → List Use → ℕ → List ℕ
-mended_block image found of n =
-    if n % 64 == 0 then mended_map of (n / 64)
-    else (if has_number n found then shown_root image n else block_at image n)
-
-unfoldable pub mended : Image → List ℕ → List Use → Image
-mended image found of = map (mended_block image found of) (range_with_len 0 (length image))

@@ -38,11 +38,26 @@ impl FileDisk {
     /// the disk is dropped. `WouldBlock` where another has it locked, `InvalidInput` where it is neither a file nor a
     /// block device, `InvalidData` where its length is no multiple of 512 or it has more blocks than block numbers.
     pub fn existing<R: Files<File = File>>(rt: &R, path: &str) -> io::Result<FileDisk> {
-        let mut file = fs::OpenOptions::new()
+        let file = fs::OpenOptions::new()
             .read(true)
             .write(true)
             .open(rt, path)?;
         lock(&file)?;
+        FileDisk::sized(file)
+    }
+
+    /// Opens the volume in the file or on the block device of this name, which is read and not written, and locks it
+    /// until the disk is dropped against all but those that read it too. Refused as `existing` is, and where another has
+    /// it locked to write it. A write fails.
+    pub fn read_only<R: Files<File = File>>(rt: &R, path: &str) -> io::Result<FileDisk> {
+        expect_volume(rt, path)?;
+        let file = fs::open(rt, path)?;
+        told_lock(file.try_lock_shared())?;
+        FileDisk::sized(file)
+    }
+
+    /// The volume in a file, or on a block device, which was opened.
+    fn sized(mut file: File) -> io::Result<FileDisk> {
         let length = length_of(&mut file)?;
         if length % BLOCK != 0 {
             return Err(io::Error::new(
@@ -124,10 +139,32 @@ impl FileDisk {
 
 /// Locks a file against all others, as long as it is open.
 fn lock(file: &File) -> io::Result<()> {
-    file.try_lock().map_err(|error| match error {
+    told_lock(file.try_lock())
+}
+
+/// How a lock went, told as other calls are.
+fn told_lock(locked: Result<(), TryLockError>) -> io::Result<()> {
+    locked.map_err(|error| match error {
         TryLockError::WouldBlock => io::Error::new(ErrorKind::WouldBlock, "it is in use"),
         TryLockError::Error(error) => error,
     })
+}
+
+/// What has this name must be a file or a block device: opening another to read it may wait.
+fn expect_volume<R: Files>(rt: &R, path: &str) -> io::Result<()> {
+    let kind = fs::metadata(rt, path)?.file_type();
+    if kind.is_file() || kind.is_block_device() {
+        return Ok(());
+    }
+    Err(no_volume())
+}
+
+/// That what was opened can be no volume.
+fn no_volume() -> io::Error {
+    io::Error::new(
+        ErrorKind::InvalidInput,
+        "it is neither a file nor a block device",
+    )
 }
 
 /// The bytes of a file or of a block device.
@@ -139,10 +176,7 @@ fn length_of(file: &mut File) -> io::Result<u64> {
     if found.file_type().is_block_device() {
         return file.seek(SeekFrom::End(0));
     }
-    Err(io::Error::new(
-        ErrorKind::InvalidInput,
-        "it is neither a file nor a block device",
-    ))
+    Err(no_volume())
 }
 
 /// Whether a block device has this name.

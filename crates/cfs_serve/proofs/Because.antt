@@ -1,6 +1,6 @@
 -- What each cause that is told shows, and what each status says by it.
-use Rattle.std.proofs.Common.{◌≡◌, ◌⊎◌, inl, inr, ℕ, Bool, true, false, List, ◌++◌, length, Option, Some, None, IsSome, IsNone, refl, sym, ap, ◌∙◌, subst, arith}
-use Rattle.cfs_serve.proofs.Cited.{AreWithinLimits, Asked, Audited, Audits, Cause, Counts, DiskFailed, EachSink, EachSource, EndedWell, Event, ended_line, Format, Formats, Graph, Ground, HadLeft, HasNone, IsLegal, IsStatus, IsText, IsTextBy, LimitPassed, Made, MemoryWanting, NoCountRose, Nothing, Opening, Outside, Page, Replied, Report, RoseIn, Showed, Shows, SinkFailed, SomeRose, SourceFailed, TellsMade, VolumeRefused, WritesReport, Wrote, collections_of, status_at_end, finishes_in, is_audit, is_calm, is_refutation, is_service, last_cause, list_all, list_any, printed_line, printed_replies, report_text, request_lines, sink_faults, source_faults, status_line, status_of, text_by, turns_in, wants_memory}
+use Rattle.std.proofs.Common.{◌≡◌, ◌⊎◌, inl, inr, ℕ, ◌<◌, Bool, true, false, List, [], ◌++◌, length, Option, Some, None, IsSome, IsNone, refl, sym, ap, ◌∙◌, subst, arith}
+use Rattle.cfs_serve.proofs.Cited.{AreWithinLimits, Asked, Audited, Audits, Cause, Counts, Damage, DiskFailed, EachSink, EachSource, EndedWell, Event, ended_line, Format, Formats, Graph, Ground, FoundSound, HadLeft, HasNone, Inspection, Inspects, IsLegal, IsStatus, IsText, IsTextBy, LimitPassed, Made, MemoryWanting, NoCountRose, Nothing, Opening, Outside, Page, Replied, Report, RoseIn, Showed, Shows, SinkFailed, SomeRose, SourceFailed, TellsMade, VolumeFault, VolumeRefused, WasMended, WritesReport, Wrote, collections_of, status_at_end, finishes_in, is_audit, is_calm, is_finding, is_inspection, is_refutation, is_service, last_cause, most_inspected, list_all, list_any, printed_line, printed_replies, report_text, request_lines, sink_faults, source_faults, status_line, status_of, text_by, turns_in, untold, wants_memory}
 use Rattle.cfs_serve.specs.declared.report.Cause.TheVariants as causes
 use Rattle.cfs_serve.specs.Top.{IsOverLimit}
 use Rattle.cfs_serve.specs.Words.{Serves, Spins}
@@ -23,21 +23,31 @@ pub not_both : (asked : Asked) → is_audit asked ≡ true → is_service asked 
 not_both (Shows page) audits serves = no_service audits
 not_both (Formats format) audits serves = no_service audits
 not_both (Audits trail) audits serves = no_service serves
+not_both (Inspects inspection) audits serves = no_service audits
 not_both (Serves service) audits serves = no_service audits
 not_both (Spins spin) audits serves = no_service audits
 not_both Nothing audits serves = no_service audits
+
+pub inspects_none : (asked : Asked) → is_audit asked ≡ true → is_inspection asked ≡ false
+inspects_none (Shows page) audits = refl
+inspects_none (Formats format) audits = refl
+inspects_none (Audits trail) audits = refl
+inspects_none (Inspects inspection) audits = absurd (no_service audits)
+inspects_none (Serves service) audits = refl
+inspects_none (Spins spin) audits = refl
+inspects_none Nothing audits = refl
 
 pub none_is : {X : Type 0} (o : Option X) → IsNone o → o ≡ None
 none_is None none = refl
 none_is (Some x) none = cc none
 
-module _ (asked : Asked) (ground : Ground) (old new : Outside) (counts : Option Counts) (trail : List Event) where
+module _ (asked : Asked) (ground : Ground) (old new : Outside) (counts : Option Counts) (faults : List Damage) (trail : List Event) where
   abbrev pub told : Cause → Report
-  told cause = record { counts = counts; cause = cause }
+  told cause = record { counts = counts; faults = faults; cause = cause }
 
   -- a limit was passed
   abbrev Over : Cause → Type 0
-  Over cause = IsNone counts × IsOverLimit asked cause old new × (is_service asked ≡ true → (scripts : List (List ℕ)) → HadLeft old scripts → ¬ (AreWithinLimits scripts))
+  Over cause = IsNone counts × IsOverLimit asked ground cause old new × (is_service asked ≡ true → (scripts : List (List ℕ)) → HadLeft old scripts → ¬ (AreWithinLimits scripts))
 
   -- a trail was audited, and so it is told
   abbrev Verdict : Type 0
@@ -47,9 +57,13 @@ module _ (asked : Asked) (ground : Ground) (old new : Outside) (counts : Option 
   abbrev Volumed : Type 0
   Volumed = IsNone counts × ((format : Format) × (asked ≡ Formats format)) × ((scripts : List (List ℕ)) → HadLeft old scripts → AreWithinLimits scripts)
 
+  -- a volume was inspected, and no fault is listed
+  abbrev Looked : (mends : Bool) → Type 0
+  Looked mends = IsNone counts × (faults ≡ []) × ((volume : List ℕ) × (asked ≡ Inspects (record { volume = volume; mends = mends })))
+
   -- what a cause shows
   abbrev pub Because : Cause → Type 0
-  Because causes.Nothing = Served asked ground trail old new counts ⊎ Volumed
+  Because causes.Nothing = Served asked ground trail old new counts ⊎ (Volumed ⊎ Looked true)
   Because (causes.Page page) = IsNone counts × (asked ≡ Shows page) × ((scripts : List (List ℕ)) → HadLeft old scripts → AreWithinLimits scripts)
   Because causes.Words = IsNone counts × (asked ≡ Nothing) × ((scripts : List (List ℕ)) → HadLeft old scripts → AreWithinLimits scripts)
   Because (causes.Volume fault) =
@@ -60,9 +74,14 @@ module _ (asked : Asked) (ground : Ground) (old new : Outside) (counts : Option 
   Because causes.Memory = Unit {0}
   Because (causes.Long n) = Over (causes.Long n)
   Because causes.LongTotal = Over causes.LongTotal
+  Because causes.LongVolume = IsNone counts × ((inspection : Inspection) × (asked ≡ Inspects inspection)) × (most_inspected < ground.blocks)
   Because (causes.Legal n) = Verdict × EachSource (λ _ source _. (left : List ℕ) → source.left ≡ Some left → IsLegal left n) old new
   Because (causes.BadLine line) = Verdict
   Because (causes.Illegal event) = Verdict
+  Because (causes.Sound objects left) = Looked false × ¬ ground.unsound
+
+  untold_is : (cause : Cause) → IsNone counts → faults ≡ [] → told cause ≡ untold cause
+  untold_is cause none bare = rw (none_is counts none, bare) refl
 
   -- ---- the report's text
 
@@ -95,9 +114,11 @@ module _ (asked : Asked) (ground : Ground) (old new : Outside) (counts : Option 
   last true (causes.Source n) = inl refl
   last true (causes.Long n) = inl refl
   last true causes.LongTotal = inl refl
+  last true causes.LongVolume = inl refl
   last true (causes.Legal n) = inl refl
   last true (causes.BadLine line) = inl refl
   last true (causes.Illegal event) = inl refl
+  last true (causes.Sound objects left) = inl refl
   last false cause = inl refl
 
   pub at_last : (short : Bool) (cause : Cause) → Because cause → Because (last_cause short cause)
@@ -143,13 +164,16 @@ module _ (asked : Asked) (ground : Ground) (old new : Outside) (counts : Option 
   status (causes.Source n) text false wrote = inl refl
   status (causes.Long n) text false wrote = inl refl
   status causes.LongTotal text false wrote = inl refl
+  status causes.LongVolume text false wrote = inl refl
   status (causes.Legal n) text false wrote = inr (refl, (refl, wrote.failed))
   status (causes.BadLine line) text false wrote = inl refl
   status (causes.Illegal event) text false wrote = inl refl
+  status (causes.Sound objects left) text false wrote = inr (refl, (refl, wrote.failed))
 
-  pub status_0 : (cause : Cause) (short : Bool) (text : List ℕ) (written : Bool) → Because cause → IsText asked (told cause) trail short text → Told text written → status_at_end written (last_cause short cause) ≡ 0
+  pub status_0 : (is_inspection asked ≡ false → faults ≡ []) → (cause : Cause) (short : Bool) (text : List ℕ) (written : Bool) → Because cause → IsText asked (told cause) trail short text → Told text written → status_at_end written (last_cause short cause) ≡ 0
       → EndedWell asked ground (told cause) trail old new ⊎ Showed (told cause) old new ⊎ Made asked (told cause) old new ⊎ Audited asked (told cause) old new
-  status_0 causes.Nothing false text true (inl because) is_text wrote is = inl (record {
+      ⊎ FoundSound asked ground (told cause) old new ⊎ WasMended asked (told cause) old new
+  status_0 bare causes.Nothing false text true (inl because) is_text wrote is = inl (record {
     served = because.served;
     nothing = refl;
     answered = because.answered;
@@ -159,32 +183,48 @@ module _ (asked : Asked) (ground : Ground) (old new : Outside) (counts : Option 
     collected = because.collected;
     reported = subst (λ t. Wrote old.report new.report t) (whole_by (printed_line asked counts) (told causes.Nothing) text is_text) wrote;
   })
-  status_0 causes.Nothing false text true (inr because) is_text wrote is = inr (inr (inl (record {
+  status_0 bare causes.Nothing false text true (inr (inl because)) is_text wrote is = inr (inr (inl (record {
     format = because.1.0;
     asks = because.1.1;
-    is = rw (none_is counts because.0) refl;
+    is = untold_is causes.Nothing because.0 (bare (ap is_inspection because.1.1));
     written = subst (λ t. Wrote old.report new.report t) (unprinted causes.Nothing false text because.0 is_text).1 wrote;
   })))
-  status_0 (causes.Legal n) false text true because is_text wrote is = inr (inr (inr (record {
+  status_0 bare causes.Nothing false text true (inr (inr because)) is_text wrote is = inr (inr (inr (inr (inr (record {
+    volume = because.2.0;
+    asks = because.2.1;
+    is = untold_is causes.Nothing because.0 because.1;
+    written = subst (λ t. Wrote old.report new.report t) (unprinted causes.Nothing false text because.0 is_text).1 wrote;
+  })))))
+  status_0 bare (causes.Legal n) false text true because is_text wrote is = inr (inr (inr (inl (record {
     events = n;
     asks = because.0.1;
-    is = rw (none_is counts because.0.0) refl;
+    is = untold_is (causes.Legal n) because.0.0 (bare (inspects_none asked because.0.1));
     legal = because.1;
     written = subst (λ t. Wrote old.report new.report t) (unprinted (causes.Legal n) false text because.0.0 is_text).1 wrote;
-  })))
-  status_0 (causes.Legal n) true text written because is_text wrote is = absurd (no_service (sym (unprinted (causes.Legal n) true text because.0.0 is_text).0))
-  status_0 (causes.Page page) false text true because is_text wrote is =
-      let none = none_is counts because.0 in
+  }))))
+  status_0 bare (causes.Legal n) true text written because is_text wrote is = absurd (no_service (sym (unprinted (causes.Legal n) true text because.0.0 is_text).0))
+  status_0 bare (causes.Sound objects left) false text true because is_text wrote is = inr (inr (inr (inr (inl (record {
+    volume = because.0.2.0;
+    objects = objects;
+    left = left;
+    asks = because.0.2.1;
+    is = untold_is (causes.Sound objects left) because.0.0 because.0.1;
+    sound = because.1;
+    written = subst (λ t. Wrote old.report new.report t) (unprinted (causes.Sound objects left) false text because.0.0 is_text).1 wrote;
+  })))))
+  status_0 bare (causes.Sound objects left) true text written because is_text wrote is = absurd (no_service (sym (unprinted (causes.Sound objects left) true text because.0.0 is_text).0))
+  status_0 bare (causes.Page page) false text true because is_text wrote is =
+      let is_so : told (causes.Page page) ≡ untold (causes.Page page) = untold_is (causes.Page page) because.0 (bare (ap is_inspection because.1)) in
       let lines : Wrote old.report new.report (report_text (told (causes.Page page))) = subst (λ t. Wrote old.report new.report t) (unprinted (causes.Page page) false text because.0 is_text).1 wrote in
-      inr (inl (record { page = page; is = rw none refl; written = rw none at lines }))
-  status_0 (causes.Page page) true text written because is_text wrote is = absurd (no_service (sym (unprinted (causes.Page page) true text because.0 is_text).0))
-  status_0 causes.Nothing false text false because is_text wrote is = absurd (omega (arith, is))
-  status_0 causes.Nothing true text true because is_text wrote is = absurd (omega (arith, is))
-  status_0 causes.Nothing true text false because is_text wrote is = absurd (omega (arith, is))
-  status_0 cause false text true because is_text wrote is = absurd (omega (arith, is))
-  status_0 cause false text false because is_text wrote is = absurd (omega (arith, is))
-  status_0 cause true text true because is_text wrote is = absurd (omega (arith, is))
-  status_0 cause true text false because is_text wrote is = absurd (omega (arith, is))
+      inr (inl (record { page = page; is = is_so; written = subst (λ (r : Report). Wrote old.report new.report (report_text r)) is_so lines }))
+  status_0 bare (causes.Page page) true text written because is_text wrote is = absurd (no_service (sym (unprinted (causes.Page page) true text because.0 is_text).0))
+  status_0 bare causes.Nothing false text false because is_text wrote is = absurd (omega (arith, is))
+  status_0 bare causes.Nothing true text true because is_text wrote is = absurd (omega (arith, is))
+  status_0 bare causes.Nothing true text false because is_text wrote is = absurd (omega (arith, is))
+  status_0 bare cause false text true because is_text wrote is = absurd (omega (arith, is))
+  status_0 bare cause false text false because is_text wrote is = absurd (omega (arith, is))
+  status_0 bare cause true text true because is_text wrote is = absurd (omega (arith, is))
+  status_0 bare cause true text false because is_text wrote is = absurd (omega (arith, is))
 
   pub status_2 : (cause : Cause) (written : Bool) → Because cause → status_at_end written cause ≡ 2 → asked ≡ Nothing
   status_2 causes.Words written because is = because.1
@@ -208,6 +248,7 @@ module _ (asked : Asked) (ground : Ground) (old new : Outside) (counts : Option 
   status_5 (causes.Page page) short text false because wrote is = inr (refl, wrote.failed)
   status_5 causes.Memory short text false because wrote is = inr (refl, wrote.failed)
   status_5 (causes.Legal n) short text false because wrote is = inr (refl, wrote.failed)
+  status_5 (causes.Sound objects left) short text false because wrote is = inr (refl, wrote.failed)
   status_5 cause false text true because wrote is = absurd (omega (arith, is))
   status_5 cause false text false because wrote is = absurd (omega (arith, is))
   status_5 cause true text true because wrote is = absurd (omega (arith, is))
@@ -237,16 +278,33 @@ module _ (asked : Asked) (ground : Ground) (old new : Outside) (counts : Option 
   is_8 short (causes.Illegal event) false bad = stays short (causes.Illegal event) false 8 (λ e. cc e) (λ e. cc e) refl
   is_8 short cause written bad = absurd (no_service bad)
 
-  pub status_9 : (cause : Cause) (written : Bool) → Because cause → status_at_end written cause ≡ 9 → LimitPassed asked (told cause) old new
+  pub is_3 : (short : Bool) (fault : VolumeFault) (written : Bool) → status_at_end written (last_cause short (causes.Volume fault)) ≡ 3
+  is_3 short fault true = stays short (causes.Volume fault) true 3 (λ e. cc e) (λ e. cc e) refl
+  is_3 short fault false = stays short (causes.Volume fault) false 3 (λ e. cc e) (λ e. cc e) refl
+
+  pub is_9 : (short written : Bool) → status_at_end written (last_cause short causes.LongVolume) ≡ 9
+  is_9 short true = stays short causes.LongVolume true 9 (λ e. cc e) (λ e. cc e) refl
+  is_9 short false = stays short causes.LongVolume false 9 (λ e. cc e) (λ e. cc e) refl
+
+  pub finding : (cause : Cause) → Because cause → is_finding cause ≡ true → is_inspection asked ≡ true
+  finding (causes.Sound objects left) because is = ap is_inspection because.0.2.1
+  finding causes.LongVolume because is = ap is_inspection because.1.1
+  finding cause because is = absurd (no_service is)
+
+  pub status_9 : (cause : Cause) (written : Bool) → Because cause → status_at_end written cause ≡ 9 → LimitPassed asked ground (told cause) old new
   status_9 (causes.Long n) written because is = (because.0, because.1)
   status_9 causes.LongTotal written because is = (because.0, because.1)
+  status_9 causes.LongVolume written because is = (because.0, (ap is_inspection because.1.1, because.2))
   status_9 cause true because is = absurd (omega (arith, is))
   status_9 cause false because is = absurd (omega (arith, is))
 
   over : (cause : Cause) (written : Bool) → Because cause → is_service asked ≡ true → (scripts : List (List ℕ)) → HadLeft old scripts → ¬ (AreWithinLimits scripts)
       → (status_at_end written cause ≡ 9) ⊎ (cause ≡ causes.Memory) ⊎ (status_at_end written cause ≡ 6)
   over causes.Nothing written (inl because) is scripts had past = absurd (past (because.within scripts had))
-  over causes.Nothing written (inr because) is scripts had past = absurd (past (because.2 scripts had))
+  over causes.Nothing written (inr (inl because)) is scripts had past = absurd (past (because.2 scripts had))
+  over causes.Nothing written (inr (inr because)) is scripts had past = absurd (no_service (rw because.2.1 at is))
+  over (causes.Sound objects left) written because is scripts had past = absurd (no_service (rw because.0.2.1 at is))
+  over causes.LongVolume written because is scripts had past = absurd (no_service (rw because.1.1 at is))
   over (causes.Volume fault) written because is scripts had past = absurd (past (because.1 scripts had))
   over (causes.Disk moment) written because is scripts had past = absurd (past (because.1 scripts had))
   over (causes.Page page) written because is scripts had past = absurd (past (because.2 scripts had))
@@ -285,6 +343,8 @@ module _ (asked : Asked) (ground : Ground) (old new : Outside) (counts : Option 
   complete causes.Sink text written because wrote is scripts had within quiet graph reads = absurd (quiet.sinks because.2)
   complete (causes.Source n) text written because wrote is scripts had within quiet graph reads = absurd (quiet.sources because.1)
   complete (causes.Long n) text written because wrote is scripts had within quiet graph reads = absurd (because.2 is scripts had within)
+  complete causes.LongVolume text written because wrote is scripts had within quiet graph reads = absurd (no_service (rw because.1.1 at is))
+  complete (causes.Sound objects left) text written because wrote is scripts had within quiet graph reads = absurd (no_service (rw because.0.2.1 at is))
   complete causes.LongTotal text written because wrote is scripts had within quiet graph reads = absurd (because.2 is scripts had within)
   complete (causes.Legal n) text written because wrote is scripts had within quiet graph reads = absurd (not_both asked because.0.1 is)
   complete (causes.BadLine line) text written because wrote is scripts had within quiet graph reads = absurd (not_both asked because.1 is)
@@ -294,7 +354,10 @@ module _ (asked : Asked) (ground : Ground) (old new : Outside) (counts : Option 
   pub refused : (cause : Cause) (text : List ℕ) (written : Bool) → Because cause → Told text written → is_service asked ≡ true → (scripts : List (List ℕ)) → HadLeft old scripts → AreWithinLimits scripts
       → NoCountRose old new → ground.unsound → (status_at_end written cause ≡ 3) ⊎ (status_at_end written cause ≡ 7)
   refused causes.Nothing text written (inl because) wrote is scripts had within quiet unsound = absurd (because.sound unsound)
-  refused causes.Nothing text written (inr because) wrote is scripts had within quiet unsound = absurd (no_service (rw because.1.1 at is))
+  refused causes.Nothing text written (inr (inl because)) wrote is scripts had within quiet unsound = absurd (no_service (rw because.1.1 at is))
+  refused causes.Nothing text written (inr (inr because)) wrote is scripts had within quiet unsound = absurd (no_service (rw because.2.1 at is))
+  refused causes.LongVolume text written because wrote is scripts had within quiet unsound = absurd (no_service (rw because.1.1 at is))
+  refused (causes.Sound objects left) text written because wrote is scripts had within quiet unsound = absurd (no_service (rw because.0.2.1 at is))
   refused (causes.Page page) text written because wrote is scripts had within quiet unsound = absurd (no_service (rw because.1 at is))
   refused causes.Words text written because wrote is scripts had within quiet unsound = absurd (no_service (rw because.1 at is))
   refused (causes.Volume fault) text true because wrote is scripts had within quiet unsound = inl refl

@@ -43,20 +43,21 @@ pub use Rattle.cfs_serve.specs.Events.{BreaksOff, begins_in, events_of_session, 
 pub use Rattle.cfs_serve.specs.Ground.{Ground, ground_of, ground_on, new_ground, opened}
 pub use Rattle.cfs_serve.specs.Machine.{AllLeft, AreFresh, AreHeard, AreNew, AreOver, Departs, HasNoCollector, HasTurns, Hearing, IsFresh, IsLeave, IsSessionOver, IsSession, IsSessionTurn, IsTurn, Turned, charter_of, has_left_at, is_done_in, turns_left_in, client_of, turns_left, turns_left_at, turns_now}
 pub use Rattle.cfs_serve.specs.Logs.{CountsFaults, IsLogKept, IsRun, IsRunOn, IsTold, ServerLog, Lasts, Raises, MomentsRise, LogSteps, Told, faults_after, first_fault, is_progress_made, is_quiet_fault, is_recorded, recorded, stamps}
-pub use Rattle.cfs_serve.specs.Limits.{most_lines, most_script, most_trail}
+pub use Rattle.cfs_serve.specs.Inspected.{IsInspected, is_finding}
+pub use Rattle.cfs_serve.specs.Limits.{most_inspected, most_lines, most_script, most_trail}
 pub use Rattle.cfs_serve.specs.Opening.{IsOpeningRefusal, opening_cause}
 pub use Rattle.cfs_serve.specs.Played.{AreClients, HasNone, IsUnservedCause, TellsLast, IsPlayed, IsRunFrom, IsRunOf, IsStopTold, counts_of, free_once_tidy, has_broken}
-pub use Rattle.cfs_serve.specs.Report.{cause_text, counts_text, ending_text, numbered, report_text, served_text, status_of}
+pub use Rattle.cfs_serve.specs.Report.{cause_text, counts_text, ending_text, fault_line, fault_lines, numbered, paired, report_text, served_text, status_of, untold}
 pub use Rattle.cfs_serve.specs.Says.{Says, SpinSaid, within_spin}
 pub use Rattle.cfs_serve.specs.Scripts.{AreShort, AreWithinLimits, Had, HasScript, HaveFirst, HaveScripts, IsFirstRead, IsOneCause, IsSourceCause, faults_of_sources, lines_in}
 pub use Rattle.cfs_serve.specs.Spun.{drain, drains, drawn_scripts, drawn_sources, service_of, source_of}
 pub use Rattle.cfs_serve.specs.SureDisk.{IsSure}
 pub use Rattle.cfs_serve.specs.Text.{IsStart, IsText, IsTextBy, IsTrail, first_line, first_lines, last_cause, printed_line, text_by, text_of}
-pub use Rattle.cfs_serve.specs.Top.{Audited, Did, DiskFailed, EachFrom, EachSink, EachSource, EndedWell, HadLeft, HasBroken, IsAudited, IsServedFrom, IsStatus, LimitPassed, Made, MemoryWanting, NoCountRose, Outside, Said, Showed, SinkFailed, SomeRose, SourceFailed, VolumeRefused, WritesReport, outside_after, before, is_refutation, is_verdict, sink_faults, source_faults}
+pub use Rattle.cfs_serve.specs.Top.{Audited, Did, DiskFailed, EachFrom, EachSink, EachSource, EndedWell, CompletesInspection, FoundSound, HadLeft, HasBroken, IsAudited, IsServedFrom, IsStatus, LimitPassed, Made, MemoryWanting, NoCountRose, Outside, Said, Showed, SinkFailed, SomeRose, SourceFailed, VolumeRefused, WasMended, WritesReport, outside_after, before, is_refutation, is_verdict, sink_faults, source_faults}
 pub use Rattle.cfs_serve.specs.Traced.{IsTraced, IsWritten}
 pub use Rattle.cfs_serve.specs.Volume.{IsNewCore, IsUnserved, ServesScripts, ServesSessions, ground_at}
-pub use Rattle.cfs_serve.specs.Whole.{AsksServer, AsksAudit, AsksSessions, AsksSpin, FitsVolume, HasDisk, HasPlaces, IsWholeRun, NamesVolume, Places, RoseIn, TellsMade, status_at_end, spun}
-pub use Rattle.cfs_serve.specs.Words.{Asked, Audits, Files, Format, Formats, InFile, InMemory, Nothing, Place, Service, Shows, Spin, Spins, asked_by, collections_of, files_in, inputs_in, is_audit, is_file_word, is_service, most_in_source, outputs_in, play_in, serve_in, streams_in}
+pub use Rattle.cfs_serve.specs.Whole.{AsksServer, AsksAudit, AsksInspection, AsksSessions, AsksSpin, FitsVolume, HasDisk, HasPlaces, IsWholeRun, NamesVolume, Places, RoseIn, TellsMade, status_at_end, spun}
+pub use Rattle.cfs_serve.specs.Words.{Asked, Audits, Files, Format, Formats, IfInspects, InFile, InMemory, Inspection, Inspects, Nothing, Place, Service, Shows, Spin, Spins, asked_by, collections_of, files_in, inputs_in, is_audit, is_file_word, is_inspection, is_service, makes_volume, most_in_source, outputs_in, play_in, serve_in, streams_in}
 pub use Rattle.cfs_serve.specs.declared.ending.Ending.{Ending}
 pub use Rattle.cfs_serve.specs.declared.logged.CollectorTurn.{CollectorTurn}
 pub use Rattle.cfs_serve.specs.declared.page.Page.{Page}
@@ -64,6 +65,7 @@ pub use Rattle.cfs_serve.specs.declared.paths.Volume.{Volume}
 pub use Rattle.cfs_serve.specs.declared.report.Cause.{Cause}
 pub use Rattle.cfs_serve.specs.declared.report.Counts.{Counts}
 pub use Rattle.cfs_serve.specs.declared.report.Report.{Report}
+pub use Rattle.cfs_serve.specs.declared.report.VolumeFault.{VolumeFault}
 pub use Rattle.cfs_serve.specs.declared.rest.Rest.{Rest}
 pub use Rattle.cfs_streams.proofs.WriteLaws.{cut, nothing, then, then_some, then_whole}
 pub use Rattle.cfs_streams.specs.Writing.{WritesWhole, Wrote, WroteSome}

@@ -1,6 +1,6 @@
 -- What `top` says of a run, from what the run came to.
-use Rattle.std.proofs.Common.{◌≡◌, inl, inr, ℕ, ◌<◌, ◌≤◌, Bool, true, false, not, List, [], ◌∷◌, ◌++◌, length, map, slice_get, Option, Some, None, refl, sym, ap, ◌∙◌, subst, arith, ◌||◌}
-use Rattle.cfs_serve.proofs.Cited.{AreOver, AreClients, AreWithinLimits, Asked, AsksServer, Audits, BreaksOff, Cause, Counts, Ending, Event, Formats, Ground, HadLeft, HasBroken, HasPlaces, HasScript, HaveScripts, Intake, IsSessionOver, IsPlayed, IsRunOf, IsServedFrom, Nothing, Outside, Page, Puid, PortReading, Replied, Report, RoseIn, Client, Service, Shows, SomeRose, Supply, Wrote, all_forms, counts_of, events_of_session, has_broken, has_failed, is_short, is_verdict, length-map, list_any, most_lines, no_names, not_begun, option_map, printed_replies, request_lines, slice_get-map, slice_get_within, turns_from, turns_in, wants_memory}
+use Rattle.std.proofs.Common.{◌≡◌, inl, inr, ℕ, ◌<◌, ◌≤◌, Bool, true, false, not, List, [], ◌∷◌, ◌++◌, length, map, slice_get, Option, Some, refl, sym, ap, ◌∙◌, subst, arith, ◌||◌}
+use Rattle.cfs_serve.proofs.Cited.{AreOver, AreClients, AreWithinLimits, Asked, AsksServer, Audits, BreaksOff, Cause, Counts, Ending, Event, Formats, Ground, HadLeft, HasBroken, HasPlaces, HasScript, Inspects, untold, HaveScripts, Intake, IsSessionOver, IsPlayed, IsRunOf, IsServedFrom, Nothing, Outside, Page, Puid, PortReading, Replied, Report, RoseIn, Client, Service, Shows, SomeRose, Supply, Wrote, all_forms, counts_of, events_of_session, has_broken, has_failed, is_short, is_verdict, length-map, list_any, most_lines, no_names, not_begun, option_map, printed_replies, request_lines, slice_get-map, slice_get_within, turns_from, turns_in, wants_memory}
 use Rattle.cfs_serve.specs.declared.report.Cause.TheVariants as causes
 use Rattle.cfs_serve.specs.Words.{Serves, Spins}
 use Rattle.ufs_model.specs.declared.asked.Event.TheVariants as events
@@ -10,7 +10,7 @@ use Rattle.cfs_serve.proofs.Scripted.{one_few, within}
 use Rattle.cfs_serve.proofs.Because.{Because}
 use Rattle.cfs_serve.proofs.Endings.{Shown, shown, went_well}
 use Rattle.cfs_serve.proofs.Stopping.{undamaged}
-use Rattle.cfs_serve.proofs.NoneServed.{Facts, clash, clash-sym, of_audit, of_format, of_none, of_nothing, of_page, places}
+use Rattle.cfs_serve.proofs.NoneServed.{Facts, clash, clash-sym, of_audit, of_format, of_inspection, of_none, of_nothing, of_page, places}
 
 -- ---- sessions were served
 
@@ -36,7 +36,7 @@ module _ (service : Service) (ground : Ground) (disk disk_after : Option ℕ) (s
   Played cause = IsPlayed ground service.seed service.collections (RoseIn disk disk_after) clients ports counts cause ending trail
 
   abbrev Sessions : Cause → Type 0
-  Sessions cause = Facts (Serves service) ground begun ended (record { counts = Some counts; cause = cause }) ending trail
+  Sessions cause = Facts (Serves service) ground begun ended (record { counts = Some counts; faults = []; cause = cause }) ending trail
 
   few : (left : List (List ℕ)) → HadLeft begun left → AreWithinLimits left
   few = within sources scripts have
@@ -151,7 +151,7 @@ module _ (service : Service) (ground : Ground) (disk disk_after : Option ℕ) (s
         at false none = went none
 
   sessions : (cause : Cause) (played : Played cause) → ¬ (cause ≡ causes.Words) → ((page : Page) → ¬ (cause ≡ causes.Page page)) → ¬ (is_verdict cause ≡ true)
-      → Because (Serves service) ground begun ended (Some counts) trail cause → Sessions cause
+      → Because (Serves service) ground begun ended (Some counts) [] trail cause → Sessions cause
   sessions cause played other paged plain because = (
     record {
       places = (sources_count ∙ given.0, sinks_count ∙ given.1);
@@ -194,6 +194,8 @@ module _ (service : Service) (ground : Ground) (disk disk_after : Option ℕ) (s
       made = λ no. absurd (clash-sym no);
       audited = λ no. absurd (clash-sym no);
       verdict = λ is. absurd (plain is);
+      inspected = tt;
+      bare = λ no. refl;
       ends = λ served. played.ends;
       spoiled = λ served. played.spoiled;
       counts = subst (λ n. CountsSessions n trail counts) clients_count played.counted;
@@ -236,6 +238,8 @@ module _ (service : Service) (ground : Ground) (disk disk_after : Option ℕ) (s
   by_cause (causes.Legal n) played is = absurd is
   by_cause (causes.BadLine line) played is = absurd is
   by_cause (causes.Illegal event) played is = absurd is
+  by_cause causes.LongVolume played is = absurd is
+  by_cause (causes.Sound objects left) played is = absurd is
 
   pub of_sessions : (cause : Cause) → Played cause → Sessions cause
   of_sessions cause played = by_cause cause played (subst ShownBy (sym played.spoiled) (shown ending trail (has_broken ports)))
@@ -248,6 +252,7 @@ NoSpin (Spins spin) = ⊥
 NoSpin (Shows page) = Unit {0}
 NoSpin (Formats format) = Unit {0}
 NoSpin (Audits trail) = Unit {0}
+NoSpin (Inspects inspection) = Unit {0}
 NoSpin (Serves service) = Unit {0}
 NoSpin Nothing = Unit {0}
 
@@ -278,9 +283,12 @@ module _ (disk disk_after : Option ℕ) (sources sources_after : List Supply) (s
       let one = one_item sources given.0 in
       let left = one_item sources_after (asks.sources ∙ given.0) in
       rw (asks.told, asks.no_event, asks.no_end, asks.sinks, no_items sinks given.1)
-      (subst (λ l. Facts (Audits text) ground (places disk l [] report) (places disk_after sources_after [] report_after) (record { counts = None; cause = told.cause }) not_begun []) (sym one.1)
-      (subst (λ l. Facts (Audits text) ground (places disk (one.0 ∷ []) [] report) (places disk_after l [] report_after) (record { counts = None; cause = told.cause }) not_begun []) (sym left.1)
+      (subst (λ l. Facts (Audits text) ground (places disk l [] report) (places disk_after sources_after [] report_after) (untold told.cause) not_begun []) (sym one.1)
+      (subst (λ l. Facts (Audits text) ground (places disk (one.0 ∷ []) [] report) (places disk_after l [] report_after) (untold told.cause) not_begun []) (sym left.1)
       (of_audit ground text disk disk_after one.0 left.0 report report_after told.cause (asks.found one.0 left.0 (ap (λ l. slice_get l 0) one.1) (ap (λ l. slice_get l 0) left.1)))))
+  facts (Inspects inspection) ground plain none asks =
+      rw (asks.told, asks.no_event, asks.no_end, asks.sources, asks.sinks, no_items sources none.0, no_items sinks none.1)
+      (of_inspection ground inspection disk disk_after report report_after told.faults told.cause asks.found)
   facts (Shows page) ground plain none asks =
       rw (asks.told, asks.no_event, asks.no_end, asks.sources, asks.sinks, no_items sources none.0, no_items sinks none.1)
       (of_page ground page disk disk_after report report_after)

@@ -1,6 +1,6 @@
 -- A disk that fits the volume that the words name is the one that they want.
 use Rattle.std.proofs.Common.{ℕ, Bool, List, Option, subst}
-use Rattle.cfs_serve.proofs.Cited.{Asked, Audits, Files, FitsVolume, Formats, HasDisk, InFile, InMemory, NamesVolume, Nothing, Place, Shows, Spins, Volume}
+use Rattle.cfs_serve.proofs.Cited.{Asked, Audits, Files, FitsVolume, Formats, HasDisk, InFile, InMemory, Inspects, NamesVolume, Nothing, Place, Shows, Spins, Volume}
 use Rattle.cfs_serve.specs.Words.{Serves}
 
 -- a service on a volume at this place
@@ -16,6 +16,7 @@ pub fits : (volume : Option Volume) (blocks : Option ℕ) (a : Asked) → NamesV
 fits volume blocks (Formats format) named fit = subst (λ v. FitsVolume v blocks) named fit
 fits volume blocks (Serves service) named fit = fits_place volume blocks service.volume service.seed service.collections service.sessions service.traced named fit
 fits volume blocks (Spins spin) named fit = subst (λ v. FitsVolume v blocks) named fit
+fits volume blocks (Inspects inspection) named fit = subst (λ v. FitsVolume v blocks) named fit
 fits volume blocks (Audits trail) named fit = subst (λ v. FitsVolume v blocks) named fit
 fits volume blocks (Shows page) named fit = subst (λ v. FitsVolume v blocks) named fit
 fits volume blocks Nothing named fit = subst (λ v. FitsVolume v blocks) named fit

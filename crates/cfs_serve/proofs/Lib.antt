@@ -14,6 +14,9 @@ mod Texts
 mod Tracing
 mod Because
 mod NoneServed
+mod Checking
+mod Mended
+mod Inspections
 mod Judging
 mod Facts
 mod Saying

@@ -1,6 +1,6 @@
 -- What `top` says of a run that served nothing.
-use Rattle.std.proofs.Common.{◌≡◌, ◌↔◌, inl, inr, ℕ, zero, suc, ◌<◌, ◌≤◌, true, false, List, [], ◌∷◌, length, slice_get, Option, Some, None, refl, sym, ◌∙◌, subst, arith, get_or}
-use Rattle.cfs_serve.proofs.Cited.{AreWithinLimits, Asked, Audits, Cause, Did, EachFrom, Ending, Event, Finds, Format, Formats, Ground, Had, HasPlaces, Intake, IsUnservedCause, IsFirstRead, IsLegal, Nothing, Outside, Page, Replied, Report, Rose, RoseIn, Service, Shows, SomeRose, Supply, TellsMade, begins_in, collections_of, faults_of_sources, is_audit, is_service, is_verdict, length-map, most_script, most_trail, not_begun, nothing, opening, printed_replies, slice_get-get_or, slice_index_or}
+use Rattle.std.proofs.Common.{◌≡◌, ◌↔◌, inl, inr, ℕ, zero, suc, ◌<◌, ◌≤◌, Bool, true, false, List, [], ◌∷◌, length, slice_get, Option, Some, None, refl, sym, ap, ◌∙◌, subst, arith, get_or}
+use Rattle.cfs_serve.proofs.Cited.{AreWithinLimits, Asked, Audits, Cause, Did, EachFrom, Ending, Event, Finds, Format, Formats, Ground, Had, HasPlaces, Intake, IsUnservedCause, IsFirstRead, IsLegal, Nothing, Outside, Page, Replied, Report, Rose, RoseIn, Damage, IfInspects, Inspection, Inspects, IsInspected, Service, Shows, SomeRose, Supply, TellsMade, begins_in, collections_of, faults_of_sources, is_audit, is_inspection, is_service, is_verdict, makes_volume, length-map, untold, most_script, most_trail, not_begun, nothing, opening, printed_replies, slice_get-get_or, slice_index_or}
 use Rattle.cfs_serve.specs.declared.report.Cause.TheVariants as causes
 use Rattle.cfs_serve.specs.Words.{IfServes, Serves, Spins, is_format}
 use Rattle.cfs_serve.proofs.Lists.{each_of, heads, never_none, one_rose}
@@ -12,7 +12,7 @@ use Rattle.cfs_serve.proofs.Endings.{shown}
 -- what a run did and told, and what its cause shows
 abbrev pub Facts : Asked → Ground → (old new : Outside) → Report → Ending → List Event → Type 0
 Facts asked ground old new told ending trail =
-    Did asked ground old new told ending trail × Because asked ground old new told.counts trail told.cause
+    Did asked ground old new told ending trail × Because asked ground old new told.counts told.faults trail told.cause
 
 abbrev pub places : Option ℕ → List Supply → List Intake → Intake → Outside
 places disk sources sinks report = record { disk = disk; sources = sources; sinks = sinks; report = report }
@@ -39,16 +39,18 @@ no_serves : (asked : Asked) (holds : Service → Type 0) → is_service asked �
 no_serves (Shows page) holds none = tt
 no_serves (Formats format) holds none = tt
 no_serves (Audits trail) holds none = tt
+no_serves (Inspects inspection) holds none = tt
 no_serves (Spins spin) holds none = tt
 no_serves (Serves service) holds none = absurd (clash none)
 no_serves Nothing holds none = tt
 
-module _ (asked : Asked) (ground : Ground) (disk disk_after : Option ℕ) (sources sources_after : List Supply) (report report_after : Intake) (cause : Cause) where
+module _ (asked : Asked) (ground : Ground) (disk disk_after : Option ℕ) (sources sources_after : List Supply) (report report_after : Intake) (cause : Cause) (faults : List Damage) where
   unasked : is_service asked ≡ false → HasPlaces asked (length sources_after) 0 → ((cause ≡ causes.Words) ↔ (asked ≡ Nothing)) → ((page : Page) → (cause ≡ causes.Page page) ↔ (asked ≡ Shows page))
-      → (is_format asked ≡ false → ¬ (cause ≡ causes.Nothing)) → (is_format asked ≡ true → TellsMade cause disk disk_after)
+      → (makes_volume asked ≡ false → ¬ (cause ≡ causes.Nothing)) → (is_format asked ≡ true → TellsMade cause disk disk_after)
       → (is_audit asked ≡ true → EachFrom (λ _ source after. Finds cause source after) 0 sources sources_after) → (is_verdict cause ≡ true → is_audit asked ≡ true)
-      → Did asked ground (places disk sources [] report) (places disk_after sources_after [] report_after) (record { counts = None; cause = cause }) not_begun []
-  unasked none places_are words page told made audited verdict = record {
+      → IfInspects asked (λ i. IsInspected ground i.mends (RoseIn disk disk_after) cause faults) → (is_inspection asked ≡ false → faults ≡ [])
+      → Did asked ground (places disk sources [] report) (places disk_after sources_after [] report_after) (record { counts = None; faults = faults; cause = cause }) not_begun []
+  unasked none places_are words page told made audited verdict inspected bare = record {
     places = places_are;
     unserved = λ none. (refl, refl, refl);
     unasked = λ none. refl;
@@ -71,6 +73,8 @@ module _ (asked : Asked) (ground : Ground) (disk disk_after : Option ℕ) (sourc
     made = made;
     audited = audited;
     verdict = verdict;
+    inspected = inspected;
+    bare = bare;
     ends = λ served. absurd (clash-sym served);
     spoiled = λ served. absurd (clash-sym served);
     counts = tt;
@@ -80,16 +84,16 @@ module _ (asked : Asked) (ground : Ground) (disk disk_after : Option ℕ) (sourc
     wanting = λ wants. absurd (cc wants);
   }
 
-pub of_nothing : (ground : Ground) (disk disk_after : Option ℕ) (report report_after : Intake) → Facts Nothing ground (places disk [] [] report) (places disk_after [] [] report_after) (record { counts = None; cause = causes.Words }) not_begun []
+pub of_nothing : (ground : Ground) (disk disk_after : Option ℕ) (report report_after : Intake) → Facts Nothing ground (places disk [] [] report) (places disk_after [] [] report_after) (untold causes.Words) not_begun []
 of_nothing ground disk disk_after report report_after = (
-  unasked Nothing ground disk disk_after [] [] report report_after causes.Words refl (refl, refl) ((λ is. refl), (λ is. refl)) (λ page. ((λ is. cc), (λ is. cc))) (λ no e. cc) (λ no. absurd (clash-sym no)) (λ no. absurd (clash-sym no)) (λ no. absurd (clash-sym no)),
+  unasked Nothing ground disk disk_after [] [] report report_after causes.Words [] refl (refl, refl) ((λ is. refl), (λ is. refl)) (λ page. ((λ is. cc), (λ is. cc))) (λ no e. cc) (λ no. absurd (clash-sym no)) (λ no. absurd (clash-sym no)) (λ no. absurd (clash-sym no)) tt (λ no. refl),
   (refl, refl, no_scripts),
 )
 
 pub of_page : (ground : Ground) (shown : Page) (disk disk_after : Option ℕ) (report report_after : Intake)
-    → Facts (Shows shown) ground (places disk [] [] report) (places disk_after [] [] report_after) (record { counts = None; cause = causes.Page shown }) not_begun []
+    → Facts (Shows shown) ground (places disk [] [] report) (places disk_after [] [] report_after) (untold (causes.Page shown)) not_begun []
 of_page ground shown disk disk_after report report_after = (
-  unasked (Shows shown) ground disk disk_after [] [] report report_after (causes.Page shown) refl (refl, refl) ((λ is. cc), (λ is. cc)) (λ page. ((λ is. cc), (λ is. cc))) (λ no e. cc) (λ no. absurd (clash-sym no)) (λ no. absurd (clash-sym no)) (λ no. absurd (clash-sym no)),
+  unasked (Shows shown) ground disk disk_after [] [] report report_after (causes.Page shown) [] refl (refl, refl) ((λ is. cc), (λ is. cc)) (λ page. ((λ is. cc), (λ is. cc))) (λ no e. cc) (λ no. absurd (clash-sym no)) (λ no. absurd (clash-sym no)) (λ no. absurd (clash-sym no)) tt (λ no. refl),
   (refl, refl, no_scripts),
 )
 
@@ -97,18 +101,45 @@ of_page ground shown disk disk_after report report_after = (
 
 module _ (ground : Ground) (format : Format) (disk disk_after : Option ℕ) (report report_after : Intake) where
   abbrev Volumed : Cause → Type 0
-  Volumed cause = Facts (Formats format) ground (places disk [] [] report) (places disk_after [] [] report_after) (record { counts = None; cause = cause }) not_begun []
+  Volumed cause = Facts (Formats format) ground (places disk [] [] report) (places disk_after [] [] report_after) (untold cause) not_begun []
 
   volumed : (cause : Cause) → ¬ (cause ≡ causes.Words) → ((page : Page) → ¬ (cause ≡ causes.Page page)) → TellsMade cause disk disk_after → ¬ (is_verdict cause ≡ true)
-      → Because (Formats format) ground (places disk [] [] report) (places disk_after [] [] report_after) None [] cause → Volumed cause
+      → Because (Formats format) ground (places disk [] [] report) (places disk_after [] [] report_after) None [] [] cause → Volumed cause
   volumed cause other paged told plain because = (
-    unasked (Formats format) ground disk disk_after [] [] report report_after cause refl (refl, refl) ((λ is. absurd (other is)), (λ is. cc)) (λ page. ((λ is. absurd (paged page is)), (λ is. cc))) (λ no. absurd (clash no)) (λ makes. told) (λ no. absurd (clash-sym no)) (λ is. absurd (plain is)),
+    unasked (Formats format) ground disk disk_after [] [] report report_after cause [] refl (refl, refl) ((λ is. absurd (other is)), (λ is. cc)) (λ page. ((λ is. absurd (paged page is)), (λ is. cc))) (λ no. absurd (clash no)) (λ makes. told) (λ no. absurd (clash-sym no)) (λ is. absurd (plain is)) tt (λ no. refl),
     because,
   )
 
   pub of_format : (cause : Cause) → TellsMade cause disk disk_after → Volumed cause
-  of_format cause (inl is) = rw is (volumed causes.Nothing (λ e. cc) (λ page e. cc) (inl refl) clash-sym (inr (refl, (format, refl), no_scripts)))
+  of_format cause (inl is) = rw is (volumed causes.Nothing (λ e. cc) (λ page e. cc) (inl refl) clash-sym (inr (inl (refl, (format, refl), no_scripts))))
   of_format cause (inr failed) = rw failed.0 (volumed (causes.Disk None) (λ e. cc) (λ page e. cc) (inr (refl, failed.1)) clash-sym (failed.1, no_scripts))
+
+-- ---- an inspection was asked for
+
+module _ (ground : Ground) (inspection : Inspection) (disk disk_after : Option ℕ) (report report_after : Intake) (faults : List Damage) where
+  abbrev Inspected : Cause → Type 0
+  Inspected cause = Facts (Inspects inspection) ground (places disk [] [] report) (places disk_after [] [] report_after) (record { counts = None; faults = faults; cause = cause }) not_begun []
+
+  inspected : (cause : Cause) → ¬ (cause ≡ causes.Words) → ((page : Page) → ¬ (cause ≡ causes.Page page)) → (inspection.mends ≡ false → ¬ (cause ≡ causes.Nothing)) → ¬ (is_verdict cause ≡ true)
+      → IsInspected ground inspection.mends (RoseIn disk disk_after) cause faults
+      → Because (Inspects inspection) ground (places disk [] [] report) (places disk_after [] [] report_after) None faults [] cause → Inspected cause
+  inspected cause other paged told plain is because = (
+    unasked (Inspects inspection) ground disk disk_after [] [] report report_after cause faults refl (refl, refl) ((λ is. absurd (other is)), (λ is. cc)) (λ page. ((λ is. absurd (paged page is)), (λ is. cc))) told (λ no. absurd (clash-sym no)) (λ no. absurd (clash-sym no)) (λ is. absurd (plain is)) is (λ no. absurd (clash no)),
+    because,
+  )
+
+  asks : (mends : Bool) → inspection.mends ≡ mends → Inspects inspection ≡ Inspects (record { volume = inspection.volume; mends = mends })
+  asks mends is = ap (λ m. Inspects (record { volume = inspection.volume; mends = m })) is
+
+  pub of_inspection : (cause : Cause) → IsInspected ground inspection.mends (RoseIn disk disk_after) cause faults → Inspected cause
+  of_inspection (causes.Sound objects left) is = inspected (causes.Sound objects left) (λ e. cc) (λ page e. cc) (λ no e. cc) clash-sym is ((refl, is.tells.1, (inspection.volume, asks false is.tells.0)), is.tells.2)
+  of_inspection causes.Nothing is =
+      inspected causes.Nothing (λ e. cc) (λ page e. cc) (λ no e. clash (sym is.tells.0 ∙ no)) clash-sym is (inr (inr (refl, is.tells.1, (inspection.volume, asks true is.tells.0))))
+  of_inspection (causes.Volume fault) is = inspected (causes.Volume fault) (λ e. cc) (λ page e. cc) (λ no e. cc) clash-sym is (is.tells.0, no_scripts, (λ none. is.tells.1))
+  of_inspection (causes.Disk moment) is = inspected (causes.Disk moment) (λ e. cc) (λ page e. cc) (λ no e. cc) clash-sym is (is.tells.1, no_scripts)
+  of_inspection causes.Memory is = inspected causes.Memory (λ e. cc) (λ page e. cc) (λ no e. cc) clash-sym is tt
+  of_inspection causes.LongVolume is = inspected causes.LongVolume (λ e. cc) (λ page e. cc) (λ no e. cc) clash-sym is (refl, (inspection, refl), is.long.0 refl)
+  of_inspection cause is = absurd is.tells
 
 -- ---- an audit was asked for
 
@@ -120,14 +151,14 @@ module _ (ground : Ground) (trail : List ℕ) (disk disk_after : Option ℕ) (so
   new_one = places disk_after (after ∷ []) [] report_after
 
   abbrev AuditedSo : Cause → Type 0
-  AuditedSo cause = Facts (Audits trail) ground old_one new_one (record { counts = None; cause = cause }) not_begun []
+  AuditedSo cause = Facts (Audits trail) ground old_one new_one (untold cause) not_begun []
 
   abbrev Why : Cause → Type 0
-  Why cause = Because (Audits trail) ground old_one new_one None [] cause
+  Why cause = Because (Audits trail) ground old_one new_one None [] [] cause
 
   audited : (cause : Cause) → ¬ (cause ≡ causes.Words) → ((page : Page) → ¬ (cause ≡ causes.Page page)) → ¬ (cause ≡ causes.Nothing) → Finds cause source after → Why cause → AuditedSo cause
   audited cause other paged told found because = (
-    unasked (Audits trail) ground disk disk_after (source ∷ []) (after ∷ []) report report_after cause refl (refl, refl) ((λ is. absurd (other is)), (λ is. cc)) (λ page. ((λ is. absurd (paged page is)), (λ is. cc))) (λ no. told) (λ no. absurd (clash-sym no)) (λ audits. (found, tt)) (λ is. refl),
+    unasked (Audits trail) ground disk disk_after (source ∷ []) (after ∷ []) report report_after cause [] refl (refl, refl) ((λ is. absurd (other is)), (λ is. cc)) (λ page. ((λ is. absurd (paged page is)), (λ is. cc))) (λ no. told) (λ no. absurd (clash-sym no)) (λ audits. (found, tt)) (λ is. refl) tt (λ no. refl),
     because,
   )
 
@@ -170,10 +201,10 @@ module _ (service : Service) (ground : Ground) (disk disk_after : Option ℕ) (s
   new = places disk_after sources_after sinks report_after
 
   abbrev Unserved : Cause → Type 0
-  Unserved cause = Facts (Serves service) ground old new (record { counts = None; cause = cause }) not_begun []
+  Unserved cause = Facts (Serves service) ground old new (untold cause) not_begun []
 
   unserved : (cause : Cause) → ¬ (cause ≡ causes.Words) → ((page : Page) → ¬ (cause ≡ causes.Page page)) → ¬ (cause ≡ causes.Nothing) → ¬ (is_verdict cause ≡ true)
-      → Because (Serves service) ground old new None [] cause → Unserved cause
+      → Because (Serves service) ground old new None [] [] cause → Unserved cause
   unserved cause other paged told plain because = (
     record {
       places = (count ∙ given.0, given.1);
@@ -209,6 +240,8 @@ module _ (service : Service) (ground : Ground) (disk disk_after : Option ℕ) (s
       made = λ no. absurd (clash-sym no);
       audited = λ no. absurd (clash-sym no);
       verdict = λ is. absurd (plain is);
+      inspected = tt;
+      bare = λ no. refl;
       ends = λ served. absurd (clash-sym served);
       spoiled = λ served. absurd (clash-sym served);
       counts = tt;
@@ -251,3 +284,5 @@ module _ (service : Service) (ground : Ground) (disk disk_after : Option ℕ) (s
   of_none (causes.Legal n) is = absurd is
   of_none (causes.BadLine line) is = absurd is
   of_none (causes.Illegal event) is = absurd is
+  of_none causes.LongVolume is = absurd is
+  of_none (causes.Sound objects left) is = absurd is

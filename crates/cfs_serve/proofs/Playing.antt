@@ -142,7 +142,7 @@ module _ {D K : Type 0} (g : Ghosts D) (sized : (d : D) → IsTrue (g.honest d) 
   rose = Rose (g.faults core.disk) (g.faults server.disk)
 
   module _ (n : ℕ) (runs : core.stop ≡ None) (is : HasServed (by_core g) (called core n) before n s)
-      (report : Report) (report_is : report ≡ record { counts = Some counts; cause = cause_by ending s.failed (has_broken ports) s.starved })
+      (report : Report) (report_is : report ≡ record { counts = Some counts; faults = []; cause = cause_by ending s.failed (has_broken ports) s.starved })
       (free_is : (last : State) → ServesIs g server last → sweeps_now last.collection ≡ false → last.grants ≡ [] → free_to_come g server ≡ free_once_tidy (length server.space.free) last.graph) where
     settled : ending.refused ≡ None → server.space.left ≡ None
     settled well = none_left server.space.left (is.collected.settled well)

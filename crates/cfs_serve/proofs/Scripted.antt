@@ -109,6 +109,8 @@ one_cause sources after n source source_after at there first causes.LongTotal is
 one_cause sources after n source source_after at there first (causes.Legal count) is = absurd is
 one_cause sources after n source source_after at there first (causes.BadLine line) is = absurd is
 one_cause sources after n source source_after at there first (causes.Illegal event) is = absurd is
+one_cause sources after n source source_after at there first causes.LongVolume is = absurd is
+one_cause sources after n source source_after at there first (causes.Sound objects left) is = absurd is
 
 -- all were read, and have too many lines together
 pub total_cause : (sources after : List Supply) (scripts : List (List ℕ)) → HaveFirst sources scripts → length scripts ≡ length sources → most_lines < lines_in scripts

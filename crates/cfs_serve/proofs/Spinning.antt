@@ -1,6 +1,6 @@
 -- What `top` says of a spin is what it says of its service; of all else it is said as it stands.
 use Rattle.std.proofs.Common.{◌≡◌, ◌⊎◌, inl, inr, ℕ, zero, suc, ◌+◌, ◌*◌, ◌<◌, ◌≤◌, List, [], length, slice_get, Option, Some, refl, ap, subst, ◌∙◌, arith}
-use Rattle.cfs_serve.proofs.Cited.{AreShort, AreWithinLimits, Asked, AsksServer, Audits, Ending, Event, Formats, Ghosts, HasPlaces, IsWholeRun, NoCountRose, Nothing, Opening, Outside, Report, Rose, Said, Says, Shows, Spin, Spins, drawn_scripts, status_at_end, first_line, get_or_from_slice_get, ground_of, last_cause, lines_in, most_script, opened, request_lines, script, service_of, slice_get_within, turns_in, within_spin}
+use Rattle.cfs_serve.proofs.Cited.{AreShort, AreWithinLimits, Asked, AsksServer, Audits, Ending, Event, Formats, Ghosts, HasPlaces, Inspects, IsWholeRun, NoCountRose, Nothing, Opening, Outside, Report, Rose, Said, Says, Shows, Spin, Spins, drawn_scripts, status_at_end, first_line, get_or_from_slice_get, ground_of, last_cause, lines_in, most_script, opened, request_lines, script, service_of, slice_get_within, turns_in, within_spin}
 use Rattle.cfs_serve.specs.Traced.{IsWritten}
 use Rattle.cfs_serve.specs.Words.{Serves}
 use Rattle.cfs_serve.specs.declared.traced.Written.{Written}
@@ -80,6 +80,8 @@ module _ (lines : Lines) (short : Short) where
     says (Shows page) traced given run = said (Shows page) (ground_of g (Shows page) disk) old new told status ending trail tt given (whole (Shows page) traced run)
     says (Formats format) traced given run = said (Formats format) (ground_of g (Formats format) disk) old new told status ending trail tt given (whole (Formats format) traced run)
     says (Audits text) traced given run = said (Audits text) (ground_of g (Audits text) disk) old new told status ending trail tt given (whole (Audits text) traced run)
+    says (Inspects inspection) traced given run =
+        said (Inspects inspection) (ground_of g (Inspects inspection) disk) old new told status ending trail tt given (whole (Inspects inspection) traced run)
     says (Serves service) traced given run = said (Serves service) (ground_of g (Serves service) disk) old new told status ending trail tt given (whole (Serves service) traced run)
     says Nothing traced given run = said Nothing (ground_of g Nothing disk) old new told status ending trail tt given (whole Nothing traced run)
     says (Spins spin) traced given run =
@@ -104,7 +106,9 @@ module _ (lines : Lines) (short : Short) where
                 (ended_well.answered.1.1.0 (script spin.seed 2 spin.count) refl) (ended_well.answered.1.1.1.0 (script spin.seed 3 spin.count) refl))
             | inr (inl showed) ↦ absurd (cc ((s.did.page showed.page).0 (ap (λ (r : Report). r.cause) showed.is)))
             | inr (inr (inl made)) ↦ absurd (cc made.asks)
-            | inr (inr (inr audited)) ↦ absurd (cc audited.asks)
+            | inr (inr (inr (inl audited))) ↦ absurd (cc audited.asks)
+            | inr (inr (inr (inr (inl checked)))) ↦ absurd (cc checked.asks)
+            | inr (inr (inr (inr (inr mended)))) ↦ absurd (cc mended.asks)
           ];
           complete = λ quiet. s.complete refl (drawn_scripts spin.seed spin.count) refl (drawn_within spin.seed spin.count few) (quiet_within spin old new quiet) (opened spin.seed) refl;
         }

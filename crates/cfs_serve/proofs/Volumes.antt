@@ -1,6 +1,6 @@
 -- A volume that was opened, and what a service comes to on it.
 use Rattle.std.proofs.Common.{◌≡◌, ◌⊎◌, inl, inr, ℕ, ◌*◌, ◌≤◌, List, [], Option, Some, None, Result, Ok, Err, IfOk, IsTrue, true, refl, sym, ap, ◌∙◌, subst, arith, length}
-use Rattle.cfs_serve.proofs.Cited.{AsksSessions, Cause, Counts, Ending, EndsService, Event, Ghosts, Graph, Ground, HaveScripts, IfSome, Image, Intake, IsUnservedCause, IsCaused, IsLater, IsNewCore, IsOpenFault, IsOpenedCore, IsPlayed, IsOpeningRefusal, IsRunFrom, IsRunOf, IsSound, IsSoundAs, IsSourceCause, Kernel, LeavesSinceBarrier, LeavesSinceTry, Places, PortReading, RecoverFault, Report, Rose, RoseIn, Client, ServesScripts, ServesVolume, StandsFor, Supply, front_of, ground_at, ground_on, not_begun, opened, opening, option_map, result_ok, opening_cause}
+use Rattle.cfs_serve.proofs.Cited.{AsksSessions, Cause, Counts, Ending, EndsService, Event, Ghosts, Graph, Ground, HaveScripts, IfSome, Image, Intake, IsUnservedCause, IsCaused, IsLater, IsNewCore, IsOpenFault, IsOpenedCore, IsPlayed, IsOpeningRefusal, IsRunFrom, IsRunOf, IsSound, IsSoundAs, IsSourceCause, Kernel, LeavesSinceBarrier, LeavesSinceTry, Places, PortReading, RecoverFault, Report, Rose, RoseIn, Client, ServesScripts, ServesVolume, StandsFor, Supply, front_of, ground_at, ground_on, not_begun, opened, opening, option_map, result_ok, opening_cause, untold}
 use Rattle.cfs_recover.specs.declared.fault.RecoverFault.TheVariants as whys
 use Rattle.cfs_base.proofs.Runs.{stands}
 use Rattle.cfs_base.specs.Disk.{Nothing}
@@ -104,13 +104,13 @@ module _ {D : Type 0} (g : Ghosts D) (core : Kernel D) (scripts : List (List ℕ
 
 -- nothing was served
 none_run : (ground : Ground) (seed collections : ℕ) (wide : Type 0) (sources sources_after : List Supply) (sinks after : List Intake) (report : Report) (ending : Ending)
-    (trail : List Event) (cause : Cause) → IsUnservedCause ground wide sources sources_after cause → after ≡ sinks → report ≡ record { counts = None; cause = cause } → trail ≡ []
+    (trail : List Event) (cause : Cause) → IsUnservedCause ground wide sources sources_after cause → after ≡ sinks → report ≡ untold cause → trail ≡ []
     → ending ≡ not_begun → IsRunOf ground seed collections wide sources sources_after sinks after report ending trail
 none_run ground seed collections wide sources sources_after sinks after report ending trail cause is same told none no_end =
     inr (record { cause = cause; is = is; nothing = record { no_event = none; no_end = no_end; untouched = same; told = told } })
 
 pub none_asks : (ground : Ground) (seed collections : ℕ) (old new : Places) (report : Report) (ending : Ending) (trail : List Event) (cause : Cause) → length new.sources ≡ length old.sources
-    → IsUnservedCause ground (RoseIn old.disk new.disk) old.sources new.sources cause → new.sinks ≡ old.sinks → report ≡ record { counts = None; cause = cause } → trail ≡ []
+    → IsUnservedCause ground (RoseIn old.disk new.disk) old.sources new.sources cause → new.sinks ≡ old.sinks → report ≡ untold cause → trail ≡ []
     → ending ≡ not_begun → AsksSessions ground seed collections old new report ending trail
 none_asks ground seed collections old new report ending trail cause count is same told none no_end = record {
   sources = count;
@@ -132,6 +132,8 @@ source_cause ground wide source after causes.LongTotal is = is
 source_cause ground wide source after (causes.Legal n) is = absurd is
 source_cause ground wide source after (causes.BadLine line) is = absurd is
 source_cause ground wide source after (causes.Illegal event) is = absurd is
+source_cause ground wide source after causes.LongVolume is = absurd is
+source_cause ground wide source after (causes.Sound objects left) is = absurd is
 
 pub source_ill : (source after : List Supply) (cause : Cause) → IsSourceCause source after cause → ¬ (cause ≡ causes.Nothing)
 source_ill source after cause is well = absurd (rw well at is)
@@ -172,9 +174,11 @@ module _ {D : Type 0} (g : Ghosts D) (old : D) (seed : ℕ) where
   refusal_cause new source after script has (causes.Legal n) is = absurd is
   refusal_cause new source after script has (causes.BadLine line) is = absurd is
   refusal_cause new source after script has (causes.Illegal event) is = absurd is
+  refusal_cause new source after script has causes.LongVolume is = absurd is
+  refusal_cause new source after script has (causes.Sound objects left) is = absurd is
 
   -- nothing was served on it
-  pub unserved : (new : D) (report : Report) (ending : Ending) (trail : List Event) (moments : List ℕ) (cause : Cause) → IsLater g old new → report ≡ record { counts = None; cause = cause } → ending ≡ not_begun
+  pub unserved : (new : D) (report : Report) (ending : Ending) (trail : List Event) (moments : List ℕ) (cause : Cause) → IsLater g old new → report ≡ untold cause → ending ≡ not_begun
       → ¬ (cause ≡ causes.Nothing)
       → (IsTrue (g.honest old) → (graph : Graph) → IsSoundAs (g.content old) graph → (new ≡ old) ⊎ LeavesSinceTry g old new (λ c. IsSoundAs c graph))
       → (IsTrue (g.honest old) → (fault : VolumeFault) → cause ≡ causes.Volume fault → IsUntouched g old new) → (IsTrue (g.honest old) → ¬ IsSound (g.content old) → IsUntouched g old new)

@@ -1,12 +1,13 @@
 -- What a command asks for, in the words of the definitions.
-use Rattle.std.specs.Prelude.{map, string_bytes, false, Option, Some, None}
+use Rattle.std.specs.Prelude.{map, string_bytes, true, false, Option, Some, None}
 use Rattle.cfs_serve.specs.declared.command.Command.{Command}
 use Rattle.cfs_serve.specs.declared.command.Command.TheVariants as commands
 use Rattle.cfs_serve.specs.declared.command.Format as formats
 use Rattle.cfs_serve.specs.declared.command.Play.{Play}
 use Rattle.cfs_serve.specs.declared.command.Serve.{Serve}
 use Rattle.cfs_serve.specs.declared.command.Spin as spins
-use Rattle.cfs_serve.specs.Words.{Asked, Audits, Format, Formats, InFile, InMemory, Nothing, Serves, Service, Shows, Spin, Spins, files_in}
+use Rattle.cfs_serve.specs.Words.{Asked, Audits, Format, Formats, InFile, InMemory, Inspects, Nothing, Serves, Service}
+use Rattle.cfs_serve.specs.Words.{Shows, Spin, Spins, files_in}
 
 abbrev pub format_of : formats.Format → Format
 format_of f = record { volume = f.volume.now; cylinders = f.cylinders; seed = f.seed; pair = f.pair }
@@ -36,6 +37,8 @@ abbrev pub asked_of : Option Command → Asked
 asked_of (Some (commands.Page page)) = Shows page
 asked_of (Some (commands.Format format)) = Formats (format_of format)
 asked_of (Some (commands.Audit trail)) = Audits trail.now
+asked_of (Some (commands.Check volume)) = Inspects (record { volume = volume.now; mends = false })
+asked_of (Some (commands.Mend volume)) = Inspects (record { volume = volume.now; mends = true })
 asked_of (Some (commands.Play play)) = Serves (played_service play)
 asked_of (Some (commands.Spin spin)) = Spins (spin_of spin)
 asked_of (Some (commands.Serve serve)) = Serves (served_service serve)

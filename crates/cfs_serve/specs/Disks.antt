@@ -24,8 +24,9 @@ use Rattle.cfs_serve.specs.Ending.{IsStopTimed}
 use Rattle.cfs_serve.specs.Volume.{EndsCore}
 use Rattle.cfs_serve.specs.Events.{tells_disk, tells_fault}
 use Rattle.cfs_serve.specs.Logs.{MomentsRise, faults_after, first_fault}
-use Rattle.cfs_serve.specs.Words.{Asked, Audits, Format, Formats, InFile, InMemory, Nothing, Place, Serves, Shows}
-use Rattle.cfs_serve.specs.Words.{Spins}
+use Rattle.cfs_serve.specs.Inspected.{InspectsVolume}
+use Rattle.cfs_serve.specs.Words.{Asked, Audits, Format, Formats, InFile, InMemory, Inspects, Nothing, Place, Serves}
+use Rattle.cfs_serve.specs.Words.{Shows, Spins}
 
 -- A volume was made on a disk, or the disk failed.
 pub record MakesVolume {D : Type 0} (g : Ghosts D) (format : Format) (cause : Cause) (old new : D) : Type 0 where
@@ -100,6 +101,11 @@ MakesOn g format cause (Some old) (Some new) = MakesVolume g format cause old ne
 MakesOn g format cause (Some old) None = ⊥
 MakesOn g format cause None new = ⊥
 
+abbrev InspectsOn : {D : Type 0} → Ghosts D → (mends : Bool) → Report → Option D → Option D → Type 0
+InspectsOn g mends told (Some old) (Some new) = InspectsVolume g mends told old new
+InspectsOn g mends told (Some old) None = ⊥
+InspectsOn g mends told None new = ⊥
+
 abbrev ServesOn : {D : Type 0} → Ghosts D → Place → (seed : ℕ) → Report → Ending → List Event → List ℕ
     → Option D → Option D
     → Type 0
@@ -109,12 +115,13 @@ ServesOn g (InFile path pair) seed told ending trail moments (Some old) (Some ne
 ServesOn g (InFile path pair) seed told ending trail moments (Some old) None = ⊥
 ServesOn g (InFile path pair) seed told ending trail moments None new = ⊥
 
--- a volume is made or served on the disk that is asked for; else there is none, before and after
+-- a volume is made, inspected or served on the disk that is asked for; else there is none, before and after
 abbrev pub OnDisk : {D : Type 0} → Ghosts D → Asked → Report → Ending → List Event → List ℕ → Option D
     → Option D → Type 0
 OnDisk g (Formats format) told ending trail moments old new = MakesOn g format told.cause old new
 OnDisk g (Serves service) told ending trail moments old new =
     ServesOn g service.volume service.seed told ending trail moments old new
+OnDisk g (Inspects inspection) told ending trail moments old new = InspectsOn g inspection.mends told old new
 OnDisk g (Audits text) told ending trail moments old new = new ≡ old
 OnDisk g (Spins spin) told ending trail moments old new = new ≡ old
 OnDisk g (Shows page) told ending trail moments old new = new ≡ old

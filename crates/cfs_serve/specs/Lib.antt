@@ -21,6 +21,7 @@ pub mod Audit
 pub mod Spun
 pub mod Turns
 pub mod Volume
+pub mod Inspected
 pub mod Whole
 pub mod Disks
 pub mod Top

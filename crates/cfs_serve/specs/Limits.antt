@@ -13,6 +13,10 @@ most_file_cylinders = 65536
 abbrev pub most_pair_cylinders : ℕ
 most_pair_cylinders = 16384
 
+-- the blocks of the largest volume that is checked or mended
+abbrev pub most_inspected : ℕ
+most_inspected = 524288
+
 -- the map blocks that a service holds in memory
 abbrev pub held_maps : ℕ
 held_maps = 64

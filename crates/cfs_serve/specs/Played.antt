@@ -20,6 +20,7 @@ use Rattle.cfs_serve.specs.Ending.{EndsService, IsWanting, cause_of, damage_in, 
 use Rattle.cfs_serve.specs.Events.{begins_in, finishes_in, is_calm, is_reply}
 use Rattle.cfs_serve.specs.Ground.{Ground}
 use Rattle.cfs_serve.specs.Machine.{AreOver}
+use Rattle.cfs_serve.specs.Report.{untold}
 use Rattle.cfs_serve.specs.Scripts.{HaveScripts, IsSourceCause}
 use Rattle.cfs_serve.specs.declared.report.Counts.{Counts}
 use Rattle.cfs_serve.specs.declared.report.Cause.{Cause}
@@ -128,7 +129,7 @@ pub record ServesNothing (sinks after : List Intake) (report : Report) (ending :
   pub no_event : trail ≡ []
   pub no_end : ending ≡ not_begun
   pub untouched : after ≡ sinks
-  pub told : report ≡ record { counts = None; cause = cause }
+  pub told : report ≡ untold cause
 
 -- ---- from the sources on
 
@@ -152,7 +153,7 @@ pub record ServesSources (ground : Ground) (seed collections : ℕ) (rose : Type
   pub sound : ¬ ground.unsound
   pub counts : Counts
   pub cause : Cause
-  pub told : report ≡ record { counts = Some counts; cause = cause }
+  pub told : report ≡ record { counts = Some counts; faults = []; cause = cause }
   pub clients : List Client
   pub ports : List PortReading
   pub matched : AreClients scripts sinks after clients ports

@@ -7,7 +7,7 @@ use Rattle.cfs_serve.specs.declared.report.Report.{Report}
 use Rattle.cfs_serve.specs.Ground.{Ground}
 use Rattle.cfs_serve.specs.Spun.{drains, drawn_sources, service_of}
 use Rattle.cfs_serve.specs.Top.{NoCountRose, Outside, Said}
-use Rattle.cfs_serve.specs.Words.{Asked, Audits, Formats, Nothing, Serves, Shows, Spin, Spins}
+use Rattle.cfs_serve.specs.Words.{Asked, Audits, Formats, Inspects, Nothing, Serves, Shows, Spin, Spins}
 
 -- what is outside of a spin: its scripts and its sinks are its own
 abbrev pub within_spin : Spin → Outside → Outside
@@ -36,6 +36,8 @@ Says (Shows page) ground old new told status ending trail = Said (Shows page) gr
 Says (Formats format) ground old new told status ending trail =
     Said (Formats format) ground old new told status ending trail
 Says (Audits text) ground old new told status ending trail = Said (Audits text) ground old new told status ending trail
+Says (Inspects inspection) ground old new told status ending trail =
+    Said (Inspects inspection) ground old new told status ending trail
 Says (Serves service) ground old new told status ending trail =
     Said (Serves service) ground old new told status ending trail
 Says Nothing ground old new told status ending trail = Said Nothing ground old new told status ending trail

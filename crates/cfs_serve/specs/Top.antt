@@ -16,7 +16,7 @@ use Rattle.ufs_model.specs.Script.{request_lines}
 use Rattle.ufs_model.specs.Spoken.{all_forms}
 use Rattle.ufs_model.specs.Turns.{AreTurns, turns_in}
 use Rattle.ufs_model.specs.Printed.{printed_replies}
-use Rattle.cfs_serve.specs.Limits.{most_script, most_lines, most_trail}
+use Rattle.cfs_serve.specs.Limits.{most_inspected, most_script, most_lines, most_trail}
 use Rattle.cfs_serve.specs.declared.run.Bay.{Bay}
 use Rattle.cfs_serve.specs.declared.ending.Ending.{Ending}
 use Rattle.cfs_serve.specs.declared.run.Ended.{Ended}
@@ -27,7 +27,7 @@ use Rattle.cfs_serve.specs.declared.report.VolumeFault.{VolumeFault}
 use Rattle.cfs_base.specs.declared.identifier.Puid.{Puid}
 use Rattle.cfs_serve.specs.declared.page.Page.{Page}
 use Rattle.cfs_serve.specs.Pages.{page_text}
-use Rattle.cfs_serve.specs.Report.{report_text, status_of}
+use Rattle.cfs_serve.specs.Report.{report_text, status_of, untold}
 use Rattle.cfs_audit.specs.Verdict.{IsLegal}
 use Rattle.cfs_serve.specs.Audit.{Finds, Judges}
 use Rattle.cfs_serve.specs.Calls.{AreExact}
@@ -36,12 +36,14 @@ use Rattle.cfs_serve.specs.Events.{BreaksOff, begins_in, events_of_session, fini
 use Rattle.cfs_serve.specs.Events.{tells_damage}
 use Rattle.cfs_serve.specs.Events.{wants_memory}
 use Rattle.cfs_serve.specs.Ground.{Ground}
+use Rattle.cfs_serve.specs.Inspected.{IsInspected, is_finding}
 use Rattle.cfs_serve.specs.Played.{CountsSessions, HasNone, TellsLast, IsStopTold, counts_of, free_once_tidy}
 use Rattle.cfs_serve.specs.Text.{IsText, last_cause, text_of}
 use Rattle.cfs_serve.specs.Scripts.{AreShort, AreWithinLimits, Had, IsFirstRead, faults_of_sources, lines_in}
 use Rattle.cfs_serve.specs.Whole.{HasPlaces, RoseIn, TellsMade}
-use Rattle.cfs_serve.specs.Words.{Asked, Format, Service, Formats, Shows, Nothing, IfServes, collections_of, is_format}
-use Rattle.cfs_serve.specs.Words.{is_audit, is_service, most_in_source}
+use Rattle.cfs_serve.specs.Words.{Asked, Format, Service, Formats, Inspects, Shows, Nothing, IfInspects, IfServes}
+use Rattle.cfs_serve.specs.Words.{collections_of, is_format, is_audit, is_inspection, is_service, makes_volume}
+use Rattle.cfs_serve.specs.Words.{most_in_source}
 
 -- ---- what is outside
 
@@ -143,9 +145,11 @@ is_mild (causes.Source n) = false
 is_mild causes.Memory = true
 is_mild (causes.Long n) = false
 is_mild causes.LongTotal = false
+is_mild causes.LongVolume = false
 is_mild (causes.Legal n) = true
 is_mild (causes.BadLine line) = false
 is_mild (causes.Illegal event) = false
+is_mild (causes.Sound objects left) = true
 
 -- the verdict on a trail is told; and it isn't that the trail is legal
 abbrev pub is_verdict : Cause → Bool
@@ -195,22 +199,39 @@ pub record EndedWell (asked : Asked) (ground : Ground) (told : Report) (trail : 
 -- or a page was asked for, and its text is written whole
 pub record Showed (told : Report) (old new : Outside) : Type 0 where
   pub page : Page
-  pub is : told ≡ record { counts = None; cause = causes.Page page }
+  pub is : told ≡ untold (causes.Page page)
   pub written : Wrote old.report new.report (page_text page)
 
 -- or a volume was asked for, and is made
 pub record Made (asked : Asked) (told : Report) (old new : Outside) : Type 0 where
   pub format : Format
   pub asks : asked ≡ Formats format
-  pub is : told ≡ record { counts = None; cause = causes.Nothing }
+  pub is : told ≡ untold causes.Nothing
   pub written : Wrote old.report new.report (report_text told)
 
 -- or a trail was audited: all that its source had left is a legal one, of so many events
 pub record Audited (asked : Asked) (told : Report) (old new : Outside) : Type 0 where
   pub events : ℕ
   pub asks : is_audit asked ≡ true
-  pub is : told ≡ record { counts = None; cause = causes.Legal events }
+  pub is : told ≡ untold (causes.Legal events)
   pub legal : EachSource (λ _ source _. (left : List ℕ) → source.left ≡ Some left → IsLegal left events) old new
+  pub written : Wrote old.report new.report (report_text told)
+
+-- or a volume was checked, and isn't known to be no sound one
+pub record FoundSound (asked : Asked) (ground : Ground) (told : Report) (old new : Outside) : Type 0 where
+  pub volume : List ℕ
+  pub objects : ℕ
+  pub left : ℕ
+  pub asks : asked ≡ Inspects (record { volume = volume; mends = false })
+  pub is : told ≡ untold (causes.Sound objects left)
+  pub sound : ¬ ground.unsound
+  pub written : Wrote old.report new.report (report_text told)
+
+-- or one was to be mended, and is
+pub record WasMended (asked : Asked) (told : Report) (old new : Outside) : Type 0 where
+  pub volume : List ℕ
+  pub asks : asked ≡ Inspects (record { volume = volume; mends = true })
+  pub is : told ≡ untold causes.Nothing
   pub written : Wrote old.report new.report (report_text told)
 
 -- 3: the volume was refused as it was opened, and this is wrong with it; or the core stopped at a block that is
@@ -232,7 +253,7 @@ SinkFailed told old new = (WasServed told × (told.cause ≡ causes.Sink) × Som
 -- 6: nothing was served, and the source failed whose number is told, the first that failed or is too long
 abbrev pub SourceFailed : Report → Outside → Outside → Type 0
 SourceFailed told old new =
-    (n : ℕ) × (told ≡ record { counts = None; cause = causes.Source n }) × (n < length old.sources)
+    (n : ℕ) × (told ≡ untold (causes.Source n)) × (n < length old.sources)
     × Rose (get_or (source_faults old) n 0) (get_or (source_faults new) n 0) × IsFirstRead old.sources new.sources n
 
 -- 7: memory was wanting, also for a line of the report where nothing worse is told; and its text is whole
@@ -240,19 +261,21 @@ abbrev pub MemoryWanting : (short : Bool) → Cause → (text : List ℕ) → Ou
 MemoryWanting short cause text old new = (last_cause short cause ≡ causes.Memory) × Wrote old.report new.report text
 
 -- the source of that number is the first that failed or had more than its limit; or all of them together had more, and
--- none alone
-abbrev pub IsOverLimit : Asked → Cause → (old new : Outside) → Type 0
-IsOverLimit asked (causes.Long n) old new =
+-- none alone; or the volume has more blocks than are loaded
+abbrev pub IsOverLimit : Asked → Ground → Cause → (old new : Outside) → Type 0
+IsOverLimit asked ground (causes.Long n) old new =
     (n < length old.sources)
     × ((scripts : List (List ℕ)) → HadLeft old scripts → most_in_source asked < length (slice_index_or scripts n []))
     × IsFirstRead old.sources new.sources n
-IsOverLimit asked causes.LongTotal old new =
+IsOverLimit asked ground causes.LongTotal old new =
     (scripts : List (List ℕ)) → HadLeft old scripts → AreShort scripts × (most_lines < lines_in scripts)
-IsOverLimit asked cause old new = ⊥
+IsOverLimit asked ground causes.LongVolume old new =
+    (is_inspection asked ≡ true) × (most_inspected < ground.blocks)
+IsOverLimit asked ground cause old new = ⊥
 
 -- 9: nothing was served, and it is told which limit was passed
-abbrev pub LimitPassed : Asked → Report → Outside → Outside → Type 0
-LimitPassed asked told old new = IsNone told.counts × IsOverLimit asked told.cause old new
+abbrev pub LimitPassed : Asked → Ground → Report → Outside → Outside → Type 0
+LimitPassed asked ground told old new = IsNone told.counts × IsOverLimit asked ground told.cause old new
 
 -- What an audit comes to where no count rose: the verdict on a text within the limit, by which the status is 0 or 8; of
 -- a longer one 9; or want of memory.
@@ -260,6 +283,12 @@ abbrev pub IsAudited : (status : ℕ) → Cause → (text : List ℕ) → Type 0
 IsAudited status cause text =
     ((length text ≤ most_trail) × (is_verdict cause ≡ true) × Judges cause text × (status ≡ status_of cause))
     ⊎ ((most_trail < length text) × (status ≡ 9)) ⊎ (status ≡ 7)
+
+-- What an inspection comes to where no limit was passed and no count rose.
+pub record CompletesInspection (ground : Ground) (mends : Bool) (status : ℕ) : Type 0 where
+  pub sound : (graph : Graph) → ground.reads graph → (status ≡ 0) ⊎ (status ≡ 7)
+  pub unsound : mends ≡ false → ground.unsound → (status ≡ 3) ⊎ (status ≡ 7)
+  pub any : (status ≡ 0) ⊎ (status ≡ 3) ⊎ (status ≡ 7)
 
 -- ---- all that is said
 
@@ -330,13 +359,17 @@ pub record Did (asked : Asked) (ground : Ground) (old new : Outside) (told : Rep
   -- it is told exactly that the words are of no form, or that this page was asked for
   pub words : (told.cause ≡ causes.Words) ↔ (asked ≡ Nothing)
   pub page : (page : Page) → (told.cause ≡ causes.Page page) ↔ (asked ≡ Shows page)
-  -- where nothing was served it is told why, unless a volume was to be made: of that only a failed disk is told
-  pub cause : IsNone told.counts → is_format asked ≡ false → ¬ (told.cause ≡ causes.Nothing)
+  -- where nothing was served it is told why, unless a volume was to be made or mended: of one that was to be made only a
+  -- failed disk is told
+  pub cause : IsNone told.counts → makes_volume asked ≡ false → ¬ (told.cause ≡ causes.Nothing)
   pub made : is_format asked ≡ true → TellsMade told.cause old.disk new.disk
   -- of an audit it is told what was found of its source, and a verdict of nothing else
   pub audited : is_audit asked ≡ true → EachSource (λ _ source outside_after. Finds told.cause source outside_after)
       old new
   pub verdict : is_verdict told.cause ≡ true → is_audit asked ≡ true
+  -- of an inspection it is told what was found of the volume, and of nothing else are faults listed
+  pub inspected : IfInspects asked (λ i. IsInspected ground i.mends (RoseIn old.disk new.disk) told.cause told.faults)
+  pub bare : is_inspection asked ≡ false → told.faults ≡ []
   -- after serving the first is told that has come: a failed call, a damage, a sink that broke, want of memory
   pub ends : WasServed told → EndsService (RoseIn old.disk new.disk) (collections_of asked) ending trail
   pub spoiled : WasServed told → told.cause ≡ cause_of ending trail fell
@@ -364,20 +397,24 @@ pub record Said (asked : Asked) (ground : Ground) (old new : Outside) (told : Re
   -- the status is that of the cause, or 5 for a report that failed; and what each status says
   pub is_status : IsStatus status (last_cause short told.cause) old new
   pub status_0 : status ≡ 0 → EndedWell asked ground told trail old new ⊎ Showed told old new ⊎ Made asked told old new
-      ⊎ Audited asked told old new
+      ⊎ Audited asked told old new ⊎ FoundSound asked ground told old new ⊎ WasMended asked told old new
   pub status_2 : (status ≡ 2) ↔ (asked ≡ Nothing)
   pub status_3 : status ≡ 3 → VolumeRefused ground told
+  pub told_3 : (fault : VolumeFault) → told.cause ≡ causes.Volume fault → status ≡ 3
   pub status_4 : status ≡ 4 → DiskFailed told old new
   pub status_5 : status ≡ 5 → SinkFailed told old new
   pub status_6 : status ≡ 6 → SourceFailed told old new
   pub status_7 : status ≡ 7 → MemoryWanting short told.cause text old new
   pub status_8 : (status ≡ 8) ↔ (is_refutation told.cause ≡ true)
-  pub status_9 : status ≡ 9 → LimitPassed asked told old new
+  pub status_9 : status ≡ 9 → LimitPassed asked ground told old new
   -- a limit that was passed gives 9, unless a source failed or memory was wanting
   pub over : is_service asked ≡ true → (scripts : List (List ℕ)) → HadLeft old scripts → ¬ (AreWithinLimits scripts)
       → (status ≡ 9) ⊎ (told.cause ≡ causes.Memory) ⊎ (status ≡ 6)
   pub overlong : is_audit asked ≡ true → (text : List ℕ) → HadLeft old (text ∷ []) → most_trail < length text
       → (status ≡ 9) ⊎ (told.cause ≡ causes.Memory) ⊎ (status ≡ 6)
+  pub oversized : is_inspection asked ≡ true → most_inspected < ground.blocks → status ≡ 9
+  -- that a volume is sound, or too long to be loaded, is told of an inspection alone
+  pub finding : is_finding told.cause ≡ true → is_inspection asked ≡ true
   -- Where no limit was passed and no count rose: a service on a sound volume gives 0 or 7, and on one that is known to
   -- be no sound one 3 or 7; and a page, or a volume to be made, gives 0.
   pub complete : is_service asked ≡ true → (scripts : List (List ℕ)) → HadLeft old scripts → AreWithinLimits scripts
@@ -388,3 +425,7 @@ pub record Said (asked : Asked) (ground : Ground) (old new : Outside) (told : Re
       → IsAudited status told.cause text
   pub shown : (page : Page) → asked ≡ Shows page → NoCountRose old new → status ≡ 0
   pub formatted : is_format asked ≡ true → NoCountRose old new → status ≡ 0
+  -- an inspection of a sound volume gives 0 or 7, a check of one that is known to be no sound one 3 or 7, and any 0, 3
+  -- or 7
+  pub inspected : IfInspects asked (λ i. ground.blocks ≤ most_inspected → NoCountRose old new
+      → CompletesInspection ground i.mends status)

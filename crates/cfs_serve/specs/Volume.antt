@@ -1,5 +1,5 @@
 -- A volume that was opened, and a session that is served on it.
-use Rattle.std.specs.Prelude.{◌≡◌, ◌⊎◌, ℕ, ◌≤◌, List, [], ◌∷◌, length, sum, Some, None}
+use Rattle.std.specs.Prelude.{◌≡◌, ◌⊎◌, ℕ, ◌*◌, ◌≤◌, List, [], ◌∷◌, length, sum, Some, None}
 use Rattle.cfs_base.specs.Outside.{Intake, Rose}
 use Rattle.cfs_base.specs.declared.disk.Disk.{Ghosts}
 use Rattle.cfs_core.specs.Kernel.{Kernel, collection_runs}
@@ -22,6 +22,7 @@ use Rattle.cfs_ports.specs.Port.{PortReading}
 use Rattle.cfs_serve.specs.Charter.{Client}
 use Rattle.cfs_serve.specs.Events.{tells_disk, tells_fault}
 use Rattle.cfs_serve.specs.Logs.{MomentsRise, faults_after, first_fault}
+use Rattle.cfs_serve.specs.Report.{untold}
 use Rattle.cfs_serve.specs.Played.{AreClients, IsPlayed, ServesNothing}
 
 -- the core stands for a root index of empty slots on so many cylinders; no word was drawn, it hasn't stopped, and no
@@ -44,6 +45,7 @@ pub record IsCoreUncalled {D : Type 0} (k : Kernel D) : Type 0 where
 abbrev pub ground_at : {D : Type 0} → Ghosts D → Kernel D → Ground
 ground_at g core = record {
   cylinders = length core.space.free;
+  blocks = 64 * length core.space.free;
   reads = λ graph. StandsFor g core (opening graph);
   unsound = ⊥;
   faulty = λ fault. ⊥;
@@ -73,7 +75,7 @@ pub record ServesSessions {D : Type 0} (g : Ghosts D) (core : Kernel D) (collect
     (disk : D) : Type 0 where
   pub counts : Counts
   pub cause : Cause
-  pub told : report ≡ record { counts = Some counts; cause = cause }
+  pub told : report ≡ record { counts = Some counts; faults = []; cause = cause }
   pub played : IsPlayed (ground_at g core) core.words.seed collections (Rose (g.faults core.disk) (g.faults disk))
       clients ports counts cause ending trail
   pub last : Kernel D
@@ -96,7 +98,7 @@ pub record ServesSessions {D : Type 0} (g : Ghosts D) (core : Kernel D) (collect
 pub record IsUnserved {D : Type 0} (core : Kernel D) (before after : List PortReading) (report : Report)
     (ending : Ending)
     (trail : List Event) (disk : D) : Type 0 where
-  pub told : report ≡ record { counts = None; cause = causes.Memory }
+  pub told : report ≡ untold causes.Memory
   pub no_event : trail ≡ []
   pub no_end : ending ≡ not_begun
   pub ports : after ≡ before

@@ -11,14 +11,15 @@ use Rattle.cfs_serve.specs.declared.ending.Ending.{Ending}
 use Rattle.cfs_serve.specs.declared.report.Report.{Report}
 use Rattle.cfs_serve.specs.declared.paths.Volume.{Volume}
 use Rattle.cfs_serve.specs.declared.paths.Volume.TheVariants as volumes
-use Rattle.cfs_serve.specs.Words.{Asked, Place, InFile, InMemory, Shows, Audits, Formats, Serves, Spin, Spins, Nothing}
-use Rattle.cfs_serve.specs.Words.{most_made}
+use Rattle.cfs_serve.specs.Words.{Asked, Place, InFile, InMemory, Inspects, Shows, Audits, Formats, Serves, Spin, Spins}
+use Rattle.cfs_serve.specs.Words.{Nothing, most_made}
 use Rattle.cfs_serve.specs.Limits.{most_cylinders}
 use Rattle.cfs_serve.specs.Spun.{drains, drawn_sources}
 use Rattle.cfs_serve.specs.Audit.{Finds}
 use Rattle.cfs_serve.specs.Ending.{not_begun}
 use Rattle.cfs_serve.specs.Ground.{Ground}
-use Rattle.cfs_serve.specs.Report.{status_of}
+use Rattle.cfs_serve.specs.Inspected.{IsInspected}
+use Rattle.cfs_serve.specs.Report.{status_of, untold}
 use Rattle.cfs_serve.specs.Text.{IsText, last_cause}
 use Rattle.cfs_serve.specs.Played.{IsRunOf}
 
@@ -39,6 +40,7 @@ abbrev pub NamesVolume : Asked → Option Volume → Type 0
 NamesVolume (Formats format) volume = volume ≡ Some (volumes.Fresh format.volume format.cylinders)
 NamesVolume (Serves service) volume = NamesPlace service.volume volume
 NamesVolume (Audits trail) volume = volume ≡ None
+NamesVolume (Inspects inspection) volume = volume ≡ Some (volumes.Existing inspection.volume)
 NamesVolume (Spins spin) volume = volume ≡ None
 NamesVolume (Shows page) volume = volume ≡ None
 NamesVolume Nothing volume = volume ≡ None
@@ -63,6 +65,7 @@ abbrev pub HasDisk : Asked → (blocks : Option ℕ) → Type 0
 HasDisk (Formats format) blocks = blocks ≡ Some (64 * format.cylinders)
 HasDisk (Serves service) blocks = HasPlaceDisk service.volume blocks
 HasDisk (Audits trail) blocks = blocks ≡ None
+HasDisk (Inspects inspection) blocks = IsSome blocks
 HasDisk (Spins spin) blocks = blocks ≡ None
 HasDisk (Shows page) blocks = blocks ≡ None
 HasDisk Nothing blocks = blocks ≡ None
@@ -71,6 +74,7 @@ HasDisk Nothing blocks = blocks ≡ None
 abbrev pub HasPlaces : Asked → (sources sinks : ℕ) → Type 0
 HasPlaces (Serves service) sources sinks = (sources ≡ length service.sessions) × (sinks ≡ length service.sessions)
 HasPlaces (Audits trail) sources sinks = (sources ≡ 1) × (sinks ≡ 0)
+HasPlaces (Inspects inspection) sources sinks = (sources ≡ 0) × (sinks ≡ 0)
 HasPlaces (Spins spin) sources sinks = (sources ≡ 0) × (sinks ≡ 0)
 HasPlaces (Formats format) sources sinks = (sources ≡ 0) × (sinks ≡ 0)
 HasPlaces (Shows page) sources sinks = (sources ≡ 0) × (sinks ≡ 0)
@@ -83,14 +87,14 @@ pub record AsksNone (cause : Cause) (old new : Places) (report : Report) (ending
   pub no_end : ending ≡ not_begun
   pub sources : new.sources ≡ old.sources
   pub sinks : new.sinks ≡ old.sinks
-  pub told : report ≡ record { counts = None; cause = cause }
+  pub told : report ≡ untold cause
 
 -- An audit was asked for: nothing was served, and this is told of its one source.
 pub record AsksAudit (old new : Places) (report : Report) (ending : Ending) (trail : List Event) : Type 0 where
   pub no_event : trail ≡ []
   pub no_end : ending ≡ not_begun
   pub sinks : new.sinks ≡ old.sinks
-  pub told : report ≡ record { counts = None; cause = report.cause }
+  pub told : report ≡ untold report.cause
   pub sources : length new.sources ≡ length old.sources
   pub found : (source after : Supply) → slice_get old.sources 0 ≡ Some source → slice_get new.sources 0 ≡ Some after
       → Finds report.cause source after
@@ -104,6 +108,16 @@ RoseIn None new = ⊥
 -- of a volume that was made nothing is told; else its disk failed, and that is told
 abbrev pub TellsMade : Cause → (old new : Option ℕ) → Type 0
 TellsMade cause old new = (cause ≡ causes.Nothing) ⊎ ((cause ≡ causes.Disk None) × RoseIn old new)
+
+-- An inspection was asked for: nothing was served, and this is told of the volume.
+pub record AsksInspection (ground : Ground) (mends : Bool) (old new : Places) (report : Report) (ending : Ending)
+    (trail : List Event) : Type 0 where
+  pub no_event : trail ≡ []
+  pub no_end : ending ≡ not_begun
+  pub sources : new.sources ≡ old.sources
+  pub sinks : new.sinks ≡ old.sinks
+  pub told : report ≡ record { counts = None; faults = report.faults; cause = report.cause }
+  pub found : IsInspected ground mends (RoseIn old.disk new.disk) report.cause report.faults
 
 -- sessions were asked for, and so it went
 pub record AsksSessions (ground : Ground) (seed collections : ℕ) (old new : Places) (report : Report) (ending : Ending)
@@ -133,6 +147,8 @@ AsksServer (Serves service) ground old new report ending trail =
 AsksServer (Formats format) ground old new report ending trail =
     AsksNone report.cause old new report ending trail × TellsMade report.cause old.disk new.disk
 AsksServer (Audits text) ground old new report ending trail = AsksAudit old new report ending trail
+AsksServer (Inspects inspection) ground old new report ending trail =
+    AsksInspection ground inspection.mends old new report ending trail
 AsksServer (Spins spin) ground old new report ending trail = AsksSpin spin ground old new report ending trail
 AsksServer (Shows page) ground old new report ending trail = AsksNone (causes.Page page) old new report ending trail
 AsksServer Nothing ground old new report ending trail = AsksNone causes.Words old new report ending trail
@@ -150,9 +166,11 @@ status_at_end false causes.Sink = 5
 status_at_end false (causes.Source i) = 6
 status_at_end false (causes.Long i) = 9
 status_at_end false causes.LongTotal = 9
+status_at_end false causes.LongVolume = 9
 status_at_end false (causes.Legal n) = 5
 status_at_end false (causes.BadLine line) = 8
 status_at_end false (causes.Illegal event) = 8
+status_at_end false (causes.Sound objects left) = 5
 
 -- the report of the run is this one, and so it was written
 pub record IsWholeRun (asked : Asked) (ground : Ground) (old new : Places) (report report_after : Intake)

@@ -191,28 +191,48 @@ abbrev pub audit_in : List (List ℕ) → Option (List ℕ)
 audit_in (verb ∷ trail ∷ []) = if bytes_eq verb (codes "audit") && is_volume_word trail then Some trail else None
 audit_in words = None
 
--- what the words of a command ask for: a page, a volume, an audit of a trail, a spin, a service, or nothing
+-- an inspection: the file of a volume, which is mended or only checked
+pub record Inspection : Type 0 where
+  pub volume : List ℕ
+  pub mends : Bool
+
+-- `check VOLUME`
+abbrev pub check_in : List (List ℕ) → Option (List ℕ)
+check_in (verb ∷ volume ∷ []) = if bytes_eq verb (codes "check") && is_volume_word volume then Some volume else None
+check_in words = None
+
+-- `mend VOLUME`
+abbrev pub mend_in : List (List ℕ) → Option (List ℕ)
+mend_in (verb ∷ volume ∷ []) = if bytes_eq verb (codes "mend") && is_volume_word volume then Some volume else None
+mend_in words = None
+
+-- what the words of a command ask for: a page, a volume, an audit of a trail, an inspection of a volume, a spin, a
+-- service, or nothing
 pub data Asked : Type 0 where
   Shows : Page → Asked
   Formats : Format → Asked
   Audits : (trail : List ℕ) → Asked
+  Inspects : Inspection → Asked
   Spins : Spin → Asked
   Serves : Service → Asked
   Nothing : Asked
 
-abbrev either : Option Page → Option Format → (trail : Option (List ℕ)) → (play : Option Service) → Option Spin
+abbrev either : Option Page → Option Format → (trail check mend : Option (List ℕ)) → (play : Option Service) → Option Spin
     → (serve : Option Service) → Asked
-either (Some page) format trail play spin serve = Shows page
-either None (Some format) trail play spin serve = Formats format
-either None None (Some trail) play spin serve = Audits trail
-either None None None (Some play) spin serve = Serves play
-either None None None None (Some spin) serve = Spins spin
-either None None None None None (Some serve) = Serves serve
-either None None None None None None = Nothing
+either (Some page) format trail check mend play spin serve = Shows page
+either None (Some format) trail check mend play spin serve = Formats format
+either None None (Some trail) check mend play spin serve = Audits trail
+either None None None (Some volume) mend play spin serve = Inspects (record { volume = volume; mends = false })
+either None None None None (Some volume) play spin serve = Inspects (record { volume = volume; mends = true })
+either None None None None None (Some play) spin serve = Serves play
+either None None None None None None (Some spin) serve = Spins spin
+either None None None None None None None (Some serve) = Serves serve
+either None None None None None None None None = Nothing
 
 abbrev pub asked_in : List (List ℕ) → Asked
 asked_in words =
-    either (page_in words) (format_in words) (audit_in words) (play_in words) (spin_in words) (serve_in words)
+    either (page_in words) (format_in words) (audit_in words) (check_in words) (mend_in words) (play_in words)
+    (spin_in words) (serve_in words)
 
 abbrev pub asked_by : {Z : Type 0} → List (String Z) → Asked
 asked_by words = asked_in (map string_bytes words)
@@ -222,6 +242,7 @@ abbrev pub IfServes : Asked → (Service → Type 0) → Type 0
 IfServes (Shows page) holds = Unit {0}
 IfServes (Formats format) holds = Unit {0}
 IfServes (Audits trail) holds = Unit {0}
+IfServes (Inspects inspection) holds = Unit {0}
 IfServes (Spins spin) holds = Unit {0}
 IfServes (Serves service) holds = holds service
 IfServes Nothing holds = Unit {0}
@@ -230,6 +251,7 @@ abbrev pub is_service : Asked → Bool
 is_service (Shows page) = false
 is_service (Formats format) = false
 is_service (Audits trail) = false
+is_service (Inspects inspection) = false
 is_service (Spins spin) = false
 is_service (Serves service) = true
 is_service Nothing = false
@@ -239,6 +261,7 @@ abbrev pub collections_of : Asked → ℕ
 collections_of (Shows page) = 0
 collections_of (Formats format) = 0
 collections_of (Audits trail) = 0
+collections_of (Inspects inspection) = 0
 collections_of (Spins spin) = 2
 collections_of (Serves service) = service.collections
 collections_of Nothing = 0
@@ -252,6 +275,7 @@ abbrev pub is_pair : Asked → Bool
 is_pair (Shows page) = false
 is_pair (Formats format) = format.pair
 is_pair (Audits trail) = false
+is_pair (Inspects inspection) = false
 is_pair (Spins spin) = false
 is_pair (Serves service) = is_pair_place service.volume
 is_pair Nothing = false
@@ -260,6 +284,7 @@ abbrev pub is_format : Asked → Bool
 is_format (Shows page) = false
 is_format (Formats format) = true
 is_format (Audits trail) = false
+is_format (Inspects inspection) = false
 is_format (Spins spin) = false
 is_format (Serves service) = false
 is_format Nothing = false
@@ -268,15 +293,46 @@ abbrev pub is_audit : Asked → Bool
 is_audit (Shows page) = false
 is_audit (Formats format) = false
 is_audit (Audits trail) = true
+is_audit (Inspects inspection) = false
 is_audit (Spins spin) = false
 is_audit (Serves service) = false
 is_audit Nothing = false
+
+-- where a volume is to be inspected, this holds of the inspection
+abbrev pub IfInspects : Asked → (Inspection → Type 0) → Type 0
+IfInspects (Shows page) holds = Unit {0}
+IfInspects (Formats format) holds = Unit {0}
+IfInspects (Audits trail) holds = Unit {0}
+IfInspects (Inspects inspection) holds = holds inspection
+IfInspects (Spins spin) holds = Unit {0}
+IfInspects (Serves service) holds = Unit {0}
+IfInspects Nothing holds = Unit {0}
+
+abbrev pub is_inspection : Asked → Bool
+is_inspection (Shows page) = false
+is_inspection (Formats format) = false
+is_inspection (Audits trail) = false
+is_inspection (Inspects inspection) = true
+is_inspection (Spins spin) = false
+is_inspection (Serves service) = false
+is_inspection Nothing = false
+
+-- a volume is to be made or mended, and where that is done there is nothing to tell
+abbrev pub makes_volume : Asked → Bool
+makes_volume (Shows page) = false
+makes_volume (Formats format) = true
+makes_volume (Audits trail) = false
+makes_volume (Inspects inspection) = inspection.mends
+makes_volume (Spins spin) = false
+makes_volume (Serves service) = false
+makes_volume Nothing = false
 
 -- the bytes of the longest source
 abbrev pub most_in_source : Asked → ℕ
 most_in_source (Shows page) = most_script
 most_in_source (Formats format) = most_script
 most_in_source (Audits trail) = most_trail
+most_in_source (Inspects inspection) = most_script
 most_in_source (Spins spin) = most_script
 most_in_source (Serves service) = most_script
 most_in_source Nothing = most_script

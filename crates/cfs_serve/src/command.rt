@@ -13,6 +13,10 @@ pub enum Command<'a> {
     Format(Format<'a>),
     /// To audit the trail in the file of this name.
     Audit(&'a str),
+    /// To check the volume in the file of this name.
+    Check(&'a str),
+    /// To mend the volume in the file of this name.
+    Mend(&'a str),
     /// To serve sessions on a new volume in memory.
     Play(Play<'a>),
     /// To serve drawn sessions on a new volume in memory.

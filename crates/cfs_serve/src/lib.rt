@@ -1,4 +1,4 @@
-//! A whole run: words are read; a volume is made on a disk, or sources are read whole and their sessions served, on a
+//! A whole run: words are read; a volume is made on a disk, or one is checked, or sources are read whole and their sessions served, on a
 //! volume in memory or on a disk; and a report is written. The program above uses one contract, that of `top`. Below
 //! it, `serve` serves any number of sessions, and a collector, on whatever server.
 #![tactic(auto)]
@@ -8,6 +8,7 @@ mod cached;
 mod clients;
 mod command;
 mod ending;
+mod inspecting;
 mod laws;
 mod limits;
 mod logged;
@@ -34,8 +35,8 @@ mod words;
 pub use command::{Command, Format, Play, Serve, Spin};
 pub use ending::Ending;
 pub use limits::{
-    HELD_MAPS, MOST_COLLECTIONS, MOST_CYLINDERS, MOST_FILE_CYLINDERS, MOST_LINES, MOST_SCRIPT,
-    MOST_SESSIONS, MOST_TRAIL,
+    HELD_MAPS, MOST_COLLECTIONS, MOST_CYLINDERS, MOST_FILE_CYLINDERS, MOST_INSPECTED, MOST_LINES,
+    MOST_SCRIPT, MOST_SESSIONS, MOST_TRAIL,
 };
 pub use page::Page;
 pub use paths::{Files, Path, Paths, Volume};

@@ -11,6 +11,9 @@ pub const MOST_FILE_CYLINDERS: u64 = 65_536;
 /// The cylinders of the largest volume of pairs of blocks.
 pub const MOST_PAIR_CYLINDERS: u64 = 16_384;
 
+/// The blocks of the largest volume that is checked or mended.
+pub const MOST_INSPECTED: u32 = 524_288;
+
 /// The map blocks that a service holds in memory.
 pub const HELD_MAPS: u32 = 64;
 
@@ -32,6 +35,7 @@ pub const MOST_COLLECTIONS: u64 = 1_000;
 /// The constants are those of the definitions. This does nothing: it is a law.
 pub fn limits_are_stated()
     ensures cylinders { MOST_CYLINDERS ≡ limits.most_cylinders }
+    ensures inspected { MOST_INSPECTED ≡ limits.most_inspected }
     ensures file { MOST_FILE_CYLINDERS ≡ limits.most_file_cylinders }
     ensures pair { MOST_PAIR_CYLINDERS ≡ limits.most_pair_cylinders }
     ensures held { HELD_MAPS ≡ limits.held_maps }

@@ -41,6 +41,22 @@ fn volume_files(alloc: Global, format: &Format<'_>) -> Result<Files, AllocError>
     })
 }
 
+/// The volume that is to be inspected, and no other file.
+fn inspected_files(alloc: Global, volume: &str) -> Result<Files, AllocError>
+    ensures volume { IfOk result (λ n. n.volume ≡ Some (Volume.Existing volume.now)) }
+    ensures places { IfOk result (λ n. (n.sources ≡ []) × (n.sinks ≡ [])) }
+    ensures pair { IfOk result (λ n. n.pair ≡ false) }
+{
+    Ok(Files {
+        volume: Some(Volume::Existing {
+            path: path_of(alloc, volume)?,
+        }),
+        sources: no_paths(alloc),
+        sinks: no_paths(alloc),
+        pair: false,
+    })
+}
+
 /// The file of a trail, and no other.
 fn trail_files(alloc: Global, trail: &str) -> Result<Files, AllocError>
     ensures volume { IfOk result (λ n. n.volume ≡ None) }
@@ -109,6 +125,7 @@ impl Command<'_> {
             Command::Page(_) | Command::Spin(_) => Ok(no_files(alloc)),
             Command::Format(format) => volume_files(alloc, format),
             Command::Audit(trail) => trail_files(alloc, trail),
+            Command::Check(volume) | Command::Mend(volume) => inspected_files(alloc, volume),
             Command::Play(play) => session_files(alloc, None, play.files, false),
             Command::Serve(serve) => served_files(alloc, serve),
         }

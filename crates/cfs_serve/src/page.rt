@@ -33,6 +33,10 @@ cfs format VOLUME CYLINDERS SEED
     make a volume in the file VOLUME, which must not be there yet
 cfs serve VOLUME SEED COLLECTIONS IN OUT ..
     serve the sessions on the volume in the file VOLUME
+cfs check VOLUME
+    name each fault of the volume in the file VOLUME, or tell that it is sound
+cfs mend VOLUME
+    make its maps anew, where they alone are damaged
 cfs pair-format VOLUME CYLINDERS SEED
 cfs pair-serve VOLUME SEED COLLECTIONS IN OUT ..
     the same two for a device that may tear blocks: each is kept twice, and the

@@ -7,6 +7,7 @@ ghost use Rattle.cfs_serve.specs.Events as spec;
 ghost use Rattle.cfs_serve.specs.Ground.{ground_on, new_ground};
 ghost use Rattle.cfs_serve.specs.Machine.{AreNew, client_of, turns_left};
 ghost use Rattle.cfs_serve.specs.Played as played;
+ghost use Rattle.cfs_serve.specs.Report.{untold};
 ghost use Rattle.cfs_serve.specs.Scripts.{lines_in};
 ghost use Rattle.cfs_serve.specs.Volume.{IsCoreUncalled, IsUnserved, ServesScripts, ServesSessions};
 ghost use Rattle.cfs_serve.specs.Whole.{AsksSessions};
@@ -20,6 +21,7 @@ use crate::served::{Served, Unserved};
 use crate::service::{Schedule, Service};
 use crate::volume::{Unopened, new_volume, open_volume};
 use cfs_base::{Disk, Gate, Sink, Source};
+use cfs_check::Damages;
 use cfs_core::{Core, Status};
 use cfs_ports::Port;
 use cfs_trail::Trail;
@@ -76,20 +78,26 @@ fn count_replies(trail: &Trail) -> u64
     count
 }
 
-/// Nothing is served.
-pub(crate) fn nothing(alloc: Global, cause: Cause) -> Played
-    ensures report { result.report ≡ record { counts = None; cause = cause } }
+/// Nothing is served, and this is told.
+pub(crate) fn unserved(alloc: Global, report: Report) -> Played
+    ensures report { result.report ≡ report }
     ensures trail { result.trail.events ≡ [] }
     ensures ending { result.ending ≡ not_begun }
 {
     Played {
-        report: Report {
-            counts: None,
-            cause,
-        },
+        report,
         trail: Trail::new(alloc),
         ending: Ending::none(),
     }
+}
+
+/// Nothing is served, for this cause.
+pub(crate) fn nothing(alloc: Global, cause: Cause) -> Played
+    ensures report { result.report ≡ untold cause }
+    ensures trail { result.trail.events ≡ [] }
+    ensures ending { result.ending ≡ not_begun }
+{
+    unserved(alloc, Report::untold(alloc, cause))
 }
 
 /// Whether the sink of one of these failed.
@@ -100,7 +108,7 @@ fn has_broken<K: Sink>(ports: &[Port<K>]) -> bool
 }
 
 /// The report on sessions that were served, by the core's last status.
-fn report_on<A, K: Sink>(served: &Served<A, K>, last: Status) -> Report
+fn report_on<A, K: Sink>(alloc: Global, served: &Served<A, K>, last: Status) -> Report
     ensures { result ≡ record {
       counts = Some (record {
         sessions = length served.now.ports.items;
@@ -109,6 +117,7 @@ fn report_on<A, K: Sink>(served: &Served<A, K>, last: Status) -> Report
         objects = last.objects;
         free = last.free;
       });
+      faults = [];
       cause = cause_by served.now.ending served.now.failed (played.has_broken served.now.ports.items)
           served.now.starved;
     } }
@@ -122,6 +131,7 @@ fn report_on<A, K: Sink>(served: &Served<A, K>, last: Status) -> Report
             objects: u64::from(last.objects),
             free: u64::from(last.free),
         }),
+        faults: Damages::of(Vec::new(alloc)),
         cause: served.ending.cause(served.failed, broken, served.starved),
     }
 }
@@ -182,7 +192,7 @@ fn serve_ports<D: Disk + Send, K: Sink + Send, G: Gate + Sync, R: Threads + Wait
     };
     let last = served.server.status();
     served.server.has_room();
-    let report = report_on(&served, last);
+    let report = report_on(alloc, &served, last);
     let ending = Ending {
         last: Some(last),
         ..served.ending

@@ -2,13 +2,14 @@
 ghost use Rattle.std.specs.Prelude.{◌≡◌, ◌++◌, codes};
 ghost use Rattle.cfs_streams.specs.Writing.{WritesWhole};
 ghost use Rattle.std.specs.Fmt.{decimal};
-ghost use Rattle.cfs_serve.specs.Report.{damage_text};
-ghost use Rattle.cfs_serve.specs.Report.{numbered};
+ghost use Rattle.cfs_serve.specs.Report.{numbered, paired};
 
 use crate::page::Page;
 use cfs_base::{Damage, Failed, Sink};
+use cfs_check::Damages;
 use cfs_streams::write_whole;
 use itoa::Buffer;
+use std::alloc::Global;
 
 /// What was served.
 #[derive(Clone, Copy, Debug, PartialEq, Eq)]
@@ -35,7 +36,8 @@ pub enum VolumeFault {
     Damaged(Damage),
 }
 
-/// What ended a run before its end, or spoiled it; or that a page was asked for, or the verdict on a trail.
+/// What ended a run before its end, or spoiled it; or that a page was asked for, the verdict on a trail, or that a
+/// volume is sound.
 #[derive(Clone, Copy, Debug, PartialEq, Eq)]
 pub enum Cause {
     Nothing,
@@ -57,12 +59,16 @@ pub enum Cause {
     Long(u64),
     /// The files have more request lines than a run may have.
     LongTotal,
+    /// The volume has more blocks than one may have that is checked or mended.
+    LongVolume,
     /// The trail is legal, and has so many events.
     Legal { events: u64 },
     /// This line of the trail, counted from 1, is none that a trail has there.
     BadLine { line: u64 },
     /// This event of the trail, counted from 1, may not happen.
     Illegal { event: u64 },
+    /// The volume is sound. It has so many objects, and leaves so many blocks beside the maps, the label and the objects.
+    Sound { objects: u32, left: u32 },
 }
 
 impl Cause {
@@ -73,7 +79,7 @@ impl Cause {
         ensures { result ≡ status_of self }
     {
         match self {
-            Cause::Nothing | Cause::Page(_) | Cause::Legal { .. } => 0,
+            Cause::Nothing | Cause::Page(_) | Cause::Legal { .. } | Cause::Sound { .. } => 0,
             Cause::Words => 2,
             Cause::Volume(_) => 3,
             Cause::Disk(_) => 4,
@@ -81,7 +87,7 @@ impl Cause {
             Cause::Source(_) => 6,
             Cause::Memory => 7,
             Cause::BadLine { .. } | Cause::Illegal { .. } => 8,
-            Cause::Long(_) | Cause::LongTotal => 9,
+            Cause::Long(_) | Cause::LongTotal | Cause::LongVolume => 9,
         }
     }
 
@@ -114,9 +120,11 @@ impl Cause {
             Cause::Memory => write_whole(sink, b"memory\n"),
             Cause::Long(source) => write_number(sink, b"long", source),
             Cause::LongTotal => write_whole(sink, b"long total\n"),
+            Cause::LongVolume => write_whole(sink, b"long volume\n"),
             Cause::Legal { events } => write_number(sink, b"legal", events),
             Cause::BadLine { line } => write_number(sink, b"bad line", line),
             Cause::Illegal { event } => write_number(sink, b"illegal", event),
+            Cause::Sound { objects, left } => write_pair(sink, b"sound ", objects, left),
         }
     }
 
@@ -153,21 +161,28 @@ pub(crate) fn write_number<K: Sink>(sink: &mut K, word: &[u8], number: u64) -> R
     write_whole(sink, b"\n")
 }
 
-/// Writes the beginning of a damage's line, with its block.
-fn write_block<K: Sink>(sink: &mut K, block: u32) -> Result<(), Failed>
-    ensures { WritesWhole (K.intake sink.old) (K.intake sink.new) (codes "volume damaged " ++ decimal block) result }
+/// Writes the beginning of a line of two numbers: the word, with its blank, and the first.
+fn write_first<K: Sink>(sink: &mut K, word: &[u8], first: u32) -> Result<(), Failed>
+    ensures { WritesWhole (K.intake sink.old) (K.intake sink.new) (word.now ++ decimal first) result }
 {
     let mut digits = Buffer::new();
-    write_whole(sink, b"volume damaged ")?;
-    write_whole(sink, digits.format(block).as_bytes())
+    write_whole(sink, word)?;
+    write_whole(sink, digits.format(first).as_bytes())
 }
 
-/// Writes the line of a damage.
-fn write_damage<K: Sink>(sink: &mut K, damage: Damage) -> Result<(), Failed>
-    ensures { WritesWhole (K.intake sink.old) (K.intake sink.new) (damage_text damage) result }
+/// Writes a line of a word, with its blank, and two numbers.
+fn write_pair<K: Sink>(sink: &mut K, word: &[u8], first: u32, second: u32) -> Result<(), Failed>
+    ensures { WritesWhole (K.intake sink.old) (K.intake sink.new) (paired word.now first second) result }
 {
-    write_block(sink, damage.block)?;
-    write_number(sink, b"", u64::from(damage.code))
+    write_first(sink, word, first)?;
+    write_number(sink, b"", u64::from(second))
+}
+
+/// Writes a line of a word, with its blank, and a damage.
+fn write_damage<K: Sink>(sink: &mut K, word: &[u8], damage: Damage) -> Result<(), Failed>
+    ensures { WritesWhole (K.intake sink.old) (K.intake sink.new) (paired word.now damage.block damage.code) result }
+{
+    write_pair(sink, word, damage.block, u32::from(damage.code))
 }
 
 impl VolumeFault {
@@ -182,7 +197,7 @@ impl VolumeFault {
             VolumeFault::Version(found) => {
                 write_number(sink, b"volume version", u64::from(found))
             }
-            VolumeFault::Damaged(damage) => write_damage(sink, damage),
+            VolumeFault::Damaged(damage) => write_damage(sink, b"volume damaged ", damage),
         }
     }
 }
@@ -211,19 +226,43 @@ impl Counts {
 }
 
 /// What is told of a run.
-#[derive(Clone, Copy, Debug, PartialEq, Eq)]
+#[derive(Debug, Drop)]
 pub struct Report {
     /// Nothing where nothing was served.
     pub counts: Option<Counts>,
+    /// Those of a volume that was checked.
+    pub faults: Damages,
     pub cause: Cause,
 }
 
 impl Report {
     ghost use Rattle.std.specs.Prelude.{◌≡◌};
-    ghost use Rattle.cfs_serve.specs.Report.{counts_text, report_text};
+    ghost use Rattle.cfs_serve.specs.Report as spec;
+    ghost use Rattle.cfs_serve.specs.Report.{counts_text, fault_lines, report_text};
 
-    fn write_counts<K: Sink>(self, sink: &mut K) -> Result<(), Failed>
-        ensures { WritesWhole (K.intake sink.old) (K.intake sink.new) (counts_text self.counts) result }
+    /// Where nothing was served and no fault of a volume was found. Takes no memory.
+    pub(crate) fn untold(alloc: Global, cause: Cause) -> Report
+        ensures { result ≡ spec.untold cause }
+    {
+        Report {
+            counts: None,
+            faults: Damages::of(Vec::new(alloc)),
+            cause,
+        }
+    }
+
+    fn write_faults<K: Sink>(&self, sink: &mut K) -> Result<(), Failed>
+        ensures { WritesWhole (K.intake sink.old) (K.intake sink.new) (fault_lines self.now.faults) result }
+    {
+        let faults = self.faults.as_slice();
+        'faults: for fault in faults {
+            write_damage(sink, b"fault ", *fault)?;
+        }
+        Ok(())
+    }
+
+    fn write_counts<K: Sink>(&self, sink: &mut K) -> Result<(), Failed>
+        ensures { WritesWhole (K.intake sink.old) (K.intake sink.new) (counts_text self.now.counts) result }
     {
         match self.counts {
             Some(counts) => counts.write(sink),
@@ -232,9 +271,10 @@ impl Report {
     }
 
     /// Writes the lines of the report.
-    pub fn write<K: Sink>(self, sink: &mut K) -> Result<(), Failed>
-        ensures { WritesWhole (K.intake sink.old) (K.intake sink.new) (report_text self) result }
+    pub fn write<K: Sink>(&self, sink: &mut K) -> Result<(), Failed>
+        ensures { WritesWhole (K.intake sink.old) (K.intake sink.new) (report_text self.now) result }
     {
+        self.write_faults(sink)?;
         self.write_counts(sink)?;
         self.cause.write_ending(sink)
     }

@@ -15,8 +15,9 @@ use crate::audit::audit_only;
 use crate::cached::serve_cached;
 use crate::command::Command;
 use crate::ending::Ending;
-use crate::play::{Played, nothing, play};
-use crate::report::{Cause, Report};
+use crate::inspecting::{check_volume, mend_volume};
+use crate::play::{Played, nothing, play, unserved};
+use crate::report::{Cause, Counts, Report};
 use crate::spin::spin;
 use crate::traced::{Written, write_trail};
 use cfs_base::{Disk, Failed, Gate, Sink, Source};
@@ -59,7 +60,8 @@ fn status_of(written: bool, cause: Cause) -> u8
     ensures { result ≡ status_at_end written cause }
 {
     match cause {
-        Cause::Nothing | Cause::Memory | Cause::Page(_) | Cause::Legal { .. } if !written => 5,
+        Cause::Nothing | Cause::Memory | Cause::Page(_) | Cause::Legal { .. } | Cause::Sound { .. }
+            if !written => { 5 }
         cause => cause.status(),
     }
 }
@@ -128,21 +130,32 @@ fn do_asked<D: Disk + Send, S: Source, K: Sink + Send, G: Gate + Sync, R: Thread
             (nothing(alloc, cause), Some(disk))
         }
         (Some(Command::Audit(_)), disk) => (nothing(alloc, audit_only(alloc, sources)), disk),
+        (Some(Command::Check(_volume)), Some(mut disk)) => {
+            let told = check_volume(rt, alloc, &mut disk);
+            (unserved(alloc, told), Some(disk))
+        }
+        (Some(Command::Mend(_volume)), Some(mut disk)) => {
+            let told = mend_volume(rt, alloc, &mut disk);
+            (unserved(alloc, told), Some(disk))
+        }
         (Some(Command::Play(asked)), disk) => (play(rt, alloc, gate, &asked, sources, sinks), disk),
         (Some(Command::Spin(asked)), disk) => (spin(rt, alloc, gate, asked), disk),
         (Some(Command::Serve(asked)), Some(disk)) => {
             let (played, disk) = serve_cached(rt, alloc, gate, &asked, disk, sources, sinks);
             (played, Some(disk))
         }
-        (Some(Command::Format(_) | Command::Serve(_)), None) => unreachable!(),
+        (
+            Some(Command::Format(_) | Command::Check(_) | Command::Mend(_) | Command::Serve(_)),
+            None,
+        ) => unreachable!(),
     }
 }
 
 /// The same, where sessions were served.
-fn printed(trace: Option<Opening>, told: Report) -> Option<Opening>
-    ensures { (asked : Asked) → trace ≡ first_line asked → result ≡ printed_line asked told.counts }
+fn printed(trace: Option<Opening>, counts: Option<Counts>) -> Option<Opening>
+    ensures { (asked : Asked) → trace ≡ first_line asked → result ≡ printed_line asked counts }
 {
-    match told.counts {
+    match counts {
         Some(_) => trace,
         None => None,
     }
@@ -152,14 +165,14 @@ fn printed(trace: Option<Opening>, told: Report) -> Option<Opening>
 fn write_report<K: Sink>(
     alloc: Global,
     trace: Option<Opening>,
-    told: Report,
+    told: &Report,
     trail: &Trail,
     sink: &mut K,
 ) -> Written
-    ensures { (asked : Asked) → trace ≡ first_line asked → IsWritten asked told trail.now.events
+    ensures { (asked : Asked) → trace ≡ first_line asked → IsWritten asked told.now trail.now.events
         (K.intake sink.old) (K.intake sink.new) result }
 {
-    match printed(trace, told) {
+    match printed(trace, told.counts) {
         Some(opening) => write_trail(alloc, opening, trail, told.cause, sink),
         None => Written {
             whole: told.write(sink).is_ok(),
@@ -169,7 +182,7 @@ fn write_report<K: Sink>(
 }
 
 /// Does what the words of a command ask, which none do where there is no command: shows a page, makes a volume, audits
-/// a trail, or serves sessions, those that are named or those of a spin; and writes the report.
+/// a trail, checks or mends a volume, or serves sessions, those that are named or those of a spin; and writes the report.
 pub fn top<D: Disk + Send, S: Source, K: Sink + Send, G: Gate + Sync, R: Threads + Wait + Sync>(
     rt: &R,
     alloc: Global,
@@ -198,7 +211,7 @@ pub fn top<D: Disk + Send, S: Source, K: Sink + Send, G: Gate + Sync, R: Threads
         trail,
         ending,
     } = played;
-    let written = write_report(alloc, trace_of(command), told, &trail, &mut report);
+    let written = write_report(alloc, trace_of(command), &told, &trail, &mut report);
     Ended {
         status: status_of(written.whole, told.cause.at_last(written.short)),
         disk,

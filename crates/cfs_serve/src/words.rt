@@ -4,8 +4,8 @@ ghost use Rattle.std.specs.List.{list_all};
 ghost use Rattle.ufs_model.specs.Spoken.{number_in};
 ghost use Rattle.cfs_serve.specs.Commands.{asked_of, format_of, played_service, served_service, spin_of};
 ghost use Rattle.cfs_serve.specs.Words as spec;
-ghost use Rattle.cfs_serve.specs.Words.{asked_by, asked_in, audit_in, files_in, format_in, inputs_in, is_file_word};
-ghost use Rattle.cfs_serve.specs.Words.{outputs_in, page_in, play_in, read_or_none, serve_in, spin_in, streams_in};
+ghost use Rattle.cfs_serve.specs.Words.{asked_by, asked_in, audit_in, check_in, files_in, format_in, inputs_in};
+ghost use Rattle.cfs_serve.specs.Words.{is_file_word, mend_in, outputs_in, page_in, play_in, read_or_none, serve_in, spin_in, streams_in};
 
 use crate::command::{Command, Format, Play, Serve, Spin};
 use crate::limits::{
@@ -89,6 +89,39 @@ fn audit<'a>(verb: &str, trail: &'a str) -> Option<&'a str>
         Some(trail)
     } else {
         None
+    }
+}
+
+/// The volume of a check.
+fn check<'a>(verb: &str, volume: &'a str) -> Option<&'a str>
+    ensures { option_map (λ v. v.now) result ≡ check_in (verb.now ∷ volume.now ∷ []) }
+{
+    if verb == "check" && !volume.is_empty() && !is_stream(volume) {
+        Some(volume)
+    } else {
+        None
+    }
+}
+
+/// The volume of a mending.
+fn mend<'a>(verb: &str, volume: &'a str) -> Option<&'a str>
+    ensures { option_map (λ v. v.now) result ≡ mend_in (verb.now ∷ volume.now ∷ []) }
+{
+    if verb == "mend" && !volume.is_empty() && !is_stream(volume) {
+        Some(volume)
+    } else {
+        None
+    }
+}
+
+/// A form of two words that names a volume.
+fn inspection<'a>(verb: &str, volume: &'a str) -> Option<Command<'a>>
+    requires { audit_in (verb.now ∷ volume.now ∷ []) ≡ None }
+    ensures { asked_of result ≡ asked_in (verb.now ∷ volume.now ∷ []) }
+{
+    match check(verb, volume) {
+        Some(volume) => Some(Command::Check(volume)),
+        None => Some(Command::Mend(mend(verb, volume)?)),
     }
 }
 
@@ -204,6 +237,16 @@ fn serve<'a>(
     })
 }
 
+/// A form of two words.
+fn two<'a>(verb: &str, file: &'a str) -> Option<Command<'a>>
+    ensures { asked_of result ≡ asked_in (verb.now ∷ file.now ∷ []) }
+{
+    match audit(verb, file) {
+        Some(trail) => Some(Command::Audit(trail)),
+        None => inspection(verb, file),
+    }
+}
+
 /// A form of four words.
 fn four<'a>(verb: &str, first: &'a str, second: &str, third: &str) -> Option<Command<'a>>
     ensures { asked_of result ≡ asked_in (verb.now ∷ first.now ∷ second.now ∷ third.now ∷ []) }
@@ -239,7 +282,7 @@ impl<'a> Command<'a> {
         match words {
             [] => None,
             [word] => Some(Command::Page(page(word.as_str())?)),
-            [verb, trail] => Some(Command::Audit(audit(verb.as_str(), trail.as_str())?)),
+            [verb, file] => two(verb.as_str(), file.as_str()),
             [_verb, _first, _second] => None,
             [verb, first, second, third] => four(
                 verb.as_str(),

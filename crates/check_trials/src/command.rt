@@ -1,4 +1,5 @@
 //! The commands of a transcript.
+use crate::crashes::crashed;
 use crate::fault::Fault;
 use crate::volume::Volume;
 use cfs_check::Checked;
@@ -60,6 +61,12 @@ fn told(alloc: Global, checked: &Checked) -> Result<String, Fault> {
     }
 }
 
+/// How many images a crash may leave of a mend, each of which is mended to the same.
+fn images<R: Threads + Sync>(rt: &R, alloc: Global, volume: &Volume) -> Result<String, Fault> {
+    let images = crashed(rt, alloc, volume)?;
+    Ok(format!(in alloc; "{images} images\n")?)
+}
+
 /// Does what a command says. Gives the lines that answer it.
 pub fn answer<R: Threads + Sync>(
     rt: &R,
@@ -76,6 +83,8 @@ pub fn answer<R: Threads + Sync>(
         "keep" => volume.keep(alloc)?,
         "again" => volume.again(alloc)?,
         "check" => return told(alloc, &volume.check(rt, alloc)?),
+        "mend" => volume.mend(rt, alloc)?,
+        "images" => return images(rt, alloc, volume),
         _ => return Err(Fault::Words),
     }
     Ok(String::new(alloc))

@@ -1,6 +1,6 @@
 //! Why a command is not done.
-use cfs_base::{Failed, NoMemory};
-use cfs_check::LoadFault;
+use cfs_base::{Damage, Failed, NoMemory};
+use cfs_check::{LoadFault, MendFault};
 use std::alloc::{AllocError, AllocFailed};
 use std::fmt;
 
@@ -14,18 +14,26 @@ pub enum Fault {
     Disk,
     Large,
     Memory,
+    NotVolume,
+    Version { found: u32 },
+    Damaged(Damage),
+    /// What a crash left is mended to other bytes.
+    Differs,
 }
 
 impl fmt::Display for Fault {
     fn fmt<W: fmt::Write>(&self, f: &mut fmt::Formatter<W>) -> fmt::Result {
-        let word = match *self {
-            Fault::Words => "? words",
-            Fault::Place => "? no such place",
-            Fault::Disk => "? disk",
-            Fault::Large => "? long volume",
-            Fault::Memory => "? memory",
-        };
-        f.write_str(word)
+        match *self {
+            Fault::Words => f.write_str("? words"),
+            Fault::Place => f.write_str("? no such place"),
+            Fault::Disk => f.write_str("? disk"),
+            Fault::Large => f.write_str("? long volume"),
+            Fault::Memory => f.write_str("? memory"),
+            Fault::NotVolume => f.write_str("not a volume"),
+            Fault::Version { found } => write!(f, "version {found}"),
+            Fault::Damaged(fault) => write!(f, "damaged {} {}", fault.block, fault.code),
+            Fault::Differs => f.write_str("? differs"),
+        }
     }
 }
 
@@ -59,6 +67,18 @@ impl From<LoadFault> for Fault {
             LoadFault::Disk => Fault::Disk,
             LoadFault::Large { .. } => Fault::Large,
             LoadFault::Memory => Fault::Memory,
+        }
+    }
+}
+
+impl From<MendFault> for Fault {
+    fn from(fault: MendFault) -> Fault {
+        match fault {
+            MendFault::Disk => Fault::Disk,
+            MendFault::NotVolume => Fault::NotVolume,
+            MendFault::Version { found } => Fault::Version { found },
+            MendFault::Damaged(damage) => Fault::Damaged(damage),
+            MendFault::Memory => Fault::Memory,
         }
     }
 }

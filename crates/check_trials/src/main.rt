@@ -1,4 +1,4 @@
-//! Damaged volumes that are checked: a transcript of commands, one a line, each with what it answers. The gate gives it
+//! Damaged volumes that are checked and mended: a transcript of commands, one a line, each with what it answers. The gate gives it
 //! `stdin`, of which it must make `stdout`. Comments, which begin with `#`, and blank lines stay. The commands:
 //!
 //! - `disk BLOCKS`: so many zero blocks.
@@ -8,9 +8,13 @@
 //! - `keep`, `again`: remembers the blocks; has those again that were remembered.
 //! - `check`: each fault of the volume, or that it is sound, with the numbers of its objects and of the blocks that are
 //!   left.
+//! - `mend`: mends the volume, or tells why it isn't mended.
+//! - `images`: how many images a crash may leave since the first barrier of a mend; each is mended again, to the same
+//!   bytes. The volume stays as it is.
 #![tactic(auto)]
 
 mod command;
+mod crashes;
 mod fault;
 mod volume;
 

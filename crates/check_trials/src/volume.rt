@@ -1,7 +1,7 @@
 //! A volume in memory, byte by byte.
 use crate::fault::Fault;
 use cfs_base::{Block, BlockNo, Disk};
-use cfs_check::{Checked, load, report};
+use cfs_check::{Checked, load, mend, report};
 use cfs_fakes::MemoryDisk;
 use std::alloc::Global;
 use std::thread::Threads;
@@ -26,6 +26,36 @@ fn put_block(disk: &mut MemoryDisk, at: u32, block: &Block) -> Result<(), Fault>
     }
     disk.write(BlockNo(at), block)?;
     Ok(())
+}
+
+fn block_of(disk: &mut MemoryDisk, at: u32) -> Result<Block, Fault> {
+    if at >= disk.blocks() {
+        return Err(Fault::Place);
+    }
+    let mut block = Block::zero();
+    disk.read(BlockNo(at), &mut block)?;
+    Ok(block)
+}
+
+/// What a disk holds.
+pub fn blocks_of(alloc: Global, disk: &mut MemoryDisk) -> Result<Vec<Block>, Fault> {
+    let mut blocks = Vec::new(alloc);
+    for at in 0..disk.blocks() {
+        blocks.push(block_of(disk, at)?)?;
+    }
+    Ok(blocks)
+}
+
+/// Mends what a disk holds. Gives the moment at which that begins.
+pub fn mend_disk<R: Threads + Sync, D: Disk>(
+    rt: &R,
+    alloc: Global,
+    disk: &mut D,
+) -> Result<u64, Fault> {
+    let image = load(alloc, disk)?;
+    let from = disk.moment();
+    mend(rt, alloc, disk, &image)?;
+    Ok(from)
 }
 
 impl Volume {
@@ -74,17 +104,34 @@ impl Volume {
         Ok(())
     }
 
-    /// A disk that holds it.
-    fn mounted(&self, alloc: Global) -> Result<MemoryDisk, Fault> {
-        let Ok(blocks) = u32::try_from(self.blocks.len()) else {
-            return Err(Fault::Large);
-        };
-        let mut disk = MemoryDisk::new(alloc, blocks)?;
+    fn count(&self) -> Result<u32, Fault> {
+        match u32::try_from(self.blocks.len()) {
+            Ok(blocks) => Ok(blocks),
+            Err(_) => Err(Fault::Large),
+        }
+    }
+
+    fn put_on(&self, disk: &mut MemoryDisk) -> Result<(), Fault> {
         for at in 0..disk.blocks() {
             if let Some(block) = self.blocks.get(at as usize) {
-                put_block(&mut disk, at, block)?;
+                put_block(disk, at, block)?;
             }
         }
+        disk.barrier()?;
+        Ok(())
+    }
+
+    /// A disk that holds it.
+    fn mounted(&self, alloc: Global) -> Result<MemoryDisk, Fault> {
+        let mut disk = MemoryDisk::new(alloc, self.count()?)?;
+        self.put_on(&mut disk)?;
+        Ok(disk)
+    }
+
+    /// A disk that holds it, and records its calls.
+    pub fn recorded(&self, alloc: Global) -> Result<MemoryDisk, Fault> {
+        let mut disk = MemoryDisk::recording(alloc, self.count()?, Vec::new(alloc))?;
+        self.put_on(&mut disk)?;
         Ok(disk)
     }
 
@@ -92,5 +139,12 @@ impl Volume {
         let mut disk = self.mounted(alloc)?;
         let image = load(alloc, &mut disk)?;
         Ok(report(rt, alloc, &image)?)
+    }
+
+    pub fn mend<R: Threads + Sync>(&mut self, rt: &R, alloc: Global) -> Result<(), Fault> {
+        let mut disk = self.mounted(alloc)?;
+        mend_disk(rt, alloc, &mut disk)?;
+        self.blocks = blocks_of(alloc, &mut disk)?;
+        Ok(())
     }
 }

@@ -12,4 +12,4 @@ returns-in-Some g c = λ asked is.
 pub returns-in-None : goal.returns-in-None
 returns-in-None g c = λ asked is.
     let line = sym (c.printed.ensures asked is) ∙ c.in-None.is in
-    record { text = report_text c.args.told; is = rw line (refl, refl); taken = rw c.is_ok.ensures.value (replied _ _ (report_text c.args.told) c.write.result c.write.ensures) }
+    record { text = report_text c.args.told.now; is = rw line (refl, refl); taken = rw c.is_ok.ensures.value (replied _ _ (report_text c.args.told.now) c.write.result c.write.ensures) }
