@@ -3,7 +3,8 @@
 //! standard output. `-` is a standard stream. `cfs trace ..` does the same and reports the trail. `cfs format VOLUME
 //! CYLINDERS SEED` makes a volume in a file, and `cfs serve VOLUME SEED COLLECTIONS IN OUT ..` serves it; `pair-format`
 //! and `pair-serve` do so on a file that keeps each block twice, for a device that may tear blocks. `cfs check VOLUME`
-//! names each fault of a volume, and `cfs mend VOLUME` makes its maps anew. `cfs --help` and `cfs --version` print a page.
+//! names each fault of a volume, and `cfs mend VOLUME` makes its maps anew. `cfs dirs VOLUME SEED IN OUT` serves lines of
+//! names. `cfs --help` and `cfs --version` print a page.
 #![tactic(auto)]
 
 mod known;

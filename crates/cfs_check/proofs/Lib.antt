@@ -21,6 +21,7 @@ pub mod Restored
 pub mod Right
 pub mod Rise
 pub mod RootNoted
+mod RootWords
 pub mod Rows
 pub mod SameTrees
 pub mod Shadowed

@@ -72,3 +72,15 @@ pub damages_more : (marks : List Bool) (n : ℕ) (b : Bool) → get_or marks n f
 damages_more marks n b is =
     filter_of_map_range_with_len_more (is_marked_damage marks) damage_at 0 n n (omega arith)
     ∙ ap (λ (t : Bool). damages_below marks n ++ cond t (damage_at n ∷ []) []) (ap (λ (k : ℕ). get_or marks k false) (place_is n) ∙ is)
+
+is_false : (b : Bool) → b ≢ true → b ≡ false
+is_false true never = absurd (never refl)
+is_false false never = refl
+
+-- nothing is listed where nothing is marked
+pub none_listed : (marks : List Bool) → ((place : ℕ) → get_or marks place false ≢ true) → (n : ℕ) → damages_below marks n ≡ []
+none_listed marks none zero = refl
+none_listed marks none (suc n) =
+    let more = damages_more marks n false (is_false (get_or marks n false) (none n)) ∙ ap (λ (ds : List Damage). ds ++ []) (none_listed marks none n) in
+    let next : n + 1 ≡ suc n = omega arith in
+    subst (λ (k : ℕ). damages_below marks k ≡ []) next more

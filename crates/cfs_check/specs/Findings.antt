@@ -7,7 +7,9 @@ use Rattle.cfs_base.specs.declared.identifier.Puid.{Puid}
 use Rattle.cfs_base.specs.declared.kind.Kind.TheVariants as kinds
 use Rattle.cfs_base.specs.declared.kind.Place.TheVariants as places
 use Rattle.block_tree.specs.Pointers.{leaf_pointers}
+use Rattle.block_tree.specs.Root.{IsRootBlock}
 use Rattle.block_tree.specs.Tree.{pointer}
+use Rattle.block_tree.specs.declared.root.Root.{Root}
 use Rattle.ufs_model.specs.Numbers.{has_number}
 use Rattle.ufs_model.specs.Object.{leaves_in}
 use Rattle.vol_image.specs.Fault.{NamesNothing, NamesRoot}
@@ -16,6 +18,20 @@ use Rattle.vol_image.specs.Reading.{slot_in}
 use Rattle.cfs_recover.specs.Checks.{IsNotFilled}
 use Rattle.cfs_check.specs.Twigs.{Extent, Twig}
 use Rattle.cfs_check.specs.declared.findings.Findings.{Findings}
+
+-- ---- a block that an identifier names
+
+-- it is a root
+abbrev pub IsSomeRoot : List ℕ → Type 0
+IsSomeRoot content = (root : Root) × IsRootBlock content root
+
+-- it is a root of another word
+abbrev pub IsOtherRoot : List ℕ → (word : ℕ) → Type 0
+IsOtherRoot content word = (root : Root) × IsRootBlock content root × (root.word ≢ word)
+
+-- it is a root of this word, or none
+abbrev pub IsNoOtherRoot : List ℕ → (word : ℕ) → Type 0
+IsNoOtherRoot content word = (root : Root) → IsRootBlock content root → root.word ≡ word
 
 -- ---- slots of a leaf with this number
 

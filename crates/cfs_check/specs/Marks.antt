@@ -1,5 +1,6 @@
 -- Marks of faults: of each block and each code below 12 whether the block was found with it.
-use Rattle.std.specs.Prelude.{◌≡◌, ◌⊎◌, ℕ, ◌+◌, ◌*◌, ◌/◌, ◌%◌, ◌<◌, Bool, true, false, List, length, get_or, map, filter}
+use Rattle.std.specs.Prelude.{◌≡◌, ◌⊎◌, ℕ, ◌+◌, ◌*◌, ◌/◌, ◌%◌, ◌<◌, ◌≤◌, Bool, true, false, List, length, get_or, map}
+use Rattle.std.specs.Prelude.{filter}
 use Rattle.std.specs.List.{range_with_len}
 use Rattle.cfs_base.specs.declared.refusal.Damage.{Damage}
 
@@ -8,6 +9,11 @@ mark_place code block = 12 * block + code
 
 abbrev pub is_marked : List Bool → (code block : ℕ) → Bool
 is_marked marks code block = get_or marks (mark_place code block) false
+
+-- they are of a volume, and none is set where it isn't told that one is
+pub record AreMarks (marks : List Bool) (any : Bool) : Type 0 where
+  pub few : length marks ≤ 12 * 4294967295
+  pub told : (place : ℕ) → get_or marks place false ≡ true → any ≡ true
 
 -- exactly these faults were marked beside those that were
 pub record AddsMarks (P : ℕ → ℕ → Type 0) (old new : List Bool) : Type 0 where

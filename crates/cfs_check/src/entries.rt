@@ -1,5 +1,7 @@
 //! What is wrong with the entries of an image, and the shadow roots that stand by them.
-ghost use Rattle.std.specs.Prelude.{◌≡◌, ◌+◌, ◌*◌, ◌<◌, ◌≤◌, length};
+ghost use Rattle.std.specs.Prelude.{◌≡◌, ◌+◌, ◌*◌, ◌<◌, ◌≤◌, length, Some};
+ghost use Rattle.cyl_map.specs.Volume.{entry_in};
+ghost use Rattle.cyl_map.specs.declared.entry.MapEntry as entries;
 ghost use Rattle.vol_image.specs.Fault.{IsOtherShadow};
 ghost use Rattle.cfs_recover.specs.Entries.{AreStanding};
 ghost use Rattle.cfs_check.specs.Findings.{Decides};
@@ -13,7 +15,7 @@ use crate::roots::Roots;
 use block_tree::Root;
 use cfs_base::{Place, code};
 use cfs_recover::{RESERVED, Standing, is_fixed, note_standing, stands};
-use cyl_map::MapEntry;
+use cyl_map::{Map, MapEntry};
 
 /// Whether the entry of a block is none, or of a root whose owner is another block.
 fn is_no_entry(block: u32, entry: Option<MapEntry>) -> bool
@@ -89,12 +91,23 @@ fn is_other_shadow(image: &Image, root: u32, shadow: u32) -> bool
     }
 }
 
+/// The place that a block's entry has, if its eight bytes are one. They aren't tested.
+fn said_place(image: &Image, block: u32) -> Option<Place>
+    requires { block < length image.now }
+    ensures { (e : entries.MapEntry) → entry_in image.now block ≡ Some e → e.place ≡ result }
+{
+    Map::entry_in(image.block(64 * (block / 64)), (block % 64) as u8).place
+}
+
 /// Whether a block is a shadow root that stands for an object that was found, and isn't like its root.
 fn is_bad_shadow(image: &Image, roots: &Roots, block: u32) -> bool
     requires below { block < length image.now }
     requires room { roots.now.room ≡ length image.now }
     ensures { Decides result (spec.IsBadShadow image.now roots.now.blocks block) }
 {
+    if said_place(image, block) != Some(Place::ShadowRoot) {
+        return false;
+    }
     let Some(entry) = entry_of(image, block) else {
         return false;
     };

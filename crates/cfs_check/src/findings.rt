@@ -2,7 +2,8 @@
 ghost use Rattle.std.specs.Prelude.{◌≡◌, ◌<◌, ℕ, length, MatchBool};
 ghost use Rattle.block_tree.specs.Pointers.{leaf_pointers};
 ghost use Rattle.block_tree.specs.Tree.{pointer};
-ghost use Rattle.vol_image.specs.Fault.{NamesNothing, NamesRoot};
+ghost use Rattle.cfs_base.specs.Disk.{block_at};
+ghost use Rattle.vol_image.specs.Fault.{HasNoRoot, NamesNothing, NamesRoot};
 ghost use Rattle.cfs_check.specs.Findings as spec;
 
 use crate::entry::is_in_place;
@@ -47,6 +48,25 @@ const NOTHING: Findings = Findings {
     names_new: false,
 };
 
+/// Whether a block is a root. It is a function of its own, so that room for a root is made only where one is decoded.
+fn is_root(content: &Block) -> bool
+    ensures { MatchBool result (spec.IsSomeRoot content.now) (HasNoRoot content.now) }
+{
+    Root::decode(content).is_ok()
+}
+
+/// Whether a block is a root of another word. It is decoded only where the word differs.
+fn is_other_root(image: &Image, block: u32, word: u32) -> bool
+    requires { block < length image.now }
+    ensures { MatchBool result (spec.IsOtherRoot (block_at image.now block) word)
+        (spec.IsNoOtherRoot (block_at image.now block) word) }
+{
+    if image.word(block) == word {
+        return false;
+    }
+    is_root(image.block(block))
+}
+
 /// Whether an identifier names nothing.
 pub(crate) fn names_nothing(image: &Image, id: Puid) -> bool
     ensures { MatchBool result (NamesNothing image.now id) (NamesRoot image.now id) }
@@ -54,10 +74,7 @@ pub(crate) fn names_nothing(image: &Image, id: Puid) -> bool
     if id.block == 0 || id.block >= image.blocks() {
         return true;
     }
-    match Root::decode(image.block(id.block)) {
-        Ok(root) => root.word != id.word,
-        Err(_) => false,
-    }
+    is_other_root(image, id.block, id.word)
 }
 
 /// What is found of one slot of a leaf.

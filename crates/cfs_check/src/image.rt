@@ -4,7 +4,7 @@ ghost use Rattle.cfs_base.specs.Calls.{HasFailed, MakesAtMost, OnlyReads};
 ghost use Rattle.cfs_base.specs.Disk.{block_at};
 ghost use Rattle.cfs_base.specs.Run.{IsSettled, Tells};
 ghost use Rattle.cfs_check.specs.Loaded.{IsLoadFault};
-ghost use Rattle.cfs_check.specs.Sized.{AreSized};
+ghost use Rattle.cfs_check.specs.Sized.{AreSized, word_in};
 ghost use Rattle.cfs_recover.specs.Recovered.{IsUntouched};
 
 use crate::fault::LoadFault;
@@ -15,21 +15,26 @@ use std::marker::Model;
 /// The blocks of the largest volume that is loaded.
 pub const MOST_BLOCKS: u32 = 524_288;
 
+/// Where a root block has its word.
+const WORD_AT: usize = 4;
+
 /// What each block of a disk holds. Contracts see the list of the blocks.
 #[derive(Debug, Drop)]
 pub struct Image {
     blocks: Vec<Block>,
+    /// Of each block the word that it has where it is a root.
+    words: Vec<u32>,
 }
 
 impl Model for Image {
     ghost use Rattle.std.specs.Prelude.{List, ℕ};
-    ghost use Rattle.cfs_check.specs.Sized.{IsLoadable};
+    ghost use Rattle.cfs_check.specs.Sized.{IsLoadedImage};
 
     ghost Value = { List (List ℕ) };
 
     ghost view = { λ a. a.blocks.items };
 
-    ghost invariant = { λ a. IsLoadable a.blocks.items };
+    ghost invariant = { λ a. IsLoadedImage a.blocks.items a.words.items };
 }
 
 impl Image {
@@ -49,6 +54,14 @@ impl Image {
     {
         &self.blocks[at as usize]
     }
+
+    /// The word that a block has where it is a root. It is kept beside the blocks, where words stand close together.
+    pub(crate) fn word(&self, at: u32) -> u32
+        requires { at < length self.now }
+        ensures { result ≡ word_in (block_at self.now at) }
+    {
+        self.words[at as usize]
+    }
 }
 
 /// Reads a block.
@@ -66,21 +79,23 @@ fn read_block<D: Disk>(disk: &mut D, at: u32) -> Result<Block, Failed>
 }
 
 /// Reads all blocks, with one read each.
-fn read_all<D: Disk>(alloc: Global, disk: &mut D) -> Result<Vec<Block>, LoadFault>
+fn read_all<D: Disk>(alloc: Global, disk: &mut D) -> Result<Image, LoadFault>
+    requires few { D.blocks disk.old ≤ 524288 }
     ensures told { Tells D.Disk disk.old
-        → IfOk result (λ blocks. blocks.items ≡ take (D.blocks disk.old) (D.content disk.old)) }
-    ensures size { IfOk result (λ blocks. length blocks.items ≡ D.blocks disk.old) }
-    ensures whole { IfOk result (λ blocks. AreSized blocks.items) }
+        → IfOk result (λ image. image ≡ take (D.blocks disk.old) (D.content disk.old)) }
+    ensures size { IfOk result (λ image. length image ≡ D.blocks disk.old) }
     ensures cause { IfErr result (IsLoadFault D.Disk disk.old disk.new) }
     ensures reads { OnlyReads D.Disk (D.blocks disk.old) disk.old disk.new }
 {
     let count = disk.blocks();
     let mut blocks = Vec::with_capacity(alloc, count as usize)?;
+    let mut words = Vec::with_capacity(alloc, count as usize)?;
     for at in 0..count {
         let block = read_block(disk, at)?;
+        words.push(block.u32_at(WORD_AT))?;
         blocks.push(block)?;
     }
-    Ok(blocks)
+    Ok(Image { blocks, words })
 }
 
 /// Loads the image of a volume: makes a barrier, and reads each block once. Refused for more than 524,288 blocks before
@@ -100,6 +115,6 @@ pub fn load<D: Disk>(alloc: Global, disk: &mut D) -> Result<Image, LoadFault>
         return Err(LoadFault::Large { blocks: count });
     }
     disk.barrier()?;
-    let blocks = read_all(alloc, disk)?;
-    Ok(Image { blocks })
+    let image = read_all(alloc, disk)?;
+    Ok(image)
 }

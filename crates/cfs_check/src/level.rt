@@ -7,11 +7,26 @@ use crate::findings::{Findings, look_at};
 use crate::image::Image;
 use crate::roots::Roots;
 use crate::twig::Twig;
+use cfs_base::Kind;
 use rayon::prelude::*;
 use std::alloc::{AllocError, Global};
 use std::thread::Threads;
 
-/// What is found of each of these blocks, in their order, in as many threads as there are processors.
+/// How many blocks of indices are worth more threads than one.
+const MANY: usize = 4_096;
+
+/// How many blocks are worth a thread: all of these, where few are an index's, since other blocks have no slots.
+fn share_of(twigs: &[Twig]) -> usize {
+    let of_indices = twigs.iter().filter(|twig| twig.extent.kind == Kind::Index);
+    if of_indices.count() < MANY {
+        twigs.len()
+    } else {
+        MANY / 4
+    }
+}
+
+/// What is found of each of these blocks, in their order: where many are of indices, in as many threads as there are
+/// processors.
 pub(crate) fn look_at_all<R: Threads + Sync>(
     rt: &R,
     alloc: Global,
@@ -24,6 +39,7 @@ pub(crate) fn look_at_all<R: Threads + Sync>(
 {
     twigs
         .par_iter()
+        .with_min_len(share_of(twigs))
         .map(
             |twig: &Twig| -> Findings
                 requires { roots.now.room ≡ length image.now }

@@ -14,16 +14,19 @@ const CODES: usize = 12;
 #[derive(Debug, Drop)]
 pub(crate) struct Marks {
     marks: Vec<bool>,
+    /// Whether one was found.
+    any: bool,
 }
 
 impl Model for Marks {
-    ghost use Rattle.std.specs.Prelude.{Bool, List, length, ◌*◌, ◌≤◌};
+    ghost use Rattle.std.specs.Prelude.{Bool, List};
+    ghost use Rattle.cfs_check.specs.Marks.{AreMarks};
 
     ghost Value = { List Bool };
 
     ghost view = { λ a. a.marks.items };
 
-    ghost invariant = { λ a. length a.marks.items ≤ 12 * 4294967295 };
+    ghost invariant = { λ a. AreMarks a.marks.items a.any };
 }
 
 impl Marks {
@@ -32,7 +35,7 @@ impl Marks {
         ensures { IfOk result (λ marks. marks ≡ replicate (12 * blocks) false) }
     {
         let marks = vec![in alloc; false; CODES * blocks as usize]?;
-        Ok(Marks { marks })
+        Ok(Marks { marks, any: false })
     }
 
     /// Marks a fault, if it is told.
@@ -43,6 +46,7 @@ impl Marks {
     {
         if told {
             self.marks[CODES * block as usize + code as usize] = true;
+            self.any = true;
         }
     }
 
@@ -51,6 +55,9 @@ impl Marks {
         ensures { IfOk result (λ faults. faults ≡ spec.damages_in self.now) }
     {
         let mut faults = Vec::new(alloc);
+        if !self.any {
+            return Ok(Damages::of(faults));
+        }
         for (place, marked) in self.marks.iter().enumerate() {
             if !*marked {
                 continue;

@@ -37,6 +37,9 @@ fn note_slot(image: &Image, roots: &mut Roots, content: &Block, slot: usize) -> 
     let Some(id) = slot_at(content, slot) else {
         return Ok(());
     };
+    if id.block < image.blocks() && roots.has(id.block) {
+        return Ok(());
+    }
     if names_nothing(image, id) {
         return Ok(());
     }

@@ -1,5 +1,5 @@
 -- A call that reads, and then goes on.
-use Rattle.std.proofs.Common.{◌≡◌, ℕ, ◌<◌, length, true, false, Option, None, Result, Ok, Err, refl, ◌∙◌, ap, subst, ◌+◌, arith, []}
+use Rattle.std.proofs.Common.{◌≡◌, ℕ, ◌<◌, length, Bool, true, false, Option, None, Result, Ok, Err, refl, sym, ◌∙◌, ap, subst, ◌+◌, arith}
 use Rattle.cfs_core.proofs.Words.{Ghosts, Image, Index, Leaves, OnlyReads, Puid, refusal_of, Refused, Reply, Request, State, then, wider, reads_then}
 use Rattle.cfs_base.specs.declared.refusal.Refused.TheVariants as refusals
 use Rattle.cyl_alloc.specs.Left.{LeftCommit}
@@ -13,8 +13,13 @@ use Rattle.cfs_core.specs.Claimed.{TakesForRequest}
 use Rattle.cfs_core.specs.Kernel.{Kernel}
 use Rattle.cfs_core.specs.Looks.{ReachesAll}
 use Rattle.cfs_core.specs.Ways.{Reaches}
+use Rattle.cfs_core.specs.Writes.{changes_disk}
 use Rattle.cfs_core.proofs.Serving.{free_same, serves_is, serves_on}
 use Rattle.cfs_core.proofs.Went.{went_then}
+
+-- a request that changes the disk may do so
+pub absurd_keeps : {A : Type 0} {b : Bool} → b ≡ true → b ≡ false → A
+absurd_keeps changes none = let no : true ≡ false = sym changes ∙ none in cc
 
 module _ {D : Type 0} (g : Ghosts D) (n : ℕ) (old : Kernel D) (d : D) (new : Kernel D) (reads : OnlyReads g n old.disk d) (request : Request) where
   abbrev mid : Kernel D
@@ -57,9 +62,10 @@ module _ {D : Type 0} (g : Ghosts D) (n : ℕ) (old : Kernel D) (d : D) (new : K
     ends (Err (refusals.Damaged damage)) is = is
     ends (Err refusals.Memory) is = answers replies.Memory is
 
-  pub tries_then : {w : Option LeftCommit} (index : Puid) (slot : ℕ) (who : ℕ) (result : Result Reply Refused) → ReachesAll g objects.Index old who request index → TriesOnWith g w mid new index slot request result
+  pub tries_then : {w : Option LeftCommit} (index : Puid) (slot : ℕ) (who : ℕ) (result : Result Reply Refused) → changes_disk old request ≡ true → ReachesAll g objects.Index old who request index → TriesOnWith g w mid new index slot request result
       → ((s : State) (i : Index) → ServesWith g old s w → Reaches s who request index (objects.Index i) → (drafts_of_handles old.handles s.grants) index ≡ None → (slot < length i.slots) × (refusal_of s who request ≡ None)) → TriesWith g w old new who request result
-  tries_then {w} index slot who result reaches tries goes = record {
+  tries_then {w} index slot who result changes reaches tries goes = record {
+    keeps = λ none. absurd_keeps changes none;
     ends = λ s serves none.
         let i = reaches.0 s (serves_is g old s serves) in
         let may = goes s i.0 serves i.1 i.2 in
@@ -67,12 +73,13 @@ module _ {D : Type 0} (g : Ghosts D) (n : ℕ) (old : Kernel D) (d : D) (new : K
     went = went_then g n old d new reads request result (tries.went reaches.1);
   }
 
-  pub where_then : {w : Option LeftCommit} (who : ℕ) (may : State → Type 0) (result : Result Reply Refused) → TriesWhere g w mid new who request may result → ((s : State) → ServesWith g old s w → may s) → TriesWith g w old new who request result
-  where_then {w} who may result tries so = record {
+  pub where_then : {w : Option LeftCommit} (who : ℕ) (may : State → Type 0) (result : Result Reply Refused) → changes_disk old request ≡ true → TriesWhere g w mid new who request may result → ((s : State) → ServesWith g old s w → may s) → TriesWith g w old new who request result
+  where_then {w} who may result changes tries so = record {
+    keeps = λ none. absurd_keeps changes none;
     ends = λ s serves none. ends w s who result (tries.ends s (serves_on g n old mid reads refl s serves) none (so s serves));
     went = went_then g n old d new reads request result tries.went;
   }
 
 -- where it always may
-pub tries_where : {D : Type 0} {g : Ghosts D} {w : Option LeftCommit} {old new : Kernel D} {who : ℕ} {request : Request} {may : State → Type 0} {result : Result Reply Refused} → TriesWhere g w old new who request may result → ((s : State) → ServesWith g old s w → may s) → TriesWith g w old new who request result
-tries_where tries so = record { ends = λ s serves none. tries.ends s serves none (so s serves); went = tries.went }
+pub tries_where : {D : Type 0} {g : Ghosts D} {w : Option LeftCommit} {old new : Kernel D} {who : ℕ} {request : Request} {may : State → Type 0} {result : Result Reply Refused} → changes_disk old request ≡ true → TriesWhere g w old new who request may result → ((s : State) → ServesWith g old s w → may s) → TriesWith g w old new who request result
+tries_where changes tries so = record { keeps = λ none. absurd_keeps changes none; ends = λ s serves none. tries.ends s serves none (so s serves); went = tries.went }

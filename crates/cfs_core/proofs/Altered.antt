@@ -32,7 +32,8 @@ use Rattle.cfs_core.proofs.Reached.{written_in}
 use Rattle.cfs_core.proofs.Handled.{grants_with}
 use Rattle.cfs_core.proofs.Serving.{fits, running, stays}
 use Rattle.cfs_core.proofs.Moved.{HasStepped, IsStepped, four_left, makes_stepped}
-use Rattle.cfs_core.specs.Claimed.{ClaimsInOrder, TakesForRequest, claims_for, claims_in_draft, is_beside, owners_of, claims_in_file, claims_through, root_reached}
+use Rattle.file_ops.specs.Changes.{is_resize}
+use Rattle.cfs_core.specs.Claimed.{ClaimsStay, is_set_size, TakesForRequest, claims_for, claims_in_draft, is_beside, owners_of, claims_in_file, claims_through, root_reached}
 use Rattle.cfs_core.proofs.Claimed.{takes_alone}
 use Rattle.std.specs.Prelude.{◌&&◌, is_none}
 use Rattle.std.specs.Option.{option_map_or}
@@ -144,6 +145,7 @@ file_alters s who t request change is to = record {
   to = to;
   claims = λ handles reply d has. is.claims handles s who reply ∙ ap (λ (r : Ref). claims_through handles s who r change) to
       ∙ ap (λ (o : Option Draft). elim o [ None ↦ claims_in_file (root_reached s who (Through t)) change (file_seen s who (Through t)) | Some e ↦ option_map_or (claims_in_draft change e) (drafting_at handles t.draw) [] ]) has;
+  resizes = is.sets;
   alone = λ d has. is.alone s who ∙ ap (is_beside s who) to ∙ not_beside s who t d has;
   commits_is = λ d has. is.commits_is s who ∙ ap (is_beside s who) to ∙ not_beside s who t d has;
   delete = is.delete;
@@ -200,14 +202,14 @@ module _ {D : Type 0} (g : Ghosts D) (k : Kernel D) (s : State) (serves : CoreSe
     legal none = subst (λ (p : Reply × State). next k.words.seed s (events.Ask who request p.0) ≡ Some p.1) (is.outcome k.words.seed 0 held.x before held.found held.draft_was)
         (outcome_legal k.words.seed s who request 0 (running g k s serves none) goes (λ made. let no : true ≡ false = sym made ∙ is.makes in cc))
 
-    takes : (disk : D) → ClaimsInOrder (claims_in_draft change before was) (id.block ∷ []) (g.content k.disk) (g.content disk) → TakesForRequest k.handles s who request replies.Done (g.content k.disk) (g.content disk)
+    takes : (disk : D) → ClaimsStay (is_resize change) (claims_in_draft change before was) (id.block ∷ []) (g.content k.disk) (g.content disk) → TakesForRequest k.handles s who request replies.Done (g.content k.disk) (g.content disk)
     takes disk order =
         let here : held.x.id ≡ id = sym (ap (λ e. e.id) held.place.here) in
         let claims : claims_for k.handles s who request replies.Done ≡ claims_in_draft change before was =
         is.claims k.handles replies.Done before (has_it held) ∙ ap (λ o. option_map_or (claims_in_draft change before) o []) held.at in
         let owners : owners_of s who request replies.Done ≡ id.block ∷ [] = rw (is.makes, is.to, held.found) (ap (λ (x : Puid). x.block ∷ []) here) in
-        takes_alone k.handles s who request replies.Done (g.content k.disk) (g.content disk) (is.alone before (has_it held)) (subst (λ (cs : List MapEntry). ClaimsInOrder cs (owners_of s who request replies.Done) (g.content k.disk) (g.content disk)) (sym claims)
-        (subst (λ (ns : List ℕ). ClaimsInOrder (claims_in_draft change before was) ns (g.content k.disk) (g.content disk)) (sym owners) order))
+        takes_alone k.handles s who request replies.Done (g.content k.disk) (g.content disk) (is.alone before (has_it held)) (subst (λ (cs : List MapEntry). ClaimsStay (is_set_size request) cs (owners_of s who request replies.Done) (g.content k.disk) (g.content disk)) (sym claims)
+        (subst (λ (ns : List ℕ). ClaimsStay (is_set_size request) (claims_in_draft change before was) ns (g.content k.disk) (g.content disk)) (sym owners) (subst (λ (b : Bool). ClaimsStay b (claims_in_draft change before was) (id.block ∷ []) (g.content k.disk) (g.content disk)) (sym is.resizes) order)))
 
     module _ (now : Drafting) (disk : D) (space : Kept) where
       abbrev new : Kernel D

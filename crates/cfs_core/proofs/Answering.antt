@@ -23,7 +23,7 @@ use Rattle.cfs_core.proofs.Damages.{told_of_read}
 use Rattle.cfs_core.proofs.Views.{knows_that}
 use Rattle.cfs_core.proofs.Went.{went_so}
 use Rattle.cfs_core.proofs.Serving.{end_same, honest, running, stays}
-use Rattle.cfs_core.specs.Claimed.{ClaimsInOrder, claims_for, owners_of}
+use Rattle.cfs_core.specs.Claimed.{ClaimsStay, is_set_size, claims_for, owners_of}
 use Rattle.cfs_core.proofs.Claimed.{alone_not, claims_none, refused_undone, takes_alone}
 
 -- what is owed is so of a reply in which no device call failed
@@ -81,7 +81,7 @@ module _ {D : Type 0} {w : Option LeftCommit} (g : Ghosts D) (left_sized : (d : 
             reply_is = sym (ap (λ (p : Reply × State). p.0) done);
             room = λ short. omega (arith, short.few, serves.four, need);
           }));
-          taken = λ taken. takes_alone old.handles s who request reply (coming (g.content old.disk) w) (end_in g new) (alone_not s who request still) (subst (λ (cs : List MapEntry). ClaimsInOrder cs (owners_of s who request reply) (coming (g.content old.disk) w) (end_in g new)) (sym claims)
+          taken = λ taken. takes_alone old.handles s who request reply (coming (g.content old.disk) w) (end_in g new) (alone_not s who request still) (subst (λ (cs : List MapEntry). ClaimsStay (is_set_size request) cs (owners_of s who request reply) (coming (g.content old.disk) w) (end_in g new)) (sym claims)
               (claims_none (owners_of s who request reply) (coming (g.content old.disk) w) (end_in g new) (end_same g n old new reads same s serves)));
         }
 
@@ -126,6 +126,7 @@ module _ {D : Type 0} {w : Option LeftCommit} (g : Ghosts D) (left_sized : (d : 
       → IfOk result IsPlainReply → IfErr result (IsCause g old new (Some request)) → TriesWith g w old new who request result
   tries_so who request result ends plain cause = record {
     ends = ends;
+    keeps = λ _. record { space = ap (λ (k : Kernel D). k.space) same; most = n; reads = reads };
     went = subst (λ (k : Kernel D). RequestWent g old k request result) (sym same) (went_so g old new.disk old.space old.handles reads.same.size reads.faults reads.images.later request result plain (subst (λ (k : Kernel D). IfErr result (IsCause g old k (Some request))) same cause));
   }
 

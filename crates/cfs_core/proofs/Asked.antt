@@ -11,7 +11,7 @@ use Rattle.cfs_core.specs.declared.kernel.Stop.{Stop}
 use Rattle.cfs_core.specs.Asked.{Asks, Happens, IsShortContent, IsToldCause, stopped_by, reply_to}
 use Rattle.cfs_core.proofs.Damages.{told_as, told_asked}
 use Rattle.cfs_core.specs.Calls.{Answers, CutShort, EndsSo, IsAsItWas, IsCauseOf, IsFinished, IsInDoubt, IsWant, MayBeRead, Owes, Tries, Undone, Whole, is_full_reply, leaves_all}
-use Rattle.cfs_core.specs.Damage.{IsDamageTold, IsMet}
+use Rattle.cfs_core.specs.Damage.{Afterwards, AtOnce, IsDamageTold, IsMet}
 use Rattle.cfs_core.specs.Kernel.{Kernel}
 use Rattle.cfs_core.specs.Rescues.{AreRescued, ended_by}
 use Rattle.cfs_core.specs.StandsFor.{IsFront, ServesIs, Stands, end_in, free_to_come}
@@ -91,6 +91,7 @@ module _ {D : Type 0} (g : Ghosts D) (old : Kernel D) (x : Collections) (ready :
     rescued = λ _ s stands. subst (AreRescued old.collections.collector x.collector []) (sym (no_end s who request replies.Memory refl)) ready;
     called = called;
     finished = finished;
+    keeps = λ _. record { space = refl; most = 0; reads = reads_none g 0 old.disk };
     waits = adds_one (g.blocks old.disk) old.collections x [] [] ready called finished (omega arith);
     later = omega arith;
     size = refl;
@@ -116,6 +117,7 @@ asks_stopped g k who request stop is = record {
   rescued = λ none. cc;
   called = refl;
   finished = refl;
+  keeps = λ _. record { space = refl; most = 0; reads = reads_none g 0 k.disk };
   waits = adds_none (g.blocks k.disk) k.collections;
   later = omega arith;
   size = refl;
@@ -147,6 +149,7 @@ asks_answered {D = D} g sized old x ready called finished mid y who request repl
     content = was.content;
     still = λ nothing. let still = was.still nothing in record { same = ap (λ (k : Kernel D). record k { collections = y }) still.same; most = still.most; reads = still.reads };
   };
+  keeps = λ none. let was = tries.keeps none in record { space = was.space; most = was.most; reads = was.reads };
   taken = λ _ s stands. (tries.ends s (serves_roomy g old x ready s (serves_from g old s none stands)) none).taken;
   noted = λ _ s stands. (tries.ends s (serves_roomy g old x ready s (serves_from g old s none stands)) none).noted;
   stopped = λ stop is. cc;
@@ -256,7 +259,8 @@ module _ {D : Type 0} (g : Ghosts D) (left_sized : (d : D) (t : ℕ) (c : Image)
 
   -- what is met is so of the core without its room
   met_asked : (Of Is : Kernel D → Type 0) → ((d : D) (space : Kept) → Of (record (roomy g old x ready) { disk = d; space = space }) → Is (record old { disk = d; space = space })) → IsMet g (roomy g old x ready) Of → IsMet g old Is
-  met_asked Of Is asked met = record { disk = met.disk; space = met.space; most = met.most; calls = met.calls; none = met.none; is = asked met.disk met.space met.is }
+  met_asked Of Is asked (AtOnce is) = AtOnce (asked old.disk old.space is)
+  met_asked Of Is asked (Afterwards n read disk space reads fin is) = Afterwards n read disk space reads fin (asked disk space is)
 
   told_cause : (refused : Refused) → (stop : Option Stop) → IsCauseOf g (roomy g old x ready) mid request refused → IsToldCause g old (record mid { stop = stop }) request (reply_to refused (g.moment mid.disk))
   told_cause (refusals.Full need) stop is = met_asked (λ k. IsWant (Some request) (sum k.space.free) need) (λ k. IsWant (Some request) (sum k.space.free) need) (λ d space was. was) is
@@ -284,6 +288,7 @@ module _ {D : Type 0} (g : Ghosts D) (left_sized : (d : D) (t : ℕ) (c : Image)
     full = λ _ s stands. told_full refused (g.moment mid.disk) s (tries.ends s (serves_roomy g old x ready s (serves_from g old s none stands)) none);
     taken = λ _ s stands done. let no : true ≡ false = sym done ∙ undone refused (g.moment mid.disk) in cc;
     noted = λ _ s stands done. let no : true ≡ false = sym done ∙ undone refused (g.moment mid.disk) in cc;
+    keeps = λ none. let was = tries.keeps none in record { space = was.space; most = was.most; reads = was.reads };
     stopped = λ stop same. cc;
     stops = λ _. ap (λ (o : Option Stop). stopped_by (reply_to refused (g.moment mid.disk)) o) (tries.went.stop ∙ none);
     cause = λ _. told_cause refused _ tries.went.cause;

@@ -1,6 +1,6 @@
 -- What a request came to, as the core has it then.
-use Rattle.std.proofs.Common.{◌≡◌, ◌<◌, ℕ, [], length, false, Some, None, Result, Ok, Err, IsTrue, IfOk, refl, sym, ◌∙◌, ap, subst}
-use Rattle.cfs_core.proofs.Words.{creates, Ghosts, Image, Index, IsPlainReply, need_of, Object, OnlyReads, Puid, Ref, refusal_of, Refused, Reply, Request, State, Through, Tuid, Wanted}
+use Rattle.std.proofs.Common.{◌≡◌, ◌<◌, ℕ, [], length, false, Some, None, Result, Ok, Err, IsTrue, IfOk, sym, ◌∙◌, ap, subst, true}
+use Rattle.cfs_core.proofs.Words.{creates, Ghosts, Image, Index, IsPlainReply, need_of, OnlyReads, Puid, Ref, refusal_of, Refused, Reply, Request, State, Through, Tuid, Wanted}
 use Rattle.ufs_model.specs.declared.object.Object.TheVariants as objects
 use Rattle.cyl_alloc.specs.Left.{block_shown}
 use Rattle.cfs_core.specs.Calls.{Tries, TriesOn}
@@ -17,6 +17,8 @@ use Rattle.cfs_core.specs.declared.visiting.There.{There}
 use Rattle.cfs_core.specs.declared.visiting.Visited.{Visited}
 use Rattle.cfs_core.specs.declared.visiting.Visited.TheVariants as visited
 use Rattle.cfs_core.specs.declared.way.Way.{Way}
+use Rattle.cfs_core.specs.Writes.{changes_disk}
+use Rattle.cfs_core.proofs.After.{absurd_keeps}
 use Rattle.cfs_core.proofs.Answering.{tries_failed, tries_refused, tries_seen}
 use Rattle.cfs_core.proofs.Refusing.{IsSeen}
 
@@ -45,9 +47,10 @@ module _ {D : Type 0} (g : Ghosts D) (wants : Wanted) (way : Way) (who : ℕ) (o
 -- ---- an object
 
 -- on a slot of an index that is reached
-pub tries_on : {D : Type 0} (g : Ghosts D) (old new : Kernel D) (who : ℕ) (request : Request) (index : Puid) (slot : ℕ) (result : Result Reply Refused) → ReachesAll g objects.Index old who request index → TriesOn g old new index slot request result
+pub tries_on : {D : Type 0} (g : Ghosts D) (old new : Kernel D) (who : ℕ) (request : Request) (index : Puid) (slot : ℕ) (result : Result Reply Refused) → changes_disk old request ≡ true → ReachesAll g objects.Index old who request index → TriesOn g old new index slot request result
     → ((s : State) (i : Index) → ServesIs g old s → Reaches s who request index (objects.Index i) → (slot < length i.slots) × (refusal_of s who request ≡ None)) → Tries g old new who request result
-tries_on g old new who request index slot result reaches tries goes = record {
+tries_on g old new who request index slot result changes reaches tries goes = record {
+  keeps = λ none. absurd_keeps changes none;
   ends = λ s serves none.
       let i = reaches.0 s serves in
       let may = goes s i.0 serves i.1 in

@@ -18,7 +18,7 @@ use Rattle.ufs_model.specs.Refusal.{conditions, first_of, target}
 use Rattle.vol_owners.specs.Change.{IsOpenTo}
 use Rattle.vol_owners.specs.Owner.{is_owned_by}
 use Rattle.std.proofs.lemmas.Bool.{cases_eq}
-use Rattle.cfs_core.specs.Claimed.{ClaimsInOrder, TakesForRequest, claims_for, commits_alone, owners_of, root_reached}
+use Rattle.cfs_core.specs.Claimed.{ClaimsInOrder, ClaimsStay, TakesForRequest, claims_for, commits_alone, is_set_size, owners_of, root_reached}
 use Rattle.cfs_core.specs.Commits.{commits}
 use Rattle.cfs_core.specs.Kernel.{Handle}
 use Rattle.ufs_model.specs.declared.asked.Request.TheVariants as asks
@@ -65,16 +65,25 @@ owned_open rs entry (inr two) = inr (two.0, rw two.0 (and_parts _ _ two.1).1)
 -- ---- images
 
 -- nothing is
-pub claims_none : (owners : List ℕ) (a b : Image) → b ≡ a → ClaimsInOrder [] owners a b
-claims_none owners a b same = record { mid = a; in_order = λ m. refl; rest = λ n. inl (ap (λ i. entry_in i n) same) }
+pub claims_none : {drops : Bool} (owners : List ℕ) (a b : Image) → b ≡ a → ClaimsStay drops [] owners a b
+claims_none owners a b same = record {
+  order = record { mid = a; in_order = λ m. refl; rest = λ n. inl (ap (λ i. entry_in i n) same) };
+  kept = λ _ n other. absurd (other refl);
+}
 
 -- only blocks of owners change, as where a draft is committed
-pub claims_only : (owners : List ℕ) (a b : Image) → ChangesOnly (of_owners owners) a b → ClaimsInOrder [] owners a b
-claims_only owners a b only = record { mid = a; in_order = λ m. refl; rest = only.entries }
+pub claims_only : {drops : Bool} (owners : List ℕ) (a b : Image) → ChangesOnly (of_owners owners) a b → ClaimsStay drops [] owners a b
+claims_only owners a b only = record {
+  order = record { mid = a; in_order = λ m. refl; rest = only.entries };
+  kept = λ _ n other. absurd (other refl);
+}
 
 -- or what is meant for them
-pub claims_meant : (owners : List ℕ) (a b : Image) → ChangesOnly (of_drafts owners) a b → ClaimsInOrder [] owners a b
-claims_meant owners a b only = record { mid = a; in_order = λ m. refl; rest = λ n. at n (only.entries n) }
+pub claims_meant : {drops : Bool} (owners : List ℕ) (a b : Image) → ChangesOnly (of_drafts owners) a b → ClaimsStay drops [] owners a b
+claims_meant owners a b only = record {
+  order = record { mid = a; in_order = λ m. refl; rest = λ n. at n (only.entries n) };
+  kept = λ _ n other. absurd (other refl);
+}
   where
     at : (n : ℕ) → (entry_in b n ≡ entry_in a n) ⊎ (IsOpenTo (of_drafts owners) (entry_in a n) × IsOpenTo (of_drafts owners) (entry_in b n))
         → (entry_in b n ≡ entry_in a n) ⊎ (IsOpenTo (of_owners owners) (entry_in a n) × IsOpenTo (of_owners owners) (entry_in b n))
@@ -92,21 +101,21 @@ alone_not s who (asks.Close t commit) none = refl
 alone_not s who request none = none
 
 -- a request that isn't a commit of its own
-pub takes_alone : (handles : List Handle) (s : State) (who : ℕ) (request : Request) (reply : Reply) (a b : Image) → commits_alone s who request ≡ false → ClaimsInOrder (claims_for handles s who request reply) (owners_of s who request reply) a b
+pub takes_alone : (handles : List Handle) (s : State) (who : ℕ) (request : Request) (reply : Reply) (a b : Image) → commits_alone s who request ≡ false → ClaimsStay (is_set_size request) (claims_for handles s who request reply) (owners_of s who request reply) a b
     → TakesForRequest handles s who request reply a b
-takes_alone handles s who request reply a b none order = record { order = order; shadow = λ yes. let no : true ≡ false = sym yes ∙ none in cc }
+takes_alone handles s who request reply a b none stay = record { order = stay.order; shadow = λ yes. let no : true ≡ false = sym yes ∙ none in cc; kept = λ _. stay.kept }
 
 -- and one that is
 pub takes_last : (handles : List Handle) (s : State) (who : ℕ) (request : Request) (reply : Reply) (a b : Image) (claims : List MapEntry) (owners : List ℕ) (at : ℕ) → claims_for handles s who request reply ≡ claims → owners_of s who request reply ≡ owners
-    → root_reached s who (target request) ≡ at → Commits claims owners at a b → TakesForRequest handles s who request reply a b
-takes_last handles s who request reply a b claims owners at same_claims same_owners same_root is =
+    → root_reached s who (target request) ≡ at → commits_alone s who request ≡ true → Commits claims owners at a b → TakesForRequest handles s who request reply a b
+takes_last handles s who request reply a b claims owners at same_claims same_owners same_root alone is =
     let x = subst (λ (cs : List MapEntry). Commits cs (owners_of s who request reply) (root_reached s who (target request)) a b) (sym same_claims)
     (subst (λ (ns : List ℕ). Commits claims ns (root_reached s who (target request)) a b) (sym same_owners) (subst (λ (n : ℕ). Commits claims owners n a b) (sym same_root) is)) in
-    record { order = x.order; shadow = λ yes. x.shadow }
+    record { order = x.order; shadow = λ yes. x.shadow; kept = λ none. let no : true ≡ false = sym alone ∙ none in cc }
 
 -- nothing changes afterwards
-pub claims_all : (claims : List MapEntry) (owners : List ℕ) (a b : Image) → AreClaimed claims a b → ClaimsInOrder claims owners a b
-claims_all claims owners a b is = record { mid = b; in_order = is; rest = λ n. inl refl }
+pub claims_all : {drops : Bool} (claims : List MapEntry) (owners : List ℕ) (a b : Image) → AreClaimed claims a b → ClaimsStay drops claims owners a b
+claims_all claims owners a b is = record { order = record { mid = b; in_order = is; rest = λ n. inl refl }; kept = λ _ n other. refl }
 
 -- an index is
 pub claims_then : (claims : List MapEntry) (at : ℕ) (made : List ℕ) (a b : Image) → ops.TakesEntries claims at made a b → Commits claims (at ∷ made) at a b
@@ -117,8 +126,8 @@ claims_then claims at made a b takes = record {
 
 -- what a draft drops is Free
 module _ (owner : ℕ) (claims : List MapEntry) (a b : Image) (is : ClaimsAndDrops owner claims a b) where
-  pub claims_dropped : ClaimsInOrder claims (owner ∷ []) a b
-  claims_dropped = record { mid = is.mid; in_order = is.claimed; rest = λ n. at n (is.left n) }
+  pub claims_dropped : ClaimsStay true claims (owner ∷ []) a b
+  claims_dropped = record { order = record { mid = is.mid; in_order = is.claimed; rest = λ n. at n (is.left n) }; kept = λ none. let no : true ≡ false = none in cc }
     where
       at : (n : ℕ) → (entry_in b n ≡ entry_in is.mid n) ⊎ ((is_owned_by is_meant owner (entry_in is.mid n) ≡ true) × (is_free_entry (entry_in b n) ≡ true))
           → (entry_in b n ≡ entry_in is.mid n) ⊎ (IsOpenTo (of_owners (owner ∷ [])) (entry_in is.mid n) × IsOpenTo (of_owners (owner ∷ [])) (entry_in b n))
@@ -163,25 +172,35 @@ module _ (r s : ℕ) (a b : Image) (least : IsLeastFree a s) (stands : stands_fo
   was None free = cc
   was (Some x) free = (x, refl)
 
-  pub claims_shadow : ClaimsInOrder (e ∷ []) (r ∷ []) a b
+  pub claims_shadow : {drops : Bool} → ClaimsStay drops (e ∷ []) (r ∷ []) a b
   unfolding claims_meant
   claims_shadow =
       let now = here_now (entry_in b s) refl stands in
       let old = was (entry_in a s) least.free in
+      let here = entry_in-with_entry_same a s e old.0 old.1 now.1 in
       record {
-        mid = with_entry a s e;
-        in_order = (
-          with_entry a s e,
-          record {
-            block = s;
-            least = least;
-            here = entry_in-with_entry_same a s e old.0 old.1 now.1;
-            others = λ m other. entry_in-with_entry_other a s e old.0 m old.1 other;
-          },
-          λ m. refl,
-        );
-        rest = λ n. elim (cases_eq n s) [
-          | inl same ↦ inl (ap (entry_in b) same ∙ now.0 ∙ sym (ap (entry_in (with_entry a s e)) same ∙ entry_in-with_entry_same a s e old.0 old.1 now.1))
-          | inr other ↦ (let apart = entry_in-with_entry_other a s e old.0 n old.1 other in subst (λ (o : Option MapEntry). (entry_in b n ≡ o) ⊎ (IsOpenTo (of_owners (r ∷ [])) o × IsOpenTo (of_owners (r ∷ [])) (entry_in b n))) (sym apart) ((claims_meant (r ∷ []) a b only).rest n))
+        order = record {
+          mid = with_entry a s e;
+          in_order = (
+            with_entry a s e,
+            record {
+              block = s;
+              least = least;
+              here = here;
+              others = λ m other. entry_in-with_entry_other a s e old.0 m old.1 other;
+            },
+            λ m. refl,
+          );
+          rest = λ n. elim (cases_eq n s) [
+            | inl same ↦ inl (ap (entry_in b) same ∙ now.0 ∙ sym (ap (entry_in (with_entry a s e)) same ∙ here))
+            | inr other ↦ (
+                let apart = entry_in-with_entry_other a s e old.0 n old.1 other in
+                subst (λ (o : Option MapEntry). (entry_in b n ≡ o) ⊎ (IsOpenTo (of_owners (r ∷ [])) o × IsOpenTo (of_owners (r ∷ [])) (entry_in b n))) (sym apart) ((claims_meant {drops = true} (r ∷ []) a b only).order.rest n)
+                )
+          ];
+        };
+        kept = λ _ n other. elim (cases_eq n s) [
+          | inl same ↦ ap (entry_in b) same ∙ now.0 ∙ sym (ap (entry_in (with_entry a s e)) same ∙ here)
+          | inr apart ↦ absurd (other (entry_in-with_entry_other a s e old.0 n old.1 apart))
         ];
       }

@@ -1,5 +1,5 @@
 -- What a damage of one call of the store tells of the core's call.
-use Rattle.std.proofs.Common.{◌≡◌, ◌⊎◌, inl, inr, ℕ, ◌/◌, ◌<◌, ◌*◌, ◌+◌, Some, None, Option, true, refl, sym, ◌∙◌, ap, subst, arith, List, sum}
+use Rattle.std.proofs.Common.{◌≡◌, ◌⊎◌, inl, inr, ℕ, ◌<◌, ◌+◌, Some, None, Option, true, refl, sym, ◌∙◌, ap, subst, arith, List, sum}
 use Rattle.cfs_core.proofs.Words.{Ghosts, Image, IsIndexRefusal, IsOpenMap, OnlyReads, Puid, Request}
 use Rattle.cfs_base.specs.Codes.{past_disk}
 use Rattle.cfs_base.proofs.Calls.{tells_on}

@@ -1,8 +1,7 @@
 -- A grant is closed that has a draft: the draft is given up, or becomes the object.
-use Rattle.std.proofs.Common.{◌≡◌, ℕ, ◌+◌, ◌/◌, ◌≤◌, List, [], ◌∷◌, ◌++◌, length, Bool, true, false, ◌≢◌, Option, Some, None, Ok, Err, refl, sym, ◌∙◌, ap, subst, arith, ⊎_elim, option_map, option_to_list, sum}
+use Rattle.std.proofs.Common.{◌≡◌, ℕ, ◌+◌, ◌/◌, ◌≤◌, List, [], ◌∷◌, length, Bool, true, false, ◌≢◌, Option, Some, None, Ok, Err, refl, sym, ◌∙◌, ap, subst, arith, ⊎_elim, option_map, option_to_list, sum}
 use Rattle.cfs_core.proofs.Words.{and_parts, block_there, ChangesOnly, closed, closed_graph, closed_keeps, Committed, committed, Draft, Drafting, Dropped, FitsDisk, Ghosts, Grant, grant_of, Graph, graph_blocks, has_block, has_number, Holds, Image, insert_entry-same, is_meant, is_placed, IsClosedGraph, IsOfThese, IsOldOrNew, Drafts, draft_blocks_if, taken_put, taken_with, blocks_taken}
 use Rattle.cfs_core.proofs.Words.{IsState, Kept, keys_of-kinds_in, directory_kind-kinds_in, object_kind, kinds_in-insert_entry, kinds_of, Leaves, MapEntry, nat_tests, next, Object, of_drafts, of_owners, opened_as, outcome_legal, owner_of, Puid, refusal_of, refused_by, rises, room, State, sum_by, sum_is, the_draft, Trouble, Tuid, wider, with_object, without_draft}
-use Rattle.cfs_base.specs.declared.kind.FileKind.TheVariants as file_kinds
 use Rattle.cfs_base.specs.declared.refusal.Trouble.TheVariants as troubles
 use Rattle.cyl_alloc.specs.Left.{LeftCommit}
 use Rattle.open_table.specs.Grants as tables
@@ -10,7 +9,6 @@ use Rattle.open_table.specs.declared.grant.OpenGrant as handles
 use Rattle.ufs_model.specs.declared.asked.Event.TheVariants as events
 use Rattle.ufs_model.specs.declared.asked.Reply.TheVariants as replies
 use Rattle.ufs_model.specs.declared.asked.Request.TheVariants as asks
-use Rattle.ufs_model.specs.declared.object.Object.TheVariants as objects
 use Rattle.cfs_core.specs.Calls.{AddsNoStray, Answers, ByOutcome, EndsSo, IsInDoubt, MayBeRead, Owes, Undone, Whole}
 use Rattle.cfs_core.specs.Drafts.{DraftEnds, EndsDraft, LeavesDraftCommit}
 use Rattle.cfs_core.specs.Kernel.{Kernel}
@@ -21,7 +19,7 @@ use Rattle.special_files.specs.Committing.{IsNoted}
 use Rattle.cfs_core.specs.StandsFor.{AreDraftsOf, CoreServes, StoresState, drafts_of_handles, free_to_come}
 use Rattle.cfs_core.proofs.Answering.{owes}
 use Rattle.cfs_core.proofs.Changed.{of_this}
-use Rattle.cfs_core.proofs.Drafted.{but_with, drawn, gone_drafts, gone_have}
+use Rattle.cfs_core.proofs.Drafted.{but_with, gone_drafts, gone_have}
 use Rattle.cfs_core.proofs.Granted.{close_goes, closed_stepped}
 use Rattle.cfs_core.proofs.Grown.{replaced_blocks}
 use Rattle.cfs_core.proofs.Handled.{grants_with}
@@ -30,7 +28,7 @@ use Rattle.cfs_core.proofs.Moved.{HasStepped, IsStepped, four_left, makes_commit
 use Rattle.cfs_core.proofs.Taken.{replaced_few}
 use Rattle.cfs_core.proofs.Views.{IsHeld, draft_view, open_in, so}
 use Rattle.cfs_core.proofs.Ways.{draft_kind}
-use Rattle.cfs_core.specs.Claimed.{ClaimsInOrder, owners_of}
+use Rattle.cfs_core.specs.Claimed.{ClaimsStay, owners_of}
 use Rattle.cfs_core.proofs.Claimed.{claims_meant, claims_only, takes_alone}
 
 -- what is meant for an object that is there
@@ -137,7 +135,7 @@ module _ {D : Type 0} (g : Ghosts D) (k : Kernel D) (s : State) (serves : CoreSe
         still = λ all. let no : true ≡ false = sym all in cc;
         full = λ full. let no : false ≡ true = full in cc;
         owed = owed false;
-        taken = λ done. takes_alone k.handles s who (asks.Close t false) replies.Done (g.content k.disk) (final_image g d space) refl (subst (λ (ns : List ℕ). ClaimsInOrder [] ns (g.content k.disk) (final_image g d space)) (sym (owners false)) (claims_meant (id.block ∷ []) (g.content k.disk) (final_image g d space) has.only));
+        taken = λ done. takes_alone k.handles s who (asks.Close t false) replies.Done (g.content k.disk) (final_image g d space) refl (subst (λ (ns : List ℕ). ClaimsStay false [] ns (g.content k.disk) (final_image g d space)) (sym (owners false)) (claims_meant (id.block ∷ []) (g.content k.disk) (final_image g d space) has.only));
         noted = λ done some. let no : false ≡ true = some in cc;
       }
 
@@ -202,7 +200,7 @@ module _ {D : Type 0} (g : Ghosts D) (k : Kernel D) (s : State) (serves : CoreSe
         still = λ all. let no : true ≡ false = sym all in cc;
         full = λ full. let no : false ≡ true = full in cc;
         owed = owed true;
-        taken = λ done. takes_alone k.handles s who (asks.Close t true) replies.Done (g.content k.disk) (final_image g d space) refl (subst (λ (ns : List ℕ). ClaimsInOrder [] ns (g.content k.disk) (final_image g d space)) (sym (owners true)) (claims_only (id.block ∷ []) (g.content k.disk) (final_image g d space) committed.only));
+        taken = λ done. takes_alone k.handles s who (asks.Close t true) replies.Done (g.content k.disk) (final_image g d space) refl (subst (λ (ns : List ℕ). ClaimsStay false [] ns (g.content k.disk) (final_image g d space)) (sym (owners true)) (claims_only (id.block ∷ []) (g.content k.disk) (final_image g d space) committed.only));
         noted = λ done some. subst (λ (w : Option LeftCommit). IsSome w) (sym noted.1.is) refl;
       }
 

@@ -1,5 +1,5 @@
 -- How a call ends that closes a grant with a draft, on any disk.
-use Rattle.std.proofs.Common.{◌≡◌, inr, ℕ, List, length, Bool, Option, Some, None, Ok, Err, IsTrue, refl, sym, ◌∙◌, subst, IsSome, OnErr, OnOk, Result, inl}
+use Rattle.std.proofs.Common.{◌≡◌, inr, ℕ, List, length, Bool, Option, Some, None, Ok, Err, IsTrue, refl, sym, ◌∙◌, ap, subst, IsSome, true, is_some, OnErr, OnOk, Result, inl}
 use Rattle.cfs_core.proofs.Words.{Drafting, Ghosts, Image, IsDraftTrouble, Kept, NoGrant, refused_by, Request, State, Trouble, Tuid, MakesAtMost}
 use Rattle.cfs_base.specs.declared.refusal.Trouble.TheVariants as troubles
 use Rattle.open_table.specs.Grants as tables
@@ -16,6 +16,8 @@ use Rattle.cfs_core.proofs.Views.{IsHeld}
 use Rattle.cfs_core.specs.Damage.{IsRootHere}
 use Rattle.cfs_core.proofs.Damages.{told_of_draft}
 use Rattle.cfs_core.proofs.Went.{went_so}
+use Rattle.cfs_core.proofs.After.{absurd_keeps}
+use Rattle.cfs_core.specs.Writes.{changes_disk}
 use Rattle.special_files.specs.Committing.{draft_top}
 use Rattle.special_files.specs.Limits.{commit_calls, commit_tries}
 
@@ -32,17 +34,23 @@ closed_handles who t (Err e) old new some done none = let no = subst (λ (o : Op
 module _ {D : Type 0} (g : Ghosts D) (left_sized : (d : D) (t : ℕ) (c : Image) → g.left_since d t c → length c ≡ g.blocks d) (sized : (d : D) → IsTrue (g.honest d) → length (g.content d) ≡ g.blocks d)
     (k : Kernel D) (who : ℕ) (t : Tuid) (was : Drafting) (drafting : drafting_at k.handles t.draw ≡ Some was) (bare : was.created ≡ None) (the : (s : State) → CoreServes g k s → IsHeld g k s who t was)
     (d : D) (space : Kept) (commit : Bool) where
+  -- one that has a draft changes the disk
+  changes : changes_disk k (asks.Close t commit) ≡ true
+  changes = ap is_some drafting
+
   wide : MakesAtMost g commit_calls commit_tries k.disk d → (s : State) → CoreServes g k s → length (g.content k.disk) ≡ g.blocks d
   wide calls s serves = sized k.disk serves.store.carries.tells.honest ∙ sym calls.same.size
 
   pub tries_ended : EndsDraft g commit was k.disk d k.space space (Ok tt) → TriesWith g None k (record k { disk = d; space = space; handles = handles_but (tables.is_session_grant who t) (with_drafting t.draw None k.handles) }) who (asks.Close t commit) (Ok replies.Done)
   tries_ended is = record {
+    keeps = λ none. absurd_keeps changes none;
     ends = λ s serves none. ended_ok g k s serves who t was (the s serves) d space bare left_sized (wide is.calls s serves) none commit is;
     went = went_so g k d space (handles_but (tables.is_session_grant who t) (with_drafting t.draw None k.handles)) is.calls.same.size is.calls.faults is.calls.later (asks.Close t commit) (Ok replies.Done) tt tt;
   }
 
   pub tries_unended : (e : Trouble) → EndsDraft g commit was k.disk d k.space space (Err e) → TriesWith g None k (record k { disk = d; space = space; handles = with_drafting t.draw None k.handles }) who (asks.Close t commit) (Err (refused_by e))
   tries_unended e is = record {
+    keeps = λ none. absurd_keeps changes none;
     ends = λ s serves none. ended_err g k s serves who t was (the s serves) d space bare left_sized (wide is.calls s serves) none commit e is;
     went = went_so g k d space (with_drafting t.draw None k.handles) is.calls.same.size is.calls.faults is.calls.later (asks.Close t commit) (Err (refused_by e)) tt
         (trouble_cause g k (record k { disk = d; space = space; handles = with_drafting t.draw None k.handles }) (Some (asks.Close t commit)) was.at (inr (inl (t.draw, was, drafting, refl))) is.calls.same.size t.draw was drafting refl e is.refused);

@@ -11,12 +11,12 @@ use Rattle.ufs_model.specs.declared.asked.Request.TheVariants as asks
 use Rattle.ufs_model.specs.declared.object.Object.TheVariants as objects
 use Rattle.ufs_model.specs.Graph.{IsClosedGraph}
 use Rattle.ufs_model.specs.Next.{is_direct_delete}
-use Rattle.cfs_core.specs.Damage.{bytes_wanted, is_set_size}
+use Rattle.cfs_core.specs.Damage.{bytes_wanted}
 use Rattle.file_ops.specs.Changes.{least_size, is_resize}
 use Rattle.cfs_core.specs.Kernel.{Handle}
 use Rattle.cfs_core.specs.Commits.{commits}
 use Rattle.cfs_core.proofs.Few.{blocks_within}
-use Rattle.cfs_core.specs.Claimed.{claims_for, claims_through, commits_alone, is_beside}
+use Rattle.cfs_core.specs.Claimed.{claims_for, claims_through, commits_alone, is_beside, is_set_size}
 
 -- ---- a request that changes a file
 
@@ -30,7 +30,7 @@ pub record IsChanging (request : Request) (change : Change) : Type 0 where
   pub claims : (handles : List Handle) (s : State) (who : ℕ) (reply : Reply) → claims_for handles s who request reply ≡ claims_through handles s who (target request) change
   pub alone : (s : State) (who : ℕ) → commits_alone s who request ≡ is_beside s who (target request)
   pub delete : is_direct_delete request ≡ false
-  pub sets : is_resize change ≡ true → is_set_size request ≡ true
+  pub sets : is_set_size request ≡ is_resize change
   pub wants : bytes_wanted (Some request) ≡ least_size change
   pub full : (seed : ℕ) (s : State) (who : ℕ) (n : Need) → is_running s ≡ true → refusal_of s who request ≡ None → n.need ≡ need_of s who request → n.free < n.need + 4
       → next seed s (events.Ask who request (replies.Full n)) ≡ Some s
@@ -46,7 +46,7 @@ write_changes to offset bytes small = record {
   claims = λ handles s who reply. refl;
   alone = λ s who. refl;
   delete = refl;
-  sets = λ is. cc;
+  sets = refl;
   wants = refl;
   full = λ seed s who n run goes need few. let less : nat_lt n.free (n.need + 4) ≡ true = grind (arith, nat_tests) in rw (run, goes, eq-eqb n.need _ need, less) refl;
   speaks = λ who. small;
@@ -62,7 +62,7 @@ resize_changes to size = record {
   claims = λ handles s who reply. refl;
   alone = λ s who. refl;
   delete = refl;
-  sets = λ is. refl;
+  sets = refl;
   wants = refl;
   full = λ seed s who n run goes need few. let less : nat_lt n.free (n.need + 4) ≡ true = grind (arith, nat_tests) in rw (run, goes, eq-eqb n.need _ need, less) refl;
   speaks = λ who. refl;

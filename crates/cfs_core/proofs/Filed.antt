@@ -28,7 +28,8 @@ use Rattle.cfs_core.specs.Ways.{Reaches}
 use Rattle.cfs_core.proofs.Damages.{far_on_disk, told_of_file, told_of_read, told_then}
 use Rattle.cfs_core.proofs.Joined.{done_decides, done_never, ends_since, serves_mid, since_none, went_since}
 use Rattle.cfs_core.proofs.Went.{went_done, went_so, went_then}
-use Rattle.cfs_core.proofs.After.{ends}
+use Rattle.cfs_core.specs.Writes.{changes_disk}
+use Rattle.cfs_core.proofs.After.{absurd_keeps, ends}
 use Rattle.cfs_core.proofs.Answering.{disk_failed, failing, failing_cause, full_still, memory}
 use Rattle.cfs_core.proofs.Views.{knows_that, object_view}
 use Rattle.cfs_core.proofs.Changed.{object_did, object_in_doubt}
@@ -36,7 +37,7 @@ use Rattle.cfs_core.proofs.Committed.{IsCut, LeavesThese}
 use Rattle.cfs_core.proofs.Grown.{replaced_blocks}
 use Rattle.cfs_core.proofs.Refusing.{put_is}
 use Rattle.cfs_core.proofs.Serving.{fits, may_fit, running, serves_is, serves_on, stays}
-use Rattle.cfs_core.specs.Claimed.{ClaimsInOrder, TakesForRequest, claims_for, claims_in_file, claims_through, is_beside, owners_of, claims_in_place, claims_in_draft, drafting_of, root_reached}
+use Rattle.cfs_core.specs.Claimed.{ClaimsStay, is_set_size, TakesForRequest, claims_for, claims_in_file, claims_through, is_beside, owners_of, claims_in_place, claims_in_draft, drafting_of, root_reached}
 use Rattle.cfs_core.proofs.Claimed.{Commits, claims_all, claims_only, claims_put, takes_alone, takes_last}
 use Rattle.ufs_model.specs.Need.{is_normal}
 use Rattle.normal_files.specs.Order as plain
@@ -144,8 +145,8 @@ module _ {D : Type 0} (g : Ghosts D) (left_sized : (d : D) (t : ℕ) (c : Image)
     takes : ChangesOnly (λ entry. of_owner id.block entry) (g.content k.disk) (final_image g d space) → ClaimsFor kind change id.block f (g.content k.disk) (final_image g d space) → TakesForRequest k.handles s who request replies.Done (g.content k.disk) (final_image g d space)
     takes only order = elim (by kind change kind_is order) [
       | inl two ↦ takes_alone k.handles s who request replies.Done (g.content k.disk) (final_image g d space) (is.alone s who ∙ beside_is ∙ ap not two.1)
-          (subst (λ (cs : List MapEntry). ClaimsInOrder cs (owners_of s who request replies.Done) (g.content k.disk) (final_image g d space)) (sym claims_are) (subst (λ (ns : List ℕ). ClaimsInOrder (claims_in_file id.block change f) ns (g.content k.disk) (final_image g d space)) (sym owners_are) two.0))
-      | inr last ↦ takes_last k.handles s who request replies.Done (g.content k.disk) (final_image g d space) (claims_in_file id.block change f) (id.block ∷ []) id.block claims_are owners_are root_is last
+          (subst (λ (cs : List MapEntry). ClaimsStay (is_set_size request) cs (owners_of s who request replies.Done) (g.content k.disk) (final_image g d space)) (sym claims_are) (subst (λ (ns : List ℕ). ClaimsStay (is_set_size request) (claims_in_file id.block change f) ns (g.content k.disk) (final_image g d space)) (sym owners_are) two.0))
+      | inr last ↦ takes_last k.handles s who request replies.Done (g.content k.disk) (final_image g d space) (claims_in_file id.block change f) (id.block ∷ []) id.block claims_are owners_are root_is (is.alone s who ∙ beside_is ∙ ap not last.0) last.1
     ]
       where
         root_is : root_reached s who (target request) ≡ id.block
@@ -171,14 +172,17 @@ module _ {D : Type 0} (g : Ghosts D) (left_sized : (d : D) (t : ℕ) (c : Image)
         normal_is : f.kind ≡ kinds.Normal → is_normal (objects.File f) ≡ true
         normal_is at = ap (λ (x : FileKind). elim x [ kinds.Normal ↦ true | kinds.Special ↦ false ]) at
 
+        special_is : f.kind ≡ kinds.Special → is_normal (objects.File f) ≡ false
+        special_is at = ap (λ (x : FileKind). elim x [ kinds.Normal ↦ true | kinds.Special ↦ false ]) at
+
         so : (y : Change) (x : FileKind) → f.kind ≡ x → claims_in_file id.block y f ≡ elim x [ kinds.Normal ↦ claims_in_place id.block y f | kinds.Special ↦ claims_beside id.block y f ]
         so y x at = ap (λ (z : FileKind). elim z [ kinds.Normal ↦ claims_in_place id.block y f | kinds.Special ↦ claims_beside id.block y f ]) at
 
-        by : (x : FileKind) (y : Change) → f.kind ≡ x → ClaimsFor x y id.block f (g.content k.disk) (final_image g d space) → (ClaimsInOrder (claims_in_file id.block y f) (id.block ∷ []) (g.content k.disk) (final_image g d space) × (is_normal (objects.File f) ≡ true)) ⊎ Commits (claims_in_file id.block y f) (id.block ∷ []) id.block (g.content k.disk) (final_image g d space)
-        by kinds.Normal (Overwrite offset bytes) at claimed = inl (subst (λ (cs : List MapEntry). ClaimsInOrder cs (id.block ∷ []) (g.content k.disk) (final_image g d space)) (sym (so (Overwrite offset bytes) kinds.Normal at)) (claims_all (plain.claims_of id.block f offset (length bytes)) (id.block ∷ []) (g.content k.disk) (final_image g d space) claimed), normal_is at)
-        by kinds.Normal (SetSize n) at none = inl (subst (λ (cs : List MapEntry). ClaimsInOrder cs (id.block ∷ []) (g.content k.disk) (final_image g d space)) (sym (so (SetSize n) kinds.Normal at)) (claims_only (id.block ∷ []) (g.content k.disk) (final_image g d space) only), normal_is at)
-        by kinds.Normal (Fill slot what) at none = inl (subst (λ (cs : List MapEntry). ClaimsInOrder cs (id.block ∷ []) (g.content k.disk) (final_image g d space)) (sym (so (Fill slot what) kinds.Normal at)) (claims_only (id.block ∷ []) (g.content k.disk) (final_image g d space) only), normal_is at)
-        by kinds.Special y at beside = inr (subst (λ (cs : List MapEntry). Commits cs (id.block ∷ []) id.block (g.content k.disk) (final_image g d space)) (sym (so y kinds.Special at)) (claims_put id.block (claims_beside id.block y f) (g.content k.disk) (final_image g d space) beside))
+        by : (x : FileKind) (y : Change) → f.kind ≡ x → ClaimsFor x y id.block f (g.content k.disk) (final_image g d space) → (ClaimsStay (is_set_size request) (claims_in_file id.block y f) (id.block ∷ []) (g.content k.disk) (final_image g d space) × (is_normal (objects.File f) ≡ true)) ⊎ (is_normal (objects.File f) ≡ false) × Commits (claims_in_file id.block y f) (id.block ∷ []) id.block (g.content k.disk) (final_image g d space)
+        by kinds.Normal (Overwrite offset bytes) at claimed = inl (subst (λ (cs : List MapEntry). ClaimsStay (is_set_size request) cs (id.block ∷ []) (g.content k.disk) (final_image g d space)) (sym (so (Overwrite offset bytes) kinds.Normal at)) (claims_all (plain.claims_of id.block f offset (length bytes)) (id.block ∷ []) (g.content k.disk) (final_image g d space) claimed), normal_is at)
+        by kinds.Normal (SetSize n) at none = inl (subst (λ (cs : List MapEntry). ClaimsStay (is_set_size request) cs (id.block ∷ []) (g.content k.disk) (final_image g d space)) (sym (so (SetSize n) kinds.Normal at)) (claims_only (id.block ∷ []) (g.content k.disk) (final_image g d space) only), normal_is at)
+        by kinds.Normal (Fill slot what) at none = inl (subst (λ (cs : List MapEntry). ClaimsStay (is_set_size request) cs (id.block ∷ []) (g.content k.disk) (final_image g d space)) (sym (so (Fill slot what) kinds.Normal at)) (claims_only (id.block ∷ []) (g.content k.disk) (final_image g d space) only), normal_is at)
+        by kinds.Special y at beside = inr (special_is at, subst (λ (cs : List MapEntry). Commits cs (id.block ∷ []) id.block (g.content k.disk) (final_image g d space)) (sym (so y kinds.Special at)) (claims_put id.block (claims_beside id.block y f) (g.content k.disk) (final_image g d space) beside))
 
     -- a special file's commit is noted; a normal file's change is none
     noted : (x : FileKind) → kind ≡ x → LeavesFileCommit x id.block space.left → commits s who request ≡ true → IsSome space.left
@@ -232,9 +236,10 @@ module _ {D : Type 0} (g : Ghosts D) (left_sized : (d : D) (t : ℕ) (c : Image)
     went_joined went = went_then g n k d0 new first request (since tried result) (went_since g before d1 space1 tried fin new request result went)
 
   -- the root couldn't be read again
-  pub tries_unread : (e : Refused) → ((f : File) → KnowsObject g d1 id.block (objects.File f) → has_met_damage e ≡ false) → IsCalmCause g id.block d1 d2 e → e ≢ refusals.Memory
+  pub tries_unread : (e : Refused) → changes_disk k request ≡ true → ((f : File) → KnowsObject g d1 id.block (objects.File f) → has_met_damage e ≡ false) → IsCalmCause g id.block d1 d2 e → e ≢ refusals.Memory
       → ((s : State) → ServesIs g k s → refusal_of s who request ≡ None) → Tries g k read who request (Err (refused_since tried e))
-  tries_unread e sound cause never goes = record {
+  tries_unread e changes sound cause never goes = record {
+    keeps = λ none. absurd_keeps changes none;
     ends = λ s serves none.
         let r = reaches.0 s serves in
         let now = serves_there s serves in
@@ -263,20 +268,21 @@ module _ {D : Type 0} (g : Ghosts D) (left_sized : (d : D) (t : ℕ) (c : Image)
         went_done g k d space k.handles (end.calls.same.size ∙ all.same.size) (omega (arith, all.faults, end.calls.faults)) (omega (arith, all.images.later, end.calls.later)) request result
         (λ b was. stopped_after_reads g k.disk d2 d (n + m) b all (rw was at end.refused))
         (λ damage met. told_of_file g (record k { disk = d2 }) changed_to (Some request) id.block (inl reaches.1) damage end.calls.same.size top at (IsDamageTold g k changed_to (Some request) damage) (told_then g k changed_to (n + m) d2 (Some request) damage all)
-        (λ code block past. far_on_disk g k changed_to (Some request) id.block (inl reaches.1) damage (end.calls.same.size ∙ all.same.size) code block (far (g.blocks k.disk) (subst top.IsFar all.same.size past))) kind change is.wants (λ set. inr (is.sets set, refl)) (rw met at end.refused))
+        (λ code block past. far_on_disk g k changed_to (Some request) id.block (inl reaches.1) damage (end.calls.same.size ∙ all.same.size) code block (far (g.blocks k.disk) (subst top.IsFar all.same.size past))) kind change is.wants (λ set. inr (is.sets ∙ set, refl)) (rw met at end.refused))
         (λ need want. subst (λ (x : Kept). IsWant (Some request) (sum x.free) need) same.1 (wants need want))
 
     went_mid : ((size : ℕ) → top.IsFar size → (disk_top g id.block d1).IsFar size) → RequestWent g mid changed_to request (done_or result)
     went_mid far = went_done g mid d space k.handles (end.calls.same.size ∙ again.same.size) (omega (arith, again.faults, end.calls.faults)) (omega (arith, again.images.later, end.calls.later)) request result
         (λ b was. stopped_after_reads g d1 d2 d m b again (rw was at end.refused))
         (λ damage met. told_of_file g read changed_to (Some request) id.block (inl reaches.1) damage end.calls.same.size top at (IsDamageTold g mid changed_to (Some request) damage) (told_then g mid changed_to m d2 (Some request) damage again)
-        (λ code block past. far_on_disk g mid changed_to (Some request) id.block (inl reaches.1) damage (end.calls.same.size ∙ again.same.size) code block (far (g.blocks d1) (subst top.IsFar again.same.size past))) kind change is.wants (λ set. inr (is.sets set, refl)) (rw met at end.refused))
+        (λ code block past. far_on_disk g mid changed_to (Some request) id.block (inl reaches.1) damage (end.calls.same.size ∙ again.same.size) code block (far (g.blocks d1) (subst top.IsFar again.same.size past))) kind change is.wants (λ set. inr (is.sets ∙ set, refl)) (rw met at end.refused))
         wants
 
-    pub tries_filed : (Tells g k.disk → Tells g d1 → ChangesFile g id.block kind 4 change d2 d space1 space result) → (tried ≡ false → (size : ℕ) → top.IsFar size → (disk_top g id.block k.disk).IsFar size) → (tried ≡ true → (size : ℕ) → top.IsFar size → (disk_top g id.block d1).IsFar size)
+    pub tries_filed : changes_disk k request ≡ true → (Tells g k.disk → Tells g d1 → ChangesFile g id.block kind 4 change d2 d space1 space result) → (tried ≡ false → (size : ℕ) → top.IsFar size → (disk_top g id.block k.disk).IsFar size) → (tried ≡ true → (size : ℕ) → top.IsFar size → (disk_top g id.block d1).IsFar size)
         → (kind ≡ kinds.Special → result ≢ Err refusals.Memory) → ((s : State) (f : File) → ServesIs g k s → Reaches s who request id (objects.File f) → (drafts_of_handles k.handles s.grants) id ≡ None → (f.kind ≡ kind) × IsInside change (objects.File f) × (refusal_of s who request ≡ None))
         → Tries g k changed_to who request (since tried (done_or result))
-    tries_filed changes far_bare far_mid special goes = record {
+    tries_filed writes changes far_bare far_mid special goes = record {
+      keeps = λ none. absurd_keeps writes none;
       ends = λ s serves none.
           let r = reaches.0 s serves in
           let may = goes s r.0 serves r.1 r.2 in

@@ -14,6 +14,7 @@ use Rattle.cyl_alloc.specs.Left.{LeftCommit}
 use Rattle.cfs_core.specs.Commits.{commits}
 use Rattle.cfs_core.specs.StandsFor.{ServesIs, ServesWith, StoresState, end_in, free_to_come}
 use Rattle.cfs_core.proofs.Answering.{owes}
+use Rattle.cfs_base.proofs.Went.{reads_none}
 use Rattle.cfs_core.proofs.Moved.{IsStepped}
 use Rattle.cfs_core.proofs.Regranted.{KeepsDrafts, but_keeps, but_table, draft_none, drawn_more, makes_after, stores_after}
 use Rattle.cfs_core.proofs.Handled.{none_of_grant}
@@ -127,6 +128,7 @@ pub tries_closed : {D : Type 0} (g : Ghosts D) → ((d : D) (t : ℕ) (c : Image
     → (k : Kernel D) (who : ℕ) (t : Tuid) (commit : Bool) → have_draft (is_at t.draw) k.handles ≡ false → ((s : State) → ServesIs g k s → (x : Grant) × (grant_of s who t ≡ Some x))
     → Tries g k (record k { handles = handles_but (tables.is_session_grant who t) k.handles }) who (asks.Close t commit) (Ok replies.Done)
 tries_closed g left_sized sized k who t commit bare the = record {
+  keeps = λ _. record { space = refl; most = 0; reads = reads_none g 0 k.disk };
   ends = λ s serves none. let x = the s serves in answers_closed g k s serves who t commit x.0 x.1 bare left_sized sized none;
   went = went_so g k k.disk k.space (handles_but (tables.is_session_grant who t) k.handles) refl (omega arith) (omega arith) (asks.Close t commit) (Ok replies.Done) tt tt;
 }

@@ -19,12 +19,14 @@ use Rattle.ufs_model.specs.declared.asked.Reply.TheVariants as replies
 use Rattle.cfs_core.specs.Drafts.{TriesWhere}
 use Rattle.cfs_core.specs.Calls.{AddsNoStray, Answers, EndsSo, IsCauseOf, IsWant, MayBeRead, Owes, Tries, TriesOn, TriesOnWith, TriesWith, Undone, RequestWent, done_or, leaves_all}
 use Rattle.cfs_core.specs.Claimed.{TakesForRequest}
-use Rattle.cfs_core.specs.Damage.{After, IsDamageTold, IsMet, NoEntry}
+use Rattle.cfs_core.specs.Damage.{After, Afterwards, AtOnce, IsDamageTold, IsMet, NoEntry}
+use Rattle.cfs_base.proofs.Went.{reads_none}
 use Rattle.cfs_core.specs.Finished.{FinishesLeft, refused_since, since}
 use Rattle.cfs_core.specs.Kernel.{Kernel, grants_in}
 use Rattle.cfs_core.specs.StandsFor.{HasCollection, CoreServes, ServesIs, drafts_of_handles, end_in, free_of, free_to_come}
 use Rattle.cfs_core.proofs.Answering.{disk_failed}
-use Rattle.cfs_core.proofs.After.{ends}
+use Rattle.cfs_core.specs.Writes.{changes_disk}
+use Rattle.cfs_core.proofs.After.{absurd_keeps, ends}
 use Rattle.cfs_core.proofs.Serving.{fits, free_end, honest, serves_on}
 use Rattle.cfs_core.proofs.Stored.{going_in}
 use Rattle.cfs_core.proofs.Went.{now_met, went_as, went_then}
@@ -160,16 +162,8 @@ module _ {D : Type 0} (g : Ghosts D) (old : Kernel D) (d : D) (space : Kept) (tr
 
   -- what was met of the core once it was carried out
   met_after : (Is : Kernel D → Type 0) → IsSome old.space.left → IsMet g mid Is → IsMet g old Is
-  met_after Is some met =
-      let same = met.none fin.done in
-      record {
-        disk = d;
-        space = space;
-        most = calls_left old.space.left;
-        calls = fin.ends.calls;
-        none = λ nothing. let no : IsSome {T = LeftCommit} None = subst (λ (w : Option LeftCommit). IsSome w) nothing some in cc;
-        is = subst (λ (k : Kept). Is (record old { disk = d; space = k })) same.1 (subst (λ (x : D). Is (record old { disk = x; space = met.space })) same.0 met.is);
-      }
+  met_after Is some (AtOnce is) = Afterwards 0 old.disk d space (reads_none g 0 old.disk) (subst (λ (b : Bool). FinishesLeft g old.disk d old.space space (Ok b)) (fin.told ∙ some) fin) is
+  met_after Is some (Afterwards n read now kept reads again is) = let no : true ≡ false = again.told ∙ ap is_some fin.done in cc
 
   cause_after : (new : Kernel D) (request : Request) (e : Refused) → IsSome old.space.left → IsCauseOf g mid new request e → IsCauseOf g old new request (refused_since true e)
   cause_after new request (refusals.Full need) some is = met_after (λ k. IsWant (Some request) (sum k.space.free) need) some is
@@ -212,8 +206,9 @@ module _ {D : Type 0} (g : Ghosts D) (old : Kernel D) (d : D) (space : Kept) (tr
       went = went_since new request result tries.went;
     }
 
-    pub tries_since : (who : ℕ) → ((s : State) → ServesIs g old s → refusal_of s who request ≡ None) → TriesWith g None mid new who request result → Tries g old new who request (since tried result)
-    tries_since who goes tries = record {
+    pub tries_since : (who : ℕ) → changes_disk old request ≡ true → ((s : State) → ServesIs g old s → refusal_of s who request ≡ None) → TriesWith g None mid new who request result → Tries g old new who request (since tried result)
+    tries_since who changes goes tries = record {
+      keeps = λ none. absurd_keeps changes none;
       ends = λ s serves none. ends_since left_sized sized new s who request serves none (goes s serves) result (λ some. decides) (λ some. never) size (tries.ends s (serves_mid s serves) none);
       went = went_since new request result tries.went;
     }
@@ -274,8 +269,9 @@ module _ {D : Type 0} (g : Ghosts D) (left_sized : (d : D) (t : ℕ) (c : Image)
     went = went_unfinished;
   })
 
-  pub tries_unfinished : (who : ℕ) (e : Refused) → e ≡ refused_by why → ((s : State) → ServesIs g old s → refusal_of s who request ≡ None) → Tries g old cut who request (Err e)
-  tries_unfinished who e is goes = subst (λ (x : Refused). Tries g old cut who request (Err x)) (sym is) (record {
+  pub tries_unfinished : (who : ℕ) (e : Refused) → e ≡ refused_by why → changes_disk old request ≡ true → ((s : State) → ServesIs g old s → refusal_of s who request ≡ None) → Tries g old cut who request (Err e)
+  tries_unfinished who e is changes goes = subst (λ (x : Refused). Tries g old cut who request (Err x)) (sym is) (record {
+    keeps = λ none. absurd_keeps changes none;
     ends = λ s serves none. ends_unfinished s who serves none (goes s serves);
     went = went_unfinished;
   })
@@ -294,9 +290,10 @@ done_never (Err e) never = λ is. never (let same : e ≡ refusals.Memory = cc i
 
 -- it couldn't be carried out, after a call that read
 pub tries_cut : {D : Type 0} (g : Ghosts D) (left_sized : (d : D) (t : ℕ) (c : Image) → g.left_since d t c → length c ≡ g.blocks d) (sized : (d : D) → IsTrue (g.honest d) → length (g.content d) ≡ g.blocks d)
-    (k : Kernel D) (n : ℕ) (d0 : D) (first : OnlyReads g n k.disk d0) (d : D) (space : Kept) (why : Trouble) → FinishesLeft g d0 d k.space space (Err why) → (request : Request) (who : ℕ) (e : Refused) → e ≡ refused_by why → ((s : State) → ServesIs g k s → refusal_of s who request ≡ None)
+    (k : Kernel D) (n : ℕ) (d0 : D) (first : OnlyReads g n k.disk d0) (d : D) (space : Kept) (why : Trouble) → FinishesLeft g d0 d k.space space (Err why) → (request : Request) (who : ℕ) (e : Refused) → e ≡ refused_by why → changes_disk k request ≡ true → ((s : State) → ServesIs g k s → refusal_of s who request ≡ None)
     → Tries g k (record k { disk = d; space = space }) who request (Err e)
-tries_cut g left_sized sized k n d0 first d space why fin request who e is goes = subst (λ (x : Refused). Tries g k (record k { disk = d; space = space }) who request (Err x)) (sym is) (record {
+tries_cut g left_sized sized k n d0 first d space why fin request who e is changes goes = subst (λ (x : Refused). Tries g k (record k { disk = d; space = space }) who request (Err x)) (sym is) (record {
+  keeps = λ none. absurd_keeps changes none;
   ends = λ s serves none. ends g n k d0 (record k { disk = d; space = space }) first request k.space.left s who (Err (refused_by why))
       (ends_unfinished g left_sized sized (record k { disk = d0 }) d space why fin request s who (serves_on g n k (record k { disk = d0 }) first refl s serves) none (goes s serves));
   went = went_then g n k d0 (record k { disk = d; space = space }) first request (Err (refused_by why)) (went_unfinished g left_sized sized (record k { disk = d0 }) d space why fin request);

@@ -9,7 +9,12 @@ use Rattle.cfs_core.specs.Asked.{Happens, halted}
 use Rattle.cfs_core.specs.Calls.{AddsNoStray}
 use Rattle.cfs_core.specs.Kernel.{Kernel, grants_in}
 use Rattle.cfs_base.proofs.Calls.{failed_since}
-use Rattle.cfs_core.specs.Leaving.{ServesFewer, Sheds, StopsSo, halt_of, of_others}
+use Rattle.cfs_core.specs.Leaving.{ServesFewer, Sheds, StopsSo, halt_of, objects_of, of_others}
+use Rattle.std.proofs.lemmas.List.{append-nil, append_assoc}
+use Rattle.cyl_alloc.specs.Space.{Kept}
+use Rattle.special_files.specs.Committing.{draft_top}
+use Rattle.special_files.specs.Refusal.{IsDraftDamage}
+use Rattle.open_table.proofs.Lists.{grants_of-none}
 use Rattle.cfs_core.proofs.Collected.{ended_then, same_rescued}
 use Rattle.cfs_core.proofs.Damages.{told_as}
 use Rattle.cfs_core.specs.StandsFor.{IsFront, ServesIs, Stands, StandsFor, bare, end_in, front_of}
@@ -22,6 +27,8 @@ module _ {D : Type 0} (g : Ghosts D) (who : ℕ) where
     words = refl;
     directory = refl;
     over = [];
+    dropped = refl;
+    stood = λ draw was has. has;
     ended = same_rescued k.collections.collector;
     called = refl;
     finished = refl;
@@ -66,7 +73,10 @@ module _ {D : Type 0} (g : Ghosts D) (who : ℕ) where
     halts_both : (stop : Stop) → a.stop ≡ None → c.stop ≡ Some stop → (o : Option Stop) → b.stop ≡ o → StopsSo g a c stop
     halts_both stop none is None mid = (let so = two.halts stop mid is in record {
       failed = λ quiet. (let f = so.failed quiet in (failed_since g a.disk b.disk c.disk one.later one.faults f.0, f.1));
-      damaged = λ damage met. (let m = so.damaged damage met in (record { mid = m.0.mid; later = omega (arith, one.later, m.0.later); told = m.0.told }, m.1));
+      damaged = λ damage met. (let m = so.damaged damage met in (
+        record { draw = m.0.draw; was = m.0.was; stood = one.stood m.0.draw m.0.was m.0.stood; mid = m.0.mid; later = omega (arith, one.later, m.0.later); is = m.0.is; told = m.0.told },
+        m.1,
+      ));
     })
     halts_both stop none is (Some was) mid =
         let still = two.idle was mid in
@@ -74,7 +84,18 @@ module _ {D : Type 0} (g : Ghosts D) (who : ℕ) where
         let so = one.halts stop none (mid ∙ ap (λ (x : Stop). Some x) same) in
         record {
           failed = λ quiet. rw still.1 (so.failed quiet);
-          damaged = λ damage met. (let m = so.damaged damage met in (record { mid = m.0.mid; later = m.0.later; told = told_as g m.0.mid b c None damage still.1 still.2 m.0.told }, m.1 ∙ ap g.moment (sym still.1)));
+          damaged = λ damage met. (let m = so.damaged damage met in (
+            record {
+              draw = m.0.draw;
+              was = m.0.was;
+              stood = m.0.stood;
+              mid = m.0.mid;
+              later = m.0.later;
+              is = subst (λ (x : D). IsDraftDamage g (draft_top m.0.was) m.0.mid.disk x c.space damage) (sym still.1) (subst (λ (x : Kept). IsDraftDamage g (draft_top m.0.was) m.0.mid.disk b.disk x damage) (sym still.2) m.0.is);
+              told = told_as g m.0.mid b c None damage still.1 still.2 m.0.told;
+            },
+            m.1 ∙ ap g.moment (sym still.1),
+          ));
         }
 
     sound_both : (s : State) → ServesIs g a s → a.stop ≡ None → (stop : Stop) → c.stop ≡ Some stop → (o : Option Stop) → b.stop ≡ o → stop.damage ≡ None
@@ -91,6 +112,8 @@ module _ {D : Type 0} (g : Ghosts D) (who : ℕ) where
       words = two.words ∙ one.words;
       directory = two.directory ∙ one.directory;
       over = one.over ++ two.over;
+      stood = λ draw was has. one.stood draw was (two.stood draw was has);
+      dropped = one.dropped ∙ ap (λ ids. one.over ++ ids) two.dropped ∙ sym (append_assoc one.over two.over (objects_of (grants_in c.handles) who));
       ended = ended_then a.collections.collector b.collections.collector c.collections.collector one.over two.over one.ended two.ended;
       called = two.called ∙ one.called;
       finished = two.finished ∙ one.finished;
@@ -129,6 +152,10 @@ module _ {D : Type 0} (g : Ghosts D) (who : ℕ) where
     | true ↦ others_bare grants
     | false ↦ ap (λ zs. bare x ∷ zs) (others_bare grants)
   ]
+
+  -- its grants are those that were dropped
+  pub all_dropped : (old new : Kernel D) (sheds : Sheds g who old new) → tables.first_grant (grants_in new.handles) who ≡ None → sheds.over ≡ objects_of (grants_in old.handles) who
+  all_dropped old new sheds none = sym (sheds.dropped ∙ ap (λ gs. sheds.over ++ map (λ (e : handles.OpenGrant). e.id) gs) (grants_of-none (grants_in new.handles) who none) ∙ append-nil sheds.over)
 
   -- ---- the session has left
 

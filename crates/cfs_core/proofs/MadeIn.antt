@@ -1,5 +1,5 @@
 -- An object made in a draft of an index: it is in the graph at once, and its identifier in a slot of the draft.
-use Rattle.std.proofs.Common.{◌≡◌, ◌≢◌, ◌⊎◌, inl, inr, ℕ, zero, suc, ◌+◌, ◌/◌, ◌<◌, ◌≤◌, List, [], ◌∷◌, length, get_or, Bool, true, false, ◌||◌, ◌==◌, Option, Some, None, Result, Ok, Err, IsTrue, refl, sym, ◌∙◌, ap, subst, arith, sum, option_to_list, map, ⊎_elim, IfErr}
+use Rattle.std.proofs.Common.{◌≡◌, ◌≢◌, ◌⊎◌, inl, inr, ℕ, zero, suc, ◌+◌, ◌/◌, ◌<◌, ◌≤◌, List, [], ◌∷◌, length, get_or, Bool, true, false, ◌||◌, Option, Some, None, Result, Ok, Err, IsTrue, refl, sym, ◌∙◌, ap, subst, arith, sum, option_to_list, map, ⊎_elim, IfErr}
 use Rattle.cfs_base.proofs.Went.{reads_none}
 use Rattle.cfs_core.proofs.Words.{blocks_of, blocks_taken, cases_lt, changed_draft, changed_object, ChangesOnly, created, Draft, Drafting, edge_stays, Fill, fresh_of, Ghosts, Graph, has_block-still, held_levels, Holds, Image, Index, insert_entry, IsLeastFree, IsOfThese, Kept, word, true≢false, Drafts, with_opened, draft_blocks_if, taken_more, taken_with, differs}
 use Rattle.cfs_core.proofs.Words.{Kind, kinds_in-insert_entry, kinds_of, list_all, MapEntry, missing, named, need_of, numbers_rise, Object, object_kind, of_draft, of_owner, Opened, opened_as, or_cases, owner_of, Puid, puid_cmp, put, put_draft-at, Refused, Reply, Request, seen, seen_draft, State, sum_is, wider, target, Through, Tuid, with_draft, with_object, written_anew}
@@ -9,7 +9,7 @@ use Rattle.intentions.specs.Left.{StoreWith, coming, final_image}
 use Rattle.special_files.specs.Order.{leaf_claims}
 use Rattle.ufs_model.specs.Need.{change_need, is_normal}
 use Rattle.cfs_core.specs.Calls.{Answers, ByWant, EndsSo, IsInDoubt, IsWant}
-use Rattle.cfs_core.specs.Claimed.{ClaimsInOrder, TakesForRequest, claims_for, claims_for_slot, commits_alone, is_beside, made_entry, owners_of}
+use Rattle.cfs_core.specs.Claimed.{ClaimsStay, is_set_size, TakesForRequest, claims_for, claims_for_slot, commits_alone, is_beside, made_entry, owners_of}
 use Rattle.cfs_core.proofs.Changed.{of_this}
 use Rattle.cfs_core.proofs.Claimed.{claims_all, takes_alone}
 use Rattle.index_drafts.specs.Puts.{IndexView, slot_need}
@@ -218,7 +218,7 @@ module _ {D : Type 0} (g : Ghosts D) (k : Kernel D) (s : State) (serves : CoreSe
             making.claims k.handles s who (replies.Id id) ∙ ap (λ r. made_entry s who r (replies.Id id) ∷ claims_for_slot k.handles s who r slot) so.to ∙ rw (has_it held, held.at, claims_for_slot) refl in
             let alone : commits_alone s who request ≡ false = making.alone s who ∙ ap (is_beside s who) so.to ∙ not_beside s who t held.before (has_it held) in
             takes_alone k.handles s who request (replies.Id id) (g.content k.disk) (g.content disk) alone
-            (subst (λ (cs : List MapEntry). ClaimsInOrder cs (owners_of s who request (replies.Id id)) (g.content k.disk) (g.content disk)) (sym claims)
+            (subst (λ (cs : List MapEntry). ClaimsStay (is_set_size request) cs (owners_of s who request (replies.Id id)) (g.content k.disk) (g.content disk)) (sym claims)
             (claims_all (new_root_entry b ∷ leaf_claims was.at was.leaves was.nodes (slot / 64)) (owners_of s who request (replies.Id id)) (g.content k.disk) (g.content disk) created_is.order))
 
         module _ (left_sized : (c : D) (n : ℕ) (i : Image) → g.left_since c n i → length i ≡ g.blocks c) (sized : (c : D) → IsTrue (g.honest c) → length (g.content c) ≡ g.blocks c) (none : k.stop ≡ None) (size : g.blocks disk ≡ g.blocks k.disk)

@@ -1,5 +1,5 @@
 -- What a step of a draft, its commit or its end makes of the state.
-use Rattle.std.proofs.Common.{◌≡◌, ◌⊎◌, ℕ, ◌+◌, ◌/◌, ◌≤◌, [], ◌∷◌, length, Bool, Option, Some, refl, sym, ◌∙◌, ap, subst, arith, map, option_map}
+use Rattle.std.proofs.Common.{◌≡◌, ◌⊎◌, ℕ, ◌+◌, ◌/◌, ◌≤◌, length, Bool, Option, Some, refl, sym, ◌∙◌, ap, subst, arith, map, option_map}
 use Rattle.cfs_core.proofs.Words.{blocks_taken, ChangesOnly, done, Event, FitsDisk, Ghosts, Graph, Holds, Image, IsOfThese, IsState, IsSwept, kinds_of, Leaves, loose, MapEntry, next, room, State, stays_swept, stray_was, strays_stay, Drafts}
 use Rattle.cfs_core.specs.declared.kernel.Stop.{Stop}
 use Rattle.cfs_core.specs.Calls.{AddsNoStray, MakesEvent}

@@ -9,7 +9,7 @@ use Rattle.cyl_alloc.specs.Left.{LeftCommit, block_shown}
 use Rattle.intentions.proofs.Shown.{store_tells}
 use Rattle.normal_files.specs.Standing.{IsRootAt}
 use Rattle.ufs_model.specs.declared.object.Object.TheVariants as objects
-use Rattle.cfs_core.specs.Calls.{EndsSo, RequestWent, TriesOn, TriesOnWith, leaves_all}
+use Rattle.cfs_core.specs.Calls.{EndsSo, RequestWent, TriesOn, leaves_all}
 use Rattle.cfs_core.specs.Damage.{IsOutside, bytes_wanted}
 use Rattle.cfs_core.specs.Finished.{FinishesLeft, refused_since, since}
 use Rattle.cfs_core.specs.Kernel.{Kernel}

@@ -17,6 +17,9 @@ use Rattle.cfs_core.specs.StandsFor.{HasDraftOf, CoreServes, ServesIs, ServesWit
 use Rattle.cfs_core.proofs.Answering.{disk_failed, full_still, memory, owes}
 use Rattle.cfs_core.proofs.Drafted.{both_have, core_has_none, others_have}
 use Rattle.cfs_core.proofs.Ended.{of_its_draft}
+use Rattle.cfs_core.proofs.After.{absurd_keeps}
+use Rattle.cfs_core.specs.Writes.{changes_disk}
+use Rattle.cfs_base.proofs.Went.{reads_none}
 use Rattle.cfs_core.proofs.Regranted.{grants_push, push_bare, push_opened}
 use Rattle.ufs_model.specs.Next.{is_direct_delete}
 use Rattle.cfs_core.specs.Damage.{IsRootHere}
@@ -24,7 +27,7 @@ use Rattle.cfs_core.proofs.Damages.{told_still}
 use Rattle.cfs_core.proofs.Went.{went_so}
 use Rattle.cfs_core.proofs.Serving.{account, fits, honest, named_root, running, stays, nothing_left}
 use Rattle.cfs_core.proofs.Moved.{HasStepped, IsStepped, four_left, makes_stepped}
-use Rattle.cfs_core.specs.Claimed.{ClaimsInOrder, TakesForRequest, claims_for}
+use Rattle.cfs_core.specs.Claimed.{ClaimsStay, TakesForRequest, claims_for}
 use Rattle.cfs_core.proofs.Claimed.{claims_none, claims_shadow, takes_alone}
 use Rattle.cyl_alloc.specs.Space.{intended}
 use Rattle.cfs_base.specs.declared.kind.Place.TheVariants as places
@@ -142,7 +145,7 @@ module _ {D : Type 0} {w : Option LeftCommit} (g : Ghosts D) (left_sized : (d : 
             left_sized (sized k.disk (honest g k s serves)) (events.Ask who request (replies.Grant tuid)) legal refl (nothing_left g k.disk (λ c. Holds c s.graph));
         still = λ all. let no : true ≡ false = sym all in cc;
         full = λ full. let no : false ≡ true = full in cc;
-        taken = λ done. takes_alone k.handles s who request (replies.Grant tuid) end (end_in g k) refl (subst (λ (cs : List MapEntry). ClaimsInOrder cs (id.block ∷ []) end (end_in g k)) (sym (claims_are ∙ ap (λ b. cond b (intended places.ShadowRoot id.block ∷ []) []) bare))
+        taken = λ done. takes_alone k.handles s who request (replies.Grant tuid) end (end_in g k) refl (subst (λ (cs : List MapEntry). ClaimsStay false cs (id.block ∷ []) end (end_in g k)) (sym (claims_are ∙ ap (λ b. cond b (intended places.ShadowRoot id.block ∷ []) []) bare))
             (claims_none (id.block ∷ []) end (end_in g k) (sym same)));
         noted = λ done some. let no : false ≡ true = some in cc;
         owed = owed end (free_with g k w) (omega (arith, free, serves.four));
@@ -179,7 +182,7 @@ module _ {D : Type 0} {w : Option LeftCommit} (g : Ghosts D) (left_sized : (d : 
         still = λ all. let no : true ≡ false = sym all in cc;
         full = λ full. let no : false ≡ true = full in cc;
         noted = λ done some. let no : false ≡ true = some in cc;
-        taken = λ done. subst (TakesForRequest k.handles s who request (replies.Grant tuid) (g.content k.disk)) (sym end_is) (takes_alone k.handles s who request (replies.Grant tuid) (g.content k.disk) (g.content d) refl (subst (λ (cs : List MapEntry). ClaimsInOrder cs (id.block ∷ []) (g.content k.disk) (g.content d)) (sym (claims_are ∙ ap (λ b. cond b (intended places.ShadowRoot id.block ∷ []) []) wants))
+        taken = λ done. subst (TakesForRequest k.handles s who request (replies.Grant tuid) (g.content k.disk)) (sym end_is) (takes_alone k.handles s who request (replies.Grant tuid) (g.content k.disk) (g.content d) refl (subst (λ (cs : List MapEntry). ClaimsStay false cs (id.block ∷ []) (g.content k.disk) (g.content d)) (sym (claims_are ∙ ap (λ b. cond b (intended places.ShadowRoot id.block ∷ []) []) wants))
             (claims_shadow id.block begun.opens.least.0 (g.content k.disk) (g.content d) begun.opens.least.2 shadow begun.opens.steps.only)));
         owed = owed (g.content k.disk) (sum k.space.free) (omega (arith, need, begun.free));
       }
@@ -237,6 +240,10 @@ begin_cause g old now asked at here delete size refusals.Memory is = tt
 
 -- ---- the whole call
 
+-- one that begins a draft changes the disk
+pub draft_changes : {D : Type 0} (k : Kernel D) (id : Puid) (mode : Mode) (kind : Kind) → directory_kind k.directory.named id ≡ Some kind → gets_draft kind mode ≡ true → changes_disk k (asks.OpenFor id mode) ≡ true
+draft_changes k id mode kind listed wants = rw listed wants
+
 module _ {D : Type 0} (g : Ghosts D) (left_sized : (d : D) (t : ℕ) (c : Image) → g.left_since d t c → length c ≡ g.blocks d) (sized : (d : D) → IsTrue (g.honest d) → length (g.content d) ≡ g.blocks d)
     (k : Kernel D) (who : ℕ) (id : Puid) (mode : Mode) (kind : Kind) (listed : directory_kind k.directory.named id ≡ Some kind) (tuid : Tuid) (tuid_is : tuid ≡ record { draw = k.words.drawn + 1; word = word k.words.seed (k.words.drawn + 1) })
     (goes : (s : State) → CoreServes g k s → (refusal_of s who (asks.OpenFor id mode) ≡ None) × (is_locked s who (asks.OpenFor id mode) ≡ false)) (d : D) (space : Kept) where
@@ -260,9 +267,10 @@ module _ {D : Type 0} (g : Ghosts D) (left_sized : (d : D) (t : ℕ) (c : Image)
     abbrev handle_with : Option Drafting → Handle
     handle_with drafting = record { grant = record { tuid = tuid; session = who; id = id; mode = mode }; drafting = drafting }
 
-    pub tries_open : (drafting : Option Drafting) → Begins g id.block (gets_draft kind mode) k.disk d k.space space (Ok drafting)
+    pub tries_open : gets_draft kind mode ≡ true → (drafting : Option Drafting) → Begins g id.block (gets_draft kind mode) k.disk d k.space space (Ok drafting)
         → TriesWith g None k (record k { disk = d; space = space; words = words; handles = k.handles ++ handle_with drafting ∷ [] }) who (asks.OpenFor id mode) (Ok (replies.Grant tuid))
-    tries_open drafting begins = record {
+    tries_open wants drafting begins = record {
+      keeps = λ none. absurd_keeps (draft_changes k id mode kind listed wants) none;
       ends = λ s serves none. ends drafting s serves none (begins.ends (view s serves) (shut s serves));
       went = record {
         plain = tt;
@@ -290,8 +298,9 @@ module _ {D : Type 0} (g : Ghosts D) (left_sized : (d : D) (t : ℕ) (c : Image)
             opened_draft g left_sized sized k who id mode (gets_draft kind mode) tuid tuid_is s serves none o.0 o.1 (gets_now g k s serves id kind listed mode) (goes s serves).0 serves is.0 drafting d space words words_are
             (alone s serves is.0) begins.calls.same.size begins.left is.1
 
-  pub tries_not : (e : Refused) → Begins g id.block (gets_draft kind mode) k.disk d k.space space (Err e) → TriesWith g None k (record k { disk = d; space = space }) who (asks.OpenFor id mode) (Err e)
-  tries_not e begins = record {
+  pub tries_not : gets_draft kind mode ≡ true → (e : Refused) → Begins g id.block (gets_draft kind mode) k.disk d k.space space (Err e) → TriesWith g None k (record k { disk = d; space = space }) who (asks.OpenFor id mode) (Err e)
+  tries_not wants e begins = record {
+    keeps = λ none. absurd_keeps (draft_changes k id mode kind listed wants) none;
     ends = λ s serves none. let o = the_object g k s serves id kind listed in
         not_opened g left_sized sized k who id mode (gets_draft kind mode) tuid tuid_is s serves none o.0 o.1 (gets_now g k s serves id kind listed mode) (goes s serves).0 serves d space begins.calls.same.size e (begins.ends (view s serves) (shut s serves));
     went = went_so g k d space k.handles begins.calls.same.size begins.calls.faults begins.calls.later (asks.OpenFor id mode) (Err e) tt
@@ -304,6 +313,7 @@ pub tries_bare : {D : Type 0} (g : Ghosts D) (left_sized : (d : D) (t : ℕ) (c 
     → ((s : State) → ServesIs g k s → refusal_of s who (asks.OpenFor id mode) ≡ None) → gets_draft kind mode ≡ false → (words : Draws) → words ≡ record { seed = k.words.seed; drawn = k.words.drawn + 1 }
     → Tries g k (record k { words = words; handles = k.handles ++ record { grant = record { tuid = tuid; session = who; id = id; mode = mode }; drafting = None } ∷ [] }) who (asks.OpenFor id mode) (Ok (replies.Grant tuid))
 tries_bare g left_sized sized k who id mode kind listed tuid tuid_is goes bare words words_are = record {
+  keeps = λ _. record { space = refl; most = 0; reads = reads_none g 0 k.disk };
   ends = λ s serves none. let o = the_object g k s serves id kind listed in
       opened_bare g left_sized sized k who id mode (gets_draft kind mode) tuid tuid_is s serves none o.0 o.1 (gets_now g k s serves id kind listed mode) (goes s serves) bare words words_are;
   went = record {

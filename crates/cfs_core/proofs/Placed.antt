@@ -100,6 +100,7 @@ module _ {D : Type 0} (g : Ghosts D) (left_sized : (d : D) (t : ℕ) (c : Image)
     takes : (reply : Reply) (b : ℕ) → block_named reply ≡ b → ops.TakesEntries (intended places.Root b ∷ leaf_and_node (slot / 64) index.block) index.block (b ∷ []) (g.content k.disk) (final_image g d space) → TakesForRequest k.handles s who request reply (g.content k.disk) (final_image g d space)
     takes reply b is taken =
         takes_last k.handles s who request reply (g.content k.disk) (final_image g d space) (intended places.Root b ∷ leaf_and_node (slot / 64) index.block) (index.block ∷ b ∷ []) index.block (making.claims k.handles s who reply ∙ rw (reach.bare, is, reach.name, claims_for_slot) refl) (rw (making.makes, is, reach.name) refl) (rw reach.name refl)
+        (making.alone s who ∙ rw (reach.bare, reach.name, reach.there) refl)
         (claims_then (intended places.Root b ∷ leaf_and_node (slot / 64) index.block) index.block (b ∷ []) (g.content k.disk) (final_image g d space) taken)
 
     made : (p : Puid) → r ≡ Ok p → (new : Kernel D) (result : Result Reply Refused) → NamesMade mid new p (object_kind o) result → EndsSo g None k new s who request result

@@ -1,5 +1,5 @@
 -- What the store says of a slot that is filled or emptied, as the core has it.
-use Rattle.std.proofs.Common.{◌≡◌, inl, ℕ, ◌+◌, ◌*◌, ◌<◌, ◌≤◌, length, true, false, Option, None, Some, Result, Ok, Err, IsTrue, refl, sym, ◌∙◌, ap, subst, arith, sum, ◌⊎◌, inr, [], ◌∷◌, is_none, ◌/◌, set, IsSome}
+use Rattle.std.proofs.Common.{◌≡◌, inl, ℕ, ◌+◌, ◌<◌, ◌≤◌, length, true, false, Option, None, Some, Result, Ok, Err, IsTrue, refl, sym, ◌∙◌, ap, subst, arith, sum, ◌⊎◌, inr, [], ◌∷◌, is_none, ◌/◌, set, IsSome}
 use Rattle.cfs_base.proofs.Went.{reads_none}
 use Rattle.cfs_core.proofs.Words.{creates, Ghosts, Image, Index, index_with, IsSpeakable, Kept, Need, OnlyReads, outcome_of, stopped_after_reads, Puid, PutsSlot, Ref, refusal_of, Refused, Request, State, with_object, Object, Holds, slot_of, target, object_at-with_object, same_puid_itself, need_of, Direct, Through}
 use Rattle.cfs_base.specs.declared.refusal.Refused.TheVariants as refusals
@@ -30,7 +30,7 @@ use Rattle.cfs_core.proofs.Went.{went_done, went_so}
 use Rattle.cfs_core.proofs.Serving.{running, stays}
 use Rattle.std.proofs.lemmas.List.{get_or-set_same}
 use Rattle.std.proofs.lemmas.Option.{unwrap_or-slice_get}
-use Rattle.cfs_core.specs.Claimed.{TakesForRequest, claims_for, owners_of, root_reached}
+use Rattle.cfs_core.specs.Claimed.{TakesForRequest, claims_for, commits_alone, owners_of, root_reached}
 use Rattle.cfs_core.proofs.Claimed.{Commits, claims_then, takes_last}
 use Rattle.cfs_core.proofs.Views.{slot_view}
 use Rattle.vol_image.proofs.Unique.{held_object}
@@ -43,7 +43,7 @@ module _ {D : Type 0} (g : Ghosts D) (left_sized : (d : D) (t : ℕ) (c : Image)
     (out : (s : State) (who : ℕ) (i : Index) → CoreServes g k s → Reaches s who request index (objects.Index i)
     → (outcome_of k.words.seed s who request 0 ≡ (replies.Done, (outcome_of k.words.seed s who request 0).1)) × Puts s (outcome_of k.words.seed s who request 0).1 index (index_with i slot what))
     (room : (s : State) (who : ℕ) (i : Index) → CoreServes g k s → Reaches s who request index (objects.Index i) → (¬ IsShortOfBlocks s who request (sum k.space.free)) × (added_by what + 4 ≤ sum k.space.free))
-    (claims : (s : State) (who : ℕ) (i : Index) → Reaches s who request index (objects.Index i) → (claims_for k.handles s who request replies.Done ≡ leaf_and_node (slot / 64) (root_reached s who (target request))) × (owners_of s who request replies.Done ≡ root_reached s who (target request) ∷ []))
+    (claims : (s : State) (who : ℕ) (i : Index) → Reaches s who request index (objects.Index i) → (claims_for k.handles s who request replies.Done ≡ leaf_and_node (slot / 64) (root_reached s who (target request))) × (owners_of s who request replies.Done ≡ root_reached s who (target request) ∷ []) × (commits_alone s who request ≡ true))
     (holds : (s : State) (who : ℕ) (i : Index) → Reaches s who request index (objects.Index i) → refusal_of s who request ≡ None → what ≡ None → is_none (slot_of i slot) ≡ false) where
   abbrev new : Kernel D
   new = record k { disk = d; space = space }
@@ -73,7 +73,7 @@ module _ {D : Type 0} (g : Ghosts D) (left_sized : (d : D) (t : ℕ) (c : Image)
     takes : StoreIs g (with_object s.graph index (index_with i slot what)) (drafts_of_handles k.handles s.grants) d space → ChangesLeaf g (slot / 64) index.block what k.disk d space → TakesForRequest k.handles s who request replies.Done (g.content k.disk) (final_image g d space)
     takes store leaf =
         let at : root_reached s who (target request) ≡ index.block = rw reach.name refl in
-        takes_last k.handles s who request replies.Done (g.content k.disk) (final_image g d space) (leaf_and_node (slot / 64) index.block) (index.block ∷ []) index.block ((claims s who i reach).0 ∙ ap (leaf_and_node (slot / 64)) at) ((claims s who i reach).1 ∙ ap (λ n. n ∷ []) at) at (by leaf.takes)
+        takes_last k.handles s who request replies.Done (g.content k.disk) (final_image g d space) (leaf_and_node (slot / 64) index.block) (index.block ∷ []) index.block ((claims s who i reach).0 ∙ ap (leaf_and_node (slot / 64)) at) ((claims s who i reach).1 ∙ ap (λ n. n ∷ []) at) at (claims s who i reach).2 (by leaf.takes)
       where
         by : ((what ≡ None) × (final_image g d space ≡ g.content k.disk)) ⊎ ops.TakesEntries (leaf_and_node (slot / 64) index.block) index.block [] (g.content k.disk) (final_image g d space)
             → Commits (leaf_and_node (slot / 64) index.block) (index.block ∷ []) index.block (g.content k.disk) (final_image g d space)

@@ -1,13 +1,13 @@
 -- A root of an index that is read again, and isn't there, or lacks the slot.
-use Rattle.std.proofs.Common.{◌≡◌, ◌≢◌, ℕ, ◌+◌, ◌*◌, ◌/◌, ◌<◌, ◌≤◌, length, Bool, true, false, Err, sym, ◌∙◌, ap, arith, nat_lt, refl}
-use Rattle.cfs_core.proofs.Words.{Ghosts, Index, Object, Refused}
+use Rattle.std.proofs.Common.{◌≡◌, ◌≢◌, ℕ, ◌+◌, ◌*◌, ◌/◌, Bool, true, false, Err, sym, ◌∙◌, ap, arith, nat_lt, refl}
+use Rattle.cfs_core.proofs.Words.{Ghosts, Object, Refused}
 use Rattle.block_tree.proofs.Spellings.{one_root}
 use Rattle.block_tree.specs.declared.root.Root.{Root}
 use Rattle.cfs_base.specs.Run.{Tells}
 use Rattle.cfs_base.specs.declared.refusal.Refused.TheVariants as refusals
 use Rattle.ufs_model.specs.declared.object.Object.TheVariants as objects
 use Rattle.cfs_core.specs.Damage.{IsOutside, NoRoot}
-use Rattle.cfs_core.specs.Looks.{IsCalm, IsCalmCause, IsReadCause, KnowsObject, WasRead}
+use Rattle.cfs_core.specs.Looks.{IsCalm, IsCalmCause, IsReadCause, WasRead}
 use Rattle.cfs_core.specs.Rereads.{RereadsIndex}
 use Rattle.cfs_core.proofs.Damages.{outside_as}
 use Rattle.cfs_core.proofs.Looked.{above, slots_read}

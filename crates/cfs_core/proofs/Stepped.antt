@@ -19,7 +19,7 @@ use Rattle.cfs_core.specs.Kernel.{AreCollections, IsSizedKernel, Kernel, Handle,
 use Rattle.cfs_core.specs.Room.{MayLose, lost_blocks}
 use Rattle.cfs_core.specs.StandsFor.{AreDraftsOf, HasCollection, HasCollector, CoreServes, StandsFor, bare, drafts_of_handles, end_in}
 use Rattle.cfs_core.specs.Rescues.{AreRescued}
-use Rattle.cfs_core.proofs.Collected.{collection_ready}
+use Rattle.cfs_core.proofs.Collected.{collection_ready, same_rescued}
 use Rattle.cfs_core.proofs.Lefts.{goes_begun, goes_ended}
 use Rattle.intentions.specs.Left.{coming}
 use Rattle.cfs_core.proofs.Serving.{stored_with, fits, pending, room_with, running, serves_from, serves_is, serves_now, stands_from, nothing_left}
@@ -40,6 +40,7 @@ collects_stopped g k stop is = record {
   sweeps = tt;
   over = tt;
   still = (refl, (stop, is, refl));
+  kept = record { collector = same_rescued k.collections.collector; finished = refl };
   called = refl;
   sound = λ none. cc;
   stops = refl;
@@ -92,6 +93,7 @@ module _ {D : Type 0} (g : Ghosts D) (left_sized : (d : D) (t : ℕ) (c : Image)
     sweeps = λ s stands. is.ends.sweeps s (serves_now g old s nothing (serves_from g old s none stands));
     over = λ s stands. is.ends.over s (serves_now g old s nothing (serves_from g old s none stands));
     still = tt;
+    kept = tt;
     called = ap (λ (k : Kernel D). k.collections.called) is.same;
     sound = λ _ s stands. tt;
     stops = tt;
@@ -171,6 +173,7 @@ module _ {D : Type 0} (g : Ghosts D) (left_sized : (d : D) (t : ℕ) (c : Image)
     sweeps = tt;
     over = tt;
     still = still_told refused (g.moment mid.disk) tries.ends.still;
+    kept = record { collector = tries.ends.kept.collector; finished = tries.ends.kept.finished };
     called = ap (λ (k : Kernel D). k.collections.called) tries.same;
     sound = λ _ s stands. no_damage refused (g.moment mid.disk) s (tries.ends.ends s (serves_now g old s nothing (serves_from g old s none stands)) none);
     stops = ap (λ (o : Option Stop). stop_by (fault_for refused (g.moment mid.disk)) o) (ap (λ (k : Kernel D). k.stop) tries.same);
@@ -213,6 +216,7 @@ module _ {D : Type 0} (g : Ghosts D) (k : Kernel D) where
       lost = omega arith;
     };
     still = λ untried. record { reads = reads_none g 4 k.disk; directory = refl; space = refl; collector = same; finished = finished };
+    kept = record { collector = same; finished = finished };
     cause = tt;
     wants = λ some. (runs_not k.collections.collector idle, more);
   }) called

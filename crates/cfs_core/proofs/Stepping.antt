@@ -91,6 +91,7 @@ module _ {D : Type 0} (g : Ghosts D) (old : D) (space : Kept) (directory : Listi
       ends = λ s serves none. subst (EndsUnmade g (before core) (after_read core) s) (sym (calm_is e no_want (calm core here s serves)))
           (stayed g core old space directory k s serves l n new reads same);
       still = λ untried. record { reads = reads_within g old new n 4 few reads; directory = refl; space = refl; collector = as_before k l same; finished = refl };
+      kept = record { collector = as_before k l same; finished = refl };
       cause = cause core here;
       wants = λ some. never e no_want some;
     })
@@ -207,6 +208,7 @@ module _ {D : Type 0} (g : Ghosts D) (old : D) (space : Kept) (directory : Listi
           collector = as_before k l as_it_was;
           finished = refl;
         };
+        kept = record { collector = as_before k l as_it_was; finished = refl };
         cause = caused core t (rw at at is.sweep.refused);
         wants = λ some. never (refused_by t) (no_want t) some;
       })

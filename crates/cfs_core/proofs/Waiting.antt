@@ -1,5 +1,5 @@
 -- The Free blocks, and those that are still to be freed.
-use Rattle.std.proofs.Common.{◌≡◌, ℕ, ◌+◌, Bool, true, false, List, [], ◌∷◌, length, Option, Some, None, refl, sym, ◌∙◌, ap, subst, arith, sum}
+use Rattle.std.proofs.Common.{◌≡◌, ℕ, ◌+◌, Bool, true, false, List, [], ◌∷◌, length, Option, Some, None, refl, sym, ◌∙◌, ap, arith, sum}
 use Rattle.std.specs.Prelude.{◌&&◌, not, count_by}
 use Rattle.std.specs.List.{range_with_len}
 use Rattle.cfs_base.specs.Disk.{Image}

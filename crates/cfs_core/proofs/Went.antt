@@ -1,21 +1,18 @@
 -- What a call did, however it ended: of one that draws no word, and of one after reads.
-use Rattle.std.proofs.Common.{◌≡◌, ℕ, ◌≤◌, Bool, Result, Ok, Err, Option, Some, None, refl, sym, ◌∙◌, ap, subst, ◌+◌, arith, IfErr, IfOk, List, sum}
-use Rattle.cfs_base.proofs.Went.{makes_none}
-use Rattle.cfs_core.proofs.Words.{Ghosts, HasStopped, IsPlainReply, Kept, OnlyReads, reads_make, Refused, Reply, Request, stopped_after_reads}
-use Rattle.cfs_base.proofs.Calls.{makes_then}
-use Rattle.cyl_alloc.specs.Left.{LeftCommit}
-use Rattle.finisher.specs.Going.{tries_left}
+use Rattle.std.proofs.Common.{◌≡◌, ℕ, ◌≤◌, Bool, Result, Ok, Err, Option, Some, refl, ◌∙◌, ap, ◌+◌, arith, IfErr, IfOk, List, sum}
+use Rattle.cfs_core.proofs.Words.{Ghosts, HasStopped, IsPlainReply, Kept, OnlyReads, Refused, Reply, Request, stopped_after_reads}
+use Rattle.cfs_base.proofs.Calls.{reads_then}
 use Rattle.cfs_base.specs.declared.refusal.Refused.TheVariants as refusals
 use Rattle.cfs_base.specs.declared.refusal.Damage.{Damage}
 use Rattle.cfs_base.specs.declared.refusal.Need.{Need}
 use Rattle.cfs_core.specs.Calls.{IsCause, IsCauseOf, IsWant, RequestWent, done_or}
-use Rattle.cfs_core.specs.Damage.{IsDamageTold, IsMet}
+use Rattle.cfs_core.specs.Damage.{Afterwards, AtOnce, IsDamageTold, IsMet}
 use Rattle.cfs_core.specs.Kernel.{Kernel, Handle}
 use Rattle.cfs_core.proofs.Damages.{told_then}
 
 -- a call that carried out nothing first
 pub now_met : {D : Type 0} (g : Ghosts D) (old : Kernel D) (Is : Kernel D → Type 0) → Is old → IsMet g old Is
-now_met g old Is is = record { disk = old.disk; space = old.space; most = 0; calls = makes_none g old.disk 0 _; none = λ nothing. (refl, refl); is = is }
+now_met g old Is is = AtOnce is
 
 pub cause_met : {D : Type 0} (g : Ghosts D) (old new : Kernel D) (request : Request) (e : Refused) → IsCause g old new (Some request) e → IsCauseOf g old new request e
 cause_met g old new request (refusals.Full need) is = now_met g old (λ k. IsWant (Some request) (sum k.space.free) need) is
@@ -88,20 +85,8 @@ module _ {D : Type 0} (g : Ghosts D) (n : ℕ) (old : Kernel D) (d : D) (new : K
 
   -- what is met in the call is met in that one too
   met_then : (Is : Kernel D → Type 0) → (Is read → Is old) → IsMet g read Is → IsMet g old Is
-  met_then Is before met = at old.space.left refl
-    where
-      at : (w : Option LeftCommit) → old.space.left ≡ w → IsMet g old Is
-      at None nothing =
-          let same = met.none nothing in
-          now_met g old Is (before (subst (λ (k : Kept). Is (record old { disk = d; space = k })) same.1 (subst (λ (x : D). Is (record old { disk = x; space = met.space })) same.0 met.is)))
-      at (Some l) left = record {
-        disk = met.disk;
-        space = met.space;
-        most = n + met.most;
-        calls = makes_then g old.disk d met.disk n met.most (n + met.most) 0 (tries_left old.space.left) (tries_left old.space.left) (reads_make g old.disk d n reads) met.calls (omega arith) (omega arith);
-        none = λ nothing. let no : None ≡ Some l = sym nothing ∙ left in cc;
-        is = met.is;
-      }
+  met_then Is before (AtOnce is) = AtOnce (before is)
+  met_then Is before (Afterwards m there disk space more fin is) = Afterwards (n + m) there disk space (reads_then g old.disk d there n m (n + m) reads more (omega arith)) fin is
 
   cause_of_then : (request : Request) (r : Result Reply Refused) → IfErr r (IsCauseOf g read new request) → IfErr r (IsCauseOf g old new request)
   cause_of_then request (Ok reply) is = tt

@@ -18,7 +18,7 @@ use Rattle.ufs_model.specs.Outcome.{draws}
 use Rattle.ufs_model.specs.State.{State}
 use Rattle.cfs_core.specs.declared.kernel.Halt.{Halt}
 use Rattle.cfs_core.specs.declared.kernel.Stop.{Stop}
-use Rattle.cfs_core.specs.Calls.{IsAsItWas, IsFinished, IsWant, Owes, is_full_reply, leaves_all}
+use Rattle.cfs_core.specs.Calls.{IsAsItWas, IsFinished, IsWant, KeepsDisk, Owes, is_full_reply, leaves_all}
 use Rattle.cfs_core.specs.Claimed.{TakesForRequest}
 use Rattle.cfs_core.specs.Commits.{commits}
 use Rattle.cfs_core.specs.Damage.{IsDamageMet, IsMet}
@@ -27,6 +27,7 @@ use Rattle.cfs_core.specs.Left.{AddsOne}
 use Rattle.cfs_core.specs.Rescues.{AreRescued, ended_by}
 use Rattle.cfs_core.specs.Room.{MayLose, lost_blocks}
 use Rattle.cfs_core.specs.StandsFor.{StandsFor, end_in, free_to_come}
+use Rattle.cfs_core.specs.Writes.{changes_disk}
 
 -- ---- what is told of a refusal from below, at this moment of the disk
 
@@ -114,7 +115,8 @@ pub record Asks {D : Type 0} (g : Ghosts D) (old new : Kernel D) (who : ℕ) (re
       (ended_by s who request reply)
   pub called : new.collections.called ≡ old.collections.called
   pub finished : new.collections.finished ≡ old.collections.finished
-  -- on any disk
+  -- On any disk. One that changes nothing there writes nothing, and leaves what is unfinished.
+  pub keeps : changes_disk old request ≡ false → KeepsDisk g old new
   pub waits : AddsOne (g.blocks old.disk) old.collections new.collections
   pub later : g.moment old.disk ≤ g.moment new.disk
   pub size : g.blocks new.disk ≡ g.blocks old.disk

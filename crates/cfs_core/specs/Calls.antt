@@ -44,6 +44,7 @@ use Rattle.cfs_core.specs.Damage.{IsDamageMet, IsDamageTold, IsMet}
 use Rattle.cfs_core.specs.Kernel.{Kernel, grants_in}
 use Rattle.cfs_core.specs.StandsFor.{ServesWith, StoresState, drafts_of_handles, end_in, free_with}
 use Rattle.cfs_core.specs.Ways.{Reaches}
+use Rattle.cfs_core.specs.Writes.{changes_disk}
 
 -- ---- replies
 
@@ -109,6 +110,12 @@ leaves_all reply = true
 -- nothing was written, and nothing else changed
 pub record IsAsItWas {D : Type 0} (g : Ghosts D) (old new : Kernel D) : Type 0 where
   pub same : new ≡ record old { disk = new.disk }
+  pub most : ℕ
+  pub reads : OnlyReads g most old.disk new.disk
+
+-- nothing was written, and what is left of a commit is left still
+pub record KeepsDisk {D : Type 0} (g : Ghosts D) (old new : Kernel D) : Type 0 where
+  pub space : new.space ≡ old.space
   pub most : ℕ
   pub reads : OnlyReads g most old.disk new.disk
 
@@ -205,6 +212,7 @@ pub record TriesWith {D : Type 0} (g : Ghosts D) (commit : Option LeftCommit) (o
     (request : Request) (result : Result Reply Refused) : Type 0 where
   pub ends : (s : State) → ServesWith g old s commit → old.stop ≡ None → EndsSo g commit old new s who request result
   pub went : RequestWent g old new request result
+  pub keeps : changes_disk old request ≡ false → KeepsDisk g old new
 
 abbrev pub Tries : {D : Type 0} → Ghosts D → Kernel D → Kernel D → ℕ → Request → Result Reply Refused → Type 0
 Tries g old new who request result = TriesWith g old.space.left old new who request result

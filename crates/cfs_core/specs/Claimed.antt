@@ -1,6 +1,6 @@
 -- Which blocks a request takes that is done, and in what order.
-use Rattle.std.specs.Prelude.{◌≡◌, ◌⊎◌, ℕ, ◌+◌, ◌/◌, Bool, true, false, not, ◌&&◌, if◌then◌else◌, List, [], ◌∷◌, length}
-use Rattle.std.specs.Prelude.{Option, None, Some, is_none}
+use Rattle.std.specs.Prelude.{◌≡◌, ◌≢◌, ◌⊎◌, ℕ, ◌+◌, ◌/◌, Bool, true, false, not, ◌&&◌, if◌then◌else◌, List, [], ◌∷◌}
+use Rattle.std.specs.Prelude.{length, Option, None, Some, is_none}
 use Rattle.std.specs.Option.{option_map_or}
 use Rattle.cfs_base.specs.Disk.{Image}
 use Rattle.cfs_base.specs.declared.identifier.Puid.{Puid}
@@ -44,6 +44,15 @@ pub record ClaimsInOrder (claims : List MapEntry) (owners : List ℕ) (a b : Ima
   pub in_order : AreClaimed claims a mid
   pub rest : (n : ℕ) → (entry_in b n ≡ entry_in mid n)
       ⊎ (IsOpenTo (of_owners owners) (entry_in mid n) × IsOpenTo (of_owners owners) (entry_in b n))
+
+-- each block that was claimed up to this image in the middle has the entry still for which it was
+abbrev pub KeepsClaims : (a mid b : Image) → Type 0
+KeepsClaims a mid b = (n : ℕ) → entry_in mid n ≢ entry_in a n → entry_in b n ≡ entry_in mid n
+
+-- the same, where nothing is dropped again
+pub record ClaimsStay (drops : Bool) (claims : List MapEntry) (owners : List ℕ) (a b : Image) : Type 0 where
+  pub order : ClaimsInOrder claims owners a b
+  pub kept : drops ≡ false → KeepsClaims a order.mid b
 
 -- ---- a file that is changed
 
@@ -116,6 +125,10 @@ abbrev pub owners_of : State → ℕ → Request → Reply → List ℕ
 owners_of s who request reply =
     root_reached s who (target request) ∷ (if creates request then block_named reply ∷ [] else [])
 
+abbrev pub is_set_size : Request → Bool
+is_set_size (asks.Resize file size) = true
+is_set_size request = false
+
 -- no normal file, and no draft
 abbrev pub is_beside : State → ℕ → Ref → Bool
 is_beside s who ref = is_none (draft_of s who ref) && not (is_normal (seen s who ref).object)
@@ -135,3 +148,5 @@ pub record TakesForRequest (handles : List Handle) (s : State) (who : ℕ) (requ
     (a b : Image) : Type 0 where
   pub order : ClaimsInOrder (claims_for handles s who request reply) (owners_of s who request reply) a b
   pub shadow : commits_alone s who request ≡ true → TakesShadow (root_reached s who (target request)) order.mid b
+  -- where it is no commit of its own, and no resize, the blocks that were claimed have their entries in image b
+  pub kept : commits_alone s who request ≡ false → is_set_size request ≡ false → KeepsClaims a order.mid b

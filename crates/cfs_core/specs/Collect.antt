@@ -210,10 +210,16 @@ pub record IsStepMade {D : Type 0} (g : Ghosts D) (old new : Kernel D) (step : S
   pub goes : AreCollections (g.blocks old.disk) old.collections
       → LeavesFewer (g.blocks old.disk) old.collections new.collections step (event_of step)
 
+-- The collector is as it was, but for room, and no collection is finished.
+pub record AreKept (c d : Collections) : Type 0 where
+  pub collector : AreRescued c.collector d.collector [] []
+  pub finished : d.finished ≡ c.finished
+
 -- none was
 pub record IsUnmade {D : Type 0} (g : Ghosts D) (old new : Kernel D) (e : Refused) : Type 0 where
   pub ends : (s : State) → CoreServes g old s → old.stop ≡ None → EndsUnmade g old new s e
   pub still : had_tried e ≡ false → IsUnchanged g old new
+  pub kept : AreKept old.collections new.collections
   pub cause : IsCause g old new None e
   pub wants : is_starved e ≡ true → IsDueStep old.collections steps.Began
 
@@ -336,6 +342,8 @@ pub record CollectsStep {D : Type 0} (g : Ghosts D) (old new : Kernel D)
   -- a whole collection takes so many steps at most, and leaves a tidy volume
   pub over : IfOk result (λ step. (s : State) → StandsFor g old s → IsOver g old new s step)
   pub still : IfErr result (LeavesAll g old new)
+  -- one that wasn't made moves no collection on, also after a doubt and at a damage
+  pub kept : IfErr result (λ fault. AreKept old.collections new.collections)
   pub called : new.collections.called ≡ old.collections.called
   -- no damage is met on a disk that serves
   pub sound : old.stop ≡ None → (s : State) → StandsFor g old s → IfErr result IsNoDamage

@@ -1,6 +1,6 @@
 -- What a damage tells: which block is outside its table, and how.
-use Rattle.std.specs.Prelude.{◌≡◌, ◌⊎◌, ℕ, ◌+◌, ◌*◌, ◌<◌, ◌≤◌, Bool, true, false, length, sum, Option, Some, None}
-use Rattle.cfs_base.specs.Calls.{MakesAtMost}
+use Rattle.std.specs.Prelude.{◌≡◌, ◌⊎◌, ℕ, ◌+◌, ◌*◌, ◌<◌, ◌≤◌, Bool, true, false, length, sum, Ok, Option, Some, None}
+use Rattle.cfs_base.specs.Calls.{OnlyReads}
 use Rattle.cfs_base.specs.Codes.{no_entry, no_root, not_owned, other_count, past_disk, too_full}
 use Rattle.cfs_base.specs.Disk.{Image, block_at}
 use Rattle.cfs_base.specs.Run.{Tells}
@@ -14,7 +14,6 @@ use Rattle.block_tree.specs.Tree.{LeadsPast}
 use Rattle.collector_steps.specs.Collecting.{Collecting, colours_in}
 use Rattle.cyl_alloc.specs.Left.{LeftCommit}
 use Rattle.cyl_map.specs.Volume.{is_free_in, map_of}
-use Rattle.finisher.specs.Going.{tries_left}
 use Rattle.cyl_alloc.specs.Space.{AreCounts, IsBadMap, IsMiscounted, Kept}
 use Rattle.leaf_changes.specs.Tops.{IsFarBlock}
 use Rattle.marking.specs.Colours.{first_grey}
@@ -26,6 +25,8 @@ use Rattle.special_files.specs.Refusal.{IsFarNode}
 use Rattle.ufs_model.specs.declared.asked.Request.{Request}
 use Rattle.ufs_model.specs.declared.asked.Request.TheVariants as asks
 use Rattle.ufs_model.specs.Outcome.{creates}
+use Rattle.cfs_core.specs.Claimed.{is_set_size}
+use Rattle.cfs_core.specs.Finished.{FinishesLeft}
 use Rattle.cfs_core.specs.Kernel.{Kernel}
 use Rattle.cfs_core.specs.Handles.{drafting_at, root_at}
 
@@ -90,10 +91,6 @@ abbrev pub asks_delete : Request → Bool
 asks_delete (asks.Delete index slot) = true
 asks_delete request = false
 
-abbrev pub is_set_size : Request → Bool
-is_set_size (asks.Resize file size) = true
-is_set_size request = false
-
 -- fewer blocks were counted Free than a delete takes, or none is left after a resize
 abbrev pub FindsFew : Option Request → (before after : ℕ) → Type 0
 FindsFew None before after = ⊥
@@ -133,14 +130,12 @@ pub data IsDamageTold {D : Type 0} (g : Ghosts D) (old new : Kernel D) (request 
   FewLeft : damage.code ≡ too_full → damage.block ≡ 0 → FindsFew request (sum old.space.free) (sum new.space.free)
       → IsDamageTold g old new request damage
 
--- It is so of the core as it was once what was left of a commit was carried out, with no more tries than that takes.
-pub record IsMet {D : Type 0} (g : Ghosts D) (old : Kernel D) (Is : Kernel D → Type 0) : Type 0 where
-  pub disk : D
-  pub space : Kept
-  pub most : ℕ
-  pub calls : MakesAtMost g most (tries_left old.space.left) old.disk disk
-  pub none : old.space.left ≡ None → (disk ≡ old.disk) × (space ≡ old.space)
-  pub is : Is (record old { disk = disk; space = space })
+-- It is so of the core as it was; or after reads, once what was left of a commit was carried out.
+pub data IsMet {D : Type 0} (g : Ghosts D) (old : Kernel D) (Is : Kernel D → Type 0) : Type 0 where
+  AtOnce : Is old → IsMet g old Is
+  Afterwards : (n : ℕ) (read disk : D) (space : Kept) → OnlyReads g n old.disk read
+      → FinishesLeft g read disk old.space space (Ok true) → Is (record old { disk = disk; space = space })
+      → IsMet g old Is
 
 -- a damage that is met in a request, which may have carried that out first
 abbrev pub IsDamageMet : {D : Type 0} → Ghosts D → (old new : Kernel D) → Request → Damage → Type 0

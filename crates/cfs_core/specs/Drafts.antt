@@ -52,7 +52,8 @@ use Rattle.cfs_core.specs.Ways.{unfit_of}
 use Rattle.cfs_core.specs.Calls.{EndsSo, RequestWent, looked}
 use Rattle.cfs_core.specs.Looks.{IsDraftCause}
 use Rattle.cfs_core.specs.Handles.{drafting_at}
-use Rattle.cfs_core.specs.Claimed.{ClaimsInOrder, claims_for, claims_in_draft, commits_alone}
+use Rattle.cfs_core.specs.Claimed.{ClaimsStay, claims_for, claims_in_draft, commits_alone, is_set_size}
+use Rattle.file_ops.specs.Changes.{is_resize}
 use Rattle.cfs_core.specs.Commits.{commits}
 use Rattle.cfs_core.specs.StandsFor.{ServesWith, sweeps_now}
 
@@ -87,7 +88,8 @@ pub record KnowsDraft {D : Type 0} (g : Ghosts D) (change : Change) (disk : D) (
 pub record IsAltered {D : Type 0} {g : Ghosts D} {old : D} {before : Kept} {was : Drafting}
     (v : DraftView g old before was) (change : Change) (new : D) (after : Kept) (now : Drafting) : Type 0 where
   pub becomes : DraftBecomes g v.graph v.ds v.id (changed_draft change v.draft) old new after now
-  pub order : ClaimsInOrder (claims_in_draft change v.draft was) (v.id.block ∷ []) (g.content old) (g.content new)
+  pub order : ClaimsStay (is_resize change) (claims_in_draft change v.draft was) (v.id.block ∷ []) (g.content old)
+      (g.content new)
   pub room : need_beside change v.draft was + reserve ≤ sum before.free
 
 -- so a change of it ends, which is Full where fewer are Free
@@ -140,6 +142,7 @@ pub record IsAltering (s : State) (who : ℕ) (t : Tuid) (request : Request) (ch
   pub claims : (handles : List Handle) (reply : Reply) (d : Draft) → draft_of s who (Through t) ≡ Some d
       → claims_for handles s who request reply
       ≡ option_map_or (claims_in_draft change d) (drafting_at handles t.draw) []
+  pub resizes : is_set_size request ≡ is_resize change
   pub alone : (d : Draft) → draft_of s who (Through t) ≡ Some d → commits_alone s who request ≡ false
   pub commits_is : (d : Draft) → draft_of s who (Through t) ≡ Some d → commits s who request ≡ false
   pub delete : is_direct_delete request ≡ false

@@ -1,6 +1,7 @@
 -- A session leaves: its grants are dropped one after the other, and their drafts are given up, once what was left of a
 -- commit is carried out.
-use Rattle.std.specs.Prelude.{◌≡◌, ◌⊎◌, ℕ, ◌-◌, ◌≤◌, not, ◌==◌, List, [], filter, Option, Some, None, Result, Ok, Err}
+use Rattle.std.specs.Prelude.{◌≡◌, ◌⊎◌, ℕ, ◌-◌, ◌≤◌, not, ◌==◌, ◌++◌, List, [], filter, map}
+use Rattle.std.specs.Prelude.{Option, Some, None, Result, Ok, Err}
 use Rattle.cfs_base.specs.Calls.{HasFailed, MakesAtMost}
 use Rattle.cfs_base.specs.Run.{Leaves}
 use Rattle.cfs_base.specs.declared.disk.Disk.{Ghosts}
@@ -10,7 +11,8 @@ use Rattle.finisher.specs.Going.{calls_left, tries_left}
 use Rattle.intentions.specs.Store.{StoreHas}
 use Rattle.cyl_alloc.specs.Space.{Kept}
 use Rattle.leaf_changes.specs.Tops.{Top}
-use Rattle.open_table.specs.Grants.{without_session}
+use Rattle.open_table.specs.Grants.{grants_of, without_session}
+use Rattle.open_table.specs.declared.grant.OpenGrant.{OpenGrant}
 use Rattle.special_files.specs.Committing.{Dropped, draft_top}
 use Rattle.special_files.specs.Drafting.{Drafting}
 use Rattle.special_files.specs.Refusal.{IsDraftDamage}
@@ -22,6 +24,7 @@ use Rattle.cfs_core.specs.declared.kernel.Halt.{Halt}
 use Rattle.cfs_core.specs.declared.kernel.Stop.{Stop}
 use Rattle.cfs_core.specs.Calls.{AddsNoStray}
 use Rattle.cfs_core.specs.Damage.{IsDamageTold}
+use Rattle.cfs_core.specs.Handles.{drafting_at}
 use Rattle.cfs_core.specs.Kernel.{Kernel, grants_in}
 use Rattle.cfs_core.specs.Rescues.{AreRescued}
 use Rattle.cfs_core.specs.StandsFor.{ServesIs, end_in}
@@ -30,16 +33,24 @@ use Rattle.cfs_core.specs.StandsFor.{ServesIs, end_in}
 abbrev pub of_others : ℕ → List Grant → List Grant
 of_others who grants = filter (λ g. not (g.session == who)) grants
 
+-- the objects of a session's grants, in the order of acquiring
+abbrev pub objects_of : List OpenGrant → ℕ → List Puid
+objects_of grants who = map (λ g. g.id) (grants_of grants who)
+
 -- it serves the state with fewer grants of the session
 pub record ServesFewer {D : Type 0} (g : Ghosts D) (k : Kernel D) (s : State) (who : ℕ) : Type 0 where
   pub grants : List Grant
   pub serves : ServesIs g k (record s { grants = grants })
   pub others : of_others who grants ≡ of_others who s.grants
 
--- A block was damaged when a draft was given up, of the core as it was then.
+-- A block was damaged when a draft was given up, of the core as it was then. The draft is one that stood before.
 pub record MetDamage {D : Type 0} (g : Ghosts D) (old new : Kernel D) (damage : Damage) : Type 0 where
+  pub draw : ℕ
+  pub was : Drafting
+  pub stood : drafting_at old.handles draw ≡ Some was
   pub mid : Kernel D
   pub later : g.moment old.disk ≤ g.moment mid.disk
+  pub is : IsDraftDamage g (draft_top was) mid.disk new.disk new.space damage
   pub told : IsDamageTold g mid new None damage
 
 -- It stopped in this call: at the moment before the one that the disk has now where a device call failed; or at the
@@ -54,11 +65,15 @@ pub record StopsSo {D : Type 0} (g : Ghosts D) (old new : Kernel D) (stop : Stop
 pub record Sheds {D : Type 0} (g : Ghosts D) (who : ℕ) (old new : Kernel D) : Type 0 where
   pub words : new.words ≡ old.words
   pub directory : new.directory ≡ old.directory
-  -- of the objects of these grants the drafts are read no more
+  -- of the objects of these grants, the first of the session, the drafts are read no more
   pub over : List Puid
+  pub dropped : objects_of (grants_in old.handles) who ≡ over ++ objects_of (grants_in new.handles) who
   pub ended : AreRescued old.collections.collector new.collections.collector [] over
   pub called : new.collections.called ≡ old.collections.called
   pub finished : new.collections.finished ≡ old.collections.finished
+  -- each draft that is left stood before
+  pub stood : (draw : ℕ) (was : Drafting) → drafting_at new.handles draw ≡ Some was
+      → drafting_at old.handles draw ≡ Some was
   pub others : without_session (grants_in new.handles) who ≡ without_session (grants_in old.handles) who
   pub size : g.blocks new.disk ≡ g.blocks old.disk
   pub faults : g.faults old.disk ≤ g.faults new.disk

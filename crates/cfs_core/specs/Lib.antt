@@ -4,12 +4,13 @@ pub mod Handles
 pub mod StandsFor
 pub mod Leaving
 pub mod Room
-pub mod Damage
 pub mod Claimed
+pub mod Finished
+pub mod Damage
 pub mod Commits
+pub mod Writes
 pub mod Calls
 pub mod Drafts
-pub mod Finished
 pub mod Opening
 pub mod Looks
 pub mod Ways

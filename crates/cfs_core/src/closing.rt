@@ -1,20 +1,19 @@
 //! The ends of grants: a request that closes one, and a session that leaves.
 ghost use Rattle.std.specs.Prelude.{Bool, ◌≡◌, ◌≢◌, ◌≤◌, ◌*◌, List, [], length, false, true, IfErr, IfOk, OnOk, IsSome, None};
 ghost use Rattle.std.specs.Prelude.{Some, Ok};
-ghost use Rattle.cfs_base.specs.declared.identifier.Puid.{Puid};
 ghost use Rattle.cfs_base.specs.declared.refusal.Refused.TheVariants as refusals;
 ghost use Rattle.cfs_core.specs.Asked.{Happens, halted};
 ghost use Rattle.cfs_core.specs.Calls.{Tries, TriesWith, leaves_all};
 ghost use Rattle.cfs_core.specs.Drafts.{EndsDraft};
 ghost use Rattle.cfs_core.specs.Kernel.{Handle, grants_in, is_ready_for};
 ghost use Rattle.cfs_core.specs.Leaving as spec;
-ghost use Rattle.cfs_core.specs.Leaving.{GivesUp, Sheds, StopsSo};
+ghost use Rattle.cfs_core.specs.Leaving.{GivesUp, Sheds, StopsSo, objects_of};
 ghost use Rattle.cfs_core.specs.Left.{AddsNone};
 ghost use Rattle.cfs_core.specs.Rescues.{AreRescued};
 ghost use Rattle.cfs_core.specs.Handles.{drafting_at, have_draft, is_at, with_drafting};
 ghost use Rattle.cfs_core.specs.StandsFor.{ServesIs, StandsFor};
 ghost use Rattle.cfs_core.specs.declared.kernel.Stop.{Stop};
-ghost use Rattle.open_table.specs.Grants.{session_grant, without_grant};
+ghost use Rattle.open_table.specs.Grants.{first_grant, session_grant, without_grant};
 ghost use Rattle.ufs_model.specs.State.{State};
 ghost use Rattle.ufs_model.specs.declared.asked.Event.TheVariants as events;
 ghost use Rattle.ufs_model.specs.declared.asked.Request.TheVariants as asks;
@@ -119,8 +118,8 @@ impl<D: Disk> Core<D> {
         ensures faults { D.faults self.old.disk ≤ D.faults self.new.disk }
         ensures later { D.moment self.old.disk ≤ D.moment self.new.disk }
         // A collection reads no draft of the objects of its grants any more, and makes no step.
-        ensures ended { (over : List Puid)
-            × AreRescued self.old.collections.collector self.new.collections.collector [] over }
+        ensures ended { AreRescued self.old.collections.collector self.new.collections.collector []
+            (objects_of (grants_in self.old.handles) who) }
         ensures called { self.new.collections.called ≡ self.old.collections.called }
         ensures finished { self.new.collections.finished ≡ self.old.collections.finished }
         ensures waits { AddsNone (D.blocks self.old.disk) self.old.collections self.new.collections }
@@ -142,14 +141,15 @@ impl<D: Disk> Core<D> {
         halt_of(before, self.stop)
     }
 
-    /// Drops a grant of a session. Its draft is given up, unless the core has stopped; where that fails, the core
+    /// Drops the first grant of a session. Its draft is given up, unless the core has stopped; where that fails, the core
     /// stops.
     fn drop_grant(&mut self, who: Session, grant: OpenGrant)
-        requires found { session_grant (grants_in self.old.handles) who grant.tuid ≡ Some grant }
+        requires first { first_grant (grants_in self.old.handles) who ≡ Some grant }
         ensures sheds { Sheds D.Disk who self.old self.new }
         ensures gone { grants_in self.new.handles ≡ without_grant (grants_in self.old.handles) who grant.tuid }
     {
         open_table::laws::table_follows_the_model();
+        crate::laws::grants_are_a_table(&self.handles);
         let draft = self.handles.take(grant.tuid.draw);
         let _ = self.handles.close(who, grant.tuid);
         self.collections.draft_ended(grant.id);

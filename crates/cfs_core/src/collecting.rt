@@ -271,11 +271,11 @@ impl<D: Disk> Core<D> {
         requires { phase_of self.old.collections.collector ≡ Phase.Swept }
         ensures { TriesStep D.Disk self.old self.new (Ok result) }
     {
+        crate::laws::calls_are_counted(&self.collections);
         let Some(collector) = &mut self.collections.collector else {
             unreachable!()
         };
         collector.end();
-        let _called = self.collections.called;
         self.collections.finished += 1;
         Step::Finished
     }
@@ -302,7 +302,7 @@ impl<D: Disk> Core<D> {
             collector.begin(&roots, &self.directory)?;
             return Ok(Step::Began);
         }
-        self.space.free(); // there is a cylinder, and so a block
+        crate::laws::cylinders_are_counted(&self.space);
         let collector = begun(alloc, self.directory.room(), &roots, &self.directory)?;
         self.collections.collector = Some(collector);
         Ok(Step::Began)

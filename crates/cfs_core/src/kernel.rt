@@ -169,7 +169,7 @@ impl<D: Disk> Core<D> {
         ensures on_disk { IsSome result → id.block < D.blocks self.now.disk }
         ensures some { IsSome result → id.block ≢ 0 }
     {
-        self.directory.room();
+        puid_space::laws::directories_are_listings(&self.directory);
         self.directory.kind(id)
     }
 }

@@ -13,6 +13,7 @@ mod finishing;
 mod granting;
 mod handles;
 mod kernel;
+mod laws;
 mod looking;
 mod opening;
 mod reading;

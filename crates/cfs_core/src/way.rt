@@ -110,7 +110,7 @@ impl<D: Disk> Core<D> {
         ensures { (s : State) → ServesIs D.Disk self.now s → result ≡ meets_a_grant s alone to }
     {
         open_table::laws::table_follows_the_model();
-        self.handles.len();
+        crate::laws::grants_are_a_table(&self.handles);
         match to {
             Ref::Direct(id) => bars(alone, self.handles.mode_on(id)),
             Ref::Through(_) => false,

@@ -9,8 +9,10 @@ pub mod Objects
 pub mod Slots
 pub mod Named
 pub mod Noting
+pub mod Few
 pub mod Learning
 pub mod Finished
+pub mod Summing
 pub mod Counted
 pub mod Room
 pub mod Shown
@@ -23,6 +25,7 @@ pub mod Copyings
 pub mod Kept
 pub mod Begun
 pub mod Taking
+pub mod Counting
 pub mod Tidyings
 pub mod TidyEntries
 pub mod Accounted

@@ -1,6 +1,6 @@
 -- The identifiers of a directory: which are listed, and what its order says of them.
-use Rattle.std.proofs.Common.{◌≡◌, ◌≢◌, inl, inr, ◌<◌, Bool, true, false, cond, ◌&&◌, ◌==◌, not, List, [], ◌∷◌, None, refl, sym, ◌∙◌, ap, subst, arith, is_some}
-use Rattle.cfs_recover.proofs.Words.{Kind, Listing, Puid, among_itself, and_parts, blocks_rise, each_among, has_root_in, insert_entry, is_among, is_at, is_listing, is_some-lookup, keys_of, directory_kind, list_all, list_any, lookup-filter-keys, lookup-insert_entry, lookup-insert_same, nat_lt, nat_tests, ne_eqb, or_cases, or_right, puid_cmp, rises, same_puid, same_puid_is, same_puid_itself, without_id}
+use Rattle.std.proofs.Common.{◌≡◌, ◌≢◌, inl, inr, ℕ, ◌<◌, Bool, true, false, cond, ◌&&◌, ◌==◌, not, List, [], ◌∷◌, None, refl, sym, ◌∙◌, ap, subst, arith, is_some}
+use Rattle.cfs_recover.proofs.Words.{Kind, Listing, Puid, among_itself, and_parts, blocks_rise, each_among, eqb-true, has_root_in, insert_entry, is_among, is_at, is_listing, is_some-lookup, keys_of, directory_kind, list_all, list_any, lookup-filter-keys, lookup-insert_entry, lookup-insert_same, nat_lt, nat_tests, ne_eqb, or_cases, or_right, puid_cmp, rises, same_puid, same_puid_is, same_puid_itself, without_id}
 
 abbrev pub listed : List (Puid × Kind) → Puid → Bool
 listed named x = is_some (directory_kind named x)
@@ -43,6 +43,23 @@ has_root named x there = any (keys_of named) (sym (listed_is named x) ∙ there)
       | inl same ↦ let is : y.block ≡ x.block = ap (λ (p : Puid). p.block) (sym (same_puid_is x y same)) in grind (arith, nat_tests)
       | inr later ↦ let rest = any ids later in rw rest (search (arith, nat_tests))
     ]
+
+-- of a root block one is listed
+pub listed_of_root : (named : List (Puid × Kind)) (block : ℕ) → has_root_in named block ≡ true → (x : Puid) × (listed named x ≡ true) × (x.block ≡ block)
+listed_of_root named block has = at (keys_of named) has (λ x among. listed_is named x ∙ among)
+  where
+    at : (ids : List Puid) → list_any (λ x. x.block == block) ids ≡ true → ((x : Puid) → is_among x ids ≡ true → listed named x ≡ true) → (x : Puid) × (listed named x ≡ true) × (x.block ≡ block)
+    at [] any each = cc
+    at (y ∷ ids) any each = elim (or_cases (y.block == block) (list_any (λ x. x.block == block) ids) any) [
+      | inl here ↦ (y, each y (among_itself y ids), eqb-true y.block block here)
+      | inr rest ↦ at ids rest (λ x among. each x (or_right (same_puid x y) (is_among x ids) among))
+    ]
+
+-- and still is, as one more is put in, or one is put in again
+pub root_then : (named : List (Puid × Kind)) (id : Puid) (block : ℕ) (kind : Kind) → has_root_in named block ≡ true → has_root_in (insert_entry puid_cmp named id kind) block ≡ true
+root_then named id block kind was =
+    let one = listed_of_root named block was in
+    ap (has_root_in (insert_entry puid_cmp named id kind)) (sym one.2) ∙ has_root (insert_entry puid_cmp named id kind) one.0 (listed_then named id one.0 kind one.1)
 
 -- two that are listed have root blocks of their own
 alone : (ids : List Puid) (x y : Puid) → blocks_rise ids ≡ true → is_among x ids ≡ true → is_among y ids ≡ true → x.block ≡ y.block → x ≡ y
@@ -88,6 +105,11 @@ put_again named id x kind was = at (same_puid x id) refl
     at false other = put_other (without_id named id) id x kind other
         ∙ ap is_some (lookup-filter-keys (is_at (puid_cmp x)) (λ k. not (same_puid k id)) (not (same_puid x id)) (λ k same. ap (λ (z : Puid). not (same_puid z id)) (sym (same_puid_is x k same))) named)
         ∙ ap (λ (b : Bool). is_some (cond (not b) (directory_kind named x) None)) other ∙ was
+
+pub root_again : (named : List (Puid × Kind)) (id : Puid) (block : ℕ) (kind : Kind) → listed named id ≡ true → has_root_in named block ≡ true → has_root_in (insert_entry puid_cmp (without_id named id) id kind) block ≡ true
+root_again named id block kind there was =
+    let one = listed_of_root named block was in
+    ap (has_root_in (insert_entry puid_cmp (without_id named id) id kind)) (sym one.2) ∙ has_root (insert_entry puid_cmp (without_id named id) id kind) one.0 (put_again named id one.0 kind one.1)
 
 none_passes : (P : Puid → Bool) (ids : List Puid) → ((y : Puid) → is_among y ids ≡ true → P y ≡ false) → list_any P ids ≡ false
 none_passes P [] fails = refl

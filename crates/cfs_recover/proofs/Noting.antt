@@ -1,10 +1,10 @@
 -- What a walk has found, as one identifier is noted, and a block is held.
-use Rattle.std.proofs.Common.{◌≡◌, ◌≢◌, ◌⊎◌, inl, inr, ℕ, zero, suc, ◌<◌, ◌≤◌, Bool, true, false, cond, List, [], ◌∷◌, ◌++◌, length, get_or, set, Option, Some, None, refl, sym, ◌∙◌, ap, subst, arith, get_or-set_same, get_or-set_other, length-append, is_some, ◌==◌}
-use Rattle.cfs_recover.proofs.Words.{Found, Graph, Grows, Image, IsClash, IsFoundItem, IsKeptBlock, IsNamed, IsSized, IsSome, IsWalkedObject, IsWalk, Kind, Listing, Object, Puid, Walk, among_itself, cases_eq, eqb-true, false_from_ne_true, has_root_in, holds, insert_entry, is_among, is_there, keys_of, directory_kind-kinds_in, object_kind, kinds_in-insert_entry, kinds_of, list_any, lists, new_index, object_at, object_at-with_object, option_map, or_cases, or_right, puid_cmp, rises-with_object, same_Some, same_puid, same_puid_is, slice_get, with_object}
+use Rattle.std.proofs.Common.{◌≡◌, ◌≢◌, ◌⊎◌, inl, inr, ℕ, zero, suc, ◌<◌, ◌≤◌, Bool, true, false, cond, List, [], ◌∷◌, ◌++◌, length, get_or, set, Option, Some, None, refl, sym, ◌∙◌, ap, subst, arith, get_or-set_same, get_or-set_other, length-append, is_some}
+use Rattle.cfs_recover.proofs.Words.{Found, Graph, Grows, Image, IsClash, IsFoundItem, IsKeptBlock, IsNamed, IsSized, IsSome, IsWalkedObject, IsWalk, Kind, Listing, Object, Puid, Walk, cases_eq, false_from_ne_true, has_root_in, holds, insert_entry, is_there, directory_kind-kinds_in, object_kind, kinds_in-insert_entry, kinds_of, lists, new_index, object_at, object_at-with_object, option_map, puid_cmp, rises-with_object, same_Some, same_puid, same_puid_is, slice_get, with_object, without_id}
 use Rattle.cfs_base.specs.declared.kind.Kind.TheVariants as kinds
 use Rattle.ufs_model.specs.declared.object.Object.TheVariants as objects
 use Rattle.cfs_recover.proofs.Good.{noted_on}
-use Rattle.cfs_recover.proofs.Listings.{has_root, listed, listed_from, listed_is, listed_new, listed_then}
+use Rattle.cfs_recover.proofs.Listings.{has_root, listed, listed_from, listed_new, listed_of_root, listed_then, root_again, root_then}
 
 -- ---- lists
 
@@ -25,12 +25,41 @@ push_from (z ∷ xs) x y (suc k) at = elim (push_from xs x y k at) [ inl was ↦
 
 -- ---- sizes
 
-pub sized_push : (room : ℕ) (found more : List Found) (held : List Bool) (x : Found) → IsSized room found held → x.block < room → more ≡ found ++ x ∷ [] → IsSized room more held
-sized_push room found more held x sized below is = record {
-  each = λ k y at. elim (push_from found x y k (ap (λ (xs : List Found). slice_get xs k) (sym is) ∙ at)) [
-    | inl was ↦ sized.each k y was
-    | inr now ↦ subst (λ (z : Found). z.block < room) now.1 below
-  ];
+module _ (d : Listing) (found : List Found) (held : List Bool) (sized : IsSized d found held) (id : Puid) (by : ℕ) (kind : Kind) (below : id.block < d.room) (free : has_root_in d.named id.block ≡ false) where
+  abbrev pushed : Found
+  pushed = record { block = id.block; by = by }
+
+  fresh : (k : ℕ) (x : Found) → slice_get found k ≡ Some x → x.block ≢ id.block
+  fresh k x at same = let no = sym free ∙ ap (has_root_in d.named) (sym same) ∙ sized.listed k x at in cc
+
+  pub sized_push : IsSized (record { named = insert_entry puid_cmp d.named id kind; room = d.room }) (found ++ pushed ∷ []) held
+  sized_push = record {
+    each = λ k x at. elim (push_from found pushed x k at) [
+      | inl was ↦ sized.each k x was
+      | inr now ↦ subst (λ (z : Found). z.block < d.room) now.1 below
+    ];
+    listed = λ k x at. elim (push_from found pushed x k at) [
+      | inl was ↦ root_then d.named id x.block kind (sized.listed k x was)
+      | inr now ↦ subst (λ (z : Found). has_root_in (insert_entry puid_cmp d.named id kind) z.block ≡ true) now.1 (has_root (insert_entry puid_cmp d.named id kind) id (listed_new d.named id kind))
+    ];
+    once = λ j k x y one two same. elim (push_from found pushed x j one) [
+      | inl old ↦ elim (push_from found pushed y k two) [
+        | inl was ↦ sized.once j k x y old was same
+        | inr now ↦ absurd (fresh j x old (same ∙ ap (λ (z : Found). z.block) (sym now.1)))
+      ]
+      | inr first ↦ elim (push_from found pushed y k two) [
+        | inl was ↦ absurd (fresh k y was (sym same ∙ ap (λ (z : Found). z.block) (sym first.1)))
+        | inr now ↦ first.0 ∙ sym now.0
+      ]
+    ];
+    marks = sized.marks;
+  }
+
+pub sized_again : (d : Listing) (found : List Found) (held : List Bool) → IsSized d found held → (id : Puid) (kind : Kind) → listed d.named id ≡ true → IsSized (record { named = insert_entry puid_cmp (without_id d.named id) id kind; room = d.room }) found held
+sized_again d found held sized id kind there = record {
+  each = sized.each;
+  listed = λ k x at. root_again d.named id x.block kind there (sized.listed k x at);
+  once = sized.once;
   marks = sized.marks;
 }
 
@@ -138,20 +167,9 @@ module _ (image : Image) (w v : Walk) (id : Puid) (by : ℕ) (directory : v.dire
     clash = λ some. subst IsSome (sym clash) refl;
   }
 
-  -- one that is listed has its root block
-  other_listed : (named : List (Puid × Kind)) → has_root_in named id.block ≡ true → (x : Puid) × (listed named x ≡ true) × (x.block ≡ id.block)
-  other_listed named has = at (keys_of named) has (λ x among. listed_is named x ∙ among)
-    where
-      at : (ids : List Puid) → list_any (λ x. x.block == id.block) ids ≡ true → ((x : Puid) → is_among x ids ≡ true → listed named x ≡ true) → (x : Puid) × (listed named x ≡ true) × (x.block ≡ id.block)
-      at [] any each = cc
-      at (y ∷ ids) any each = elim (or_cases (y.block == id.block) (list_any (λ x. x.block == id.block) ids) any) [
-        | inl here ↦ (y, each y (among_itself y ids), eqb-true y.block id.block here)
-        | inr rest ↦ at ids rest (λ x among. each x (or_right (same_puid x y) (is_among x ids) among))
-      ]
-
   pub clash_walk : (done : ℕ) → IsWalk image w done → IsNamed image id by → lists w id ≡ false → has_root_in w.directory.named id.block ≡ true → IsWalk image v done
   clash_walk done walk is_named unlisted has =
-      let other = other_listed w.directory.named has in
+      let other = listed_of_root w.directory.named id.block has in
       let apart : id.word ≢ other.0.word = λ same. let is : id ≡ other.0 = (let block = sym other.2 in λ i. record { block = block i; word = same i }) in
       let no = sym (ap (lists w) is ∙ other.1) ∙ unlisted in cc in
       walk_as image w v done walk clash_grows directory found

@@ -1,7 +1,8 @@
 -- A block of an object that is read: where it stands, and which faults of the volume are found in it.
-use Rattle.std.proofs.Common.{◌≡◌, ◌≢◌, inl, inr, ℕ, ◌+◌, ◌-◌, ◌*◌, ◌/◌, ◌%◌, ◌<◌, ◌≤◌, List, [], ◌∷◌, ◌++◌, length, get_or, Option, Some, None, refl, sym, ◌∙◌, ap, subst, arith, append_assoc, append-nil, length-append}
-use Rattle.cfs_recover.proofs.Words.{InTree, AreNamed, BelongsTo, BySlot, Damage, Fault, HasBlock, HasPointers, Image, HasLeaf, IsFaultOf, IsKeptBlock, IsNotFilled, IsShown, IsUsed, Level, Object, ObjectFault, Place, Puid, Root, Shows, SpotFault, Twig, block_at, cases_lt, content_is, damage, shown_root, digits_below, div-mul-add, end_of, get_or_past, held, held_at, held_there, holder, index_to_leaves, leaf_content, leaf_in, leaf_pointers, leaves_in, length-path_to, levels_below, levels_of, mod-mul-add, node_pointers, nodes_of, part_at, path_more, path_to, place_above, place_at, place_from, pointer, pointers_of, object_shown, shown_tree, slice_get, slot_in, slot_of, some_index, tree_of, unwrap_or, width, width_more}
+use Rattle.std.proofs.Common.{◌≡◌, ◌≢◌, inl, inr, ℕ, ◌+◌, ◌-◌, ◌*◌, ◌/◌, ◌%◌, ◌<◌, ◌≤◌, false, List, [], ◌∷◌, ◌++◌, length, get_or, Option, Some, None, refl, sym, ◌∙◌, ap, subst, arith, append_assoc, append-nil, length-append}
+use Rattle.cfs_recover.proofs.Words.{InTree, AreNamed, BelongsTo, BySlot, Damage, Fault, HasBlock, HasPointers, Image, HasLeaf, IsFaultOf, IsKeptBlock, IsNotFilled, IsShown, IsUsed, Kind, Level, Object, ObjectFault, Place, Puid, Root, Shows, SpotFault, Twig, block_at, cases_lt, content_is, damage, shown_root, digits_below, div-mul-add, end_of, get_or_past, held, held_at, held_there, holder, index_to_leaves, leaf_content, leaf_in, leaf_pointers, leaves_in, length-path_to, levels_below, levels_of, mod-mul-add, nat_tests, node_pointers, nodes_of, part_at, path_more, path_to, place_above, place_at, place_from, pointer, pointers_of, object_shown, shown_tree, slice_get, slot_in, slot_of, some_index, tree_of, unwrap_or, width, width_more}
 use Rattle.cfs_base.specs.declared.kind.Kind.TheVariants as kinds
+use Rattle.cfs_recover.specs.Reads.{is_leaf_read}
 use Rattle.cfs_recover.proofs.Trees.{down, holder_is, length-pointers, one_more, place_on}
 
 -- the pointers of a root are those that its block has
@@ -156,3 +157,10 @@ module _ (image : Image) (owner : ℕ) (root : Root) (twig : Twig) (has : HasBlo
         filled : (o : Option (Option Puid)) → unwrap_or o None ≡ Some x → o ≡ Some (Some x)
         filled None none = cc
         filled (Some what) is = ap Some is
+
+-- ---- a leaf that isn't read
+
+pub unread_leaf : (kind : Kind) (size leaf : ℕ) → is_leaf_read kind size leaf ≡ false → (kind ≢ kinds.Index) × (512 * leaf + 512 ≤ size)
+unread_leaf kinds.Normal size leaf is = (λ index. cc, grind (arith, nat_tests))
+unread_leaf kinds.Special size leaf is = (λ index. cc, grind (arith, nat_tests))
+unread_leaf kinds.Index size leaf is = cc

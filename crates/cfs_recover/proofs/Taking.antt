@@ -33,7 +33,7 @@ module _ (image : Image) (id : Puid) (head : Head) (opened : IsOpened image id h
   abbrev top : Branch
   top = record { block = head.from; number = 0; height = node_levels }
 
-  nodes_are : head.root.nodes ≡ pointers_of node_pointers (shown_root image id.block)
+  pub nodes_are : head.root.nodes ≡ pointers_of node_pointers (shown_root image id.block)
   nodes_are = root_pointers image id head.from head.root opened.shown
 
   -- its pointers lead to the first level of its tree
@@ -54,6 +54,9 @@ module _ (image : Image) (id : Puid) (head : Head) (opened : IsOpened image id h
     nodes : IsGoodTree image id.block head.root w (shown_root image id.block)
     nodes = below_all image id.block head.root w top node_pointers (shown_root image id.block) head.root.nodes nodes_are all
 
+    pub object_tree : IsTree (length image) id.block (tree_in image (block_at image from)) head.root (object_shown image id head.root)
+    object_tree = tree_is image id.block from head.root w opened.shown.shows.read.spelled nodes
+
     pub object_taken : IsWalkedObject image w id (object_shown image id head.root)
     unfolding sight
     object_taken = record {
@@ -68,7 +71,7 @@ module _ (image : Image) (id : Puid) (head : Head) (opened : IsOpened image id h
         same_kind = opened.shown.shows.read.same.kind;
         same_word = opened.shown.shows.read.same.word;
         tree = subst (λ (n : ℕ). IsTree (length image) id.block (tree_in image (block_at image n)) head.root (object_shown image id head.root)) from_source
-            (tree_is image id.block from head.root w opened.shown.shows.read.spelled nodes);
+            object_tree;
       };
       leads = refers_noted image id.block from head.root w opened.shown.shows.read.spelled nodes whole;
       sort = opened.shown.shows.sort;

@@ -7,6 +7,7 @@ pub mod Sized
 pub mod Found
 pub mod Walk
 pub mod Copies
+pub mod Reads
 pub mod Grounds
 pub mod Survey
 pub mod Tidy

@@ -2,8 +2,10 @@
 ghost use Rattle.std.specs.Prelude.{◌≡◌, ◌⊎◌, ◌+◌, ◌*◌, IfErr, OnOk};
 ghost use Rattle.cfs_base.specs.Calls.{OnlyReads};
 ghost use Rattle.cfs_base.specs.Run.{Tells};
-ghost use Rattle.vol_image.specs.Sound.{IsSound};
+ghost use Rattle.ufs_model.specs.Graph.{Graph};
+ghost use Rattle.vol_image.specs.Sound.{IsSound, IsSoundAs};
 ghost use Rattle.cfs_recover.specs.Grounds.{IsOpenFault};
+ghost use Rattle.cfs_recover.specs.Reads.{reads_of_volume};
 ghost use Rattle.cfs_recover.specs.Refusals.{IsCaused};
 ghost use Rattle.cfs_recover.specs.Walk.{reads_by_block};
 
@@ -23,6 +25,9 @@ pub fn check_volume<D: Disk>(alloc: Global, disk: &mut D) -> Result<(), RecoverF
         → IfErr result (λ e. (e ≡ RecoverFault.Disk) ⊎ (e ≡ RecoverFault.Memory)) }
     ensures cause { IfErr result (IsCaused D.Disk disk.old disk.new) }
     ensures reads { OnlyReads D.Disk (1 + reads_by_block * D.blocks disk.old) disk.old disk.new }
+    // Of a sound volume no more is read than that.
+    ensures by_object { Tells D.Disk disk.old → (g : Graph) → IsSoundAs (D.content disk.old) g
+        → OnOk result (OnlyReads D.Disk (reads_of_volume (D.blocks disk.old) g) disk.old disk.new) }
 {
     survey_volume(alloc, disk)?;
     Ok(())

@@ -27,7 +27,7 @@ pub(crate) struct Walk {
     pub held: Vec<bool>,
     /// The block that names an identifier with the root block, but not the word, of one that was found.
     pub clash: Option<u32>,
-    ghost sized: { IsSized directory.room found.items held.items },
+    ghost sized: { IsSized directory found.items held.items },
 }
 
 impl Walk {

@@ -1,10 +1,10 @@
 //! A leaf of an object.
-ghost use Rattle.std.specs.Prelude.{◌≡◌, ◌≢◌, ◌+◌, ◌*◌, ◌<◌, ◌≤◌, false, get_or, IfSome, IfNone, MatchResult};
+ghost use Rattle.std.specs.Prelude.{◌≡◌, ◌≢◌, ◌+◌, ◌*◌, ◌<◌, ◌≤◌, get_or, IfSome, IfNone, MatchResult};
 ghost use Rattle.cfs_base.specs.Codes as codes;
-ghost use Rattle.cfs_base.specs.declared.kind.Kind.TheVariants as kinds;
 ghost use Rattle.ufs_model.specs.Object.{leaves_in};
 ghost use Rattle.cfs_recover.specs.Checks.{IsFilled, IsNotFilled};
 ghost use Rattle.cfs_recover.specs.Entries.{damage};
+ghost use Rattle.cfs_recover.specs.Reads.{is_leaf_read};
 
 use block_tree::Root;
 use cfs_base::{Block, Damage, Kind, code};
@@ -25,7 +25,7 @@ pub fn check_leaf(root: &Root, leaf: u32, block: u32) -> Result<(), Damage>
 
 /// Whether the content of the leaf with this number matters: its slots, or its bytes past the size.
 pub fn is_read(root: &Root, leaf: u32) -> bool
-    ensures { result ≡ false → (root.now.kind ≢ kinds.Index) × (512 * leaf + 512 ≤ root.now.size) }
+    ensures { result ≡ is_leaf_read root.now.kind root.now.size leaf }
 {
     root.kind == Kind::Index || root.size < 512 * leaf as u64 + 512
 }

@@ -8,6 +8,7 @@ ghost use Rattle.vol_image.specs.Sound.{IsSound, IsSoundAs};
 ghost use Rattle.cfs_recover.specs.Grounds.{IsOpenFault};
 ghost use Rattle.cfs_recover.specs.Keeps.{Leads};
 ghost use Rattle.cfs_recover.specs.Recovered.{IsRecovered, IsUntouched, LeavesSinceBarrier, WritesWhatDiffers};
+ghost use Rattle.cfs_recover.specs.Reads.{reads_of_volume};
 ghost use Rattle.cfs_recover.specs.Refusals.{IsCaused};
 ghost use Rattle.cfs_recover.specs.Survey.{FitsSurvey, IsSurvey};
 ghost use Rattle.cfs_recover.specs.Walk.{calls_by_block};
@@ -82,6 +83,9 @@ fn open_settled<D: Disk>(alloc: Global, disk: &mut D) -> Result<Recovered, Recov
     ensures cause { IfErr result (IsCaused D.Disk disk.old disk.new) }
     ensures calls { MakesAtMost D.Disk (calls_by_block * D.blocks disk.old + 3) (2 * D.blocks disk.old + 2) disk.old
         disk.new }
+    ensures by_object { (g : Graph) → IsSettled D.Disk disk.old → IsSoundAs (D.content disk.old) g
+        → OnOk result (MakesAtMost D.Disk (reads_of_volume (D.blocks disk.old) g + 2 * D.blocks disk.old + 2)
+        (2 * D.blocks disk.old + 2) disk.old disk.new) }
 {
     let survey = survey_volume(alloc, disk)?;
     let mut space = Space::none(alloc, survey.grounds.maps.len() as u32)?;
@@ -118,6 +122,11 @@ pub fn recover<D: Disk>(alloc: Global, disk: &mut D) -> Result<Recovered, Recove
     ensures cause { IfErr result (IsCaused D.Disk disk.old disk.new) }
     ensures calls { MakesAtMost D.Disk (calls_by_block * D.blocks disk.old + 4) (2 * D.blocks disk.old + 3) disk.old
         disk.new }
+    // Of a sound volume no more is read than the label, each map, and of each object its root, a shadow root, its
+    // nodes, and the leaves of an index, or of a file the one in which it ends.
+    ensures by_object { IsTrue (D.honest disk.old) → (g : Graph) → IsSoundAs (D.content disk.old) g
+        → OnOk result (MakesAtMost D.Disk (reads_of_volume (D.blocks disk.old) g + 2 * D.blocks disk.old + 3)
+        (2 * D.blocks disk.old + 3) disk.old disk.new) }
 {
     flush(disk)?;
     open_settled(alloc, disk)

@@ -1,15 +1,18 @@
 //! A volume surveyed before anything is written.
 ghost use Rattle.std.specs.Prelude.{◌≡◌, ◌≢◌, ◌+◌, ◌*◌, ◌≤◌, ◌<◌, ℕ, Bool, None, length, count_by, IfErr, IfOk};
-ghost use Rattle.std.specs.Prelude.{MatchResult};
+ghost use Rattle.std.specs.Prelude.{◌/◌, MatchResult, OnOk};
 ghost use Rattle.cfs_base.specs.Calls.{OnlyReads};
 ghost use Rattle.cfs_base.specs.Codes as codes;
 ghost use Rattle.cfs_base.specs.Disk.{Image};
+ghost use Rattle.ufs_model.specs.Graph.{Graph};
 ghost use Rattle.vol_image.specs.Fault.{HasLabel};
+ghost use Rattle.vol_image.specs.Sound.{IsSoundAs};
 ghost use Rattle.vol_label.specs.Label.{IsLabel};
 ghost use Rattle.vol_label.specs.declared.label.Label.{Label};
 ghost use Rattle.cfs_recover.specs.Entries.{damage};
 ghost use Rattle.cfs_recover.specs.Found.{IsFaultOf, IsNotedIn, IsWalk};
 ghost use Rattle.cfs_recover.specs.Grounds.{AreGrounds, IsOpenFault};
+ghost use Rattle.cfs_recover.specs.Reads.{HasRead, reads_of_volume};
 ghost use Rattle.cfs_recover.specs.Refusals.{IsCaused, NamesDamage};
 ghost use Rattle.cfs_recover.specs.Stored.{AreMapsOf, Stores};
 ghost use Rattle.cfs_recover.specs.Survey.{FitsSurvey, IsOfSize, IsSurvey, IsWalked, IsWholeWalk};
@@ -57,6 +60,7 @@ fn read_grounds<D: Disk>(alloc: Global, disk: &mut D) -> Result<Grounds, Recover
     ensures count { IfOk result (λ grounds. length grounds.maps.items ≡ grounds.label.cylinders) }
     ensures cause { IfErr result (IsCaused D.Disk disk.old disk.new) }
     ensures reads { OnlyReads D.Disk (1 + D.blocks disk.old) disk.old disk.new }
+    ensures by_map { OnlyReads D.Disk (1 + D.blocks disk.old / 64) disk.old disk.new }
 {
     let label = read_label(disk)?;
     let maps = read_maps(alloc, disk, label.cylinders)?;
@@ -91,6 +95,9 @@ fn walk_volume<D: Disk>(
     ensures size { IfOk result (IsOfSize (D.blocks disk.old)) }
     ensures cause { IfErr result (IsCaused D.Disk disk.old disk.new) }
     ensures reads { OnlyReads D.Disk (reads_of_object * D.blocks disk.old) disk.old disk.new }
+    ensures by_object { (image : Image) → Stores D.Disk disk.old image → AreGrounds image grounds.now.label
+        → AreMapsOf image grounds.now.maps.items → IfOk result (λ w.
+        HasRead D.Disk image w.walk.found.items (length w.walk.found.items) disk.old disk.new) }
 {
     let standing = standing_in(alloc, &grounds.maps)?;
     let mut walk = begin_walk(alloc, disk.blocks(), grounds.label.root)?;
@@ -148,6 +155,8 @@ pub(crate) fn survey_volume<D: Disk>(alloc: Global, disk: &mut D) -> Result<Surv
     ensures fits { IfOk result (FitsSurvey (D.blocks disk.old)) }
     ensures cause { IfErr result (IsCaused D.Disk disk.old disk.new) }
     ensures reads { OnlyReads D.Disk (1 + reads_by_block * D.blocks disk.old) disk.old disk.new }
+    ensures by_object { (image : Image) (g : Graph) → Stores D.Disk disk.old image → IsSoundAs image g
+        → OnOk result (OnlyReads D.Disk (reads_of_volume (D.blocks disk.old) g) disk.old disk.new) }
 {
     let grounds = read_grounds(alloc, disk)?;
     let walked = walk_volume(alloc, disk, &grounds)?;

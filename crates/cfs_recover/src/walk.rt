@@ -7,6 +7,7 @@ ghost use Rattle.vol_label.specs.declared.label.Label.{Label};
 ghost use Rattle.cfs_recover.specs.Copies.{HasKept};
 ghost use Rattle.cfs_recover.specs.Entries.{AreStanding};
 ghost use Rattle.cfs_recover.specs.Found.{Grows, IsFaultOf};
+ghost use Rattle.cfs_recover.specs.Reads.{HasRead};
 ghost use Rattle.cfs_recover.specs.Refusals.{IsCaused, NamesDamage};
 ghost use Rattle.cfs_recover.specs.Walk.{Walks, reads_of_object};
 
@@ -40,15 +41,16 @@ pub(crate) fn walk_all<D: Disk>(
     ensures few { OnOk result (length walk.new.found.items ≤ D.blocks disk.old) }
     ensures cause { IfErr result (IsCaused D.Disk disk.old disk.new) }
     ensures reads { OnlyReads D.Disk (reads_of_object * D.blocks disk.old) disk.old disk.new }
+    ensures by_object { (image : Image) (label : Label) → Walks D.Disk disk.old image maps.now walk.old 0
+        → AreStanding image (length image) standing.now → HasLabel image label
+        → OnOk result (HasRead D.Disk image walk.new.found.items (length walk.new.found.items) disk.old disk.new) }
 {
-    for next in 0..disk.blocks() {
-        if next as usize >= walk.found.len() {
-            return Ok(());
-        }
-        let item = walk.found[next as usize];
+    let mut next = 0;
+    while next < walk.found.len() {
+        let item = walk.found[next];
         let head = walk_object(disk, maps, standing, walk, item)?;
         note_copy(kept, item.block, &head)?;
+        next += 1;
     }
-    // The list has each block at most once, so it never comes to this.
-    Err(RecoverFault::Memory)
+    Ok(())
 }

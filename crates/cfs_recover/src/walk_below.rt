@@ -5,7 +5,9 @@ ghost use Rattle.cfs_base.specs.Disk.{Image};
 ghost use Rattle.block_tree.specs.Pointers.{leaf_limit, levels_below, width};
 ghost use Rattle.vol_image.specs.Seen.{place_above};
 ghost use Rattle.cfs_recover.specs.Found.{Grows, IsFaultOf};
+ghost use Rattle.cfs_recover.specs.Reads.{reads_below, reads_through};
 ghost use Rattle.cfs_recover.specs.Refusals.{IsCaused, NamesDamage};
+ghost use Rattle.cfs_recover.specs.Stored.{Stores};
 ghost use Rattle.cfs_recover.specs.Walk.{AreGood, AreGoodBelow, HasBlock, HasPointers, Walks, reads_by_height};
 
 use crate::fault::RecoverFault;
@@ -79,6 +81,8 @@ fn walk_twig<D: Disk>(
     ensures grows { OnOk result (Grows walk.old walk.new) }
     ensures cause { IfErr result (IsCaused D.Disk disk.old disk.new) }
     ensures reads { OnlyReads D.Disk (reads_by_height twig.height) disk.old disk.new }
+    ensures few { (image : Image) → Stores D.Disk disk.old image
+        → OnlyReads D.Disk (reads_below image root.now twig.height twig.number twig.block) disk.old disk.new }
 {
     check_spot(maps, spot_of(owner, twig))?;
     if twig.height == 0 {
@@ -118,6 +122,8 @@ pub(crate) fn walk_below<D: Disk>(
     ensures grows { OnOk result (Grows walk.old walk.new) }
     ensures cause { IfErr result (IsCaused D.Disk disk.old disk.new) }
     ensures reads { OnlyReads D.Disk (length pointers.now * reads_by_height at.height) disk.old disk.new }
+    ensures few { (image : Image) → Stores D.Disk disk.old image → OnlyReads D.Disk (reads_through
+        (reads_below image root.now at.height) (at.number * length pointers.now) pointers.now) disk.old disk.new }
 {
     for place in 0..pointers.len() {
         let block = pointers[place];

@@ -1,10 +1,12 @@
 //! One block of an object that is walked: a leaf, or a node.
-ghost use Rattle.std.specs.Prelude.{◌≡◌, ◌≢◌, ◌<◌, ℕ, true, IfErr, MatchResult, OnOk};
+ghost use Rattle.std.specs.Prelude.{◌≡◌, ◌≢◌, ◌<◌, ℕ, true, IfErr, IfOk, MatchResult, OnOk};
 ghost use Rattle.cfs_base.specs.Calls.{OnlyReads};
-ghost use Rattle.cfs_base.specs.Disk.{Image};
+ghost use Rattle.cfs_base.specs.Disk.{Image, block_at};
 ghost use Rattle.cfs_base.specs.declared.kind.Kind.TheVariants as kinds;
+ghost use Rattle.block_tree.specs.Pointers.{leaf_pointers, pointers_of};
 ghost use Rattle.block_tree.specs.declared.root.Root as roots;
 ghost use Rattle.cfs_recover.specs.Found.{AreNamed, AreNoted, Grows, IsFaultOf, IsWalk, holds};
+ghost use Rattle.cfs_recover.specs.Reads.{reads_of_leaf};
 ghost use Rattle.cfs_recover.specs.Refusals.{IsCaused, NamesDamage};
 ghost use Rattle.cfs_recover.specs.Stored.{Stores};
 ghost use Rattle.cfs_recover.specs.Walk.{HasBlock, IsGoodLeaf, IsNodeAt, IsReadLeaf};
@@ -39,7 +41,7 @@ fn note_leaf(
     walk.note_slots(content, root.size, leaf, block)
 }
 
-/// Reads a leaf, where its content matters, and notes what it names.
+/// Reads a leaf only where its content matters, and notes what it names.
 fn read_leaf<D: Disk>(
     disk: &mut D,
     walk: &mut Walk,
@@ -54,6 +56,7 @@ fn read_leaf<D: Disk>(
     ensures grows { OnOk result (Grows walk.old walk.new) }
     ensures cause { IfErr result (IsCaused D.Disk disk.old disk.new) }
     ensures reads { OnlyReads D.Disk 1 disk.old disk.new }
+    ensures few { OnlyReads D.Disk (reads_of_leaf root.now twig.number) disk.old disk.new }
 {
     if !is_read(root, twig.number) {
         return Ok(());
@@ -81,6 +84,7 @@ pub(crate) fn walk_leaf<D: Disk>(
     ensures grows { OnOk result (Grows walk.old walk.new) }
     ensures cause { IfErr result (IsCaused D.Disk disk.old disk.new) }
     ensures reads { OnlyReads D.Disk 1 disk.old disk.new }
+    ensures few { OnlyReads D.Disk (reads_of_leaf root.now twig.number) disk.old disk.new }
 {
     check_leaf(root, twig.number, twig.block)?;
     read_leaf(disk, walk, root, twig)?;
@@ -100,6 +104,8 @@ pub(crate) fn walk_node<D: Disk>(
         → IsWalk image walk.old done → HasBlock image owner root twig → twig.height ≢ 0
         → MatchResult result (λ node. IsWalk image walk.new done × IsNodeAt image twig.block node)
         (NamesDamage (IsFaultOf image)) }
+    ensures leaves { (image : Image) → Stores D.Disk disk.old image
+        → IfOk result (λ node. node.leaves ≡ pointers_of leaf_pointers (block_at image twig.block)) }
     ensures held { OnOk result (holds walk.new twig.block ≡ true) }
     ensures grows { OnOk result (Grows walk.old walk.new) }
     ensures cause { IfErr result (IsCaused D.Disk disk.old disk.new) }

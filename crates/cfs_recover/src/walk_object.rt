@@ -9,6 +9,7 @@ ghost use Rattle.vol_label.specs.declared.label.Label.{Label};
 ghost use Rattle.cfs_recover.specs.Checks.{HasRootSlots};
 ghost use Rattle.cfs_recover.specs.Entries.{AreStanding, damage};
 ghost use Rattle.cfs_recover.specs.Found.{Grows, IsFaultOf, IsFoundItem, lists};
+ghost use Rattle.cfs_recover.specs.Reads.{IsReadItem};
 ghost use Rattle.cfs_recover.specs.Refusals.{IsCaused, NamesDamage};
 ghost use Rattle.cfs_recover.specs.Stored.{AreMapsOf, Stores};
 ghost use Rattle.cfs_recover.specs.Walk.{IsCopy, IsOpened, IsOwn, Walks, id_of, reads_of_object};
@@ -113,6 +114,10 @@ pub(crate) fn walk_object<D: Disk>(
     ensures grows { OnOk result (Grows walk.old walk.new) }
     ensures cause { IfErr result (IsCaused D.Disk disk.old disk.new) }
     ensures reads { OnlyReads D.Disk reads_of_object disk.old disk.new }
+    ensures few { (image : Image) (label : Label) (done : ℕ) → Walks D.Disk disk.old image maps.now walk.old done
+        → AreStanding image (length image) standing.now → HasLabel image label
+        → slice_get walk.old.found.items done ≡ Some item
+        → OnOk result ((reads : ℕ) × IsReadItem image item reads × OnlyReads D.Disk reads disk.old disk.new) }
 {
     let own = own_root(disk, walk, item)?;
     let head = open_object(disk, maps, standing, item, &own)?;

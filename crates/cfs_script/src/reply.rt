@@ -48,8 +48,8 @@ fn put_hex(into: &mut Vec<u8>, bytes: &[u8])
     let _ = hex::encode_to_slice(bytes, &mut into.as_mut_slice()[start..]);
 }
 
-/// Appends the line of these words and numbers.
-fn put_line(into: &mut Vec<u8>, words: &[u8], numbers: &[u64])
+/// Appends the line of these words and numbers. It takes no memory.
+pub fn put_line(into: &mut Vec<u8>, words: &[u8], numbers: &[u64])
     requires { vec_len into.old + length words.now + 21 * length numbers.now + 1 ≤ vec_capacity into.old }
     ensures items { into.new.items ≡ into.old.items ++ line_of (words.now ∷ map decimal numbers.now) }
     ensures capacity { vec_capacity into.old ≤ vec_capacity into.new }

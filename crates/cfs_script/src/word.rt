@@ -145,17 +145,27 @@ pub fn commit_in(word: &[u8]) -> Result<bool, ScriptFault>
 }
 
 /// The identifier that the word writes: 16 hexadecimal digits.
-fn digits_in(word: &[u8]) -> Result<Puid, ScriptFault>
-    ensures { AnswersReading result (digits_in word.now) }
+pub fn id_of(word: &[u8]) -> Option<Puid>
+    ensures { MatchOption result (digits_in word.now ≡ Bad) (λ id. digits_in word.now ≡ Is id) }
 {
     let Ok(bytes) = <[u8; 8]>::from_hex(word) else {
-        return Err(ScriptFault::Syntax);
+        return None;
     };
     let [a, b, c, d, e, f, g, h] = bytes;
-    Ok(Puid {
+    Some(Puid {
         block: u32::from_be_bytes([a, b, c, d]),
         word: u32::from_be_bytes([e, f, g, h]),
     })
+}
+
+/// The same, as a word of a line.
+fn digits_in(word: &[u8]) -> Result<Puid, ScriptFault>
+    ensures { AnswersReading result (digits_in word.now) }
+{
+    match id_of(word) {
+        Some(id) => Ok(id),
+        None => Err(ScriptFault::Syntax),
+    }
 }
 
 /// The identifier that the word stands for: `root`, 16 hexadecimal digits, or a name.

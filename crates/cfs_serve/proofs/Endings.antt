@@ -1,6 +1,6 @@
 -- How a service ended, and what spoiled it.
 use Rattle.std.proofs.Common.{◌≡◌, inl, inr, ℕ, ◌≤◌, Bool, true, false, List, Option, Some, None, is_some, refl, sym, ap, ◌∙◌, subst, arith, ◌||◌}
-use Rattle.cfs_serve.specs.Ending.{AreStoppedReplies}
+use Rattle.cfs_serve.specs.Ending.{AreStoppedReplies, cause_by}
 use Rattle.cfs_serve.proofs.Cited.{Cause, CollectFault, Damage, Ending, EndsService, Event, IsStopTold, Rose, Stop, StopsAmong, TellsStop, Told, cause_of, count_after, damage_in, faults_after, first_fault, has_failed, has_fallen, is_calm, is_failure, is_fault, is_none, is_quiet_fault, is_short, is_want_of_memory, list_all, list_any, moment_in, spoiled_by, tells_disk, wants_memory}
 use Rattle.cfs_core.specs.declared.collecting.CollectFault.TheVariants as faults
 use Rattle.cfs_serve.specs.declared.report.Cause.TheVariants as causes
@@ -24,9 +24,13 @@ by_all false stopped None true wanting = refl
 by_all false stopped None false true = refl
 by_all false stopped None false false = (refl, refl, refl)
 
+-- by whether a failed call was told, and want of memory
+pub shown_by : (ending : Ending) (told broken wants : Bool) → Shown (told || has_fallen ending) broken (wants || is_short ending) (cause_by ending told broken wants)
+shown_by ending told broken wants = by_all (told || has_fallen ending) (moment_in ending.stop) (damage_in ending.stop) broken (wants || is_short ending)
+
 pub shown : (ending : Ending) (trail : List Event) (broken : Bool)
     → Shown (has_failed ending trail) broken (list_any wants_memory trail || is_short ending) (cause_of ending trail broken)
-shown ending trail broken = by_all (has_failed ending trail) (moment_in ending.stop) (damage_in ending.stop) broken (list_any wants_memory trail || is_short ending)
+shown ending trail broken = shown_by ending (list_any tells_disk trail) broken (list_any wants_memory trail)
 
 -- ---- where the core runs
 
@@ -35,8 +39,11 @@ runs_if None none isnt = refl
 runs_if (Some s) none isnt = absurd (cc (rw none at isnt))
 
 -- a core that met no damage, and stopped at no failed call, runs
+pub runs_by : (ending : Ending) (told : Bool) → damage_in ending.stop ≡ None → (told || has_fallen ending) ≡ false → ending.stop ≡ None
+runs_by ending told none well = runs_if ending.stop none (or_false (is_fault ending.refused) (is_failure ending.stop) (or_false told (has_fallen ending) well).1).1
+
 pub runs_well : (ending : Ending) (trail : List Event) → damage_in ending.stop ≡ None → has_failed ending trail ≡ false → ending.stop ≡ None
-runs_well ending trail none well = runs_if ending.stop none (or_false (is_fault ending.refused) (is_failure ending.stop) (or_false (list_any tells_disk trail) (has_fallen ending) well).1).1
+runs_well ending trail none well = runs_by ending (list_any tells_disk trail) none well
 
 undamaged_by : (stopped : Option ℕ) (damage : Option Damage) (broken wanting : Bool) → spoiled_by false stopped damage broken wanting ≡ causes.Nothing → damage ≡ None
 undamaged_by stopped None broken wanting well = refl
@@ -49,22 +56,21 @@ never_refused (Some (faults.Disk doubt)) fault want tells = absurd (cc fault)
 never_refused (Some (faults.Damaged damage moment)) fault want tells = absurd (cc tells)
 never_refused (Some (faults.Stopped moment)) fault want tells = absurd (cc want)
 
--- all went well: the core runs, the collector was done at no refusal, and no event tells a failed call or want of memory
-pub record WentWell (ending : Ending) (trail : List Event) : Type 0 where
+-- all went well: the core runs, the collector was done at no refusal, and neither a failed call nor want of memory was told
+pub record Well (ending : Ending) (told wants : Bool) : Type 0 where
   pub runs : ending.stop ≡ None
   pub refused : ending.refused ≡ None
-  pub disk : list_any tells_disk trail ≡ false
-  pub memory : list_any wants_memory trail ≡ false
+  pub disk : told ≡ false
+  pub memory : wants ≡ false
 
-pub went_well : (ending : Ending) (trail : List Event) (broken : Bool) → TellsStop ending.refused ending.stop → cause_of ending trail broken ≡ causes.Nothing
-    → WentWell ending trail
-went_well ending trail broken tells well =
-    let all = subst (Shown (has_failed ending trail) broken (list_any wants_memory trail || is_short ending)) well (shown ending trail broken) in
-    let calm = or_false (list_any tells_disk trail) (has_fallen ending) all.0 in
+pub well_by : (ending : Ending) (told broken wants : Bool) → TellsStop ending.refused ending.stop → cause_by ending told broken wants ≡ causes.Nothing → Well ending told wants
+well_by ending told broken wants tells well =
+    let all = subst (Shown (told || has_fallen ending) broken (wants || is_short ending)) well (shown_by ending told broken wants) in
+    let calm = or_false told (has_fallen ending) all.0 in
     let fallen = or_false (is_fault ending.refused) (is_failure ending.stop) calm.1 in
-    let sated = or_false (list_any wants_memory trail) (is_short ending) all.2 in
-    let damage : damage_in ending.stop ≡ None = undamaged_by (moment_in ending.stop) (damage_in ending.stop) broken (list_any wants_memory trail || is_short ending)
-    (subst (λ b. spoiled_by b (moment_in ending.stop) (damage_in ending.stop) broken (list_any wants_memory trail || is_short ending) ≡ causes.Nothing) all.0 well) in
+    let sated = or_false wants (is_short ending) all.2 in
+    let damage : damage_in ending.stop ≡ None = undamaged_by (moment_in ending.stop) (damage_in ending.stop) broken (wants || is_short ending)
+    (subst (λ b. spoiled_by b (moment_in ending.stop) (damage_in ending.stop) broken (wants || is_short ending) ≡ causes.Nothing) all.0 well) in
     let runs = runs_if ending.stop damage fallen.1 in
     record {
       runs = runs;
@@ -73,21 +79,28 @@ went_well ending trail broken tells well =
       memory = sated.0;
     }
 
+pub went_well : (ending : Ending) (trail : List Event) (broken : Bool) → TellsStop ending.refused ending.stop → cause_of ending trail broken ≡ causes.Nothing
+    → Well ending (list_any tells_disk trail) (list_any wants_memory trail)
+went_well ending trail broken tells well = well_by ending (list_any tells_disk trail) broken (list_any wants_memory trail) tells well
+
 -- of a core that met no damage the moment that is told is that of the stop
-pub stop_told : (ending : Ending) (trail : List Event) (broken : Bool) → damage_in ending.stop ≡ None → IsStopTold (cause_of ending trail broken) (moment_in ending.stop)
-stop_told ending trail broken none = at (has_failed ending trail) refl
+pub stop_told_by : (ending : Ending) (told broken wants : Bool) → damage_in ending.stop ≡ None → IsStopTold (cause_by ending told broken wants) (moment_in ending.stop)
+stop_told_by ending told broken wants none = at (told || has_fallen ending) refl
   where
     wanting : Bool
-    wanting = list_any wants_memory trail || is_short ending
+    wanting = wants || is_short ending
 
     running : (b w : Bool) → IsStopTold (spoiled_by false None None b w) None
     running true w = refl
     running false true = refl
     running false false = refl
 
-    at : (failed : Bool) → has_failed ending trail ≡ failed → IsStopTold (spoiled_by failed (moment_in ending.stop) (damage_in ending.stop) broken wanting) (moment_in ending.stop)
+    at : (failed : Bool) → (told || has_fallen ending) ≡ failed → IsStopTold (spoiled_by failed (moment_in ending.stop) (damage_in ending.stop) broken wanting) (moment_in ending.stop)
     at true is = refl
-    at false is = rw (runs_well ending trail none is) (running broken wanting)
+    at false is = rw (runs_by ending told none is) (running broken wanting)
+
+pub stop_told : (ending : Ending) (trail : List Event) (broken : Bool) → damage_in ending.stop ≡ None → IsStopTold (cause_of ending trail broken) (moment_in ending.stop)
+stop_told ending trail broken none = stop_told_by ending (list_any tells_disk trail) broken (list_any wants_memory trail) none
 
 -- ---- a call that failed
 

@@ -34,4 +34,13 @@ mod Leaves
 mod Playing
 mod Volumes
 mod Through
+mod Directories
+mod Along
+mod Answered
+mod Tidied
+mod NamesEnd
+mod NamesOpened
+mod NamesThrough
+mod Lines
+mod NamesSaid
 mod Cited

@@ -67,7 +67,7 @@ pub called_serves : {D : Type 0} (g : Ghosts D) (core : Kernel D) (n : ℕ) (s :
 called_serves g core n s serves = stored g core s serves (record core.collections { called = core.collections.called + n }) serves.collecting
 
 -- where nothing is unfinished the Free blocks are those of the image to come
-free_now : {D : Type 0} (g : Ghosts D) (k : Kernel D) → k.space.left ≡ None → free_to_come g k ≡ sum k.space.free
+pub free_now : {D : Type 0} (g : Ghosts D) (k : Kernel D) → k.space.left ≡ None → free_to_come g k ≡ sum k.space.free
 free_now g k none = ap (free_with g k) none
 
 not_sweeping : (c : Collection) → is_collecting c ≡ false → sweeps_now c ≡ false

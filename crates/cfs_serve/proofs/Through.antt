@@ -36,13 +36,13 @@ module _ {D : Type 0} (g : Ghosts D) where
   leaves : (old new : Cache D) (P : Image → Type 0) → Leaves (cached g) old new P → Leaves g old.lower new.lower P
   leaves old new P is = record { later = is.later; since = is.since; now = is.now }
 
-  untouched : (old new : Cache D) → IsUntouched (cached g) old new → IsUntouched g old.lower new.lower
+  pub untouched : (old new : Cache D) → IsUntouched (cached g) old new → IsUntouched g old.lower new.lower
   untouched old new is = record { content = is.content; images = leaves old new _ is.images }
 
   settled : (d : Cache D) → IsSettled (cached g) d → IsSettled g d.lower
   settled d is = record { tells = record { honest = is.tells.honest; told = is.tells.told }; only = is.only }
 
-  since_try : (old new : Cache D) (P : Image → Type 0) → LeavesSinceTry (cached g) old new P → LeavesSinceTry g old.lower new.lower P
+  pub since_try : (old new : Cache D) (P : Image → Type 0) → LeavesSinceTry (cached g) old new P → LeavesSinceTry g old.lower new.lower P
   since_try old new P (inl f) = inl (f.0, f.1, untouched old new f.2, f.3)
   since_try old new P (inr m) = inr (m.0.lower, settled m.0 m.1, untouched old m.0 m.2, m.3, leaves m.0 new P m.4)
 

@@ -26,7 +26,7 @@ parts_less l false rest once same = rw once (omega arith)
 parts_less l true [] once same = rw (once, same) (omega arith)
 parts_less l true (n ∷ ns) once same = rw (once, same) (omega arith)
 
-fewer_parts : (o : Option LeftCommit) → IsSome o → parts_left (after_next o) < parts_left o
+pub fewer_parts : (o : Option LeftCommit) → IsSome o → parts_left (after_next o) < parts_left o
 fewer_parts None some = absurd (cc some)
 fewer_parts (Some l) some = parts_less l l.copied l.rest refl refl
 

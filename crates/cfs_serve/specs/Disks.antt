@@ -25,8 +25,8 @@ use Rattle.cfs_serve.specs.Volume.{EndsCore}
 use Rattle.cfs_serve.specs.Events.{tells_disk, tells_fault}
 use Rattle.cfs_serve.specs.Logs.{MomentsRise, faults_after, first_fault}
 use Rattle.cfs_serve.specs.Inspected.{InspectsVolume}
-use Rattle.cfs_serve.specs.Words.{Asked, Audits, Format, Formats, InFile, InMemory, Inspects, Nothing, Place, Serves}
-use Rattle.cfs_serve.specs.Words.{Shows, Spins}
+use Rattle.cfs_serve.specs.Words.{Asked, Audits, Dirs, Format, Formats, InFile, InMemory, Inspects, Nothing, Place}
+use Rattle.cfs_serve.specs.Words.{Serves, Shows, Spins}
 
 -- A volume was made on a disk, or the disk failed.
 pub record MakesVolume {D : Type 0} (g : Ghosts D) (format : Format) (cause : Cause) (old new : D) : Type 0 where
@@ -115,7 +115,8 @@ ServesOn g (InFile path pair) seed told ending trail moments (Some old) (Some ne
 ServesOn g (InFile path pair) seed told ending trail moments (Some old) None = ⊥
 ServesOn g (InFile path pair) seed told ending trail moments None new = ⊥
 
--- a volume is made, inspected or served on the disk that is asked for; else there is none, before and after
+-- A volume is made, inspected or served on the disk that is asked for; else there is none, before and after. What lines
+-- of names do to one is told with them.
 abbrev pub OnDisk : {D : Type 0} → Ghosts D → Asked → Report → Ending → List Event → List ℕ → Option D
     → Option D → Type 0
 OnDisk g (Formats format) told ending trail moments old new = MakesOn g format told.cause old new
@@ -125,4 +126,5 @@ OnDisk g (Inspects inspection) told ending trail moments old new = InspectsOn g 
 OnDisk g (Audits text) told ending trail moments old new = new ≡ old
 OnDisk g (Spins spin) told ending trail moments old new = new ≡ old
 OnDisk g (Shows page) told ending trail moments old new = new ≡ old
+OnDisk g (Dirs names) told ending trail moments old new = Unit {0}
 OnDisk g Nothing told ending trail moments old new = new ≡ old

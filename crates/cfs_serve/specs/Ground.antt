@@ -12,8 +12,8 @@ use Rattle.cfs_recover.specs.declared.fault.RecoverFault.{RecoverFault}
 use Rattle.cfs_recover.specs.declared.fault.RecoverFault.TheVariants as whys
 use Rattle.cfs_serve.specs.declared.report.VolumeFault.{VolumeFault}
 use Rattle.cfs_serve.specs.declared.report.VolumeFault.TheVariants as faults
-use Rattle.cfs_serve.specs.Words.{Asked, Audits, Formats, InFile, InMemory, Inspects, Nothing, Place, Serves, Shows}
-use Rattle.cfs_serve.specs.Words.{Spins}
+use Rattle.cfs_serve.specs.Words.{Asked, Audits, Dirs, Formats, InFile, InMemory, Inspects, Nothing, Place, Serves}
+use Rattle.cfs_serve.specs.Words.{Shows, Spins}
 
 -- the cylinders of the volume and its blocks, the graphs that it may read as, and that it is known to be no sound one
 pub record Ground : Type 1 where
@@ -73,10 +73,13 @@ abbrev inspected_at : {D : Type 0} → Ghosts D → (mends : Bool) → Option D 
 inspected_at g mends (Some d) = inspected_on g mends d
 inspected_at g mends None = no_ground
 
+abbrev served_at : {D : Type 0} → Ghosts D → Option D → Ground
+served_at g (Some d) = ground_on g d
+served_at g None = no_ground
+
 abbrev ground_at : {D : Type 0} → Ghosts D → Place → (seed : ℕ) → Option D → Ground
 ground_at g (InMemory cylinders) seed disk = new_ground cylinders seed
-ground_at g (InFile path pair) seed (Some d) = ground_on g d
-ground_at g (InFile path pair) seed None = no_ground
+ground_at g (InFile path pair) seed disk = served_at g disk
 
 -- of what is asked for, and the disk of the volume where it is in a file
 abbrev pub ground_of : {D : Type 0} → Ghosts D → Asked → Option D → Ground
@@ -86,4 +89,5 @@ ground_of g (Audits trail) disk = no_ground
 ground_of g (Inspects inspection) disk = inspected_at g inspection.mends disk
 ground_of g (Spins spin) disk = new_ground spin.cylinders spin.seed
 ground_of g (Shows page) disk = no_ground
+ground_of g (Dirs names) disk = served_at g disk
 ground_of g Nothing disk = no_ground

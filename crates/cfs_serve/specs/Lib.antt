@@ -16,6 +16,11 @@ pub mod SureDisk
 pub mod Ground
 pub mod Scripts
 pub mod Played
+pub mod Lines
+pub mod Along
+pub mod Named
+pub mod Watched
+pub mod Tidied
 pub mod Opening
 pub mod Audit
 pub mod Spun
@@ -25,4 +30,5 @@ pub mod Inspected
 pub mod Whole
 pub mod Disks
 pub mod Top
+pub mod Names
 pub mod Says

@@ -5,9 +5,10 @@ use Rattle.ufs_model.specs.Turns.{turns_in}
 use Rattle.cfs_serve.specs.declared.ending.Ending.{Ending}
 use Rattle.cfs_serve.specs.declared.report.Report.{Report}
 use Rattle.cfs_serve.specs.Ground.{Ground}
+use Rattle.cfs_serve.specs.Names.{SaidOfNames}
 use Rattle.cfs_serve.specs.Spun.{drains, drawn_sources, service_of}
 use Rattle.cfs_serve.specs.Top.{NoCountRose, Outside, Said}
-use Rattle.cfs_serve.specs.Words.{Asked, Audits, Formats, Inspects, Nothing, Serves, Shows, Spin, Spins}
+use Rattle.cfs_serve.specs.Words.{Asked, Audits, Dirs, Formats, Inspects, Nothing, Serves, Shows, Spin, Spins}
 
 -- what is outside of a spin: its scripts and its sinks are its own
 abbrev pub within_spin : Spin → Outside → Outside
@@ -40,4 +41,6 @@ Says (Inspects inspection) ground old new told status ending trail =
     Said (Inspects inspection) ground old new told status ending trail
 Says (Serves service) ground old new told status ending trail =
     Said (Serves service) ground old new told status ending trail
+Says (Dirs names) ground old new told status ending trail =
+    SaidOfNames names ground old new told status ending trail
 Says Nothing ground old new told status ending trail = Said Nothing ground old new told status ending trail

@@ -9,8 +9,8 @@ use Rattle.cfs_serve.specs.declared.report.Cause.TheVariants as causes
 use Rattle.cfs_serve.specs.declared.report.Counts.{Counts}
 use Rattle.cfs_serve.specs.declared.report.Report.{Report}
 use Rattle.cfs_serve.specs.Report.{report_text, status_of}
-use Rattle.cfs_serve.specs.Words.{Asked, Audits, Formats, InFile, InMemory, Inspects, Nothing, Place, Serves, Shows}
-use Rattle.cfs_serve.specs.Words.{Spins}
+use Rattle.cfs_serve.specs.Words.{Asked, Audits, Dirs, Formats, InFile, InMemory, Inspects, Nothing, Place, Serves}
+use Rattle.cfs_serve.specs.Words.{Shows, Spins}
 
 -- what the first line of a volume's trail tells; the trail of a volume in a file is not printed
 abbrev line_of : Place → (seed : ℕ) → Option Opening
@@ -29,6 +29,7 @@ first_line (Formats format) = None
 first_line (Audits trail) = None
 first_line (Inspects inspection) = None
 first_line (Spins spin) = None
+first_line (Dirs names) = None
 first_line Nothing = None
 
 -- it is printed where sessions were served

@@ -4,15 +4,17 @@ use Rattle.std.specs.Prelude.{◌≡◌, ℕ, ◌+◌, ◌*◌, ◌≤◌, ◌�
 use Rattle.std.specs.Prelude.{Some, None, IsSome}
 use Rattle.cfs_base.specs.Outside.{Intake, Supply, Rose}
 use Rattle.cfs_ports.specs.Port.{Replied}
+use Rattle.name_lines.specs.declared.answer.Answer.{Answer}
 use Rattle.ufs_model.specs.declared.asked.Event.{Event}
 use Rattle.cfs_serve.specs.declared.report.Cause.{Cause}
 use Rattle.cfs_serve.specs.declared.report.Cause.TheVariants as causes
 use Rattle.cfs_serve.specs.declared.ending.Ending.{Ending}
+use Rattle.cfs_serve.specs.declared.report.Counts.{Counts}
 use Rattle.cfs_serve.specs.declared.report.Report.{Report}
 use Rattle.cfs_serve.specs.declared.paths.Volume.{Volume}
 use Rattle.cfs_serve.specs.declared.paths.Volume.TheVariants as volumes
-use Rattle.cfs_serve.specs.Words.{Asked, Place, InFile, InMemory, Inspects, Shows, Audits, Formats, Serves, Spin, Spins}
-use Rattle.cfs_serve.specs.Words.{Nothing, most_made}
+use Rattle.cfs_serve.specs.Words.{Asked, Place, Dirs, InFile, InMemory, Inspects, Shows, Audits, Formats, Serves, Spin}
+use Rattle.cfs_serve.specs.Words.{Spins, Nothing, most_made}
 use Rattle.cfs_serve.specs.Limits.{most_cylinders}
 use Rattle.cfs_serve.specs.Spun.{drains, drawn_sources}
 use Rattle.cfs_serve.specs.Audit.{Finds}
@@ -21,7 +23,8 @@ use Rattle.cfs_serve.specs.Ground.{Ground}
 use Rattle.cfs_serve.specs.Inspected.{IsInspected}
 use Rattle.cfs_serve.specs.Report.{status_of, untold}
 use Rattle.cfs_serve.specs.Text.{IsText, last_cause}
-use Rattle.cfs_serve.specs.Played.{IsRunOf}
+use Rattle.cfs_serve.specs.Named.{AreNamesServed}
+use Rattle.cfs_serve.specs.Played.{IsRunOf, ServesNone}
 
 -- what is outside: how often the volume's disk failed, where there is one, and what is known of the sources and of the
 -- sinks
@@ -43,6 +46,7 @@ NamesVolume (Audits trail) volume = volume ≡ None
 NamesVolume (Inspects inspection) volume = volume ≡ Some (volumes.Existing inspection.volume)
 NamesVolume (Spins spin) volume = volume ≡ None
 NamesVolume (Shows page) volume = volume ≡ None
+NamesVolume (Dirs names) volume = volume ≡ Some (volumes.Existing names.volume)
 NamesVolume Nothing volume = volume ≡ None
 
 -- as many cylinders as a volume may have, of pairs of blocks or not
@@ -68,9 +72,10 @@ HasDisk (Audits trail) blocks = blocks ≡ None
 HasDisk (Inspects inspection) blocks = IsSome blocks
 HasDisk (Spins spin) blocks = blocks ≡ None
 HasDisk (Shows page) blocks = blocks ≡ None
+HasDisk (Dirs names) blocks = IsSome blocks
 HasDisk Nothing blocks = blocks ≡ None
 
--- a source and a sink for each session; the source of a trail; or none
+-- a source and a sink for each session, and of lines of names; the source of a trail; or none
 abbrev pub HasPlaces : Asked → (sources sinks : ℕ) → Type 0
 HasPlaces (Serves service) sources sinks = (sources ≡ length service.sessions) × (sinks ≡ length service.sessions)
 HasPlaces (Audits trail) sources sinks = (sources ≡ 1) × (sinks ≡ 0)
@@ -78,6 +83,7 @@ HasPlaces (Inspects inspection) sources sinks = (sources ≡ 0) × (sinks ≡ 0)
 HasPlaces (Spins spin) sources sinks = (sources ≡ 0) × (sinks ≡ 0)
 HasPlaces (Formats format) sources sinks = (sources ≡ 0) × (sinks ≡ 0)
 HasPlaces (Shows page) sources sinks = (sources ≡ 0) × (sinks ≡ 0)
+HasPlaces (Dirs names) sources sinks = (sources ≡ 1) × (sinks ≡ 1)
 HasPlaces Nothing sources sinks = (sources ≡ 0) × (sinks ≡ 0)
 
 -- no service was asked for: nothing was served, no sink took a byte, and this is told
@@ -141,6 +147,24 @@ pub record AsksSpin (spin : Spin) (ground : Ground) (old new : Places) (report :
   pub fits : 12 * spin.count + 64 ≤ 63 * spin.cylinders
   pub asks : AsksSessions ground spin.seed 2 (spun spin old) (spun spin new) report ending trail
 
+-- lines of names were served
+pub record HaveNames (ground : Ground) (old new : Places) (report : Report) (ending : Ending) : Type 0 where
+  pub lines : List (List ℕ)
+  pub told : List Answer
+  pub counts : Counts
+  pub cause : Cause
+  pub served : AreNamesServed ground (RoseIn old.disk new.disk) old.sources old.sinks new.sinks lines told counts cause
+      report ending
+
+-- They were asked for, and were served, or nothing was; there is no event.
+pub record AsksNames (ground : Ground) (old new : Places) (report : Report) (ending : Ending)
+    (trail : List Event) : Type 0 where
+  pub no_event : trail ≡ []
+  pub sources : length new.sources ≡ length old.sources
+  pub sinks : length new.sinks ≡ length old.sinks
+  pub run : HaveNames ground old new report ending
+      ⊎ ServesNone ground (RoseIn old.disk new.disk) old.sources new.sources old.sinks new.sinks report ending trail
+
 abbrev pub AsksServer : Asked → Ground → (old new : Places) → Report → Ending → List Event → Type 0
 AsksServer (Serves service) ground old new report ending trail =
     AsksSessions ground service.seed service.collections old new report ending trail
@@ -150,6 +174,7 @@ AsksServer (Audits text) ground old new report ending trail = AsksAudit old new 
 AsksServer (Inspects inspection) ground old new report ending trail =
     AsksInspection ground inspection.mends old new report ending trail
 AsksServer (Spins spin) ground old new report ending trail = AsksSpin spin ground old new report ending trail
+AsksServer (Dirs names) ground old new report ending trail = AsksNames ground old new report ending trail
 AsksServer (Shows page) ground old new report ending trail = AsksNone (causes.Page page) old new report ending trail
 AsksServer Nothing ground old new report ending trail = AsksNone causes.Words old new report ending trail
 

@@ -206,8 +206,27 @@ abbrev pub mend_in : List (List ℕ) → Option (List ℕ)
 mend_in (verb ∷ volume ∷ []) = if bytes_eq verb (codes "mend") && is_volume_word volume then Some volume else None
 mend_in words = None
 
+-- lines of names: the file of a volume, the seed, and where the lines come from and their answers go
+pub record NamesService : Type 0 where
+  pub volume : List ℕ
+  pub seed : ℕ
+  pub input : List ℕ
+  pub output : List ℕ
+
+abbrev dirs_of : (volume input output : List ℕ) → Option ℕ → Option NamesService
+dirs_of volume input output (Some seed) =
+    if is_volume_word volume && is_file_word input && is_file_word output
+    then Some (record { volume = volume; seed = seed; input = input; output = output }) else None
+dirs_of volume input output None = None
+
+-- `dirs VOLUME SEED IN OUT`
+abbrev pub dirs_in : List (List ℕ) → Option NamesService
+dirs_in (verb ∷ volume ∷ seed ∷ input ∷ output ∷ []) =
+    if bytes_eq verb (codes "dirs") then dirs_of volume input output (read_or_none (number_in seed)) else None
+dirs_in words = None
+
 -- what the words of a command ask for: a page, a volume, an audit of a trail, an inspection of a volume, a spin, a
--- service, or nothing
+-- service, lines of names, or nothing
 pub data Asked : Type 0 where
   Shows : Page → Asked
   Formats : Format → Asked
@@ -215,24 +234,26 @@ pub data Asked : Type 0 where
   Inspects : Inspection → Asked
   Spins : Spin → Asked
   Serves : Service → Asked
+  Dirs : NamesService → Asked
   Nothing : Asked
 
 abbrev either : Option Page → Option Format → (trail check mend : Option (List ℕ)) → (play : Option Service) → Option Spin
-    → (serve : Option Service) → Asked
-either (Some page) format trail check mend play spin serve = Shows page
-either None (Some format) trail check mend play spin serve = Formats format
-either None None (Some trail) check mend play spin serve = Audits trail
-either None None None (Some volume) mend play spin serve = Inspects (record { volume = volume; mends = false })
-either None None None None (Some volume) play spin serve = Inspects (record { volume = volume; mends = true })
-either None None None None None (Some play) spin serve = Serves play
-either None None None None None None (Some spin) serve = Spins spin
-either None None None None None None None (Some serve) = Serves serve
-either None None None None None None None None = Nothing
+    → (serve : Option Service) → (dirs : Option NamesService) → Asked
+either (Some page) format trail check mend play spin serve dirs = Shows page
+either None (Some format) trail check mend play spin serve dirs = Formats format
+either None None (Some trail) check mend play spin serve dirs = Audits trail
+either None None None (Some volume) mend play spin serve dirs = Inspects (record { volume = volume; mends = false })
+either None None None None (Some volume) play spin serve dirs = Inspects (record { volume = volume; mends = true })
+either None None None None None (Some play) spin serve dirs = Serves play
+either None None None None None None (Some spin) serve dirs = Spins spin
+either None None None None None None None (Some serve) dirs = Serves serve
+either None None None None None None None None (Some names) = Dirs names
+either None None None None None None None None None = Nothing
 
 abbrev pub asked_in : List (List ℕ) → Asked
 asked_in words =
     either (page_in words) (format_in words) (audit_in words) (check_in words) (mend_in words) (play_in words)
-    (spin_in words) (serve_in words)
+    (spin_in words) (serve_in words) (dirs_in words)
 
 abbrev pub asked_by : {Z : Type 0} → List (String Z) → Asked
 asked_by words = asked_in (map string_bytes words)
@@ -245,6 +266,7 @@ IfServes (Audits trail) holds = Unit {0}
 IfServes (Inspects inspection) holds = Unit {0}
 IfServes (Spins spin) holds = Unit {0}
 IfServes (Serves service) holds = holds service
+IfServes (Dirs names) holds = Unit {0}
 IfServes Nothing holds = Unit {0}
 
 abbrev pub is_service : Asked → Bool
@@ -254,6 +276,7 @@ is_service (Audits trail) = false
 is_service (Inspects inspection) = false
 is_service (Spins spin) = false
 is_service (Serves service) = true
+is_service (Dirs names) = false
 is_service Nothing = false
 
 -- how many collections are called for
@@ -264,6 +287,7 @@ collections_of (Audits trail) = 0
 collections_of (Inspects inspection) = 0
 collections_of (Spins spin) = 2
 collections_of (Serves service) = service.collections
+collections_of (Dirs names) = 0
 collections_of Nothing = 0
 
 -- the volume's file is one of pairs of blocks
@@ -278,6 +302,7 @@ is_pair (Audits trail) = false
 is_pair (Inspects inspection) = false
 is_pair (Spins spin) = false
 is_pair (Serves service) = is_pair_place service.volume
+is_pair (Dirs names) = false
 is_pair Nothing = false
 
 abbrev pub is_format : Asked → Bool
@@ -287,6 +312,7 @@ is_format (Audits trail) = false
 is_format (Inspects inspection) = false
 is_format (Spins spin) = false
 is_format (Serves service) = false
+is_format (Dirs names) = false
 is_format Nothing = false
 
 abbrev pub is_audit : Asked → Bool
@@ -296,6 +322,7 @@ is_audit (Audits trail) = true
 is_audit (Inspects inspection) = false
 is_audit (Spins spin) = false
 is_audit (Serves service) = false
+is_audit (Dirs names) = false
 is_audit Nothing = false
 
 -- where a volume is to be inspected, this holds of the inspection
@@ -306,6 +333,7 @@ IfInspects (Audits trail) holds = Unit {0}
 IfInspects (Inspects inspection) holds = holds inspection
 IfInspects (Spins spin) holds = Unit {0}
 IfInspects (Serves service) holds = Unit {0}
+IfInspects (Dirs names) holds = Unit {0}
 IfInspects Nothing holds = Unit {0}
 
 abbrev pub is_inspection : Asked → Bool
@@ -315,6 +343,7 @@ is_inspection (Audits trail) = false
 is_inspection (Inspects inspection) = true
 is_inspection (Spins spin) = false
 is_inspection (Serves service) = false
+is_inspection (Dirs names) = false
 is_inspection Nothing = false
 
 -- a volume is to be made or mended, and where that is done there is nothing to tell
@@ -325,6 +354,7 @@ makes_volume (Audits trail) = false
 makes_volume (Inspects inspection) = inspection.mends
 makes_volume (Spins spin) = false
 makes_volume (Serves service) = false
+makes_volume (Dirs names) = false
 makes_volume Nothing = false
 
 -- the bytes of the longest source
@@ -335,4 +365,5 @@ most_in_source (Audits trail) = most_trail
 most_in_source (Inspects inspection) = most_script
 most_in_source (Spins spin) = most_script
 most_in_source (Serves service) = most_script
+most_in_source (Dirs names) = most_script
 most_in_source Nothing = most_script

@@ -23,6 +23,8 @@ pub enum Command<'a> {
     Spin(Spin),
     /// To serve sessions on a volume in a file.
     Serve(Serve<'a>),
+    /// To serve lines of names on a volume in a file.
+    Dirs(Dirs<'a>),
 }
 
 /// A volume that is to be made.
@@ -72,4 +74,15 @@ pub struct Serve<'a> {
     pub pair: bool,
     ghost most: { collections ≤ 1000 },
     ghost few: { length (files_in (map string_bytes files.now)) ≤ 64 },
+}
+
+/// Lines of names on a volume in a file.
+#[derive(Clone, Copy, Debug)]
+pub struct Dirs<'a> {
+    pub volume: &'a str,
+    pub seed: u64,
+    /// Where the lines come from.
+    pub input: &'a str,
+    /// Where their answers go.
+    pub output: &'a str,
 }

@@ -1,12 +1,15 @@
-//! A whole run: words are read; a volume is made on a disk, or one is checked, or sources are read whole and their sessions served, on a
-//! volume in memory or on a disk; and a report is written. The program above uses one contract, that of `top`. Below
-//! it, `serve` serves any number of sessions, and a collector, on whatever server.
+//! A whole run: words are read; a volume is made on a disk, or one is checked, or sources are read whole and their
+//! sessions or lines of names served, on a volume in memory or on a disk; and a report is written. The program above
+//! uses one contract, that of `top`. Below it, `Service` serves any number of sessions, and a collector, on whatever
+//! server.
 #![tactic(auto)]
 
+mod answering;
 mod audit;
 mod cached;
 mod clients;
 mod command;
+mod dirs;
 mod ending;
 mod inspecting;
 mod laws;
@@ -30,9 +33,10 @@ mod spin;
 mod sure_disk;
 mod traced;
 mod volume;
+mod watched;
 mod words;
 
-pub use command::{Command, Format, Play, Serve, Spin};
+pub use command::{Command, Dirs, Format, Play, Serve, Spin};
 pub use ending::Ending;
 pub use limits::{
     HELD_MAPS, MOST_COLLECTIONS, MOST_CYLINDERS, MOST_FILE_CYLINDERS, MOST_INSPECTED, MOST_LINES,

@@ -4,9 +4,10 @@ ghost use Rattle.std.specs.Prelude.{string_bytes};
 ghost use Rattle.cfs_serve.specs.Commands.{asked_of};
 ghost use Rattle.cfs_serve.specs.Whole.{HasCylinders, HasPlaces, NamesVolume};
 ghost use Rattle.cfs_serve.specs.Words as spec;
-ghost use Rattle.cfs_serve.specs.Words.{Audits, Serves, Service, inputs_in, most_made, outputs_in};
+ghost use Rattle.cfs_serve.specs.Words.{Audits, NamesService, Serves, Service, inputs_in, most_made, outputs_in};
+ghost use Rattle.cfs_serve.specs.Words.{Dirs as asks_dirs};
 
-use crate::command::{Command, Format, Serve};
+use crate::command::{Command, Dirs, Format, Serve};
 use crate::paths::{Files, Volume, no_paths, one_path, path_of, session_paths};
 use std::alloc::{AllocError, Global};
 
@@ -108,6 +109,23 @@ fn served_files(alloc: Global, serve: &Serve<'_>) -> Result<Files, AllocError>
     )
 }
 
+/// The volume of lines of names, the file that they come from and the file of their answers.
+fn names_files(alloc: Global, dirs: &Dirs<'_>) -> Result<Files, AllocError>
+    ensures volume { IfOk result (λ n. n.volume ≡ Some (Volume.Existing dirs.now.volume.now)) }
+    ensures sources { IfOk result (λ n. n.sources ≡ dirs.now.input.now ∷ []) }
+    ensures sinks { IfOk result (λ n. n.sinks ≡ dirs.now.output.now ∷ []) }
+    ensures pair { IfOk result (λ n. n.pair ≡ false) }
+{
+    Ok(Files {
+        volume: Some(Volume::Existing {
+            path: path_of(alloc, dirs.volume)?,
+        }),
+        sources: one_path(alloc, dirs.input)?,
+        sinks: one_path(alloc, dirs.output)?,
+        pair: false,
+    })
+}
+
 impl Command<'_> {
     /// The files that it names: none for a page or a spin.
     pub fn files(&self, alloc: Global) -> Result<Files, AllocError>
@@ -120,6 +138,8 @@ impl Command<'_> {
         ensures trail { IfOk result (λ n. (t : List ℕ) → asked_of (Some self.now) ≡ Audits t → n.sources ≡ t ∷ []) }
         ensures sinks { IfOk result (λ n. (s : Service) → asked_of (Some self.now) ≡ Serves s
             → n.sinks ≡ map (λ f. f.output) s.sessions) }
+        ensures names { IfOk result (λ n. (m : NamesService) → asked_of (Some self.now) ≡ asks_dirs m
+            → (n.sources ≡ m.input ∷ []) × (n.sinks ≡ m.output ∷ [])) }
     {
         match self {
             Command::Page(_) | Command::Spin(_) => Ok(no_files(alloc)),
@@ -128,6 +148,7 @@ impl Command<'_> {
             Command::Check(volume) | Command::Mend(volume) => inspected_files(alloc, volume),
             Command::Play(play) => session_files(alloc, None, play.files, false),
             Command::Serve(serve) => served_files(alloc, serve),
+            Command::Dirs(dirs) => names_files(alloc, dirs),
         }
     }
 }

@@ -33,6 +33,9 @@ cfs format VOLUME CYLINDERS SEED
     make a volume in the file VOLUME, which must not be there yet
 cfs serve VOLUME SEED COLLECTIONS IN OUT ..
     serve the sessions on the volume in the file VOLUME
+cfs dirs VOLUME SEED IN OUT
+    serve lines of names on the volume in the file VOLUME: directories in which
+    names lead to files, indices and other directories
 cfs check VOLUME
     name each fault of the volume in the file VOLUME, or tell that it is sound
 cfs mend VOLUME

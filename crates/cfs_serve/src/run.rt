@@ -8,12 +8,14 @@ ghost use Rattle.cfs_serve.specs.Disks.{MakesVolume, OnDisk};
 ghost use Rattle.cfs_serve.specs.Ground.{ground_of};
 ghost use Rattle.cfs_serve.specs.Text.{first_line, printed_line};
 ghost use Rattle.cfs_serve.specs.Traced.{IsWritten};
+ghost use Rattle.cfs_serve.specs.Names.{IfNames, places_in};
 ghost use Rattle.cfs_serve.specs.Says.{Says};
 ghost use Rattle.cfs_serve.specs.Top.{before, outside_after};
 
 use crate::audit::audit_only;
 use crate::cached::serve_cached;
 use crate::command::Command;
+use crate::dirs::serve_dirs;
 use crate::ending::Ending;
 use crate::inspecting::{check_volume, mend_volume};
 use crate::play::{Played, nothing, play, unserved};
@@ -121,6 +123,18 @@ fn do_asked<D: Disk + Send, S: Source, K: Sink + Send, G: Gate + Sync, R: Thread
           sinks = map K.intake sinks.new.items;
         })
         result.0.report result.0.ending result.0.trail.events }
+    ensures names { IfNames D.Disk (asked_of command.entry) (ground_of D.Disk (asked_of command.entry) disk)
+        (record {
+          disk = option_map D.faults disk;
+          sources = map S.supply sources.old.items;
+          sinks = map K.intake sinks.old.items;
+        })
+        (record {
+          disk = option_map D.faults result.1;
+          sources = map S.supply sources.new.items;
+          sinks = map K.intake sinks.new.items;
+        })
+        result.0.report result.0.ending disk result.1 }
 {
     match (command, disk) {
         (None, disk) => (nothing(alloc, Cause::Words), disk),
@@ -144,8 +158,18 @@ fn do_asked<D: Disk + Send, S: Source, K: Sink + Send, G: Gate + Sync, R: Thread
             let (played, disk) = serve_cached(rt, alloc, gate, &asked, disk, sources, sinks);
             (played, Some(disk))
         }
+        (Some(Command::Dirs(asked)), Some(disk)) => {
+            let (played, disk) = serve_dirs(alloc, &asked, disk, sources, sinks);
+            (played, Some(disk))
+        }
         (
-            Some(Command::Format(_) | Command::Check(_) | Command::Mend(_) | Command::Serve(_)),
+            Some(
+                Command::Format(_)
+                | Command::Check(_)
+                | Command::Mend(_)
+                | Command::Serve(_)
+                | Command::Dirs(_),
+            ),
             None,
         ) => unreachable!(),
     }
@@ -182,7 +206,8 @@ fn write_report<K: Sink>(
 }
 
 /// Does what the words of a command ask, which none do where there is no command: shows a page, makes a volume, audits
-/// a trail, checks or mends a volume, or serves sessions, those that are named or those of a spin; and writes the report.
+/// a trail, checks or mends a volume, serves sessions, those that are named or those of a spin, or serves lines of names;
+/// and writes the report.
 pub fn top<D: Disk + Send, S: Source, K: Sink + Send, G: Gate + Sync, R: Threads + Wait + Sync>(
     rt: &R,
     alloc: Global,
@@ -197,6 +222,9 @@ pub fn top<D: Disk + Send, S: Source, K: Sink + Send, G: Gate + Sync, R: Threads
     ensures said { Says (asked_of command.entry) (ground_of D.Disk (asked_of command.entry) bay.disk)
         (before D.faults S.supply K.intake bay) (outside_after D.faults S.supply K.intake result) result.told
         result.status result.ending result.trail.events }
+    ensures names { IfNames D.Disk (asked_of command.entry) (ground_of D.Disk (asked_of command.entry) bay.disk)
+        (places_in (before D.faults S.supply K.intake bay)) (places_in (outside_after D.faults S.supply K.intake result))
+        result.told result.ending bay.disk result.disk }
 {
     cfs_workload::laws::scripts_have_so_many_lines();
     let Bay {

@@ -49,6 +49,12 @@ impl Script {
         Script { bytes, lines }
     }
 
+    pub fn as_slice(&self) -> &[u8]
+        ensures { result.now ≡ self.now }
+    {
+        self.bytes.as_slice()
+    }
+
     /// How many request lines it has.
     pub fn lines(&self) -> u64
         ensures count { result ≡ length (request_lines self.now) }

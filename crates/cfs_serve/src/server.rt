@@ -154,7 +154,7 @@ pub trait Server {
 }
 
 /// The fault of a step that is told in the same words.
-fn fault_of(fault: TidyFault) -> CollectFault
+pub(crate) fn fault_of(fault: TidyFault) -> CollectFault
     ensures { result ≡ fault_as fault }
 {
     match fault {

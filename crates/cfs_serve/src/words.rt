@@ -2,12 +2,13 @@
 ghost use Rattle.std.specs.Prelude.{◌≡◌, ◌≤◌, [], ◌∷◌, length, map, option_map, string_bytes, true};
 ghost use Rattle.std.specs.List.{list_all};
 ghost use Rattle.ufs_model.specs.Spoken.{number_in};
-ghost use Rattle.cfs_serve.specs.Commands.{asked_of, format_of, played_service, served_service, spin_of};
+ghost use Rattle.cfs_serve.specs.Commands.{asked_of, format_of, names_service, played_service, served_service, spin_of};
 ghost use Rattle.cfs_serve.specs.Words as spec;
-ghost use Rattle.cfs_serve.specs.Words.{asked_by, asked_in, audit_in, check_in, files_in, format_in, inputs_in};
-ghost use Rattle.cfs_serve.specs.Words.{is_file_word, mend_in, outputs_in, page_in, play_in, read_or_none, serve_in, spin_in, streams_in};
+ghost use Rattle.cfs_serve.specs.Words.{asked_by, asked_in, audit_in, check_in, dirs_in, files_in, format_in};
+ghost use Rattle.cfs_serve.specs.Words.{inputs_in, is_file_word, mend_in, outputs_in, page_in, play_in, read_or_none};
+ghost use Rattle.cfs_serve.specs.Words.{serve_in, spin_in, streams_in};
 
-use crate::command::{Command, Format, Play, Serve, Spin};
+use crate::command::{Command, Dirs, Format, Play, Serve, Spin};
 use crate::limits::{
     MOST_COLLECTIONS, MOST_CYLINDERS, MOST_FILE_CYLINDERS, MOST_PAIR_CYLINDERS, MOST_SESSIONS,
 };
@@ -237,6 +238,35 @@ fn serve<'a>(
     })
 }
 
+/// Lines of names on a volume in a file.
+fn dirs<'a>(
+    verb: &str,
+    volume: &'a str,
+    seed: &str,
+    input: &'a str,
+    outputs: &'a [String],
+) -> Option<Dirs<'a>>
+    ensures { option_map names_service result ≡ dirs_in (verb.now ∷ volume.now ∷ seed.now ∷ input.now
+        ∷ map string_bytes outputs.now) }
+{
+    let [output] = outputs else {
+        return None;
+    };
+    if verb != "dirs" {
+        return None;
+    }
+    let seed = number(seed)?;
+    if volume.is_empty() || is_stream(volume) || input.is_empty() || output.is_empty() {
+        return None;
+    }
+    Some(Dirs {
+        volume,
+        seed,
+        input,
+        output: output.as_str(),
+    })
+}
+
 /// A form of two words.
 fn two<'a>(verb: &str, file: &'a str) -> Option<Command<'a>>
     ensures { asked_of result ≡ asked_in (verb.now ∷ file.now ∷ []) }
@@ -257,12 +287,30 @@ fn four<'a>(verb: &str, first: &'a str, second: &str, third: &str) -> Option<Com
     }
 }
 
+/// A form with a volume and files.
+fn with_volume<'a>(
+    verb: &str,
+    volume: &'a str,
+    seed: &str,
+    third: &'a str,
+    files: &'a [String],
+) -> Option<Command<'a>>
+    requires other { play_in (verb.now ∷ volume.now ∷ seed.now ∷ third.now ∷ map string_bytes files.now) ≡ None }
+    requires some { 1 ≤ length files.now }
+    ensures { asked_of result ≡ asked_in (verb.now ∷ volume.now ∷ seed.now ∷ third.now ∷ map string_bytes files.now) }
+{
+    match serve(verb, volume, seed, third, files) {
+        Some(serve) => Some(Command::Serve(serve)),
+        None => Some(Command::Dirs(dirs(verb, volume, seed, third, files)?)),
+    }
+}
+
 /// A form with files.
 fn with_files<'a>(
     verb: &str,
     first: &'a str,
     second: &str,
-    third: &str,
+    third: &'a str,
     files: &'a [String],
 ) -> Option<Command<'a>>
     requires { 1 ≤ length files.now }
@@ -270,7 +318,7 @@ fn with_files<'a>(
 {
     match play(verb, first, second, third, files) {
         Some(play) => Some(Command::Play(play)),
-        None => Some(Command::Serve(serve(verb, first, second, third, files)?)),
+        None => with_volume(verb, first, second, third, files),
     }
 }
 

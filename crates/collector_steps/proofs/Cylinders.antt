@@ -1,9 +1,10 @@
 -- What the sweep of a cylinder does to a disk, from what its calls do.
-use Rattle.std.proofs.Common.{◌≡◌, ℕ, ◌+◌, ◌*◌, ◌/◌, ◌<◌, List, length, set, count_by, refl, sym, ap, ap₂, ◌∙◌, subst, arith, true, false, Ok, Err}
+use Rattle.std.proofs.Common.{◌≡◌, ◌≢◌, ℕ, ◌+◌, ◌*◌, ◌/◌, ◌<◌, List, length, set, count_by, refl, sym, ap, ap₂, ◌∙◌, subst, arith, true, false, Ok, Err}
 use Rattle.collector_steps.proofs.Words.{Accounts, AreCounts, Carries, Frames, Ghosts, Graph, HasStopped, Holds, Image, IsDamageTrouble, IsFreeElsewhere, IsMapOf, IsMapTrouble, IsSome, IsSweep, IsSweptOf, Kept, Kind, Leaves, MakesAtMost, MapEntry, Nothing, OnlyReads, Drafts, Pass, Puid, Serves, State, Tells, Trouble, carries_on, free_in_cylinder, goes, has_block, has_root_in, kinds_of, makes_then, map_of, map_spelling, reads_make, stopped_after_reads, sweep_goes_on, swept_map, then, trouble_had_tried, wider}
 use Rattle.cfs_base.specs.declared.refusal.Trouble.TheVariants as trouble
+use Rattle.collector_steps.specs.Sweep.{NoneGoes}
 use Rattle.collector_steps.proofs.Sweeping.{frames, sweeps}
-use Rattle.collector_steps.proofs.Written.{after_of, counted, elsewhere, swept_so}
+use Rattle.collector_steps.proofs.Written.{after_of, counted, elsewhere, none_freed, swept_so}
 
 -- ---- a disk that serves
 
@@ -42,6 +43,7 @@ module _ {D : Type 0} (g : Ghosts D) (directory : List (Puid × Kind)) (pass : P
       sound = λ s ds serves. tt;
       unless_tried = tt;
       calls = calls_read;
+      spares = λ tells none. reads;
     }
 
     -- the map isn't read
@@ -58,6 +60,7 @@ module _ {D : Type 0} (g : Ghosts D) (directory : List (Puid × Kind)) (pass : P
       sound = λ s ds serves. no_damage s ds serves t refused;
       unless_tried = λ none. reads;
       calls = calls_read;
+      spares = λ tells none. reads;
     }
       where
         no_damage : (s : State) (ds : Drafts) → Serves g old directory s ds → (u : Trouble) → IsMapTrouble g old mid (64 * cylinder) u → ¬ IsDamageTrouble u
@@ -72,7 +75,8 @@ module _ {D : Type 0} (g : Ghosts D) (directory : List (Puid × Kind)) (pass : P
 
     -- ---- the map is written with what went made Free
 
-    module _ (new : D) (es : List MapEntry) (block : List ℕ) (spelled : block ≡ map_spelling (swept_map directory pass es)) (is : Tells g old → IsMapOf (g.content old) (64 * cylinder) es) (below : 64 * cylinder < g.blocks old) (sized : Tells g old → length (g.content old) ≡ g.blocks old) where
+    module _ (new : D) (es : List MapEntry) (block : List ℕ) (spelled : block ≡ map_spelling (swept_map directory pass es)) (is : Tells g old → IsMapOf (g.content old) (64 * cylinder) es) (below : 64 * cylinder < g.blocks old) (sized : Tells g old → length (g.content old) ≡ g.blocks old)
+        (some : count_by (goes directory pass) es ≢ 0) where
       inside : Tells g old → 64 * cylinder < length (g.content old)
       inside tells = omega (arith, below, sized tells)
 
@@ -95,6 +99,9 @@ module _ {D : Type 0} (g : Ghosts D) (directory : List (Puid × Kind)) (pass : P
             then g old mid new (λ c. Holds c s.graph) (λ c. Holds c s.graph) (leaves_read (λ c. Holds c s.graph))
             (leaves s.graph (serves_read g old mid 1 directory s ds reads serves).carries (framed s ds serves)) (λ c holds. holds)
 
+        spared : Tells g old → NoneGoes directory pass cylinder (g.content old) → OnlyReads g 1 old new
+        spared tells none = absurd (some (none_freed directory pass (g.content old) cylinder es (is tells) (inside tells) none))
+
         pub write_refused : HasStopped g true mid new → IsSweep g directory pass cylinder old new before before (Err (trouble.Disk true))
         write_refused stopped = record {
           swept = λ tells. tt;
@@ -108,6 +115,7 @@ module _ {D : Type 0} (g : Ghosts D) (directory : List (Puid × Kind)) (pass : P
           sound = λ s ds serves h. h;
           unless_tried = λ tried. cc;
           calls = calls_both;
+          spares = spared;
         }
 
         pub done : (after : Kept) → g.content new ≡ set (g.content mid) (64 * cylinder) block
@@ -135,6 +143,7 @@ module _ {D : Type 0} (g : Ghosts D) (directory : List (Puid × Kind)) (pass : P
           sound = λ s ds serves. tt;
           unless_tried = tt;
           calls = calls_both;
+          spares = spared;
         }
           where
             now : Tells g old → IsSweptOf directory pass cylinder (g.content old) (g.content new)

@@ -1,6 +1,7 @@
 -- A cylinder whose map is written with what went made Free.
-use Rattle.std.proofs.Common.{◌≡◌, ℕ, ◌+◌, ◌*◌, ◌/◌, ◌%◌, ◌<◌, List, [], ◌∷◌, length, set, get_or, count_by, refl, sym, ap, ◌∙◌, arith, Bool, true, false, cond, Some}
+use Rattle.std.proofs.Common.{◌≡◌, ℕ, suc, ◌+◌, ◌*◌, ◌/◌, ◌%◌, ◌<◌, List, [], ◌∷◌, length, set, get_or, count_by, refl, sym, ap, ◌∙◌, arith, Bool, true, false, cond, Some}
 use Rattle.collector_steps.proofs.Words.{All-map, Allocated, BlockState, Free, Image, IntendAllocate, IntendDeallocate, IsEntry, IsFreeElsewhere, IsMap, IsMapOf, IsSweptOf, Kind, MapEntry, Pass, Puid, and_parts, block_at, both_ways, count-cons, entry_at, entry_in, entry_is, free_count, free_entries, unheld_entry, free_in_cylinder, get_or-map, get_or-set_other, get_or-set_same, goes, is_free, is_free_entry, is_free_state, is_of_pass, is_placed, is_root, is_root_place, is_taken, length-map, length-set, map_of, map_spelling, one, option_map, swept, swept_map}
+use Rattle.collector_steps.specs.Sweep.{NoneGoes}
 use Rattle.collector_steps.specs.declared.sweep.Pass.TheVariants as passes
 
 module _ (directory : List (Puid × Kind)) (pass : Pass) where
@@ -50,6 +51,14 @@ module _ (directory : List (Puid × Kind)) (pass : Pass) where
       here true is gone = absurd (omega (arith, gone))
       here false is gone = ap (λ (t : Bool). cond t unheld_entry e) is
 
+  none_counted : (es : List MapEntry) → ((k : ℕ) → k < length es → goes directory pass (get_or es k unheld_entry) ≡ false)
+      → count_by (goes directory pass) es ≡ 0
+  none_counted [] none = refl
+  none_counted (e ∷ es) none =
+      let first = ap one (none 0 (omega arith)) in
+      let later = none_counted es (λ k below. none (suc k) (omega (arith, below))) in
+      omega (arith, first, later, count-cons (goes directory pass) e es)
+
   -- ---- the image
 
   abbrev pub after_of : Image → ℕ → List MapEntry → Image
@@ -93,6 +102,16 @@ module _ (directory : List (Puid × Kind)) (pass : Pass) where
           ∙ ap (option_map f) (sym entry);
       elsewhere = λ n away. refl;
     }
+
+    -- none is counted where no entry of the cylinder goes
+    pub none_freed : NoneGoes directory pass cylinder a → count_by (goes directory pass) es ≡ 0
+    none_freed none = none_counted es (λ k below.
+        let n : ℕ = 64 * cylinder + k in
+        let here : n / 64 ≡ cylinder = omega (arith, below, is.is_map.long) in
+        let place : n % 64 ≡ k = omega (arith, below, is.is_map.long) in
+        let same : map_of n ≡ map_of (64 * cylinder) = omega (arith, here) in
+        none n (get_or es k unheld_entry) here (entry_is a (64 * cylinder) es is n unheld_entry same
+        ∙ ap (λ (j : ℕ). Some (get_or es j unheld_entry)) place))
 
     -- ---- how many are Free
 

@@ -32,6 +32,11 @@ swept_map directory pass entries = map (swept directory pass) entries
 
 -- ---- one cylinder
 
+-- no entry of the cylinder goes
+abbrev pub NoneGoes : List (Puid × Kind) → Pass → ℕ → Image → Type 0
+NoneGoes directory pass cylinder image = (n : ℕ) (e : MapEntry) → n / 64 ≡ cylinder → entry_in image n ≡ Some e
+    → goes directory pass e ≡ false
+
 -- Image b is a, but that each entry of the cylinder that goes is Free.
 pub record IsSweptOf (directory : List (Puid × Kind)) (pass : Pass) (cylinder : ℕ) (a b : Image) : Type 0 where
   pub size : length b ≡ length a

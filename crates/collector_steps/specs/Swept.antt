@@ -21,7 +21,7 @@ use Rattle.collector_steps.specs.declared.sweep.Pass.{Pass}
 use Rattle.collector_steps.specs.declared.sweep.Pass.TheVariants as passes
 use Rattle.collector_steps.specs.Collecting.{Collecting, Collects, Serves, volume_of}
 use Rattle.collector_steps.specs.Left.{steps_left}
-use Rattle.collector_steps.specs.Sweep.{IsSweptOf, MayBegin}
+use Rattle.collector_steps.specs.Sweep.{IsSweptOf, MayBegin, NoneGoes}
 
 abbrev pub IsDamageTrouble : Trouble → Type 0
 IsDamageTrouble (trouble.Disk tried) = ⊥
@@ -48,6 +48,8 @@ pub record IsSweep {D : Type 0} (g : Ghosts D) (directory : List (Puid × Kind))
   pub sound : (s : State) (ds : Drafts) → Serves g old directory s ds → IfErr result (λ t. ¬ IsDamageTrouble t)
   pub unless_tried : IfErr result (λ t. trouble_had_tried t ≡ false → OnlyReads g 1 old new)
   pub calls : MakesAtMost g 2 1 old new
+  -- a map of which no entry goes isn't written
+  pub spares : Tells g old → NoneGoes directory pass cylinder (g.content old) → OnlyReads g 1 old new
 
 -- ---- a collector that sweeps
 

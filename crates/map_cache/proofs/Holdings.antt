@@ -1,18 +1,13 @@
 -- What is held after a block is found, or after it was taken in.
-use Rattle.std.proofs.Common.{◌≡◌, ◌≢◌, ◌⊎◌, inl, inr, ◌%◌, ℕ, true, false, IsTrue, List, Option, Some, None, Result, Ok, Err, is_some, nat_eq, refl, sym, ap, subst}
-use Rattle.std.specs.Prelude.{OnOk, OnErr, IsSome, IsOk}
+use Rattle.std.proofs.Common.{◌≡◌, ◌≢◌, inl, inr, ◌%◌, ℕ, true, false, IsTrue, List, Option, Some, None, Result, Ok, Err, is_some, nat_eq, refl, sym, ap, subst}
+use Rattle.std.specs.Prelude.{OnOk, is_err}
 use Rattle.std.specs.Cmp.{nat_eq_equiv}
-use Rattle.std.specs.Map.{lookup}
 use Rattle.std.proofs.lemmas.Bool.Decides.{eqb_tells}
 use Rattle.lru.proofs.CallerLemmas.{lookup-put_entries}
-use Rattle.lru.specs.LruCache.{LruCache, lru_cache, put_entries}
+use Rattle.lru.specs.LruCache.{lru_cache}
 use Rattle.map_cache.specs.declared.held.Stage.TheVariants.{Keeping}
 use Rattle.map_cache.specs.Holding.{Holding, IsHolding, TakesIn, found, held_block, has_map, with_front}
 use Rattle.map_cache.proofs.Entries.{promoted-none, length-promoted, lookup-promoted, length-put_entries, lookup-put_other}
-
-not_some : {X : Type 0} (o : Option X) → (IsSome o → ⊥) → is_some o ≡ false
-not_some None never = refl
-not_some (Some x) never = absurd (never refl)
 
 some_of : {X : Type 0} (o : Option X) → is_some o ≡ true → (x : X) × (o ≡ Some x)
 some_of None is = cc
@@ -37,12 +32,10 @@ found_holds h n is = record {
 
 -- ---- put in front
 
--- a pair is put in front; for want of memory all stays, and then its key isn't there
-pub put_or_not : {X E : Type 0} (r : Result X E) (old new : LruCache ℕ (List ℕ)) (n : ℕ) (block : List ℕ)
-    → OnOk r (new ≡ lru_cache (put_entries nat_eq old n block) old.cap) → OnErr r (new ≡ old) → (IsSome (lookup (nat_eq n) old.entries) → IsOk r)
-    → (new ≡ lru_cache (put_entries nat_eq old n block) old.cap) ⊎ ((new ≡ old) × (is_some (lookup (nat_eq n) old.entries) ≡ false))
-put_or_not (Ok x) old new n block done failed succeeds = inl done
-put_or_not (Err e) old new n block done failed succeeds = inr (failed, not_some (lookup (nat_eq n) old.entries) (λ is. cc (succeeds is)))
+-- what was promised of a call that didn't fail
+pub put_done : {X E P : Type 0} (r : Result X E) → OnOk r P → is_err r ≡ false → P
+put_done (Ok x) done is = done
+put_done (Err e) done is = cc
 
 module _ (h : Holding) (n : ℕ) (block : List ℕ) where
   abbrev pub put : Holding
@@ -67,23 +60,14 @@ module _ (h : Holding) (n : ℕ) (block : List ℕ) where
 
   pub put_takes_in : h.stage ≡ Keeping → n % 64 ≡ 0 → TakesIn h put n block
   put_takes_in keeps map = record {
-    put = λ _ _. inl refl;
+    put = λ _ _. inl (record { front = refl; is_held = first; no_want = refl });
     no_map = λ not. absurd (not map);
     not_kept = λ not. absurd (not keeps);
-    this = λ bytes is. let first = lookup-put_entries nat_eq (lru_cache h.blocks h.capacity) n block nat_eq_equiv in cc;
+    this = λ bytes is. let here = first in cc;
     others = others;
     capacity = refl;
     stage = refl;
   }
-
-  -- for want of memory
-  pub starved_takes_in : has_map h n ≡ false → TakesIn h h n block
-  starved_takes_in none = record {
-    put = λ _ _. inr (refl, none);
-    no_map = λ _. refl;
-    not_kept = λ _. refl;
-    this = λ bytes is. let no = none_of (held_block h n) none in cc;
-    others = λ m bytes apart is. is;
-    capacity = refl;
-    stage = refl;
-  }
+    where
+      first : held_block put n ≡ Some block
+      first = lookup-put_entries nat_eq (lru_cache h.blocks h.capacity) n block nat_eq_equiv

@@ -13,7 +13,7 @@ pub record Cache (D : Type 0) : Type 0 where
 
 -- no call was made on it
 abbrev pub new_cache : {D : Type 0} → D → ℕ → Cache D
-new_cache lower capacity = record { lower = lower; held = holding [] capacity Waiting; calls = 0 }
+new_cache lower capacity = record { lower = lower; held = holding [] capacity Waiting 0; calls = 0 }
 
 -- ---- the lower disk's are the content, what is told, the images, the moment, the tries and the faults
 

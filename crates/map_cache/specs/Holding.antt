@@ -2,6 +2,7 @@
 use Rattle.std.specs.Prelude.{◌≡◌, ◌≢◌, ◌⊎◌, ◌%◌, ◌≤◌, ℕ, Bool, false, IsTrue}
 use Rattle.std.specs.Prelude.{List, [], Option, Some, is_some, length, nat_eq}
 use Rattle.std.specs.Map.{lookup}
+use Rattle.cfs_base.specs.Outside.{count_after}
 use Rattle.lru.specs.LruCache.{lru_cache, promoted, put_entries}
 use Rattle.map_cache.specs.declared.held.Stage.{Stage}
 use Rattle.map_cache.specs.declared.held.Stage.TheVariants.{Waiting, Keeping, Over}
@@ -10,14 +11,17 @@ use Rattle.map_cache.specs.declared.held.Stage.TheVariants.{Waiting, Keeping, Ov
 abbrev pub Blocks : Type 0
 Blocks = List (ℕ × List ℕ)
 
--- what is held, how many blocks there may be at most, and how far the cache has come
+-- what is held, how many blocks there may be at most, how far the cache has come, and how often a block wasn't held for
+-- want of memory, up to the last number of a u64
 pub record Holding : Type 0 where
   pub blocks : Blocks
   pub capacity : ℕ
   pub stage : Stage
+  pub wants : ℕ
 
-abbrev pub holding : Blocks → ℕ → Stage → Holding
-holding blocks capacity stage = record { blocks = blocks; capacity = capacity; stage = stage }
+abbrev pub holding : Blocks → ℕ → Stage → ℕ → Holding
+holding blocks capacity stage wants =
+    record { blocks = blocks; capacity = capacity; stage = stage; wants = wants }
 
 -- the bytes of a block that is held
 abbrev pub held_block : Holding → ℕ → Option (List ℕ)
@@ -44,13 +48,24 @@ found h n = record h { blocks = promoted (nat_eq n) h.blocks }
 abbrev pub with_front : Holding → ℕ → List ℕ → Blocks
 with_front h n block = put_entries nat_eq (lru_cache h.blocks h.capacity) n block
 
+-- It is held with these bytes, in front. Another goes only where it was the last of a full cache.
+pub record IsPutInFront (old new : Holding) (n : ℕ) (block : List ℕ) : Type 0 where
+  pub front : new.blocks ≡ with_front old n block
+  pub is_held : held_block new n ≡ Some block
+  pub no_want : new.wants ≡ old.wants
+
+-- For want of memory, which is counted, it isn't held, nor was it. What was held still is.
+pub record IsStarved (old new : Holding) (n : ℕ) : Type 0 where
+  pub stays : new.blocks ≡ old.blocks
+  pub not_held : has_map old n ≡ false
+  pub want : new.wants ≡ count_after old.wants
+
 -- A block was read or written with these bytes, and the call of the lower disk is done.
 pub record TakesIn (old new : Holding) (n : ℕ) (block : List ℕ) : Type 0 where
-  -- where blocks are kept a map block is put in front; for want of memory all stays, and then it isn't held
-  pub put : old.stage ≡ Keeping → n % 64 ≡ 0 →
-      (new.blocks ≡ with_front old n block) ⊎ ((new.blocks ≡ old.blocks) × (has_map old n ≡ false))
-  pub no_map : n % 64 ≢ 0 → new.blocks ≡ old.blocks
-  pub not_kept : old.stage ≢ Keeping → new.blocks ≡ old.blocks
+  -- where blocks are kept a map block is put in front, unless memory was wanted
+  pub put : old.stage ≡ Keeping → n % 64 ≡ 0 → IsPutInFront old new n block ⊎ IsStarved old new n
+  pub no_map : n % 64 ≢ 0 → new ≡ old
+  pub not_kept : old.stage ≢ Keeping → new ≡ old
   -- the block is held with these bytes, if it is
   pub this : (bytes : List ℕ) → held_block new n ≡ Some bytes → bytes ≡ block
   -- another that is held was held before

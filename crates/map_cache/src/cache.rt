@@ -24,8 +24,8 @@ pub struct CacheFault<D> {
 /// last, up to its capacity. A read of a block that is held makes no call of the lower disk, any other call makes one.
 ///
 /// It holds nothing until a barrier made through it is done, because a write may have failed on the lower disk before,
-/// and nothing any more once a write or a barrier made through it fails. For want of memory a block isn't held; no call
-/// fails from that.
+/// and nothing any more once a write or a barrier made through it fails. A block that isn't held for want of memory is
+/// counted (`wants`), and no call fails from that.
 ///
 /// The content, the crash images, the clock, and the counts of tries and faults are the lower disk's. The count of
 /// calls is its own.
@@ -205,6 +205,13 @@ impl<D: Disk> MapCache<D> {
         ensures mirror { IsMirror D.Disk self.now.lower self.now.held }
     {
         self.held.holds(at.0)
+    }
+
+    /// How often a map block that was read or written wasn't held, for want of memory. Takes none.
+    pub fn wants(&self) -> u64
+        ensures { result ≡ self.now.held.wants }
+    {
+        self.held.wants()
     }
 
     /// The lower disk. Takes no memory.

@@ -23,11 +23,12 @@ pub(crate) enum Stage {
     Over,
 }
 
-/// Blocks in the order of their last use, and how far the cache has come.
+/// Blocks in the order of their last use, how far the cache has come, and how often memory was wanted for one more.
 #[derive(Drop)]
 pub(crate) struct Held {
     blocks: LruCache<u32, Block>,
     stage: Stage,
+    wants: u64,
 }
 
 impl Model for Held {
@@ -35,16 +36,16 @@ impl Model for Held {
 
     ghost Value = { Holding };
 
-    ghost view = { λ h. holding h.blocks.entries h.blocks.cap h.stage };
+    ghost view = { λ h. holding h.blocks.entries h.blocks.cap h.stage h.wants };
 
-    ghost invariant = { λ h. IsHolding (holding h.blocks.entries h.blocks.cap h.stage) };
+    ghost invariant = { λ h. IsHolding (holding h.blocks.entries h.blocks.cap h.stage h.wants) };
 }
 
 impl Held {
     /// None are held.
     pub(crate) fn new(alloc: Global, capacity: u32) -> Result<Held, AllocError>
         requires { 1 ≤ capacity }
-        ensures { IfOk result (λ h. h ≡ holding [] capacity Stage.Waiting) }
+        ensures { IfOk result (λ h. h ≡ holding [] capacity Stage.Waiting 0) }
     {
         let Some(most) = NonZeroUsize::new(capacity as usize) else {
             unreachable!()
@@ -53,6 +54,7 @@ impl Held {
         Ok(Held {
             blocks,
             stage: Stage::Waiting,
+            wants: 0,
         })
     }
 
@@ -62,6 +64,13 @@ impl Held {
         ensures valid { IsHolding self.now }
     {
         self.blocks.contains(&at)
+    }
+
+    /// How often a block wasn't held for want of memory.
+    pub(crate) fn wants(&self) -> u64
+        ensures { result ≡ self.now.wants }
+    {
+        self.wants
     }
 
     /// Copies a held block and brings it to the front. Answers whether it is held.
@@ -90,7 +99,10 @@ impl Held {
         let keeps = self.stage == Stage::Keeping && at % CYLINDER == 0;
         if keeps {
             // For want of memory it isn't held, nor an older content: where its number is held no memory is taken.
-            let _ = self.blocks.put(at, *block);
+            let put = self.blocks.put(at, *block);
+            if put.is_err() {
+                self.wants = self.wants.saturating_add(1);
+            }
         }
     }
 

@@ -23,7 +23,7 @@ use Rattle.name_dirs.specs.Calls.{IsNewDirectory, MakesIn, MakesNamed, MakesOnTo
 use Rattle.name_dirs.specs.Chain.{Calls}
 use Rattle.name_dirs.specs.Changing.{Alters, IsAlterFault, WritesRow}
 use Rattle.name_dirs.specs.Directory.{Entry, entries_in, file_at, file_in, index_at, index_in, is_directory, is_table, row_at, table_entries, table_in}
-use Rattle.name_dirs.specs.Faults.{IsChangeTrouble, IsDirFault, IsReadTrouble, IsTopTrouble, StopsWith, after_fault, due_new, due_of, due_top}
+use Rattle.name_dirs.specs.Faults.{IsChangeTrouble, IsDirFault, IsReadTrouble, IsTopTrouble, StaysAfter, StopsWith, after_fault, due_new, due_of, due_top}
 use Rattle.name_dirs.specs.Making.{CallsQuietly, IsNameless, IsPlaceIn, IsTopFault, LooksAtTop, MakesDirectory, TakesPlace, TellsMaking, TellsPlace, has_top}
 use Rattle.name_dirs.specs.Names.{ChangesNames, IfApart, Nothing, Put}
 use Rattle.name_dirs.specs.Opening.{HasNoRow, Opens}
@@ -32,7 +32,7 @@ use Rattle.name_dirs.specs.Text.{is_text, name_in, row_size, spelled}
 use Rattle.name_dirs.proofs.Altered.{elsewhere}
 use Rattle.name_dirs.proofs.Begun.{unread, within_dir, within_table}
 use Rattle.name_dirs.proofs.Chains.{calls_on, calls_then, chain_last, reads_first}
-use Rattle.name_dirs.proofs.Faulted.{alter_fault, fault_graph, same_open, stop_of, stop_since, stops_running}
+use Rattle.name_dirs.proofs.Faulted.{alter_fault, fault_graph, same_open, stays_altered, stop_of, stop_since, stops_running}
 use Rattle.name_dirs.proofs.Found.{fault_with}
 use Rattle.name_dirs.proofs.Heard.{file_is}
 use Rattle.name_dirs.proofs.Looked.{looked, stops_with}
@@ -107,9 +107,9 @@ module _ {A : Type 0} (g : Ghosts A) (who : ℕ) (dir : Puid) (s : State) (a b :
     due_is : due_of s dir (due_new w) ≡ due_new w es
     due_is = due_now g who dir a b s table o (due_new w)
 
-    refused : (c : A) (u : State) (fault : DirFault) → MakesIn g who dir w a c s u → u.stopped ≡ (after_fault fault s).stopped → IfApart s.graph (ChangesNames dir Nothing s.graph u.graph)
+    refused : (c : A) (u : State) (fault : DirFault) → MakesIn g who dir w a c s u → u.stopped ≡ (after_fault fault s).stopped → StaysAfter fault s u → IfApart s.graph (ChangesNames dir Nothing s.graph u.graph)
         → IsDirFault (due_of s dir (due_new w)) (IsReadTrouble s dir) (IsChangeTrouble (g.cylinders a) 5 None s u dir) fault → Made c (Err fault)
-    refused c u fault calls stop names cause = (u, calls, stops_running Puid s u fault o.runs stop, (names, cause))
+    refused c u fault calls stop stay names cause = (u, calls, stops_running Puid s u fault o.runs stop stay, (names, cause))
 
     begun : Calls g who New parts a b s s
     begun = reads_first g who New parts a b s s o.reads (λ apart. inl (named_same dir s.graph s.graph refl apart))
@@ -125,7 +125,7 @@ module _ {A : Type 0} (g : Ghosts A) (who : ℕ) (dir : Puid) (s : State) (a b :
     pub make_unplaced : (c : A) (fault : DirFault) → TakesPlace g who dir table.file table.bytes (spelled w) b c (Err fault) → (u : State) × MakesIn g who dir w a c s u × StopsWith {E = Puid} s u (Err fault) × MakesNamed (g.cylinders a) s u dir w capacity (Err fault)
     make_unplaced c fault went =
         let p = placing c (Err fault) went in
-        refused c p.0 fault (calls_placed c p.0 p.1) p.2.0 (chain_last g who Quiet p.1.chain) (wider (g.cylinders a) (g.cylinders b) s p.0 dir (due_new w es) (due_of s dir (due_new w)) fault o.cylinders (sym due_is) p.2.1)
+        refused c p.0 fault (calls_placed c p.0 p.1) p.2.0 p.2.1 (chain_last g who Quiet p.1.chain) (wider (g.cylinders a) (g.cylinders b) s p.0 dir (due_new w es) (due_of s dir (due_new w)) fault o.cylinders (sym due_is) p.2.2)
 
     module _ (c : A) (place : ℕ) (placed : (u : State) × CallsQuietly g who dir (parts_in s.graph dir) b c s u × TellsPlace (g.cylinders b) s u dir table.file o.of.index o.of.file w (Ok place)) (still : g.cylinders c ≡ g.cylinders b) where
       abbrev p : State
@@ -160,7 +160,7 @@ module _ {A : Type 0} (g : Ghosts A) (who : ℕ) (dir : Puid) (s : State) (a b :
       unmade : (d : A) (fault : DirFault) → MakesDirectory g who dir place capacity c d (Err fault) → Made d (Err fault)
       unmade d fault went =
           let m = making d (Err fault) went in
-          refused d m.0 fault (calls_made d m.0 m.1) (m.2.0 ∙ stop_of fault s p o.runs placed.2.0) (quiet_on m.0.graph (chain_last g who (λ h. IfApart p.graph (ChangesNames dir Nothing p.graph h)) m.1.chain))
+          refused d m.0 fault (calls_made d m.0 m.1) (m.2.0 ∙ stop_of fault s p o.runs placed.2.0) (stays_altered (g.cylinders c) 5 None p dir m.0 fault m.2.1 s m.0) (quiet_on m.0.graph (chain_last g who (λ h. IfApart p.graph (ChangesNames dir Nothing p.graph h)) m.1.chain))
           (alter_fault (g.cylinders a) 5 5 None None s p m.0 dir dir (due_of s dir (due_new w)) (IsReadTrouble s dir) fault none_due (omega arith) (λ never. absurd never) (λ bars. inl (same_open s p dir placed.1.grants bars))
           (subst (λ (n : ℕ). IsAlterFault n 5 None p dir m.0 fault) (still ∙ o.cylinders) m.2.1))
 
@@ -236,7 +236,7 @@ module _ {A : Type 0} (g : Ghosts A) (who : ℕ) (dir : Puid) (s : State) (a b :
         unnamed : (e : A) (fault : DirFault) → WritesRow g who t place (spelled w) d e (Err fault) → Made e (Err fault)
         unnamed e fault went =
             let al = writing e (Err fault) went in
-            refused e al.after fault (calls_named e (Err fault) al) (stop_since fault s v al.after o.runs m.2.0 al.told.0)
+            refused e al.after fault (calls_named e (Err fault) al) (stop_since fault s v al.after o.runs m.2.0 al.told.0) (stays_altered (g.cylinders d) 4 None v t al.after fault al.told.1 s al.after)
             (λ apart. subst (ChangesNames dir Nothing s.graph) (sym (ap (λ (u : State). u.graph) al.told.0 ∙ fault_graph fault v)) (quiet_v apart))
             (alter_fault (g.cylinders a) 4 5 None None s v al.after t dir (due_of s dir (due_new w)) (IsReadTrouble s dir) fault none_due (omega arith) (λ never. absurd never)
             (λ bars. inr (t, has_table_in s.graph dir t i f o.of.has, same_open s v t grants_v bars)) (subst (λ (n : ℕ). IsAlterFault n 4 None v t al.after fault) (kept ∙ still ∙ o.cylinders) al.told.1))
@@ -311,7 +311,7 @@ module _ {A : Type 0} (g : Ghosts A) (who : ℕ) (s : State) (a : A) (stands : g
   pub top_exists : (b : A) → LooksAtTop g who a b (Ok true) → (u : State) × MakesOnTop g who a b s u × StopsWith {E = Puid} s u (Err faults.Exists) × MakesTop (g.cylinders a) s u capacity (Err faults.Exists)
   top_exists b went =
       let told = looked g who s (λ b. b ≡ has_top s.graph) (IsTopFault s) a b true (went s stands) in
-      (s, begun_top b s told.0, stops_running Puid s s faults.Exists told.1 refl, due (option_and_then (entries_in s.graph) (table_in s.graph s.graph.root)) told.2)
+      (s, begun_top b s told.0, stops_running Puid s s faults.Exists told.1 refl refl, due (option_and_then (entries_in s.graph) (table_in s.graph s.graph.root)) told.2)
     where
       due : (o : Option (List Entry)) → true ≡ is_some o → due_top o ≡ Some faults.Exists
       due None is = cc is
@@ -346,7 +346,7 @@ module _ {A : Type 0} (g : Ghosts A) (who : ℕ) (s : State) (a : A) (stands : g
         let m = making_top c (Err fault) went in (
           m.0,
           calls_top c m.0 m.1,
-          stops_running Puid s m.0 fault told.1 m.2.0,
+          stops_running Puid s m.0 fault told.1 m.2.0 (stays_altered (g.cylinders b) 5 None s root m.0 fault m.2.1 s m.0),
           alter_fault (g.cylinders a) 5 5 None None s s m.0 root s.graph.root (due_top (option_and_then (entries_in s.graph) (table_in s.graph s.graph.root))) (IsTopTrouble s) fault (ap due_top none_top) (omega arith) (λ never. absurd never)
               (λ bars. inl (ap (is_open s) (sym is_root) ∙ bars)) (subst (λ (n : ℕ). IsAlterFault n 5 None s root m.0 fault) cylinders m.2.1),
         )

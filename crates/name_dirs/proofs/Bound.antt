@@ -17,15 +17,16 @@ use Rattle.name_dirs.specs.Calls.{Binds, Renames, parts_in}
 use Rattle.name_dirs.specs.Chain.{Calls}
 use Rattle.name_dirs.specs.Changing.{Alters, IsAlterFault, Retains, WritesRow}
 use Rattle.name_dirs.specs.Directory.{Entry, entries_in, row_at, table_entries}
-use Rattle.name_dirs.specs.Faults.{IsChangeTrouble, IsDirFault, IsReadTrouble, StopsWith, after_fault, due_of, due_place}
+use Rattle.name_dirs.specs.Faults.{IsChangeTrouble, IsDirFault, IsReadTrouble, StaysAfter, StopsWith, after_fault, due_of, due_place}
 use Rattle.name_dirs.specs.Names.{Change, ChangesNames, IfApart, Nothing, OldOrNew, Put, bound, has_name, is_nameless, place_for, place_or}
 use Rattle.name_dirs.specs.Opening.{HasNoRow, IsFirstRow, Opens, full_of}
 use Rattle.name_dirs.specs.Reading.{HasTable}
 use Rattle.name_dirs.specs.Text.{is_text, name_in, row_size, spelled}
 use Rattle.name_dirs.proofs.Begun.{bars_table, begun, same_graph, stays, unread, within_dir, within_table}
 use Rattle.name_dirs.proofs.Chains.{calls_then}
-use Rattle.name_dirs.proofs.Faulted.{alter_fault, fault_graph, stop_since, stops_running}
+use Rattle.name_dirs.proofs.Faulted.{alter_fault, fault_graph, stays_altered, stop_since, stops_running}
 use Rattle.name_dirs.proofs.Found.{fault_with}
+use Rattle.name_dirs.proofs.Looked.{stays_told}
 use Rattle.name_dirs.proofs.Moves.{has_entries, named_on, named_same}
 use Rattle.name_dirs.proofs.Named.{has_filled}
 use Rattle.name_dirs.proofs.Rows.{length_spelled, text_parts}
@@ -70,14 +71,14 @@ module _ {A : Type 0} (g : Ghosts A) (who : ℕ) (dir : Puid) (s : State) (a b :
     abbrev to_id : Change
     to_id = Put dir w (Some id)
 
-    refused : (d : A) (u : State) (fault : DirFault) → Renames g who dir w (Some id) a d s u → u.stopped ≡ (after_fault fault s).stopped → IfApart s.graph (ChangesNames dir Nothing s.graph u.graph)
+    refused : (d : A) (u : State) (fault : DirFault) → Renames g who dir w (Some id) a d s u → u.stopped ≡ (after_fault fault s).stopped → StaysAfter fault s u → IfApart s.graph (ChangesNames dir Nothing s.graph u.graph)
         → IsDirFault (due_of s dir (due_place w)) (IsReadTrouble s dir) (IsChangeTrouble (g.cylinders a) 4 (Some id) s u dir) fault → Bound d (Err fault)
-    refused d u fault calls stop names cause = (u, calls, stops_running (Unit {0}) s u fault o.runs stop, (names, cause))
+    refused d u fault calls stop stay names cause = (u, calls, stops_running (Unit {0}) s u fault o.runs stop stay, (names, cause))
 
     -- each entry has another name
     pub bind_full : HasNoRow table.bytes table.slots (spelled w) → HasNoRow table.bytes table.slots (spelled [])
         → (u : State) × Renames g who dir w (Some id) a b s u × StopsWith {E = Unit {0}} s u (Err (full_of table.slots)) × Binds (g.cylinders a) s u dir w id (Err (full_of table.slots))
-    bind_full none taken = subst (λ (fault : DirFault). Bound b (Err fault)) (sym (told_full i f table.slots o.of.slots o.few)) (refused b s (faults.DirFull (length es)) (begun g who dir s a b o.reads to_id) refl (stays s dir s refl) due)
+    bind_full none taken = subst (λ (fault : DirFault). Bound b (Err fault)) (sym (told_full i f table.slots o.of.slots o.few)) (refused b s (faults.DirFull (length es)) (begun g who dir s a b o.reads to_id) refl refl (stays s dir s refl) due)
       where
         nowhere : place_for w es ≡ None
         nowhere = ap (λ p. place_or p es) (stands_nowhere i f (has_name w) (spelled w) (calls_by_row i f has.is w text) (none_is w none)) ∙ stands_nowhere i f is_nameless (spelled []) (free_by_row i f has.is) (none_is [] taken)
@@ -107,7 +108,7 @@ module _ {A : Type 0} (g : Ghosts A) (who : ℕ) (dir : Puid) (s : State) (a b :
 
       retain_refused : (c : A) (fault : DirFault) (al : Alters g who s dir Kept (IsAlterFault (g.cylinders b) 4 (Some id) s dir) b c (Err fault)) → place_for w es ≡ Some (place - 1) → ((u : Unit {0}) (h : Graph) → Kept u h → OldOrNew dir to_id s.graph h) → Bound c (Err fault)
       retain_refused c fault al is makes = refused c al.after fault (calls_then g who (OldOrNew dir to_id s.graph) Kept (parts_in s.graph dir) (dir ∷ []) a b c s s al.after (begun g who dir s a b o.reads to_id) al.calls makes (within_dir s.graph dir))
-          (ap (λ (u : State). u.stopped) al.told.0) (stays s dir al.after (same_graph s al.after fault al.told.0))
+          (ap (λ (u : State). u.stopped) al.told.0) (stays_told fault s al.after al.told.0) (stays s dir al.after (same_graph s al.after fault al.told.0))
           (alter_fault (g.cylinders a) 4 4 (Some id) (Some id) s s al.after dir dir (due_of s dir (due_place w)) (IsReadTrouble s dir) fault (due_none is) (omega arith) (λ missing. missing) (λ bars. inl bars)
           (subst (λ (n : ℕ). IsAlterFault n 4 (Some id) s dir al.after fault) o.cylinders al.told.1))
 
@@ -228,7 +229,7 @@ module _ {A : Type 0} (g : Ghosts A) (who : ℕ) (dir : Puid) (s : State) (a b :
                   ),
                 ),
               )
-              by (Err fault) al = refused d al.after fault (calls_named d (Err fault) al) (stop_since fault s m al.after o.runs kept_so.told.0 al.told.0)
+              by (Err fault) al = refused d al.after fault (calls_named d (Err fault) al) (stop_since fault s m al.after o.runs kept_so.told.0 al.told.0) (stays_altered (g.cylinders c) 4 None m t al.after fault al.told.1 s al.after)
                   (λ apart. subst (ChangesNames dir Nothing s.graph) (sym (ap (λ (u : State). u.graph) al.told.0 ∙ fault_graph fault m)) (quiet m.graph is_graph apart))
                   (alter_fault (g.cylinders a) 4 4 None (Some id) s m al.after t dir (due_of s dir (due_place w)) (IsReadTrouble s dir) fault (due_none new_place) (omega arith) (λ never. absurd never) (bars_table s dir t i f has m kept_so.calls.grants)
                   (subst (λ (n : ℕ). IsAlterFault n 4 None m t al.after fault) (cylinders ∙ o.cylinders) al.told.1))

@@ -12,7 +12,7 @@ use Rattle.ufs_model.specs.State.{State, is_running}
 use Rattle.name_dirs.specs.declared.fault.DirFault.{DirFault}
 use Rattle.name_dirs.specs.declared.fault.DirFault.TheVariants as faults
 use Rattle.name_dirs.specs.Changing.{IsAlterFault}
-use Rattle.name_dirs.specs.Faults.{IsBarred, IsChangeTrouble, IsDirFault, IsMissing, StopsWith, after_fault}
+use Rattle.name_dirs.specs.Faults.{IsBarred, IsChangeTrouble, IsDirFault, IsMissing, StaysAfter, StopsWith, after_fault}
 use Rattle.name_dirs.proofs.Heard.{runs_on}
 
 -- ---- a stop
@@ -39,8 +39,14 @@ stop_since fault s m t runs still is = ap (λ (u : State). u.stopped) is ∙ fau
 pub stop_of : (fault : DirFault) (s m : State) → is_running s ≡ true → is_running m ≡ true → (after_fault fault m).stopped ≡ (after_fault fault s).stopped
 stop_of fault s m runs still = fault_stop fault m s (none_stopped m still ∙ sym (none_stopped s runs))
 
-pub stops_running : (E : Type 0) (s t : State) (fault : DirFault) → is_running s ≡ true → t.stopped ≡ (after_fault fault s).stopped → StopsWith {E = E} s t (Err fault)
-stops_running E s t fault runs is = (is, runs_on s fault runs, λ off. let both : true ≡ false = sym runs ∙ off in cc both)
+pub stops_running : (E : Type 0) (s t : State) (fault : DirFault) → is_running s ≡ true → t.stopped ≡ (after_fault fault s).stopped → StaysAfter fault s t → StopsWith {E = E} s t (Err fault)
+stops_running E s t fault runs is stay = (is, runs_on s fault runs, (λ off. let both : true ≡ false = sym runs ∙ off in cc both), stay)
+
+-- a change that is refused is none by the names
+pub stays_altered : (cylinders most : ℕ) (also : Option Puid) (m : State) (x : Puid) (u : State) (fault : DirFault) → IsAlterFault cylinders most also m x u fault → (s t : State) → StaysAfter fault s t
+stays_altered cylinders most also m x u (faults.Asked r) is s t = tt
+stays_altered cylinders most also m x u faults.Memory is s t = tt
+stays_altered cylinders most also m x u fault is s t = absurd is
 
 -- ---- causes
 

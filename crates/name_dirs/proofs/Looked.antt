@@ -8,7 +8,7 @@ use Rattle.name_dirs.specs.declared.fault.DirFault.{DirFault}
 use Rattle.name_dirs.specs.declared.fault.DirFault.TheVariants as faults
 use Rattle.name_dirs.specs.Calls.{ReadsOn}
 use Rattle.name_dirs.specs.Chain.{Start}
-use Rattle.name_dirs.specs.Faults.{StopsWith, TellsHalt, TellsStopAt, after_fault}
+use Rattle.name_dirs.specs.Faults.{StaysAfter, StopsWith, TellsHalt, TellsStopAt, after_fault}
 use Rattle.name_dirs.specs.Reading.{Looks}
 use Rattle.name_dirs.proofs.Chains.{calls_on, keeps_same}
 
@@ -51,9 +51,20 @@ still s t (faults.Asked (replies.Disk doubt)) is moment told = absurd told
 still s t (faults.Asked r) is moment told = absurd told
 still s t faults.Memory is moment told = is
 
+-- one by the names leaves it too
+pub stays_told : (fault : DirFault) (s t : State) → t ≡ after_fault fault s → StaysAfter fault s t
+stays_told (faults.Asked r) s t is = tt
+stays_told faults.Memory s t is = tt
+stays_told fault s t is = is
+
 pub stops_with : (E : Type 0) (s t : State) (fault : DirFault) → t ≡ after_fault fault s → TellsHalt s fault → StopsWith {E = E} s t (Err fault)
-stops_with E s t fault is stop = (ap (λ (u : State). u.stopped) is, stop, λ stopped. by s.stopped refl stopped)
+stops_with E s t fault is stop = (ap (λ (u : State). u.stopped) is, stop, (λ stopped. by s.stopped refl stopped), stays_told fault s t is)
   where
     by : (o : Option ℕ) → s.stopped ≡ o → is_running s ≡ false → t ≡ s
     by None at stopped = let runs : is_running s ≡ true = ap is_none at in let both : true ≡ false = sym runs ∙ stopped in cc both
     by (Some moment) at stopped = still s t fault is moment (stop moment at)
+
+-- what is told of a call that reads
+pub looks_stop : {A E : Type 0} (g : Ghosts A) (who : ℕ) (s : State) (Is : E → Type 0) (Cause : DirFault → Type 0) (a b : A) (r : Result E DirFault) (looks : Looks g who s Is Cause a b r) → StopsWith s looks.after r
+looks_stop g who s Is Cause a b (Ok x) looks = (looks.told.1, subst (λ (t : State). is_running t ≡ true) (sym looks.told.0) looks.told.1)
+looks_stop {E = E} g who s Is Cause a b (Err fault) looks = stops_with E s looks.after fault looks.told.0 looks.told.1

@@ -28,7 +28,7 @@ use Rattle.name_dirs.proofs.Begun.{bars_table, within_table}
 use Rattle.name_dirs.proofs.Chains.{calls_then, reads_first}
 use Rattle.name_dirs.proofs.Faulted.{alter_fault}
 use Rattle.name_dirs.proofs.Found.{due_in, fault_with, under_no_row, under_row}
-use Rattle.name_dirs.proofs.Looked.{looked, reads_itself}
+use Rattle.name_dirs.proofs.Looked.{looked, reads_itself, stays_told}
 use Rattle.name_dirs.proofs.Moves.{named_same}
 use Rattle.name_dirs.proofs.Opened.{read_fault}
 use Rattle.name_dirs.proofs.Rows.{letters_spelled, name_spelled, text_parts, written_here, written_other}
@@ -94,7 +94,7 @@ module _ {A : Type 0} (g : Ghosts A) (who : ℕ) (dir t : Puid) (s : State) (a :
         new_place : place_for w es ≡ Some (place - 1)
         new_place = ap (λ p. place_or p es) nowhere ∙ stands_at i f is_nameless (spelled []) (free_by_row i f has.is) place spot
     place_or_full None taken = subst (λ (fault : DirFault). Placed a (Err fault)) (sym (told_full i f slots is_slots (few_slots s.graph dir i (g.formed a s stands runs).0.graph has.index)))
-        (s, quiet_reads a s (reads_itself g who a s stands), (refl, due))
+        (s, quiet_reads a s (reads_itself g who a s stands), (refl, refl, due))
       where
         full : place_for w es ≡ None
         full = ap (λ p. place_or p es) nowhere ∙ stands_nowhere i f is_nameless (spelled []) (free_by_row i f has.is) (none_moved bytes f.bytes slots (length i.slots) blank (spelled []) is_bytes is_slots is_blank taken)
@@ -125,6 +125,7 @@ module _ {A : Type 0} (g : Ghosts A) (who : ℕ) (dir t : Puid) (s : State) (a :
           quiet_reads b looks.after looks.calls,
           (
             ap (λ (u : State). u.stopped) looks.told.0,
+            stays_told fault s looks.after looks.told.0,
             subst (λ (due : Option DirFault). IsDirFault due (IsReadTrouble s dir) (IsChangeTrouble (g.cylinders a) 4 None s looks.after dir) fault) (due_in s dir t i f (due_new w) has) cause,
           ),
         )
@@ -132,7 +133,7 @@ module _ {A : Type 0} (g : Ghosts A) (who : ℕ) (dir t : Puid) (s : State) (a :
     pub place_exists : (id : Puid) → LooksAtSlot g who dir place a b (Ok (Some id)) → (u : State) × CallsQuietly g who dir (parts_in s.graph dir) a b s u × TellsPlace (g.cylinders a) s u dir t i f w (Err faults.Exists)
     place_exists id went =
         let told = looked g who s (λ what. what ≡ slot_of i place) (IsLookFault s dir) a b (Some id) (seen (Ok (Some id)) went) in
-        (s, quiet_reads b s told.0, (refl, ap (λ (id : Option Puid). if is_some id then Some faults.Exists else due_place w es) (under ∙ sym told.2)))
+        (s, quiet_reads b s told.0, (refl, refl, ap (λ (id : Option Puid). if is_some id then Some faults.Exists else due_place w es) (under ∙ sym told.2)))
 
     -- and leads nowhere: its row is emptied
     module _ (went : LooksAtSlot g who dir place a b (Ok None)) (cylinders : g.cylinders b ≡ g.cylinders a) (c : A) where
@@ -165,6 +166,7 @@ module _ {A : Type 0} (g : Ghosts A) (who : ℕ) (dir t : Puid) (s : State) (a :
             quiet_zeroed (Err fault) al,
             (
               ap (λ (u : State). u.stopped) al.told.0,
+              stays_told fault s al.after al.told.0,
               alter_fault (g.cylinders a) 4 4 None None s s al.after t dir (due_new w es) (IsReadTrouble s dir) fault (none_new (place - 1) empty old_place) (omega arith) (λ never. absurd never) (bars_table s dir t i f has s refl)
                   (subst (λ (k : ℕ). IsAlterFault k 4 None s t al.after fault) cylinders al.told.1),
             ),

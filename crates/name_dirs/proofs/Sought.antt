@@ -28,7 +28,7 @@ use Rattle.name_dirs.specs.Text.{AddsText, has_text, is_row, is_text, name_in, n
 use Rattle.name_dirs.proofs.Entries.{length_map, map_at, other_from}
 use Rattle.name_dirs.proofs.Found.{fault_with, under_no_row, under_row}
 use Rattle.name_dirs.proofs.Heard.{runs_on}
-use Rattle.name_dirs.proofs.Looked.{looks_err, looks_ok, looks_on, looks_own, stops_with}
+use Rattle.name_dirs.proofs.Looked.{looks_err, looks_ok, looks_on, looks_own, looks_stop}
 use Rattle.name_dirs.proofs.Opened.{read_fault}
 use Rattle.name_dirs.proofs.Rows.{text_named, unless}
 use Rattle.name_dirs.proofs.Tables.{TableParts, only_here, special_table}
@@ -47,12 +47,12 @@ AreNames s dir names = (es : List Entry) × (entries_in s.graph dir ≡ Some es)
 
 module _ {A : Type 0} (g : Ghosts A) (who : ℕ) (dir : Puid) (s : State) (a b : A) where
   pub looked_up : (w : List ℕ) (r : Result Puid DirFault) → Looks g who s (IsUp s dir w) (UpFault s dir w) a b r → (t : State) × ReadsOn g who a b s t × StopsWith s t r × LooksUp s t dir w r
-  looked_up w (Ok id) looks = (looks.after, looks.calls, (looks.told.1, subst (λ (t : State). is_running t ≡ true) (sym looks.told.0) looks.told.1), (looks.told.0, looks.told.2))
-  looked_up w (Err fault) looks = (looks.after, looks.calls, stops_with Puid s looks.after fault looks.told.0 looks.told.1, looks.told.2)
+  looked_up w (Ok id) looks = (looks.after, looks.calls, looks_stop g who s (IsUp s dir w) (UpFault s dir w) a b (Ok id) looks, (looks.told.0, looks.told.2))
+  looked_up w (Err fault) looks = (looks.after, looks.calls, looks_stop g who s (IsUp s dir w) (UpFault s dir w) a b (Err fault) looks, looks.told.2)
 
   pub listed_all : (r : Result (List (List ℕ)) DirFault) → Looks g who s (AreNames s dir) (IsReadFault s dir) a b r → (t : State) × ReadsOn g who a b s t × StopsWith s t r × Lists s t dir r
-  listed_all (Ok names) looks = (looks.after, looks.calls, (looks.told.1, subst (λ (t : State). is_running t ≡ true) (sym looks.told.0) looks.told.1), (looks.told.0, looks.told.2))
-  listed_all (Err fault) looks = (looks.after, looks.calls, stops_with (List (List ℕ)) s looks.after fault looks.told.0 looks.told.1, looks.told.2)
+  listed_all (Ok names) looks = (looks.after, looks.calls, looks_stop g who s (AreNames s dir) (IsReadFault s dir) a b (Ok names) looks, (looks.told.0, looks.told.2))
+  listed_all (Err fault) looks = (looks.after, looks.calls, looks_stop g who s (AreNames s dir) (IsReadFault s dir) a b (Err fault) looks, looks.told.2)
 
 -- ---- a name looked up
 

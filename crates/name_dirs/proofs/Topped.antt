@@ -1,5 +1,6 @@
--- Whether slot 0 of the root index holds a directory.
+-- What slot 0 of the root index holds, and whether that is a directory.
 use Rattle.std.proofs.Common.{◌≡◌, ◌≢◌, inl, inr, ℕ, ◌<◌, Bool, true, false, Option, Some, None, List, length, refl, sym, ◌∙◌, ap, subst, arith}
+use Rattle.std.specs.Option.{ok_or}
 use Rattle.std.specs.Prelude.{Err, Ok, Result, is_none, is_some, option_and_then, if◌then◌else◌}
 use Rattle.cfs_base.specs.declared.identifier.Puid.{Puid}
 use Rattle.ufs_model.specs.declared.asked.Reply.TheVariants as replies
@@ -13,13 +14,14 @@ use Rattle.ufs_model.proofs.WellGraphs.{closed_graph}
 use Rattle.name_dirs.specs.declared.fault.DirFault.{DirFault}
 use Rattle.name_dirs.specs.declared.fault.DirFault.TheVariants as faults
 use Rattle.name_dirs.specs.declared.table.Table.{Table}
-use Rattle.name_dirs.specs.Calls.{ReadsOn}
+use Rattle.name_dirs.specs.Calls.{FindsTop, ReadsOn}
 use Rattle.name_dirs.specs.Directory.{Entry, entries_in, index_at, index_in, table_in}
-use Rattle.name_dirs.specs.Faults.{TellsHalt, due_with, none_due}
+use Rattle.name_dirs.specs.Faults.{IsDirFault, IsStartTrouble, StopsWith, TellsHalt, due_start, due_with, none_due}
 use Rattle.name_dirs.specs.Making.{IsTopFault, has_top, if_other}
 use Rattle.name_dirs.specs.Opening.{IsTableOf, Opens}
 use Rattle.name_dirs.specs.Reading.{IsLookFault, IsReadFault, Looks, LooksAtSlot}
-use Rattle.name_dirs.proofs.Looked.{looked, looks_ok, reads_on}
+use Rattle.name_dirs.proofs.Heard.{runs_on}
+use Rattle.name_dirs.proofs.Looked.{looked, looks_ok, looks_own, looks_stop, reads_on}
 use Rattle.name_dirs.proofs.Moves.{has_entries}
 use Rattle.name_dirs.proofs.Named.{held_there}
 
@@ -29,6 +31,36 @@ none_only : (there : Bool) (es : Option (List Entry)) (fault : DirFault) → (if
 none_only false es fault is = cc is
 none_only true None fault is = (cc is, refl)
 none_only true (Some es) fault is = cc is
+
+-- ---- what is told, as the contract says it
+
+abbrev pub IsStart : State → Puid → Type 0
+IsStart s id = table_in s.graph s.graph.root ≡ Some id
+
+abbrev pub IsStartFault : State → DirFault → Type 0
+IsStartFault s fault = IsDirFault (due_start (table_in s.graph s.graph.root)) (IsStartTrouble s) (λ reply. ⊥) fault
+
+found_top : {A : Type 0} (g : Ghosts A) (who : ℕ) (s : State) (a b : A) (r : Result Puid DirFault) → Looks g who s (IsStart s) (IsStartFault s) a b r → (t : State) × ReadsOn g who a b s t × StopsWith s t r × FindsTop s t r
+found_top g who s a b (Ok id) looks = (looks.after, looks.calls, looks_stop g who s (IsStart s) (IsStartFault s) a b (Ok id) looks, (looks.told.0, looks.told.2))
+found_top g who s a b (Err fault) looks = (looks.after, looks.calls, looks_stop g who s (IsStart s) (IsStartFault s) a b (Err fault) looks, looks.told.2)
+
+-- ---- a fault of the root index
+
+top_fault : (s : State) (fault : DirFault) → IsLookFault s s.graph.root fault → IsTopFault s fault
+top_fault s (faults.Asked replies.Locked) is = inl is
+top_fault s (faults.Asked (replies.Disk doubt)) is = tt
+top_fault s (faults.Asked (replies.Stopped moment)) is = is
+top_fault s faults.Memory is = tt
+top_fault s fault is = absurd is
+
+start_fault : (s : State) (fault : DirFault) → IsLookFault s s.graph.root fault → IsStartFault s fault
+start_fault s (faults.Asked replies.Locked) is = inl is
+start_fault s (faults.Asked (replies.Disk doubt)) is = inl tt
+start_fault s (faults.Asked (replies.Stopped moment)) is = inl is
+start_fault s faults.Memory is = tt
+start_fault s fault is = absurd is
+
+-- ---- slot 0
 
 module _ {A : Type 0} (g : Ghosts A) (who : ℕ) (s : State) (a : A) (stands : g.stands a s) (root : Puid) (is_top : root ≡ g.top a) where
   -- the root index, of one that runs
@@ -54,19 +86,25 @@ module _ {A : Type 0} (g : Ghosts A) (who : ℕ) (s : State) (a : A) (stands : g
     first_looks : (r : Result (Option Puid) DirFault) → LooksAtSlot g who root 0 a b r → Looks g who s (λ what. what ≡ slot_of top_index.0 0) (IsLookFault s root) a b r
     first_looks r went = went s top_index.0 stands top_index.1
 
-    of_root : (fault : DirFault) → TellsHalt s fault → IsLookFault s root fault → IsTopFault s fault
+    of_root : (fault : DirFault) → TellsHalt s fault → IsLookFault s root fault → IsLookFault s s.graph.root fault
     of_root (faults.Asked replies.Locked) stop is = by s.stopped refl
       where
-        by : (o : Option ℕ) → s.stopped ≡ o → IsTopFault s (faults.Asked replies.Locked)
-        by None at = inl (ap (is_open_for_writing s) (sym (at_root (ap is_none at))) ∙ is)
+        by : (o : Option ℕ) → s.stopped ≡ o → is_open_for_writing s s.graph.root ≡ true
+        by None at = ap (is_open_for_writing s) (sym (at_root (ap is_none at))) ∙ is
         by (Some moment) at = absurd (stop moment at)
     of_root (faults.Asked (replies.Disk doubt)) stop is = tt
     of_root (faults.Asked (replies.Stopped moment)) stop is = is
     of_root faults.Memory stop is = tt
     of_root fault stop is = absurd is
 
+    unseen : {E : Type 0} (Is : E → Type 0) (Cause : DirFault → Type 0) (fault : DirFault) → (IsLookFault s s.graph.root fault → Cause fault) → LooksAtSlot g who root 0 a b (Err fault) → Looks g who s Is Cause a b (Err fault)
+    unseen Is Cause fault less went = let looks = first_looks (Err fault) went in record { after = looks.after; calls = looks.calls; told = (looks.told.0, looks.told.1, less (of_root fault looks.told.1 looks.told.2)) }
+
     pub top_unseen : (fault : DirFault) → LooksAtSlot g who root 0 a b (Err fault) → Looks g who s (λ b. b ≡ has_top s.graph) (IsTopFault s) a b (Err fault)
-    top_unseen fault went = let looks = first_looks (Err fault) went in record { after = looks.after; calls = looks.calls; told = (looks.told.0, looks.told.1, of_root fault looks.told.1 looks.told.2) }
+    top_unseen fault = unseen (λ b. b ≡ has_top s.graph) (IsTopFault s) fault (top_fault s fault)
+
+    pub start_unseen : (fault : DirFault) → LooksAtSlot g who root 0 a b (Err fault) → (t : State) × ReadsOn g who a b s t × StopsWith {E = Puid} s t (Err fault) × FindsTop s t (Err fault)
+    start_unseen fault went = found_top g who s a b (Err fault) (unseen (IsStart s) (IsStartFault s) fault (start_fault s fault) went)
 
     -- what the slot holds
     module _ (what : Option Puid) (went : LooksAtSlot g who root 0 a b (Ok what)) where
@@ -127,3 +165,12 @@ module _ {A : Type 0} (g : Ghosts A) (who : ℕ) (s : State) (a : A) (stands : g
         top_faulted (faults.DirFull n) opened = top_unread (faults.DirFull n) (λ same. cc same) opened
         top_faulted (faults.Asked r) opened = top_unread (faults.Asked r) (λ same. cc same) opened
         top_faulted faults.Memory opened = top_unread faults.Memory (λ same. cc same) opened
+
+    -- where the paths begin
+    pub start_found : (what : Option Puid) → LooksAtSlot g who root 0 a b (Ok what) → (t : State) × ReadsOn g who a b s t × StopsWith s t (ok_or what faults.NotDirectory) × FindsTop s t (ok_or what faults.NotDirectory)
+    start_found None went =
+        let read = told None went in
+        found_top g who s a b (Err faults.NotDirectory) (looks_own g who s (IsStart s) (IsStartFault s) a b faults.NotDirectory read.0 refl (runs_on s faults.NotDirectory read.1) (ap due_start (first_is None went)))
+    start_found (Some id) went =
+        let read = told (Some id) went in
+        found_top g who s a b (Ok id) (looks_ok g who s (IsStart s) (IsStartFault s) a b id read.0 read.1 (first_is (Some id) went))

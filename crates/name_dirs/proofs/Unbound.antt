@@ -17,16 +17,16 @@ use Rattle.name_dirs.specs.declared.table.Table.{Table}
 use Rattle.name_dirs.specs.Calls.{ReadsOn, Renames, TakesName, Unbinds, parts_in}
 use Rattle.name_dirs.specs.Changing.{Alters, Empties, IsAlterFault, WritesRow}
 use Rattle.name_dirs.specs.Directory.{Entry, empty_entry, entries_in, row_at, table_entries}
-use Rattle.name_dirs.specs.Faults.{IsChangeTrouble, IsDirFault, IsReadTrouble, StopsWith, after_fault, due_name, due_of}
+use Rattle.name_dirs.specs.Faults.{IsChangeTrouble, IsDirFault, IsReadTrouble, StaysAfter, StopsWith, after_fault, due_name, due_of}
 use Rattle.name_dirs.specs.Names.{Change, ChangesNames, IfApart, Nothing, OldOrNew, Put, entries_put, has_name, id_under}
 use Rattle.name_dirs.specs.Opening.{HasNoRow, IsFirstRow, Opens}
 use Rattle.name_dirs.specs.Reading.{HasTable, LooksAtSlot}
 use Rattle.name_dirs.specs.Text.{is_text, name_in, row_size, spelled}
 use Rattle.name_dirs.proofs.Begun.{bars_table, begun, named_then, same_graph, stays, unread, within_dir, within_table}
 use Rattle.name_dirs.proofs.Chains.{calls_then, reads_first}
-use Rattle.name_dirs.proofs.Faulted.{alter_fault, fault_graph, same_open, stop_since, stops_running}
+use Rattle.name_dirs.proofs.Faulted.{alter_fault, fault_graph, same_open, stays_altered, stop_since, stops_running}
 use Rattle.name_dirs.proofs.Found.{fault_with, under_no_row, under_row}
-use Rattle.name_dirs.proofs.Looked.{reads_on}
+use Rattle.name_dirs.proofs.Looked.{reads_on, stays_told}
 use Rattle.name_dirs.proofs.Moves.{has_entries, named_same}
 use Rattle.name_dirs.proofs.Opened.{read_fault}
 use Rattle.name_dirs.proofs.Rows.{written_here}
@@ -65,14 +65,14 @@ module _ {A : Type 0} (g : Ghosts A) (who : ℕ) (dir : Puid) (s : State) (a b :
   abbrev Cause : State → DirFault → Type 0
   Cause u fault = IsDirFault (due_of s dir (due_name w)) (IsReadTrouble s dir) (IsChangeTrouble (g.cylinders a) 4 None s u dir) fault
 
-  refused : (d : A) (u : State) (fault : DirFault) → Renames g who dir w None a d s u → u.stopped ≡ (after_fault fault s).stopped → IfApart s.graph (ChangesNames dir Nothing s.graph u.graph) ⊎ TakesName dir w s.graph u.graph → Cause u fault → Unbound d (Err fault)
-  refused d u fault calls stop names cause = (u, calls, stops_running (Unit {0}) s u fault o.runs stop, (names, cause))
+  refused : (d : A) (u : State) (fault : DirFault) → Renames g who dir w None a d s u → u.stopped ≡ (after_fault fault s).stopped → StaysAfter fault s u → IfApart s.graph (ChangesNames dir Nothing s.graph u.graph) ⊎ TakesName dir w s.graph u.graph → Cause u fault → Unbound d (Err fault)
+  refused d u fault calls stop stay names cause = (u, calls, stops_running (Unit {0}) s u fault o.runs stop stay, (names, cause))
 
   due_is : (id : Option Puid) → id_under w es ≡ id → due_of s dir (due_name w) ≡ (if is_none id then Some faults.NoName else None)
   due_is id is = due_now g who dir a b s table o (due_name w) ∙ ap (λ (id : Option Puid). if is_none id then Some faults.NoName else None) is
 
   pub unbind_none : HasNoRow table.bytes table.slots (spelled w) → (u : State) × Renames g who dir w None a b s u × StopsWith {E = Unit {0}} s u (Err faults.NoName) × Unbinds (g.cylinders a) s u dir w (Err faults.NoName)
-  unbind_none none = refused b s faults.NoName (begun g who dir s a b o.reads out) refl (inl (stays s dir s refl))
+  unbind_none none = refused b s faults.NoName (begun g who dir s a b o.reads out) refl refl (inl (stays s dir s refl))
       (due_is None (under_no_row i f has.is w text (no_row_of s.graph dir table o.of (spelled w) w refl none)))
 
   module _ (place : ℕ) (first : IsFirstRow table.bytes table.slots (spelled w) place) (c : A) where
@@ -87,13 +87,13 @@ module _ {A : Type 0} (g : Ghosts A) (who : ℕ) (dir : Puid) (s : State) (a b :
         let looks = looks_slot g who dir a b s table o place c (Err fault) here.within went in
         let calls = reads_on g who a b c s looks.after o.reads looks.calls in
         refused c looks.after fault (reads_first g who (OldOrNew dir out s.graph) (parts_in s.graph dir) a c s looks.after calls (λ apart. inl (named_same dir s.graph s.graph refl apart)))
-        (ap (λ (u : State). u.stopped) looks.told.0) (inl (stays s dir looks.after (same_graph s looks.after fault looks.told.0)))
+        (ap (λ (u : State). u.stopped) looks.told.0) (stays_told fault s looks.after looks.told.0) (inl (stays s dir looks.after (same_graph s looks.after fault looks.told.0)))
         (fault_with s dir (due_name w) (IsChangeTrouble (g.cylinders a) 4 None s looks.after dir) fault (read_fault s dir dir fault (λ bars. inl bars) looks.told.2))
 
     pub unbind_empty : LooksAtSlot g who dir place b c (Ok None) → (u : State) × Renames g who dir w None a c s u × StopsWith {E = Unit {0}} s u (Err faults.NoName) × Unbinds (g.cylinders a) s u dir w (Err faults.NoName)
     unbind_empty went =
         let told = slot_told g who dir a b s table o place c None here.within went in
-        refused c s faults.NoName (begun g who dir s a c told.0 out) refl (inl (stays s dir s refl)) (due_is None (under ∙ sym told.1))
+        refused c s faults.NoName (begun g who dir s a c told.0 out) refl refl (inl (stays s dir s refl)) (due_is None (under ∙ sym told.1))
 
     module _ (id : Puid) (held : LooksAtSlot g who dir place b c (Ok (Some id))) (cylinders : g.cylinders c ≡ g.cylinders b) where
       told : ReadsOn g who a c s s × (Some id ≡ slot_of i place)
@@ -123,7 +123,7 @@ module _ {A : Type 0} (g : Ghosts A) (who : ℕ) (dir : Puid) (s : State) (a b :
       pub unbind_kept : (d : A) (fault : DirFault) → WritesRow g who table.file place (spelled []) c d (Err fault) → (u : State) × Renames g who dir w None a d s u × StopsWith {E = Unit {0}} s u (Err fault) × Unbinds (g.cylinders a) s u dir w (Err fault)
       unbind_kept d fault went =
           let al = zeroed d (Err fault) went in
-          refused d al.after fault (calls_zeroed d (Err fault) al) (ap (λ (u : State). u.stopped) al.told.0) (inl (stays s dir al.after (same_graph s al.after fault al.told.0)))
+          refused d al.after fault (calls_zeroed d (Err fault) al) (ap (λ (u : State). u.stopped) al.told.0) (stays_told fault s al.after al.told.0) (inl (stays s dir al.after (same_graph s al.after fault al.told.0)))
           (alter_fault (g.cylinders a) 4 4 None None s s al.after t dir (due_of s dir (due_name w)) (IsReadTrouble s dir) fault none_due (omega arith) (λ never. absurd never) (bars_table s dir t i f has s refl)
           (subst (λ (k : ℕ). IsAlterFault k 4 None s t al.after fault) (cylinders ∙ o.cylinders) al.told.1))
 
@@ -179,7 +179,7 @@ module _ {A : Type 0} (g : Ghosts A) (who : ℕ) (dir : Puid) (s : State) (a b :
             )
             by (Err fault) al =
                 let same : al.after.graph ≡ m.graph = ap (λ (u : State). u.graph) al.told.0 ∙ fault_graph fault m in
-                refused e al.after fault (calls_emptied e (Err fault) al) (stop_since fault s m al.after o.runs zeros.told.0 al.told.0)
+                refused e al.after fault (calls_emptied e (Err fault) al) (stop_since fault s m al.after o.runs zeros.told.0 al.told.0) (stays_altered (g.cylinders d) 4 None m dir al.after fault al.told.1 s al.after)
                 (inr (record {
                   names = λ apart. subst (ChangesNames dir out s.graph) (sym same) (taken m.graph is_graph apart);
                   entries = es;

@@ -11,8 +11,8 @@ use Rattle.ufs_model.specs.State.{State}
 use Rattle.name_dirs.specs.declared.fault.DirFault.{DirFault}
 use Rattle.name_dirs.specs.Chain.{Calls}
 use Rattle.name_dirs.specs.Directory.{Entry, empty_entry, entries_in, index_at, table_in}
-use Rattle.name_dirs.specs.Faults.{IsChangeTrouble, IsDirFault, IsReadTrouble, IsTopTrouble, due_name, due_new, due_of}
-use Rattle.name_dirs.specs.Faults.{due_place, due_top, none_due}
+use Rattle.name_dirs.specs.Faults.{IsChangeTrouble, IsDirFault, IsReadTrouble, IsStartTrouble, IsTopTrouble, due_name}
+use Rattle.name_dirs.specs.Faults.{due_new, due_of, due_place, due_start, due_top, none_due}
 use Rattle.name_dirs.specs.Names.{ChangesNames, IfApart, Nothing, OldOrNew, Put, bound, id_under, unbound, unnamed}
 use Rattle.name_dirs.specs.Text.{has_text, is_text, names_rise}
 
@@ -34,6 +34,10 @@ pub record AreListed (es : List Entry) (names : List (List ℕ)) : Type 0 where
 abbrev pub Lists : State → State → Puid → Result (List (List ℕ)) DirFault → Type 0
 Lists s t dir (Ok names) = (t ≡ s) × ((es : List Entry) × (entries_in s.graph dir ≡ Some es) × AreListed es names)
 Lists s t dir (Err fault) = IsDirFault (due_of s dir none_due) (IsReadTrouble s dir) (λ reply. ⊥) fault
+
+abbrev pub FindsTop : State → State → Result Puid DirFault → Type 0
+FindsTop s t (Ok id) = (t ≡ s) × (table_in s.graph s.graph.root ≡ Some id)
+FindsTop s t (Err fault) = IsDirFault (due_start (table_in s.graph s.graph.root)) (IsStartTrouble s) (λ reply. ⊥) fault
 
 -- ---- calls that change a directory: itself and its table
 

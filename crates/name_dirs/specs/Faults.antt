@@ -45,6 +45,11 @@ abbrev pub due_top : Option (List Entry) → Option DirFault
 due_top None = None
 due_top (Some es) = Some faults.Exists
 
+-- for where the paths begin, of what slot 0 of the root index holds
+abbrev pub due_start : Option Puid → Option DirFault
+due_start None = Some faults.NotDirectory
+due_start (Some id) = None
+
 -- ---- by a request
 
 -- on the object, or on the file in its slot 0, a grant stands that has the test
@@ -58,6 +63,13 @@ IsReadTrouble s dir replies.Locked = IsBarred is_open_for_writing s dir
 IsReadTrouble s dir (replies.Disk doubt) = Unit {0}
 IsReadTrouble s dir (replies.Stopped moment) = s.stopped ≡ Some moment
 IsReadTrouble s dir reply = ⊥
+
+-- in reading where the paths begin: of the root index alone
+abbrev pub IsStartTrouble : State → Reply → Type 0
+IsStartTrouble s replies.Locked = is_open_for_writing s s.graph.root ≡ true
+IsStartTrouble s (replies.Disk doubt) = Unit {0}
+IsStartTrouble s (replies.Stopped moment) = s.stopped ≡ Some moment
+IsStartTrouble s reply = ⊥
 
 -- in making a directory in slot 0 of the root index: of that, and of what is in the slot
 abbrev pub IsTopTrouble : State → Reply → Type 0
@@ -115,10 +127,17 @@ TellsStopAt moment fault = ⊥
 abbrev pub TellsHalt : State → DirFault → Type 0
 TellsHalt s fault = (moment : ℕ) → s.stopped ≡ Some moment → TellsStopAt moment fault
 
--- and nothing changes then
+-- a fault by the names is told before any change
+abbrev pub StaysAfter : DirFault → State → State → Type 0
+StaysAfter faults.Memory s t = Unit {0}
+StaysAfter (faults.Asked reply) s t = Unit {0}
+StaysAfter fault s t = t ≡ s
+
+-- Nothing changes if the asker had stopped, or if the fault is by the names.
 abbrev pub StopsWith : {E : Type 0} → State → State → Result E DirFault → Type 0
 StopsWith s t (Ok e) = (is_running s ≡ true) × (is_running t ≡ true)
-StopsWith s t (Err fault) = (t.stopped ≡ (after_fault fault s).stopped) × TellsHalt s fault × (is_running s ≡ false → t ≡ s)
+StopsWith s t (Err fault) = (t.stopped ≡ (after_fault fault s).stopped) × TellsHalt s fault
+    × (is_running s ≡ false → t ≡ s) × StaysAfter fault s t
 
 -- ---- on any asker
 

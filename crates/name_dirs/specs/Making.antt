@@ -14,7 +14,8 @@ use Rattle.name_dirs.specs.Calls.{IsNewDirectory, parts_in}
 use Rattle.name_dirs.specs.Chain.{Calls}
 use Rattle.name_dirs.specs.Changing.{IsAlterFault}
 use Rattle.name_dirs.specs.Directory.{Entry, entries_in, index_at, is_directory, row_at, table_entries, table_in}
-use Rattle.name_dirs.specs.Faults.{IsChangeTrouble, IsDirFault, IsReadTrouble, IsTopTrouble, after_fault, due_new}
+use Rattle.name_dirs.specs.Faults.{IsChangeTrouble, IsDirFault, IsReadTrouble, IsTopTrouble, StaysAfter, after_fault}
+use Rattle.name_dirs.specs.Faults.{due_new}
 use Rattle.name_dirs.specs.Names.{ChangesNames, IfApart, Nothing, bound}
 use Rattle.name_dirs.specs.Opening.{HasNoRow}
 use Rattle.name_dirs.specs.Reading.{HasTable, Looks}
@@ -63,7 +64,7 @@ pub record IsPlaceIn (s t : State) (dir file : Puid) (i : Index) (f : File) (w :
 
 abbrev pub TellsPlace : (cylinders : ℕ) → State → State → Puid → Puid → Index → File → List ℕ → Result ℕ DirFault → Type 0
 TellsPlace cylinders s t dir file i f w (Ok place) = (is_running t ≡ true) × IsPlaceIn s t dir file i f w place
-TellsPlace cylinders s t dir file i f w (Err fault) = (t.stopped ≡ (after_fault fault s).stopped)
+TellsPlace cylinders s t dir file i f w (Err fault) = (t.stopped ≡ (after_fault fault s).stopped) × StaysAfter fault s t
     × IsDirFault (due_new w (table_entries i f)) (IsReadTrouble s dir) (IsChangeTrouble cylinders 4 None s t dir) fault
 
 -- the names stay

@@ -15,6 +15,6 @@ mod text;
 
 pub use binding::{bind, unbind};
 pub use fault::DirFault;
-pub use looking::{list, look};
+pub use looking::{list, look, top};
 pub use making::{MOST_CAPACITY, make, make_root};
 pub use text::{Text, Texts, is_text};

@@ -1,4 +1,4 @@
-//! Names looked up and listed.
+//! Names looked up and listed, and where their paths begin.
 ghost use Rattle.std.specs.Prelude.{◌≡◌, ◌<◌};
 ghost use Rattle.name_dirs.specs.Calls as spec;
 ghost use Rattle.name_dirs.specs.Faults.{OnAnyAsker, StopsWith};
@@ -57,4 +57,15 @@ pub fn list<A: Asker>(
         }
     }
     Ok(names)
+}
+
+/// What slot 0 of the root index holds, where the paths of names begin. `NotDirectory` where it is empty.
+pub fn top<A: Asker>(asker: &mut A, alloc: Global, who: Session) -> Result<Puid, DirFault>
+    requires words { A.words asker.old < 4294967290 }
+    ensures went { (s : State) → A.stands asker.old s → (t : State) × spec.ReadsOn A.Asker who asker.old asker.new s t
+        × StopsWith s t result × spec.FindsTop s t result }
+    ensures spends { OnAnyAsker A.Asker 0 asker.old asker.new result }
+{
+    let root = asker.root();
+    slot_of(asker, alloc, who, root, 0)?.ok_or(DirFault::NotDirectory)
 }

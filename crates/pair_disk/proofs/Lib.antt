@@ -1,5 +1,6 @@
 mod Pairs
 mod Calls
+mod Counts
 mod Replays
 mod Images
 mod Words

@@ -1,6 +1,7 @@
 pub mod Torn
 pub mod Pair
 pub mod Below
+pub mod Calls
 pub mod Laws
 pub mod Replay
 pub mod History

@@ -1,8 +1,9 @@
 //! The calls on the disk below.
-ghost use Rattle.std.specs.Prelude.{◌≡◌, ◌<◌, ◌-◌, ◌^◌, IsTrue, IsErr, IfOk, OnOk, set};
+ghost use Rattle.std.specs.Prelude.{◌≡◌, ◌<◌, ◌-◌, ◌^◌, IsTrue, IsErr, IfOk, OnErr, OnOk, set};
 ghost use Rattle.cfs_base.specs.Outside.{Rose};
 ghost use Rattle.pair_disk.specs.Pair.{IsFlushed, gate_at, other_half, pairs_in, shown_half_of};
 ghost use Rattle.pair_disk.specs.Below.{ChangesPair, FailedBelow, PutsBelow, Stays};
+ghost use Rattle.pair_disk.specs.Calls.{MakesBelow, MakesTries};
 
 use crate::TornDisk;
 use crate::half::{Half, gate_of};
@@ -16,6 +17,7 @@ pub fn shown_half<T: TornDisk>(lower: &mut T, at: BlockNo) -> Result<Half, Faile
         → half ≡ shown_half_of (T.content lower.old) at.0) }
     ensures stays { Stays T.TornDisk lower.old lower.new }
     ensures failed { IsErr result → FailedBelow T.TornDisk lower.old lower.new }
+    ensures made { MakesBelow T.TornDisk 1 0 lower.old lower.new }
 {
     let mut gate = Block::zero();
     lower.read(gate_of(at), &mut gate)?;
@@ -30,6 +32,8 @@ fn write_through<T: TornDisk>(lower: &mut T, at: BlockNo, from: &Block) -> Resul
     ensures flushed { OnOk result (IsFlushed T.TornDisk lower.new) }
     ensures cause { IsErr result → Rose (T.faults lower.old) (T.faults lower.new) }
     ensures last { IsTrue (T.tells_images lower.old) → T.moment lower.old ≡ 2 ^ 64 - 1 → IsErr result }
+    ensures made { OnOk result (MakesBelow T.TornDisk 2 2 lower.old lower.new) }
+    ensures stopped { OnErr result (MakesTries T.TornDisk 2 lower.old lower.new) }
 {
     lower.write(at, from)?;
     lower.barrier()
@@ -53,6 +57,8 @@ pub fn replace<T: TornDisk>(
     ensures flushed { OnOk result (IsFlushed T.TornDisk lower.new) }
     ensures cause { IsErr result → Rose (T.faults lower.old) (T.faults lower.new) }
     ensures last { IsTrue (T.tells_images lower.old) → T.moment lower.old ≡ 2 ^ 64 - 1 → IsErr result }
+    ensures made { OnOk result (MakesBelow T.TornDisk 4 4 lower.old lower.new) }
+    ensures stopped { OnErr result (MakesTries T.TornDisk 4 lower.old lower.new) }
 {
     write_through(lower, hidden.at(at), from)?;
     write_through(lower, gate_of(at), &hidden.gate())

@@ -1,6 +1,11 @@
 //! A disk of atomic blocks.
-ghost use Rattle.std.specs.Prelude.{◌≡◌, ◌*◌, ◌/◌, ◌<◌, ◌^◌, ◌≤◌, ℕ, IsTrue, IsErr, false, OnOk};
+ghost use Rattle.std.specs.Prelude.{◌≡◌, ◌≢◌, ◌⊎◌, ◌*◌, ◌/◌, ◌<◌, ◌^◌, ◌≤◌, ℕ, IsTrue, IsErr, false, true};
+ghost use Rattle.std.specs.Prelude.{OnErr, OnOk, set};
+ghost use Rattle.cfs_base.specs.Disk.{Nothing, Only, Written, block_at};
+ghost use Rattle.cfs_base.specs.Run.{Leaves};
 ghost use Rattle.pair_disk.specs.Pair.{IsFlushed, PairLeft, gate_at, pair_content, tells_both, tells_pair};
+ghost use Rattle.pair_disk.specs.Calls.{IsRead, IsTry, KeepsImages, MakesBelow, StaysDisk, StopsWrite, TellsOn, WritesPair};
+ghost use Rattle.pair_disk.specs.Calls.{barriers_first};
 ghost use Rattle.pair_disk.specs.Laws.{pairs_of_blocks, pairs_sized, shown_sized};
 ghost use Rattle.std.proofs.lemmas.Bool.{and_parts};
 ghost use Rattle.pair_disk.specs.Below.{FailedBelow, Stays};
@@ -72,13 +77,49 @@ impl<T: TornDisk> Disk for PairDisk<T> {
         self.calls
     }
 
-    fn read(&mut self, at: BlockNo, into: &mut Block) -> Result<(), Failed> {
+    fn read(&mut self, at: BlockNo, into: &mut Block) -> Result<(), Failed>
+        requires { at.0 < self.old.blocks }
+        ensures bytes { OnOk result (IsTrue (tells_pair T.TornDisk self.old.lower at.0)
+            → into.new ≡ block_at (pair_content T.TornDisk self.old.lower) at.0) }
+        ensures content { pair_content T.TornDisk self.new.lower ≡ pair_content T.TornDisk self.old.lower }
+        ensures told { TellsOn ⟦<PairDisk<T> as Disk>⟧ self.old self.new }
+        ensures images { Leaves ⟦<PairDisk<T> as Disk>⟧ self.old self.new Nothing }
+        ensures keeps { KeepsImages ⟦<PairDisk<T> as Disk>⟧ self.old self.new }
+        ensures same { StaysDisk ⟦<PairDisk<T> as Disk>⟧ self.old self.new }
+        ensures counts { IsRead ⟦<PairDisk<T> as Disk>⟧ self.old self.new (IsErr result) }
+
+        // Below, the gate is read, and then the half that it shows.
+        ensures made { OnOk result (MakesBelow T.TornDisk 2 0 self.old.lower self.new.lower) }
+        ensures stopped { OnErr result (MakesBelow T.TornDisk 1 0 self.old.lower self.new.lower
+            ⊎ MakesBelow T.TornDisk 2 0 self.old.lower self.new.lower) }
+        ensures unsure { self.new.unsure ≡ self.old.unsure }
+    {
         self.calls = self.calls.saturating_add(1);
         let shown = shown_half(&mut self.lower, at)?;
         self.lower.read(shown.at(at), into)
     }
 
-    fn write(&mut self, at: BlockNo, from: &Block) -> Result<(), Failed> {
+    fn write(&mut self, at: BlockNo, from: &Block) -> Result<(), Failed>
+        requires { at.0 < self.old.blocks }
+        ensures written { OnOk result (pair_content T.TornDisk self.new.lower
+            ≡ set (pair_content T.TornDisk self.old.lower) at.0 from.now) }
+        ensures either { OnErr result ((pair_content T.TornDisk self.new.lower ≡ pair_content T.TornDisk self.old.lower)
+            ⊎ (pair_content T.TornDisk self.new.lower ≡ set (pair_content T.TornDisk self.old.lower) at.0 from.now)) }
+        ensures told { OnOk result (TellsOn ⟦<PairDisk<T> as Disk>⟧ self.old self.new) }
+        ensures told_others { (n : ℕ) → n ≢ at.0 → IsTrue (tells_pair T.TornDisk self.old.lower n)
+            → IsTrue (tells_pair T.TornDisk self.new.lower n) }
+        ensures images { Leaves ⟦<PairDisk<T> as Disk>⟧ self.old self.new
+            (Written (PairLeft T.TornDisk self.old.lower (T.moment self.old.lower)) at.0 from.now) }
+        ensures keeps { KeepsImages ⟦<PairDisk<T> as Disk>⟧ self.old self.new }
+        ensures same { StaysDisk ⟦<PairDisk<T> as Disk>⟧ self.old self.new }
+        ensures counts { IsTry ⟦<PairDisk<T> as Disk>⟧ self.old self.new (IsErr result) }
+
+        // Below, a barrier is made first only where it is unsure.
+        ensures made { OnOk result (WritesPair T.TornDisk self.old.unsure self.old.lower self.new.lower) }
+        ensures sure { OnOk result (self.new.unsure ≡ false) }
+        ensures stopped { OnErr result (StopsWrite T.TornDisk self.old.unsure self.new.unsure
+            self.old.lower self.new.lower) }
+    {
         self.calls = self.calls.saturating_add(1);
         self.tries = self.tries.saturating_add(1);
         self.settle()?;
@@ -89,7 +130,23 @@ impl<T: TornDisk> Disk for PairDisk<T> {
         Ok(())
     }
 
-    fn barrier(&mut self) -> Result<(), Failed> {
+    fn barrier(&mut self) -> Result<(), Failed>
+        ensures content { pair_content T.TornDisk self.new.lower ≡ pair_content T.TornDisk self.old.lower }
+        ensures told { TellsOn ⟦<PairDisk<T> as Disk>⟧ self.old self.new }
+        ensures all_told { OnOk result (IsTrue (T.honest self.old.lower)
+            → (n : ℕ) → IsTrue (tells_pair T.TornDisk self.new.lower n)) }
+        ensures durable { OnOk result (Only (pair_content T.TornDisk self.new.lower)
+            (PairLeft T.TornDisk self.new.lower (T.moment self.new.lower))) }
+        ensures images { Leaves ⟦<PairDisk<T> as Disk>⟧ self.old self.new Nothing }
+        ensures keeps { KeepsImages ⟦<PairDisk<T> as Disk>⟧ self.old self.new }
+        ensures same { StaysDisk ⟦<PairDisk<T> as Disk>⟧ self.old self.new }
+        ensures counts { IsTry ⟦<PairDisk<T> as Disk>⟧ self.old self.new (IsErr result) }
+
+        // Below, it is one barrier.
+        ensures made { MakesBelow T.TornDisk 1 1 self.old.lower self.new.lower }
+        ensures sure { OnOk result (self.new.unsure ≡ false) }
+        ensures unsure { OnErr result (self.new.unsure ≡ true) }
+    {
         self.calls = self.calls.saturating_add(1);
         self.tries = self.tries.saturating_add(1);
         self.unsure = true;
@@ -107,6 +164,7 @@ impl<T: TornDisk> PairDisk<T> {
         ensures lower { result.lower ≡ lower }
         ensures calls { result.calls ≡ 0 }
         ensures tries { result.tries ≡ 0 }
+        ensures sure { result.unsure ≡ false }
     {
         let blocks = lower.blocks() / 3;
         PairDisk {
@@ -134,6 +192,10 @@ impl<T: TornDisk> PairDisk<T> {
         ensures blocks { self.new.blocks ≡ self.old.blocks }
         ensures calls { self.new.calls ≡ self.old.calls }
         ensures tries { self.new.tries ≡ self.old.tries }
+        ensures made { OnOk result (MakesBelow T.TornDisk (barriers_first self.old.unsure) (barriers_first self.old.unsure)
+            self.old.lower self.new.lower) }
+        ensures stopped { OnErr result ((self.old.unsure ≡ true) × (self.new.unsure ≡ true)
+            × MakesBelow T.TornDisk 1 1 self.old.lower self.new.lower) }
     {
         if self.unsure {
             self.lower.barrier()?;

@@ -1,8 +1,8 @@
-use Rattle.std.proofs.Common.{◌≡◌, [], ◌∷◌, List, Option, Some, None, Err, refl, sym, ◌∙◌, ap, subst, arith, option_map, slice_get}
+use Rattle.std.proofs.Common.{◌≡◌, [], ◌∷◌, List, Option, Some, None, refl, sym, ◌∙◌, ap, subst, arith, option_map, slice_get}
 use Rattle.cfs_base.proofs.Went.{reads_none}
 use Rattle.cfs_core.proofs.Words.{both_ways, Collecting, colours_in, Ghosts, Index, Puid, refused_by, State, waiting_in}
 use Rattle.cfs_core.specs.declared.collecting.Step.TheVariants as steps
-use Rattle.cfs_core.specs.Collect.{StepsSo, with_parts}
+use Rattle.cfs_core.specs.Collect.{with_parts}
 use Rattle.cfs_core.proofs.StepMoves.{served}
 use Rattle.cfs_core.proofs.Stepping.{marks_on, no_want, none_left, scan_calm, scan_cause, steps_condemned, steps_failed, steps_read}
 use Rattle.std.proofs.lemmas.Option.{same_Some}

@@ -1,6 +1,6 @@
-use Rattle.std.proofs.Common.{◌/◌, ◌≤◌, refl, sym, ◌∙◌, ap, arith}
+use Rattle.std.proofs.Common.{◌/◌, refl, sym, ◌∙◌, ap, arith}
 use Rattle.cfs_base.proofs.Calls.{reads_within}
-use Rattle.cfs_core.proofs.Words.{nat_tests, reads_then, slot_reply}
+use Rattle.cfs_core.proofs.Words.{reads_then, slot_reply}
 use Rattle.ufs_model.specs.declared.object.Object.TheVariants as objects
 use Rattle.cfs_core.proofs.Looked.{above, below, beyond, found, slots_read}
 use Rattle.cfs_core.proofs.Calm.{calm_leaf, knows_on, rooted}

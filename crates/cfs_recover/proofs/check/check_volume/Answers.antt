@@ -21,3 +21,9 @@ returns-clause-sound g c tells =
     let stored : Stores g.D.Disk d (g.D.Disk.content d) = record { tells = tells; content = refl; size = g.met.D.Disk.sized d tells.honest; blocks = g.met.D.Disk.of_blocks d tells.honest } in
     let s = c.in_ok-survey_volume.ensures.told (g.D.Disk.content d) stored in
     (s.whole.graph, s.whole.sound)
+
+pub returns-clause-by_object : goal.returns-clause-by_object
+returns-clause-by_object g c tells graph sound =
+    let d = c.args.disk.now in
+    let stored : Stores g.D.Disk d (g.D.Disk.content d) = record { tells = tells; content = refl; size = g.met.D.Disk.sized d tells.honest; blocks = g.met.D.Disk.of_blocks d tells.honest } in
+    c.in_ok-survey_volume.ensures.by_object (g.D.Disk.content d) graph stored sound

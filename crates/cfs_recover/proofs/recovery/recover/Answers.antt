@@ -1,5 +1,7 @@
-use Rattle.std.proofs.Common.{◌≡◌, ◌⊎◌, inl, inr, sym, subst, arith}
-use Rattle.cfs_recover.proofs.Words.{Image, IsOpenFault, IsRecovered, IsSoundAs, WritesWhatDiffers}
+use Rattle.std.proofs.Common.{◌≡◌, ◌⊎◌, ◌+◌, ◌*◌, inl, inr, ℕ, Err, sym, subst, ap, arith}
+use Rattle.cfs_base.proofs.Calls.{makes_then}
+use Rattle.cfs_recover.specs.Reads.{reads_of_volume}
+use Rattle.cfs_recover.proofs.Words.{Image, IsOpenFault, IsRecovered, IsSoundAs, Ok, OnOk, Result, WritesWhatDiffers}
 use Rattle.cfs_recover.specs.declared.fault.RecoverFault.TheVariants as faults
 use Rattle.cfs_recover.proofs.Opening.{err_as, ok_as, on_ok, untouched_then}
 use Rattle.cfs_recover.proofs.Refused.{sound_refused}
@@ -49,3 +51,22 @@ returns-clause-opened g c honest =
     ok_as _ _ c.open_settled.result
     (λ r done. subst (λ (i : Image). IsRecovered g.D.Disk i c.open_settled.new.disk r.label r.directory r.space) c.in_ok-flush.ensures.untouched.content done.0)
     (c.open_settled.ensures.opened (c.in_ok-flush.ensures.settled honest))
+
+on_as : {T E : Type 0} (P Q : Type 0) (r : Result T E) → (P → Q) → OnOk r P → OnOk r Q
+on_as P Q (Ok v) more is = more is
+on_as P Q (Err e) more is = tt
+
+pub returns-clause-by_object : goal.returns-clause-by_object
+returns-clause-by_object g c honest graph sound =
+    let old = c.args.disk.now in
+    let mid = c.flush.new.disk in
+    let new = c.open_settled.new.disk in
+    let blocks = g.D.Disk.blocks old in
+    let most = reads_of_volume blocks graph in
+    let was = c.in_ok-flush.ensures.untouched in
+    let flush = c.in_ok-flush.ensures.calls in
+    let size = flush.same.size in
+    let same = ap (λ (n : ℕ). reads_of_volume n graph) size in
+    on_as _ _ c.open_settled.result
+    (λ makes. makes_then g.D.Disk old mid new 1 (reads_of_volume (g.D.Disk.blocks mid) graph + 2 * g.D.Disk.blocks mid + 2) (most + 2 * blocks + 3) 1 (2 * g.D.Disk.blocks mid + 2) (2 * blocks + 3) flush makes (omega (arith, size, same)) (omega (arith, size)))
+    (c.open_settled.ensures.by_object graph (c.in_ok-flush.ensures.settled honest) (subst (λ (i : Image). IsSoundAs i graph) (sym was.content) sound))

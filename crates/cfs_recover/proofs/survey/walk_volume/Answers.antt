@@ -20,3 +20,11 @@ returns-clause-told g c image stored grounds are =
       standing = standing;
       kept = walked.1;
     }
+
+pub returns-clause-by_object : goal.returns-clause-by_object
+returns-clause-by_object g c image stored grounds are =
+    let one = subst (λ (ms : List (List MapEntry)). AreMapsOf image ms) (sym c.deref.ensures.value) are in
+    let two = subst (λ (ms : List (List MapEntry)). AreMapsOf image ms) (sym c.deref-2.ensures.value) are in
+    let standing = c.in_ok-standing.ensures.told image one in
+    let begun = c.in_ok-walk.ensures.told image c.args.grounds.now.label (stored.size ∙ sym c.blocks-2.ensures) grounds.has refl in
+    c.in_ok-walk_all.ensures.by_object image c.args.grounds.now.label (record { stored = stored; maps_are = two; walk = begun }) standing grounds.has

@@ -1,9 +1,11 @@
 use Rattle.std.proofs.Common.{rules, ◌≡◌, ◌≢◌, ◌+◌, ◌-◌, ◌*◌, ◌<◌, ◌≤◌, ℕ, length, refl, sym, ap, subst, arith, below_more}
-use Rattle.cfs_recover.proofs.Words.{Ghosts, IsGoodAt, IsInPlace, OnlyReads, Spot, SpotFault, add-mul, levels_below, reads_by_height, reads_then, reads_within, width, leaf_limit, leaf_pointers}
+use Rattle.cfs_recover.proofs.Words.{Ghosts, IsGoodAt, IsInPlace, OnlyReads, Spot, SpotFault, add-mul, levels_below, reads_by_height, reads_then, reads_within, sum_run, width, leaf_limit, leaf_pointers}
+use Rattle.cfs_recover.specs.Reads.{reads_below, reads_of_leaf, reads_through}
+use Rattle.cfs_recover.proofs.Counting.{below_leaf, below_some, node_then, one_pointer, run_last, run_within, with_one, with_one_of}
 use Rattle.cfs_recover.proofs.Good.{all_on, good_leaf, good_with}
 use Rattle.cfs_recover.proofs.Noting.{grows_then}
 use Rattle.cfs_recover.proofs.Objects.{node_pointers_of, spot_fault}
-use Rattle.cfs_recover.proofs.Refused.{told_err, told_on, walks_on}
+use Rattle.cfs_recover.proofs.Refused.{stored_on, told_err, told_on, walks_on}
 use Rattle.cfs_recover.proofs.Trees.{fit_by, its_number, one_fits, reads_more, reads_some, width_of}
 use Rattle.cfs_recover.proofs.walk_below.+levels.Goals as goal
 
@@ -71,6 +73,33 @@ pub walk_twig-returns-clause-reads : goal.walk_twig-returns-clause-reads
 walk_twig-returns-clause-reads g t c =
     node_reads g.D.Disk _ _ _ _ (length c.in_ok-node.node.leaves) c.if-twig-eq0.false (omega arith) c.in_ok-node.ensures.reads c.in_ok-walk_below.ensures.reads
 
+pub walk_twig-returns-in_err-walk_leaf-clause-few : goal.walk_twig-returns-in_err-walk_leaf-clause-few
+walk_twig-returns-in_err-walk_leaf-clause-few g t c image stored =
+    let twig = c.args.twig in
+    reads_within g.D.Disk _ _ (reads_of_leaf c.args.root.now twig.number) _ (below_leaf image c.args.root.now twig.height twig.number twig.block c.if-twig-eq0.true) c.in_err-walk_leaf.ensures.few
+
+pub walk_twig-returns-then-twig-eq0-clause-few : goal.walk_twig-returns-then-twig-eq0-clause-few
+walk_twig-returns-then-twig-eq0-clause-few g t c image stored =
+    let twig = c.args.twig in
+    reads_within g.D.Disk _ _ (reads_of_leaf c.args.root.now twig.number) _ (below_leaf image c.args.root.now twig.height twig.number twig.block c.if-twig-eq0.true) c.in_ok-walk_leaf.ensures.few
+
+pub walk_twig-returns-in_err-node-clause-few : goal.walk_twig-returns-in_err-node-clause-few
+walk_twig-returns-in_err-node-clause-few g t c image stored =
+    let twig = c.args.twig in
+    reads_within g.D.Disk _ _ 1 _ (below_some image c.args.root.now twig.height twig.number twig.block c.if-twig-eq0.false) c.in_err-node.ensures.reads
+
+pub walk_twig-returns-in_err-walk_below-clause-few : goal.walk_twig-returns-in_err-walk_below-clause-few
+walk_twig-returns-in_err-walk_below-clause-few g t c image stored =
+    let twig = c.args.twig in
+    node_then g.D.Disk c.args.disk.now c.walk_node.new.disk c.walk_below.new.disk image c.args.root.now twig.height twig.number twig.block c.in_ok-node.node.leaves c.if-twig-eq0.false (c.in_ok-node.ensures.leaves image stored) c.in_ok-node.ensures.reads
+    (c.in_err-walk_below.ensures.few image (stored_on g.D.Disk c.args.disk.now c.walk_node.new.disk 1 image c.in_ok-node.ensures.reads stored))
+
+pub walk_twig-returns-clause-few : goal.walk_twig-returns-clause-few
+walk_twig-returns-clause-few g t c image stored =
+    let twig = c.args.twig in
+    node_then g.D.Disk c.args.disk.now c.walk_node.new.disk c.walk_below.new.disk image c.args.root.now twig.height twig.number twig.block c.in_ok-node.node.leaves c.if-twig-eq0.false (c.in_ok-node.ensures.leaves image stored) c.in_ok-node.ensures.reads
+    (c.in_ok-walk_below.ensures.few image (stored_on g.D.Disk c.args.disk.now c.walk_node.new.disk 1 image c.in_ok-node.ensures.reads stored))
+
 pub walk_twig-returns-clause-grows : goal.walk_twig-returns-clause-grows
 walk_twig-returns-clause-grows g t c = grows_then _ _ _ c.in_ok-node.ensures.grows c.in_ok-walk_below.ensures.grows
 
@@ -120,6 +149,9 @@ walk_below-loop-place-preserved-then-block-eq0 g t c =
     let before = c.loop-place.invariant in
     record {
       reads = reads_within g.D.Disk c.args.disk.now c.loop-place.disk (j * r) ((j + 1) * r) (omega (arith, add-mul j 1 r)) before.reads;
+      few = λ image stored.
+          let f = one_pointer (reads_below image c.args.root.now c.args.at.height) (c.args.at.number * length c.args.pointers.now) c.args.pointers.now in
+          reads_within g.D.Disk c.args.disk.now c.loop-place.disk (sum_run f 0 j) (sum_run f 0 (j + 1)) (omega (arith, run_last f j)) (before.few image stored);
       grows = before.grows;
       told = λ image done walks has.
           let were = before.told image done walks has in
@@ -134,6 +166,12 @@ walk_below-loop-place-preserved g t c =
     let grows = c.in_ok-walk_twig.ensures.grows in
     record {
       reads = reads_then g.D.Disk c.args.disk.now c.loop-place.disk c.walk_twig.new.disk (j * r) r ((j + 1) * r) before.reads c.in_ok-walk_twig.ensures.reads (omega (arith, add-mul j 1 r));
+      few = λ image stored.
+          let reads = reads_below image c.args.root.now c.args.at.height in
+          let first = c.args.at.number * length c.args.pointers.now in
+          reads_then g.D.Disk c.args.disk.now c.loop-place.disk c.walk_twig.new.disk _ _ (sum_run (one_pointer reads first c.args.pointers.now) 0 (j + 1)) (before.few image stored)
+          (c.in_ok-walk_twig.ensures.few image (stored_on g.D.Disk c.args.disk.now c.loop-place.disk _ image before.reads stored))
+          (with_one reads first c.args.pointers.now j c.if-block-eq0.false);
       grows = grows_then c.args.walk.now c.loop-place.walk c.walk_twig.new.walk before.grows grows;
       told = λ image done walks has.
           let were = before.told image done walks has in
@@ -143,6 +181,22 @@ walk_below-loop-place-preserved g t c =
                 (λ i less some. all_on image c.args.owner c.args.root.now c.loop-place.walk c.walk_twig.new.walk grows _ _ _ (were.1 i less some)) (λ some. now.1),
           );
     }
+
+pub walk_below-returns-in_err-walk_twig-clause-few : goal.walk_below-returns-in_err-walk_twig-clause-few
+walk_below-returns-in_err-walk_twig-clause-few g t c image stored =
+    let j = c.loop-place.place in
+    let before = c.loop-place.invariant in
+    let reads = reads_below image c.args.root.now c.args.at.height in
+    let first = c.args.at.number * length c.args.pointers.now in
+    reads_then g.D.Disk c.args.disk.now c.loop-place.disk c.walk_twig.new.disk _ _ (reads_through reads first c.args.pointers.now) (before.few image stored)
+    (c.in_err-walk_twig.ensures.few image (stored_on g.D.Disk c.args.disk.now c.loop-place.disk _ image before.reads stored))
+    (with_one_of reads first c.args.pointers.now j (omega (arith, c.loop-place-test.true)) c.if-block-eq0.false)
+
+pub walk_below-returns-clause-few : goal.walk_below-returns-clause-few
+walk_below-returns-clause-few g t c image stored =
+    let f = one_pointer (reads_below image c.args.root.now c.args.at.height) (c.args.at.number * length c.args.pointers.now) c.args.pointers.now in
+    reads_within g.D.Disk c.args.disk.now c.loop-place.disk (sum_run f 0 c.loop-place.place) (sum_run f 0 (length c.args.pointers.now))
+    (run_within f c.loop-place.place (length c.args.pointers.now) (omega arith)) (c.loop-place.invariant.few image stored)
 
 pub walk_below-returns-clause-told : goal.walk_below-returns-clause-told
 walk_below-returns-clause-told g t c image done walks has =

@@ -18,3 +18,6 @@ returns-clause-told g c image owner done root stored walk has more =
       c.hold.ensures.told image done walk (block_kept image owner root c.args.twig has (omega (arith, stored.size, c.requires.there))),
       record { leaves = leaves; leads_on = (some.0, λ none. some.1 (ap (λ (ns : List ℕ). get_or ns some.0 0) leaves ∙ none)) },
     )
+
+pub returns-clause-leaves : goal.returns-clause-leaves
+returns-clause-leaves g c image stored = c.decode-node.ensures.pointers ∙ ap (pointers_of leaf_pointers) (c.in_ok-content.ensures.told image stored)

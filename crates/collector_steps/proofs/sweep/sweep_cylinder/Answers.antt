@@ -25,14 +25,14 @@ pub returns-in-Err : goal.returns-in-Err
 returns-in-Err g c =
     let d = c.args.disk.now in
     write_refused g.D.Disk c.args.directory.now.named c.args.pass c.args.cylinder c.kinds_follow_the_graph.ensures.root d c.read_map.new.disk c.args.space.now c.read_map.ensures.reads c.write_block.new.disk c.in_ok-map.map
-    c.encode.result (c.encode.ensures.spelled ∙ ap map_spelling c.sweep_map-freed.ensures.swept) c.in_ok-map.ensures.map (omega (arith, c.requires.size, c.requires.on_disk)) (λ tells. g.met.D.Disk.sized d tells.honest)
+    c.encode.result (c.encode.ensures.spelled ∙ ap map_spelling c.sweep_map-freed.ensures.swept) c.in_ok-map.ensures.map (omega (arith, c.requires.size, c.requires.on_disk)) (λ tells. g.met.D.Disk.sized d tells.honest) (λ none. c.if-freed-eq0.false (c.sweep_map-freed.ensures.count ∙ none))
     c.write_block.ensures.leaves c.write_block.ensures.calls c.in-Err.ensures.failed
 
 pub returns-in-Ok : goal.returns-in-Ok
 returns-in-Ok g c =
     let d = c.args.disk.now in
     done g.D.Disk c.args.directory.now.named c.args.pass c.args.cylinder c.kinds_follow_the_graph.ensures.root d c.read_map.new.disk c.args.space.now c.read_map.ensures.reads c.write_block.new.disk c.in_ok-map.map
-    c.encode.result (c.encode.ensures.spelled ∙ ap map_spelling c.sweep_map-freed.ensures.swept) c.in_ok-map.ensures.map (omega (arith, c.requires.size, c.requires.on_disk)) (λ tells. g.met.D.Disk.sized d tells.honest)
+    c.encode.result (c.encode.ensures.spelled ∙ ap map_spelling c.sweep_map-freed.ensures.swept) c.in_ok-map.ensures.map (omega (arith, c.requires.size, c.requires.on_disk)) (λ tells. g.met.D.Disk.sized d tells.honest) (λ none. c.if-freed-eq0.false (c.sweep_map-freed.ensures.count ∙ none))
     c.write_block.ensures.leaves c.write_block.ensures.calls c.gave.new.self c.in-Ok.ensures.content c.in-Ok.ensures.carries
     (ap (λ (k : Kept). length k.free) c.gave.ensures.given ∙ length-set c.args.space.now.free _ _)
     (ap (λ (k : Kept). k.left) c.gave.ensures.given)

@@ -1,6 +1,7 @@
 use Rattle.std.proofs.Common.{◌≡◌, ℕ, List, set, ◌∙◌, ap, subst}
 use Rattle.pair_disk.proofs.Words.{Image, PutsBelow, gate_at, half_at, pairs_in}
 use Rattle.pair_disk.proofs.Calls.{half_changes, on_ok, replaced, replaces}
+use Rattle.pair_disk.proofs.Counts.{on_err, tries_then}
 use Rattle.pair_disk.proofs.below.replace.Goals as goal
 
 pub returns-in_err-write_through-clause-changes : goal.returns-in_err-write_through-clause-changes
@@ -35,3 +36,7 @@ returns-clause-replaced g c =
     on_ok c.write_through-2.result c.write_through-2.ensures.written (λ is tells.
     replaced g.T.TornDisk laws.only_honest laws.may_stay laws.sized c.args.at.0 c.args.from.now c.args.hidden old mid c.write_through-2.new.lower c.requires.on_disk c.requires.flushed c.requires.hidden first written tells
     (is ∙ ap (λ (k : ℕ). set below k c.gate.result) c.gate_of.ensures ∙ ap (λ (b : List ℕ). set below (gate_at c.args.at.0) b) c.gate.ensures))
+
+pub returns-clause-stopped : goal.returns-clause-stopped
+returns-clause-stopped g c = on_err c.write_through-2.result c.write_through-2.ensures.stopped (λ some.
+    tries_then g.T.TornDisk c.args.lower.now c.write_through.new.lower c.write_through-2.new.lower 2 2 c.in_ok-write_through.ensures.made some)

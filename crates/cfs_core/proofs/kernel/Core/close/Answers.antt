@@ -46,6 +46,10 @@ none_copied : {A : Type 0} (o : Option (Bor A)) → is_some o ≡ false → opti
 none_copied None is = refl
 none_copied (Some x) is = cc
 
+some_copied : {A : Type 0} (o : Option (Bor A)) → is_some o ≡ true → is_some (option_copied o) ≡ true
+some_copied None is = cc
+some_copied (Some x) is = refl
+
 -- ---- without a draft
 
 pub close_bare-requires : goal.close_bare-requires
@@ -65,7 +69,7 @@ returns-in_err-tried g c =
     let k : Kernel _ = record { disk = c.self.inside.disk; root = c.self.inside.root; directory = c.self.inside.directory; space = c.self.inside.space; words = c.self.inside.words; handles = c.self.inside.handles.handles; collections = c.self.inside.collections; stop = c.self.inside.stop } in
     let request = asks.Close c.args.grant c.args.commit in
     rw (is_passed _ _ c.from_residual.ensures.1) (subst (λ x. Tries g.D.Disk x (record k { disk = c.finish.new.disk; space = c.finish.new.space }) c.args.who request (Err (refused_by c.in_err-tried.field-0.0))) c.self.view_is
-    (tries_unfinished g.D.Disk g.met.D.Disk.left_sized g.met.D.Disk.sized k c.finish.new.disk c.finish.new.space c.in_err-tried.field-0.0 c.in_err-tried.ensures request c.args.who _ refl
+    (tries_unfinished g.D.Disk g.met.D.Disk.left_sized g.met.D.Disk.sized k c.finish.new.disk c.finish.new.space c.in_err-tried.field-0.0 c.in_err-tried.ensures request c.args.who _ refl (ap is_some (sym c.draft.ensures) ∙ some_copied c.draft.result (c.is_none-2.ensures ∙ ap not c.if-is_none-2.false))
     (goes_on g.D.Disk k c.args.who c.args.grant c.args.commit (subst (λ o. IsSome o) c.find.ensures (is_some_of c.find.result (c.is_none.ensures ∙ ap not c.if-is_none.false))) (λ s. c.table_follows_the_model.ensures.found s c.args.who c.args.grant))))
 
 pub invariant_of-self-in-Some : goal.invariant_of-self-in-Some
@@ -88,6 +92,6 @@ returns g c =
     let k : Kernel _ = record { disk = c.self.inside.disk; root = c.self.inside.root; directory = c.self.inside.directory; space = c.self.inside.space; words = c.self.inside.words; handles = c.self.inside.handles.handles; collections = c.self.inside.collections; stop = c.self.inside.stop } in
     let request = asks.Close c.args.grant c.args.commit in
     let now = c.end.ensures.tries k.handles c.take-2.ensures.handles (sym c.take-2.ensures.draft ∙ c.in-Some.is) in
-    let joined = tries_since G k c.finish.new.disk c.finish.new.space c.in_ok-tried.tried c.in_ok-tried.ensures g.met.D.Disk.left_sized g.met.D.Disk.sized c.end.new.self now.went.size request c.end.result c.end.ensures.told (never_of c.end.result c.end.ensures.never) c.args.who
+    let joined = tries_since G k c.finish.new.disk c.finish.new.space c.in_ok-tried.tried c.in_ok-tried.ensures g.met.D.Disk.left_sized g.met.D.Disk.sized c.end.new.self now.went.size request c.end.result c.end.ensures.told (never_of c.end.result c.end.ensures.never) c.args.who (ap is_some (sym c.take-2.ensures.draft ∙ c.in-Some.is))
     (goes_on G k c.args.who c.args.grant c.args.commit (subst (λ o. IsSome o) c.find.ensures (is_some_of c.find.result (c.is_none.ensures ∙ ap not c.if-is_none.false))) (λ s. c.table_follows_the_model.ensures.found s c.args.who c.args.grant)) now in
     subst (λ x. Tries G x c.end.new.self c.args.who request c.since.result) c.self.view_is (subst (λ r. Tries G k c.end.new.self c.args.who request r) (sym c.since.ensures) joined)

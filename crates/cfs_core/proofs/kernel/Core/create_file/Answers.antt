@@ -66,7 +66,7 @@ returns-else-not-has_slot g c =
     let visits = object_there g.D.Disk AnIndex way c.args.who c.args.self.now new c.in_ok-reply.field-0 c.in_ok-reply.ensures there c.in-Object.is in
     let at = block_shown new.space.left there.id.block in
     let read = read_there g.D.Disk g.met.D.Disk.left_sized g.met.D.Disk.sized AnIndex way c.args.who c.args.self.now new there visits new refl at refl in
-    tries_on g.D.Disk c.args.self.now c.make.new.self c.args.who (asks.CreateFile c.args.kind c.args.fill c.args.to c.args.slot) there.id c.args.slot c.make.result (visits.reaches.reached (asks.CreateFile c.args.kind c.args.fill c.args.to c.args.slot) (record { to = refl; each = λ s who. refl })) (c.make.ensures 1 c.args.self.now (asks.CreateFile c.args.kind c.args.fill c.args.to c.args.slot) (file_makes c.args.kind c.kind_of.result c.args.fill c.args.to c.args.slot c.kind_of.ensures c.ranges.fill.fits) visits.came)
+    tries_on g.D.Disk c.args.self.now c.make.new.self c.args.who (asks.CreateFile c.args.kind c.args.fill c.args.to c.args.slot) there.id c.args.slot c.make.result refl (visits.reaches.reached (asks.CreateFile c.args.kind c.args.fill c.args.to c.args.slot) (record { to = refl; each = λ s who. refl })) (c.make.ensures 1 c.args.self.now (asks.CreateFile c.args.kind c.args.fill c.args.to c.args.slot) (file_makes c.args.kind c.kind_of.result c.args.fill c.args.to c.args.slot c.kind_of.ensures c.ranges.fill.fits) visits.came)
     (λ s i serves r.
     let inside = below c.args.slot (length i.slots) (ap (nat_lt c.args.slot) (sym (slots_read read i (knows_that g.D.Disk c.args.self.now s serves there.id (objects.Index i) at (shown_there g.D.Disk g.met.D.Disk.left_sized g.met.D.Disk.sized AnIndex way c.args.who c.args.self.now new there visits new refl at refl) r.there))) ∙ sym c.has_slot.ensures.decides ∙ c.if-not-has_slot.false) in
     (inside, file_goes s c.args.who c.args.to there.id i c.args.slot c.args.kind c.args.fill r inside))

@@ -25,7 +25,7 @@ make_drafted-requires-clause-has g c =
 pub returns : goal.returns
 returns g c = λ who drafted.
     let law : FindsGrant who c.args.grant = λ s. c.table_follows_the_model.ensures.found s who c.args.grant in
-    tries_where (c.make_drafted.ensures who (asks.CreateFile c.args.kind c.args.fill (Through c.args.grant) c.args.slot) (file_makes c.args.kind c.kind_of.result c.args.fill (Through c.args.grant) c.args.slot c.kind_of.ensures c.ranges.fill.fits) (has_grant drafted law)) (λ s serves. record {
+    tries_where refl (c.make_drafted.ensures who (asks.CreateFile c.args.kind c.args.fill (Through c.args.grant) c.args.slot) (file_makes c.args.kind c.kind_of.result c.args.fill (Through c.args.grant) c.args.slot c.kind_of.ensures c.ranges.fill.fits) (has_grant drafted law)) (λ s serves. record {
       to = refl;
       index = λ d has. ((index g.D.Disk who c.args.grant law c.args.self.now drafted s serves).0, of_index g.D.Disk who c.args.grant law c.args.self.now drafted s serves d has);
       goes = goes_file g.D.Disk who c.args.grant law c.args.self.now drafted s serves c.args.kind c.args.fill c.args.slot (sym (c.has_drafted.ensures drafted.drafting drafted.has) ∙ c.if-not-has_drafted.false);

@@ -29,7 +29,7 @@ make_drafted-requires-clause-has g c =
 pub returns : goal.returns
 returns g c = λ who drafted.
     let law : FindsGrant who c.args.grant = λ s. c.table_follows_the_model.ensures.found s who c.args.grant in
-    tries_where (c.make_drafted.ensures who (asks.CreateIndex c.args.slots (Through c.args.grant) c.args.slot) (index_makes c.args.slots (Through c.args.grant) c.args.slot) (has_grant drafted law)) (λ s serves. record {
+    tries_where refl (c.make_drafted.ensures who (asks.CreateIndex c.args.slots (Through c.args.grant) c.args.slot) (index_makes c.args.slots (Through c.args.grant) c.args.slot) (has_grant drafted law)) (λ s serves. record {
       to = refl;
       index = λ d has. ((index g.D.Disk who c.args.grant law c.args.self.now drafted s serves).0, of_index g.D.Disk who c.args.grant law c.args.self.now drafted s serves d has);
       goes = goes_index g.D.Disk who c.args.grant law c.args.self.now drafted s serves c.args.slots c.args.slot (sym (c.has_drafted.ensures drafted.drafting drafted.has) ∙ c.if-not-has_drafted.false) (some_slots c.args.slots c.if-slots-eq0.false) (few_slots c.args.slots c.if-slots-gt-MOST_SLOTS.false);

@@ -6,7 +6,7 @@ use Rattle.cfs_core.specs.Kernel.{Kernel}
 use Rattle.cfs_core.specs.declared.way.Way.{Way}
 use Rattle.cfs_core.proofs.Refusing.{delete_goes, delete_refused}
 use Rattle.cfs_core.proofs.Views.{knows_that}
-use Rattle.cfs_core.proofs.Came.{came_there, drafted_there, failed_there, held_there, near_there, object_there, read_there, refused_there, shown_there, tries_on, turned_there}
+use Rattle.cfs_core.proofs.Came.{came_there, drafted_there, failed_there, held_there, object_there, read_there, refused_there, shown_there, tries_on, turned_there}
 use Rattle.cfs_core.proofs.Words.{AnIndex, is_id}
 use Rattle.cfs_core.proofs.kernel.Core.delete.Goals as goal
 
@@ -81,7 +81,7 @@ returns-else-not-holds_something g c =
     let at = c.shown-at.result.0 in
     let read = read_there g.D.Disk g.met.D.Disk.left_sized g.met.D.Disk.sized AnIndex way c.args.who c.args.self.now new there visits k c.self.view_is at c.shown-at.ensures.shown in
     let calm = c.look.ensures.calm c.args.self.now.disk read in
-    tries_on g.D.Disk c.args.self.now c.empty.new.self c.args.who (asks.Delete c.args.to c.args.slot) there.id c.args.slot c.empty.result (visits.reaches.reached (asks.Delete c.args.to c.args.slot) (record { to = refl; each = λ s who. refl }))
+    tries_on g.D.Disk c.args.self.now c.empty.new.self c.args.who (asks.Delete c.args.to c.args.slot) there.id c.args.slot c.empty.result refl (visits.reaches.reached (asks.Delete c.args.to c.args.slot) (record { to = refl; each = λ s who. refl }))
     (c.empty.ensures 3 c.args.self.now c.args.to c.floor_for.ensures (came_there g.D.Disk g.met.D.Disk.left_sized g.met.D.Disk.sized AnIndex way c.args.who c.args.self.now new there visits k c.self.view_is at c.shown-at.ensures.shown 3 c.look.new.disk calm.reads))
     (λ s i serves r.
     let exact = c.in_ok-reply-in-Object.ensures.exact c.args.self.now.disk i read (knows_that g.D.Disk c.args.self.now s serves there.id (objects.Index i) at (shown_there g.D.Disk g.met.D.Disk.left_sized g.met.D.Disk.sized AnIndex way c.args.who c.args.self.now new there visits k c.self.view_is at c.shown-at.ensures.shown) r.there) in

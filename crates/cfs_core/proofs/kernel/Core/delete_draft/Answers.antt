@@ -40,7 +40,7 @@ returns-then-holds_something g c = λ who drafted.
     let law : FindsGrant who c.args.grant = λ s. c.table_follows_the_model.ensures.found s who c.args.grant in
     let request = asks.Delete (Through c.args.grant) c.args.slot in
     let looks = c.look_drafted.ensures.looks drafted.drafting drafted.has in
-    where_then g.D.Disk 2 k c.look_drafted.new.self.disk c.put_drafted.new.self looks.reads request who _ c.put_drafted.result
+    where_then g.D.Disk 2 k c.look_drafted.new.self.disk c.put_drafted.new.self looks.reads request who _ c.put_drafted.result refl
     (subst (λ x. TriesThroughWith g.D.Disk x.space.left x c.put_drafted.new.self who c.args.grant (Fill c.args.slot None) request c.put_drafted.result) c.look_drafted.ensures.same
     (c.put_drafted.ensures who request (subst (λ x. HasGrant x who c.args.grant) (sym c.look_drafted.ensures.same) (let has = has_grant drafted law in record { found = has.found; law = law })) refl))
     (λ s serves.

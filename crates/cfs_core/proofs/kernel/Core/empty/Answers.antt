@@ -1,4 +1,4 @@
-use Rattle.std.proofs.Common.{◌≡◌, ◌≢◌, ◌+◌, ◌<◌, ◌≤◌, ℕ, inl, inr, Bool, true, false, Option, None, Some, Result, Ok, Err, refl, sym, ◌∙◌, ap, subst, arith, sum}
+use Rattle.std.proofs.Common.{◌≡◌, ◌≢◌, ◌+◌, ◌<◌, ◌≤◌, ℕ, inl, true, false, Option, None, Ok, Err, refl, sym, ◌∙◌, ap, subst, arith, sum}
 use Rattle.block_tree.specs.declared.root.Root.{Root}
 use Rattle.cfs_base.specs.Run.{Tells}
 use Rattle.cfs_base.specs.declared.refusal.Refused.TheVariants as refusals
@@ -7,12 +7,11 @@ use Rattle.cfs_base.proofs.Passed.{is_passed}
 use Rattle.normal_files.specs.Standing.{IsRootAt}
 use Rattle.special_files.specs.Drafting.{begun_at}
 use Rattle.ufs_model.specs.declared.asked.Request.TheVariants as asks
-use Rattle.cfs_core.specs.Calls.{TriesOn, TriesOnWith, done_or}
+use Rattle.cfs_core.specs.Calls.{TriesOn, done_or}
 use Rattle.cfs_core.specs.Claimed.{claims_for_slot}
 use Rattle.cfs_core.specs.Finished.{FinishesLeft, since}
 use Rattle.cfs_core.specs.Kernel.{Kernel}
-use Rattle.cfs_core.specs.Rereads.{RereadsIndex}
-use Rattle.cfs_core.proofs.Words.{cases_lt, PutsSlot, refused_by, Refused}
+use Rattle.cfs_core.proofs.Words.{PutsSlot, refused_by}
 use Rattle.cfs_core.specs.Finished.{refused_since}
 use Rattle.cfs_base.specs.declared.refusal.Damage.{Damage}
 use Rattle.cfs_base.specs.declared.refusal.Need.{Need}
@@ -132,13 +131,13 @@ returns g c = λ n k to is came.
     (does_then G g.met.D.Disk.left_sized g.met.D.Disk.sized k n d0 came.read.reads id c.args.slot request d1 s1 tried fin 1 d2 again new (done_or ended) size (done_decides ended) never
     (λ s who i serves there none reach shut inside goes. put_ends G g.met.D.Disk.left_sized g.met.D.Disk.sized read d3 s3 id c.args.slot None request refl refl ended root puts
     (λ s who i serves r. (refl, delete_out k.words.seed s who to id i c.args.slot r))
-    (λ s who i serves r. (not_short s who to c.args.slot c.args.floor (sum s1.free) is c.in_ok-has_room.ensures.room (delete_need k.words.seed s who to id i c.args.slot r), serves.four)) (λ s who i r. (rw (r.bare, claims_for_slot) refl, refl)) (λ s who i r goes none. delete_holds k.words.seed s who to id i c.args.slot r goes)
+    (λ s who i serves r. (not_short s who to c.args.slot c.args.floor (sum s1.free) is c.in_ok-has_room.ensures.room (delete_need k.words.seed s who to id i c.args.slot r), serves.four)) (λ s who i r. (rw (r.bare, claims_for_slot) refl, refl, rw (r.bare, r.name, r.there) refl)) (λ s who i r goes none. delete_holds k.words.seed s who to id i c.args.slot r goes)
     s who i there none reach shut inside goes (rooted_there G g.met.D.Disk.left_sized g.met.D.Disk.sized k n d0 came.read.reads id c.args.slot request d1 s1 tried fin 1 d2 again root bare anew s serves)))
     (λ none named. put_went G g.met.D.Disk.left_sized g.met.D.Disk.sized read d3 s3 id c.args.slot None request refl refl ended root puts (λ s who i serves r. (refl, delete_out k.words.seed s who to id i c.args.slot r))
-    (λ s who i serves r. (not_short s who to c.args.slot c.args.floor (sum s1.free) is c.in_ok-has_room.ensures.room (delete_need k.words.seed s who to id i c.args.slot r), serves.four)) (λ s who i r. (rw (r.bare, claims_for_slot) refl, refl)) (λ s who i r goes none. delete_holds k.words.seed s who to id i c.args.slot r goes)
+    (λ s who i serves r. (not_short s who to c.args.slot c.args.floor (sum s1.free) is c.in_ok-has_room.ensures.room (delete_need k.words.seed s who to id i c.args.slot r), serves.four)) (λ s who i r. (rw (r.bare, claims_for_slot) refl, refl, rw (r.bare, r.name, r.there) refl)) (λ s who i r goes none. delete_holds k.words.seed s who to id i c.args.slot r goes)
     k (n + 1) (all G g.met.D.Disk.left_sized g.met.D.Disk.sized k n d0 came.read.reads id c.args.slot request d1 s1 tried fin 1 d2 again (nothing none)) named (bare none))
     (λ some named. put_went G g.met.D.Disk.left_sized g.met.D.Disk.sized read d3 s3 id c.args.slot None request refl refl ended root puts (λ s who i serves r. (refl, delete_out k.words.seed s who to id i c.args.slot r))
-    (λ s who i serves r. (not_short s who to c.args.slot c.args.floor (sum s1.free) is c.in_ok-has_room.ensures.room (delete_need k.words.seed s who to id i c.args.slot r), serves.four)) (λ s who i r. (rw (r.bare, claims_for_slot) refl, refl)) (λ s who i r goes none. delete_holds k.words.seed s who to id i c.args.slot r goes)
+    (λ s who i serves r. (not_short s who to c.args.slot c.args.floor (sum s1.free) is c.in_ok-has_room.ensures.room (delete_need k.words.seed s who to id i c.args.slot r), serves.four)) (λ s who i r. (rw (r.bare, claims_for_slot) refl, refl, rw (r.bare, r.name, r.there) refl)) (λ s who i r goes none. delete_holds k.words.seed s who to id i c.args.slot r goes)
     mid 1 again named (anew some)) in
     subst (λ x. TriesOn G k (record x { disk = d3; space = s3 }) id c.args.slot request c.since-2.result) way
     (subst (λ r. TriesOn G k new id c.args.slot request r) (sym (c.since-2.ensures ∙ ap (since tried) c.done.ensures)) joined)

@@ -10,7 +10,7 @@ pub overflow_add-self : goal.overflow_add-self
 overflow_add-self g c =
     let k : Kernel _ = record { disk = c.self.inside.disk; root = c.self.inside.root; directory = c.self.inside.directory; space = c.self.inside.space; words = c.self.inside.words; handles = c.self.inside.handles.handles; collections = c.self.inside.collections; stop = c.self.inside.stop } in
     let swept = ap phase_of (sym c.in-Some.is) ∙ ap (λ x. phase_of x.collections.collector) c.self.view_is ∙ c.requires in
-    omega (arith, few_ended g.D.Disk k c.in-Some.collector c.end.new.self c.in-Some.is swept c.end.ensures.phase c.self.inside.directory.room c.self.invariant.kept)
+    omega (arith, few_ended g.D.Disk k c.in-Some.collector c.end.new.self c.in-Some.is swept c.end.ensures.phase c.self.inside.directory.room c.self.invariant.kept, c.calls_are_counted.ensures)
 
 pub returns : goal.returns
 returns g c =

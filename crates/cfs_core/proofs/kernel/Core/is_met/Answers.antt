@@ -19,7 +19,7 @@ pub returns-in-Direct : goal.returns-in-Direct
 returns-in-Direct g c = λ s serves.
     let table = ap (λ k. grants_in k.handles) c.self.view_is ∙ serves.front.grants in
     let mode = c.mode_on.ensures ∙ ap (λ gs. open_mode gs c.in-Direct.id) table in
-    let apart : none_collide (table_of s.grants) ≡ true = held (table_of s.grants) (subst (λ gs. IsTrue (is_grant_table gs)) table c.len.ensures.held) in
+    let apart : none_collide (table_of s.grants) ≡ true = held (table_of s.grants) (subst (λ gs. IsTrue (is_grant_table gs)) table c.grants_are_a_table.ensures) in
     c.bars.ensures ∙ met s c.in-Direct.id c.args.alone c.mode_on.result (ap is_some mode ∙ c.table_follows_the_model.ensures.open s c.in-Direct.id) (ap is_writing mode ∙ c.table_follows_the_model.ensures.written s c.in-Direct.id apart) ∙ ap (meets_a_grant s c.args.alone) (sym c.in-Direct.is)
 
 pub returns-in-Through : goal.returns-in-Through

@@ -10,7 +10,7 @@ found (Some kind) h = (kind, refl)
 pub returns-clause-on_disk : goal.returns-clause-on_disk
 returns-clause-on_disk g c = λ some.
     let kind = found c.kind.result some in
-    let below = kind_below c.self.inside.directory c.args.id kind.0 c.room.ensures.listing (sym c.kind.ensures ∙ kind.1) in
+    let below = kind_below c.self.inside.directory c.args.id kind.0 c.directories_are_listings.ensures (sym c.kind.ensures ∙ kind.1) in
     omega (arith, below, c.self.invariant.room, ap (λ k. g.D.Disk.blocks k.disk) c.self.view_is)
 
 pub returns-clause-some : goal.returns-clause-some

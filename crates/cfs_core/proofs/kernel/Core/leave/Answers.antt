@@ -1,11 +1,12 @@
-use Rattle.std.proofs.Common.{◌≡◌, Some, sym, ◌∙◌, ap, subst}
-use Rattle.cfs_core.proofs.Words.{first_grant, session_grant-first, grants_of-fewer}
+use Rattle.std.proofs.Common.{◌≡◌, [], Some, None, sym, ◌∙◌, ap, subst}
+use Rattle.cfs_core.proofs.Words.{first_grant, grants_of-fewer}
 use Rattle.ufs_model.specs.declared.asked.Event.TheVariants as events
 use Rattle.cfs_core.specs.Asked.{Happens, halted}
 use Rattle.cfs_core.specs.Kernel.{grants_in}
 use Rattle.cfs_core.specs.Leaving.{halt_of}
 use Rattle.cfs_core.proofs.Lefts.{adds_nothing}
-use Rattle.cfs_core.proofs.Leaving.{has_left, sheds_none, sheds_then}
+use Rattle.cfs_core.specs.Rescues.{AreRescued}
+use Rattle.cfs_core.proofs.Leaving.{all_dropped, has_left, sheds_none, sheds_then}
 use Rattle.cfs_core.proofs.kernel.Core.leave.Goals as goal
 
 pub loop-grant-init : goal.loop-grant-init
@@ -22,7 +23,7 @@ loop-grant-smaller g c =
 pub drop_grant-requires : goal.drop_grant-requires
 drop_grant-requires g c =
     let first : first_grant (grants_in c.loop-grant.self.handles) c.args.who ≡ Some c.in-Some.grant = ap (λ x. first_grant (grants_in x.handles) c.args.who) (sym c.self-in-loop-grant.view_is) ∙ sym c.next_of.ensures ∙ c.in-Some.is in
-    record { found = session_grant-first (grants_in c.loop-grant.self.handles) c.args.who c.in-Some.grant first }
+    record { first = first }
 
 pub returns-clause-event : goal.returns-clause-event
 returns-clause-event g c = λ s stands.
@@ -42,7 +43,9 @@ pub returns-clause-later : goal.returns-clause-later
 returns-clause-later g c = c.loop-grant.invariant.later
 
 pub returns-clause-ended : goal.returns-clause-ended
-returns-clause-ended g c = (c.loop-grant.invariant.over, c.loop-grant.invariant.ended)
+returns-clause-ended g c =
+    let none : first_grant (grants_in c.loop-grant.self.handles) c.args.who ≡ None = ap (λ x. first_grant (grants_in x.handles) c.args.who) (sym c.self-in-loop-grant.view_is) ∙ sym c.next_of.ensures ∙ c.in_default.is in
+    subst (AreRescued c.args.self.now.collections.collector c.loop-grant.self.collections.collector []) (all_dropped g.D.Disk c.args.who c.args.self.now c.loop-grant.self c.loop-grant.invariant none) c.loop-grant.invariant.ended
 
 pub returns-clause-called : goal.returns-clause-called
 returns-clause-called g c = c.loop-grant.invariant.called

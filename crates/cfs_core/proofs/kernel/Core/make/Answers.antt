@@ -1,4 +1,4 @@
-use Rattle.std.proofs.Common.{◌≡◌, ◌≢◌, ◌+◌, ◌≤◌, ℕ, inl, inr, Bool, true, false, Option, None, Some, Result, Ok, Err, refl, sym, ◌∙◌, ap, subst, arith, sum}
+use Rattle.std.proofs.Common.{◌≡◌, ◌≢◌, ◌+◌, ℕ, inl, inr, true, false, Option, None, Result, Ok, Err, refl, sym, ◌∙◌, ap, subst, sum}
 use Rattle.block_tree.specs.declared.root.Root.{Root}
 use Rattle.cfs_base.specs.Run.{Tells}
 use Rattle.cfs_base.specs.declared.refusal.Refused.TheVariants as refusals
@@ -6,13 +6,10 @@ use Rattle.cyl_alloc.specs.Left.{LeftCommit, block_shown}
 use Rattle.cfs_base.proofs.Passed.{is_passed}
 use Rattle.normal_files.specs.Standing.{IsRootAt}
 use Rattle.special_files.specs.Drafting.{begun_at}
-use Rattle.ufs_model.specs.declared.asked.Request.TheVariants as asks
-use Rattle.cfs_core.specs.Calls.{TriesOn, TriesOnWith, done_or}
-use Rattle.cfs_core.specs.Claimed.{claims_for_slot}
+use Rattle.cfs_core.specs.Calls.{TriesOn}
 use Rattle.cfs_core.specs.Finished.{FinishesLeft, since}
 use Rattle.cfs_core.specs.Kernel.{Kernel}
-use Rattle.cfs_core.specs.Rereads.{RereadsIndex}
-use Rattle.cfs_core.proofs.Words.{cases_lt, PutsSlot, refused_by, Refused}
+use Rattle.cfs_core.proofs.Words.{cases_lt, refused_by, Refused}
 use Rattle.cfs_core.specs.Finished.{refused_since}
 use Rattle.cfs_core.proofs.Words.{made_of, Puid, PutsObject, Reply, word}
 use Rattle.cfs_core.specs.Makes.{NamesMade}

@@ -14,7 +14,7 @@ use Rattle.cfs_core.specs.Opening.{Begins, reply_to_fault}
 use Rattle.cfs_core.proofs.Answering.{memory, tries_refusal, tries_so}
 use Rattle.cfs_core.proofs.Granted.{drawn_push, not_drawn}
 use Rattle.cfs_core.proofs.MayOpen.{begun_ready, fault_told, none_told, open_gone, told_plain}
-use Rattle.cfs_core.proofs.Openings.{tries_bare, tries_not, tries_open}
+use Rattle.cfs_core.proofs.Openings.{draft_changes, tries_bare, tries_not, tries_open}
 use Rattle.cfs_core.proofs.Joined.{ok_is, since_err, since_ok, tries_since, tries_unfinished}
 use Rattle.cfs_core.proofs.Readied.{all_push}
 use Rattle.cfs_core.proofs.Serving.{there_is}
@@ -98,7 +98,7 @@ returns-in_err-tried g c =
     rw (is_passed _ _ c.from_residual-in_err-tried.ensures.1) (subst (λ x. Tries G x (record new { handles = c.reserve.new.self.handles }) c.args.who request (Err (refused_by c.in_err-tried.field-0.0))) c.self.view_is
     (subst (λ ss. Tries G k (record new { handles = ss }) c.args.who request (Err (refused_by c.in_err-tried.field-0.0))) (sym c.reserve.ensures.handles)
     (tries_unfinished G g.met.D.Disk.left_sized g.met.D.Disk.sized k c.finish_if.new.disk c.finish_if.new.space c.in_err-tried.field-0.0 (subst (λ r. FinishesLeft G k.disk c.finish_if.new.disk k.space c.finish_if.new.space r) c.in_err-tried.was (c.finish_if.ensures.finished wants)) request c.args.who _ refl
-    (λ s serves. (goes s serves).0))))
+    (draft_changes k c.args.id c.args.mode c.in-Some.kind listed (sym c.gets_draft-wanted.ensures ∙ wants)) (λ s serves. (goes s serves).0))))
 
 -- it couldn't be begun
 pub returns-in_err-draft : goal.returns-in_err-draft
@@ -124,8 +124,8 @@ returns-in_err-draft g c =
     let begins = subst (λ w. Begins G c.args.id.block w c.finish_if.new.disk c.first_draft.new.disk c.finish_if.new.space c.first_draft.new.space (Err e)) (c.in_ok-room.ensures.room ∙ c.gets_draft-wanted.ensures) (subst (λ r. Begins G c.args.id.block (is_some c.in_ok-room.room) c.finish_if.new.disk c.first_draft.new.disk c.finish_if.new.space c.first_draft.new.space r) why.1 c.first_draft.ensures.begins) in
     let wants : c.gets_draft-wanted.result ≡ true = drafted_by c.gets_draft-wanted.result c.first_draft.result e why.1 (λ no. (c.first_draft.ensures.bare (c.in_ok-room.ensures.room ∙ no)).0) in
     let fin = subst (λ r. FinishesLeft G k.disk c.finish_if.new.disk k.space c.finish_if.new.space r) c.in_ok-tried.was (c.finish_if.ensures.finished wants) in
-    let now = tries_not G g.met.D.Disk.left_sized g.met.D.Disk.sized mid c.args.who c.args.id c.args.mode c.in-Some.kind listed tuid tuid_is goes c.first_draft.new.disk c.first_draft.new.space e begins in
-    let joined = tries_since G k c.finish_if.new.disk c.finish_if.new.space c.in_ok-tried.tried fin g.met.D.Disk.left_sized g.met.D.Disk.sized new begins.calls.same.size request (Err e) tt (err_never e (rw why.1 at c.first_draft.ensures.never)) c.args.who (λ s serves. (goes_on s serves).0) now in
+    let now = tries_not G g.met.D.Disk.left_sized g.met.D.Disk.sized mid c.args.who c.args.id c.args.mode c.in-Some.kind listed tuid tuid_is goes c.first_draft.new.disk c.first_draft.new.space (sym c.gets_draft-wanted.ensures ∙ wants) e begins in
+    let joined = tries_since G k c.finish_if.new.disk c.finish_if.new.space c.in_ok-tried.tried fin g.met.D.Disk.left_sized g.met.D.Disk.sized new begins.calls.same.size request (Err e) tt (err_never e (rw why.1 at c.first_draft.ensures.never)) c.args.who (draft_changes k c.args.id c.args.mode c.in-Some.kind listed (sym c.gets_draft-wanted.ensures ∙ wants)) (λ s serves. (goes_on s serves).0) now in
     rw (is_passed _ _ c.from_residual-in_err-draft.ensures.1) (subst (λ x. Tries G x (record new { handles = c.reserve.new.self.handles }) c.args.who request (Err c.in_err-draft.field-0.0)) c.self.view_is
     (subst (λ ss. Tries G k (record new { handles = ss }) c.args.who request (Err c.in_err-draft.field-0.0)) (sym c.reserve.ensures.handles)
     (subst (λ e. Tries G k new c.args.who request (Err e)) (sym why.2) joined)))
@@ -173,8 +173,8 @@ returns g c =
     let done : Tries G k new c.args.who request (Ok (replies.Grant tuid)) = elim (cases_Bool c.gets_draft-wanted.result) [
       | inl wants ↦ (
           let fin = subst (λ r. FinishesLeft G k.disk c.finish_if.new.disk k.space c.finish_if.new.space r) c.in_ok-tried.was (c.finish_if.ensures.finished wants) in
-          let now = tries_open G g.met.D.Disk.left_sized g.met.D.Disk.sized mid c.args.who c.args.id c.args.mode c.in-Some.kind listed tuid tuid_is goes c.first_draft.new.disk c.first_draft.new.space c.next.new.self c.next.ensures.drawn c.in_ok-draft.draft begins in
-          tries_since G k c.finish_if.new.disk c.finish_if.new.space c.in_ok-tried.tried fin g.met.D.Disk.left_sized g.met.D.Disk.sized new begins.calls.same.size request (Ok (replies.Grant tuid)) refl (λ is. cc) c.args.who (λ s serves. (goes_on s serves).0) now)
+          let now = tries_open G g.met.D.Disk.left_sized g.met.D.Disk.sized mid c.args.who c.args.id c.args.mode c.in-Some.kind listed tuid tuid_is goes c.first_draft.new.disk c.first_draft.new.space c.next.new.self c.next.ensures.drawn (sym c.gets_draft-wanted.ensures ∙ wants) c.in_ok-draft.draft begins in
+          tries_since G k c.finish_if.new.disk c.finish_if.new.space c.in_ok-tried.tried fin g.met.D.Disk.left_sized g.met.D.Disk.sized new begins.calls.same.size request (Ok (replies.Grant tuid)) refl (λ is. cc) c.args.who (draft_changes k c.args.id c.args.mode c.in-Some.kind listed (sym c.gets_draft-wanted.ensures ∙ wants)) (λ s serves. (goes_on s serves).0) now)
       | inr bare ↦ (
           let idle = (c.finish_if.ensures.idle bare) in
           let none_begun = c.first_draft.ensures.bare (c.in_ok-room.ensures.room ∙ bare) in

@@ -1,17 +1,15 @@
-use Rattle.std.proofs.Common.{◌≡◌, ◌+◌, ◌*◌, length, ℕ, inl, inr, Bool, true, false, Option, None, Some, Result, Ok, Err, refl, sym, ◌∙◌, ap, subst, arith, sum}
+use Rattle.std.proofs.Common.{◌≡◌, ◌+◌, ◌*◌, length, ℕ, inl, inr, true, false, Option, None, Some, Ok, Err, refl, sym, ◌∙◌, ap, subst, arith, sum}
 use Rattle.block_tree.specs.declared.root.Root.{Root}
 use Rattle.cfs_base.specs.Run.{Tells}
-use Rattle.cfs_base.specs.declared.refusal.Refused.TheVariants as refusals
 use Rattle.cyl_alloc.specs.Left.{LeftCommit, block_shown}
 use Rattle.cfs_base.proofs.Passed.{is_passed}
 use Rattle.normal_files.specs.Standing.{IsRootAt}
 use Rattle.special_files.specs.Drafting.{begun_at}
 use Rattle.ufs_model.specs.declared.asked.Request.TheVariants as asks
-use Rattle.cfs_core.specs.Calls.{TriesOn, TriesOnWith, done_or}
+use Rattle.cfs_core.specs.Calls.{TriesOn, done_or}
 use Rattle.cfs_core.specs.Claimed.{claims_for_slot}
 use Rattle.cfs_core.specs.Finished.{FinishesLeft, since}
 use Rattle.cfs_core.specs.Kernel.{Kernel}
-use Rattle.cfs_core.specs.Rereads.{RereadsIndex}
 use Rattle.cfs_core.proofs.Words.{cases_lt, Kept, PutsSlot, refused_by}
 use Rattle.cfs_core.specs.Finished.{refused_since}
 use Rattle.cfs_core.proofs.Joined.{done_decides, done_never, err_tried, left_none, ok_is, since_err, since_ok}
@@ -107,13 +105,13 @@ returns g c = λ n k to came.
           (does_then G g.met.D.Disk.left_sized g.met.D.Disk.sized k n d0 came.read.reads id c.args.slot request d1 s1 tried fin 1 d2 again new (done_or ended) (puts.calls.same.size ∙ again.same.size) (done_decides ended) (done_never ended (λ is. rw is at puts.refused))
           (λ s who i serves there none reach shut inside goes. put_ends G g.met.D.Disk.left_sized g.met.D.Disk.sized read d3 s3 id c.args.slot (Some c.args.id) request refl refl ended root puts
           (λ s who i serves r. (refl, retain_out k.words.seed s who to id i c.args.slot c.args.id r))
-          (λ s who i serves r. ((λ short. omega (arith, short.few, enough, retain_need k.words.seed s who to id i c.args.slot c.args.id r)), omega (arith, enough))) (λ s who i r. (rw (r.bare, claims_for_slot) refl, refl)) (λ s who i r goes none. let no : Some c.args.id ≡ None = none in cc)
+          (λ s who i serves r. ((λ short. omega (arith, short.few, enough, retain_need k.words.seed s who to id i c.args.slot c.args.id r)), omega (arith, enough))) (λ s who i r. (rw (r.bare, claims_for_slot) refl, refl, rw (r.bare, r.name, r.there) refl)) (λ s who i r goes none. let no : Some c.args.id ≡ None = none in cc)
           s who i there none reach shut inside goes (rooted_there G g.met.D.Disk.left_sized g.met.D.Disk.sized k n d0 came.read.reads id c.args.slot request d1 s1 tried fin 1 d2 again root bare anew s serves)))
           (λ none named. put_went G g.met.D.Disk.left_sized g.met.D.Disk.sized read d3 s3 id c.args.slot (Some c.args.id) request refl refl ended root puts (λ s who i serves r. (refl, retain_out k.words.seed s who to id i c.args.slot c.args.id r))
-          (λ s who i serves r. ((λ short. omega (arith, short.few, enough, retain_need k.words.seed s who to id i c.args.slot c.args.id r)), omega (arith, enough))) (λ s who i r. (rw (r.bare, claims_for_slot) refl, refl)) (λ s who i r goes none. let no : Some c.args.id ≡ None = none in cc)
+          (λ s who i serves r. ((λ short. omega (arith, short.few, enough, retain_need k.words.seed s who to id i c.args.slot c.args.id r)), omega (arith, enough))) (λ s who i r. (rw (r.bare, claims_for_slot) refl, refl, rw (r.bare, r.name, r.there) refl)) (λ s who i r goes none. let no : Some c.args.id ≡ None = none in cc)
           k (n + 1) (all G g.met.D.Disk.left_sized g.met.D.Disk.sized k n d0 came.read.reads id c.args.slot request d1 s1 tried fin 1 d2 again (nothing none)) named (bare none))
           (λ some named. put_went G g.met.D.Disk.left_sized g.met.D.Disk.sized read d3 s3 id c.args.slot (Some c.args.id) request refl refl ended root puts (λ s who i serves r. (refl, retain_out k.words.seed s who to id i c.args.slot c.args.id r))
-          (λ s who i serves r. ((λ short. omega (arith, short.few, enough, retain_need k.words.seed s who to id i c.args.slot c.args.id r)), omega (arith, enough))) (λ s who i r. (rw (r.bare, claims_for_slot) refl, refl)) (λ s who i r goes none. let no : Some c.args.id ≡ None = none in cc)
+          (λ s who i serves r. ((λ short. omega (arith, short.few, enough, retain_need k.words.seed s who to id i c.args.slot c.args.id r)), omega (arith, enough))) (λ s who i r. (rw (r.bare, claims_for_slot) refl, refl, rw (r.bare, r.name, r.there) refl)) (λ s who i r goes none. let no : Some c.args.id ≡ None = none in cc)
           mid 1 again named (anew some)))
     ] in
     subst (λ x. TriesOn G k (record x { disk = d3; space = s3 }) id c.args.slot request c.since-2.result) way

@@ -41,7 +41,7 @@ returns-in_err-tried g c = λ who drafted.
     let drafted : IsDrafted k AFile who c.args.grant = subst (λ x. IsDrafted x AFile who c.args.grant) (sym c.self.view_is) drafted in
     let request = asks.Resize (Through c.args.grant) c.args.size in
     rw (is_passed _ _ c.from_residual.ensures.1) (subst (λ x. Tries g.D.Disk x (record k { disk = c.finish.new.disk; space = c.finish.new.space }) who request (Err (refused_by c.in_err-tried.field-0.0))) c.self.view_is
-    (tries_unfinished g.D.Disk g.met.D.Disk.left_sized g.met.D.Disk.sized k c.finish.new.disk c.finish.new.space c.in_err-tried.field-0.0 c.in_err-tried.ensures request who _ refl
+    (tries_unfinished g.D.Disk g.met.D.Disk.left_sized g.met.D.Disk.sized k c.finish.new.disk c.finish.new.space c.in_err-tried.field-0.0 c.in_err-tried.ensures request who _ refl refl
     (λ s serves. resize_goes g.D.Disk who c.args.grant (λ s. c.table_follows_the_model.ensures.found s who c.args.grant) k drafted s serves c.args.size (within c.args.size (omega (arith, c.if-size-gt-MOST_BYTES.false))))))
 
 pub invariant_of-self-2 : goal.invariant_of-self-2
@@ -58,7 +58,7 @@ returns g c = λ who drafted.
     let new : Kernel _ = record k { disk = c.resize-ended.new.disk; space = c.resize-ended.new.space; handles = c.resize-ended.new.self.handles } in
     let law : FindsGrant who c.args.grant = λ s. c.table_follows_the_model.ensures.found s who c.args.grant in
     subst (λ x. Tries g.D.Disk x new who request c.since.result) c.self.view_is (subst (λ r. Tries g.D.Disk k new who request r) (sym (c.since.ensures ∙ ap (since c.in_ok-tried.tried) c.done.ensures))
-    (tries_where (tries_redrafted g.D.Disk g.met.D.Disk.left_sized g.met.D.Disk.sized k c.finish.new.disk c.finish.new.space c.in_ok-tried.tried c.in_ok-tried.ensures c.self.invariant.ready who c.args.grant change request (has_grant drafted law) refl c.resize-ended.new.disk c.resize-ended.new.space c.resize-ended.result
+    (tries_where refl (tries_redrafted g.D.Disk g.met.D.Disk.left_sized g.met.D.Disk.sized k c.finish.new.disk c.finish.new.space c.in_ok-tried.tried c.in_ok-tried.ensures c.self.invariant.ready who c.args.grant change request (has_grant drafted law) refl c.resize-ended.new.disk c.resize-ended.new.space c.resize-ended.result
     c.resize-ended.new.self.handles c.resize-ended.ensures)
     (λ s serves. record {
       alters = file_alters s who c.args.grant request change (resize_changes (Through c.args.grant) c.args.size) refl;

@@ -46,7 +46,7 @@ returns-in_err-tried g c =
     let request = asks.Resize to c.args.size in
     let reach = subst (λ x. ReachesAll g.D.Disk objects.File x who request c.args.id) (sym c.self.view_is) (way.reached request (record { to = refl; each = λ s who. refl })) in
     subst (λ x. Tries g.D.Disk x (record k { disk = c.finish.new.disk; space = c.finish.new.space }) who request (Err (refused_by c.in_err-tried.field-0.0))) c.self.view_is
-    (tries_unfinished g.D.Disk g.met.D.Disk.left_sized g.met.D.Disk.sized k c.finish.new.disk c.finish.new.space c.in_err-tried.field-0.0 c.in_err-tried.ensures request who _ refl
+    (tries_unfinished g.D.Disk g.met.D.Disk.left_sized g.met.D.Disk.sized k c.finish.new.disk c.finish.new.space c.in_err-tried.field-0.0 c.in_err-tried.ensures request who _ refl refl
     (λ s serves.
     let r = reach.0 s serves in
     resize_goes k.words.seed s who to c.args.id r.0 c.args.size r.1 (within c.args.size (omega (arith, c.if-size-gt-MOST_BYTES.false))))))
@@ -64,7 +64,7 @@ returns g c = λ to who way.
     let less : c.args.size ≤ most_bytes = omega (arith, c.if-size-gt-MOST_BYTES.false) in
     let done = tries_filed G g.met.D.Disk.left_sized g.met.D.Disk.sized k 0 k.disk (reads_none G 0 k.disk) d1 c.finish.new.space c.in_ok-tried.tried c.in_ok-tried.ensures 0 d1 (reads_none G 0 d1) c.args.id request who reach
     c.resize-ended.new.disk c.resize-ended.new.space kind (SetSize c.args.size) (resize_changes to c.args.size) c.resize-ended.result
-    (disk_top G c.args.id.block d1) refl changes.ends (λ told tells. changes)
+    (disk_top G c.args.id.block d1) refl changes.ends refl (λ told tells. changes)
     (λ none size far. subst (λ (x : _). (disk_top G c.args.id.block x).IsFar size) (c.in_ok-tried.ensures.none (left_none k.space.left (sym c.in_ok-tried.ensures.told ∙ none))).0 far) (λ some size far. far) (λ special wanted. (rw wanted at (c.resize-ended.ensures.memory (c.in_ok-room.ensures.room special))) refl)
     (λ s f serves r shut. (file_kind_is f kind (way.kind_is s (objects.File f) (subst (λ x. ServesIs G x s) c.self.view_is serves) r.there ∙ sym c.file_kind-kind.ensures), less, resize_goes k.words.seed s who to c.args.id f c.args.size r (within c.args.size less))) in
     subst (λ x. Tries G x new who request c.since.result) c.self.view_is (subst (λ r. Tries G k new who request r) (sym (c.since.ensures ∙ ap (since c.in_ok-tried.tried) c.done.ensures)) done)

@@ -1,4 +1,4 @@
-use Rattle.std.proofs.Common.{length, true, None, Some, refl, sym, ◌∙◌, ap, nat_lt}
+use Rattle.std.proofs.Common.{length, true, Some, refl, sym, ◌∙◌, ap, nat_lt}
 use Rattle.cfs_base.proofs.Passed.{is_passed}
 use Rattle.cyl_alloc.specs.Left.{block_shown}
 use Rattle.ufs_model.specs.declared.asked.Reply.TheVariants as replies
@@ -61,7 +61,7 @@ returns-else-not-has_slot g c =
     let visits = object_there g.D.Disk AnIndex way c.args.who c.args.self.now new c.in_ok-reply.field-0 c.in_ok-reply.ensures there c.in-Object.is in
     let at = block_shown new.space.left there.id.block in
     let read = read_there g.D.Disk g.met.D.Disk.left_sized g.met.D.Disk.sized AnIndex way c.args.who c.args.self.now new there visits new refl at refl in
-    tries_on g.D.Disk c.args.self.now c.put.new.self c.args.who (asks.Retain c.args.to c.args.slot c.args.id) there.id c.args.slot c.put.result (visits.reaches.reached (asks.Retain c.args.to c.args.slot c.args.id) (record { to = refl; each = λ s who. refl })) (c.put.ensures 1 c.args.self.now c.args.to visits.came)
+    tries_on g.D.Disk c.args.self.now c.put.new.self c.args.who (asks.Retain c.args.to c.args.slot c.args.id) there.id c.args.slot c.put.result refl (visits.reaches.reached (asks.Retain c.args.to c.args.slot c.args.id) (record { to = refl; each = λ s who. refl })) (c.put.ensures 1 c.args.self.now c.args.to visits.came)
     (λ s i serves r.
     let inside = below c.args.slot (length i.slots) (ap (nat_lt c.args.slot) (sym (slots_read read i (knows_that g.D.Disk c.args.self.now s serves there.id (objects.Index i) at (shown_there g.D.Disk g.met.D.Disk.left_sized g.met.D.Disk.sized AnIndex way c.args.who c.args.self.now new there visits new refl at refl) r.there))) ∙ sym c.has_slot.ensures.decides ∙ c.if-not-has_slot.false) in
     (inside, retain_goes 0 s c.args.who c.args.to there.id i c.args.slot c.args.id r inside))

@@ -33,7 +33,7 @@ put_drafted-requires-clause-slot g c = let some = c.lacks.ensures.some c.if-lack
 pub returns : goal.returns
 returns g c = λ who drafted.
     let law : FindsGrant who c.args.grant = λ s. c.table_follows_the_model.ensures.found s who c.args.grant in
-    tries_where (c.put_drafted.ensures who (asks.Retain (Through c.args.grant) c.args.slot c.args.id) (has_grant drafted law) refl) (λ s serves. record {
+    tries_where refl (c.put_drafted.ensures who (asks.Retain (Through c.args.grant) c.args.slot c.args.id) (has_grant drafted law) refl) (λ s serves. record {
       alters = retain_alters s who c.args.grant c.args.slot c.args.id;
       of_it = λ d has. ((index g.D.Disk who c.args.grant law c.args.self.now drafted s serves).0, of_index g.D.Disk who c.args.grant law c.args.self.now drafted s serves d has, refl);
       goes = goes_retain g.D.Disk who c.args.grant law c.args.self.now drafted s serves c.args.slot c.args.id

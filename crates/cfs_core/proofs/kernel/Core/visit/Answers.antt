@@ -1,5 +1,4 @@
-use Rattle.std.proofs.Common.{◌≡◌, ℕ, Err, refl, sym, ap, subst}
-use Rattle.cfs_core.proofs.Words.{Reply}
+use Rattle.std.proofs.Common.{ℕ, Err, refl, sym, subst}
 use Rattle.cfs_core.specs.Calls.{Tries}
 use Rattle.cfs_core.specs.Kernel.{Kernel}
 use Rattle.cfs_core.specs.Looks.{ReachesAll, WasRead}

@@ -46,7 +46,7 @@ returns-in_err-tried g c = λ who drafted.
     let drafted : IsDrafted k AFile who c.args.grant = drafted_as (subst (λ x. IsDrafted x AFile who c.args.grant) (sym c.self.view_is) drafted) c.in-Some.draft.now (sym c.draft.ensures ∙ ap option_copied c.in-Some.is) in
     let request = asks.Write (Through c.args.grant) c.args.offset c.args.bytes.now in
     rw (is_passed _ _ c.from_residual.ensures.1) (subst (λ x. Tries g.D.Disk x (record k { disk = c.finish.new.disk; space = c.finish.new.space }) who request (Err (refused_by c.in_err-tried.field-0.0))) c.self.view_is
-    (tries_unfinished g.D.Disk g.met.D.Disk.left_sized g.met.D.Disk.sized k c.finish.new.disk c.finish.new.space c.in_err-tried.field-0.0 c.in_err-tried.ensures request who _ refl
+    (tries_unfinished g.D.Disk g.met.D.Disk.left_sized g.met.D.Disk.sized k c.finish.new.disk c.finish.new.space c.in_err-tried.field-0.0 c.in_err-tried.ensures request who _ refl refl
     (λ s serves. write_goes g.D.Disk who c.args.grant (λ s. c.table_follows_the_model.ensures.found s who c.args.grant) k drafted s serves c.args.offset c.args.bytes.now (ap (λ (n : ℕ). is_range n c.args.offset (length c.args.bytes.now)) (sym c.size-held.ensures) ∙ sym c.is_range.ensures ∙ c.if-not-is_range.false))))
 
 pub invariant_of-self-2 : goal.invariant_of-self-2
@@ -63,7 +63,7 @@ returns g c = λ who drafted.
     let new : Kernel _ = record k { disk = c.write-ended.new.disk; space = c.write-ended.new.space; handles = c.write-ended.new.self.handles } in
     let law : FindsGrant who c.args.grant = λ s. c.table_follows_the_model.ensures.found s who c.args.grant in
     subst (λ x. Tries g.D.Disk x new who request c.since.result) c.self.view_is (subst (λ r. Tries g.D.Disk k new who request r) (sym (c.since.ensures ∙ ap (since c.in_ok-tried.tried) c.done.ensures))
-    (tries_where (tries_redrafted g.D.Disk g.met.D.Disk.left_sized g.met.D.Disk.sized k c.finish.new.disk c.finish.new.space c.in_ok-tried.tried c.in_ok-tried.ensures c.self.invariant.ready who c.args.grant change request (has_grant drafted law) refl c.write-ended.new.disk c.write-ended.new.space c.write-ended.result
+    (tries_where refl (tries_redrafted g.D.Disk g.met.D.Disk.left_sized g.met.D.Disk.sized k c.finish.new.disk c.finish.new.space c.in_ok-tried.tried c.in_ok-tried.ensures c.self.invariant.ready who c.args.grant change request (has_grant drafted law) refl c.write-ended.new.disk c.write-ended.new.space c.write-ended.result
     c.write-ended.new.self.handles c.write-ended.ensures)
     (λ s serves. record {
       alters = file_alters s who c.args.grant request change (write_changes (Through c.args.grant) c.args.offset c.args.bytes.now c.are_bytes.ensures) refl;

@@ -53,7 +53,7 @@ returns-in_err-tried g c =
     let way = sym visits.came.same ∙ sym c.self.view_is in
     let reach = visits.reaches.reached request (record { to = refl; each = λ s who. refl }) in
     subst (λ x. Tries g.D.Disk k (record x { disk = d1; space = s1 }) who request (Err (refused_by why))) way
-    (tries_cut g.D.Disk g.met.D.Disk.left_sized g.met.D.Disk.sized k 1 d0 visits.came.read.reads d1 s1 why (subst (λ x. FinishesLeft g.D.Disk x.disk d1 x.space s1 (Err why)) (sym way) c.in_err-tried.ensures) request who _ refl
+    (tries_cut g.D.Disk g.met.D.Disk.left_sized g.met.D.Disk.sized k 1 d0 visits.came.read.reads d1 s1 why (subst (λ x. FinishesLeft g.D.Disk x.disk d1 x.space s1 (Err why)) (sym way) c.in_err-tried.ensures) request who _ refl refl
     (λ s serves.
     let r = reach.0 s serves in
     let knows = knows_that g.D.Disk k s serves there.id (objects.File r.0) (block_shown k.space.left there.id.block) refl r.1.there in
@@ -75,7 +75,7 @@ returns-in_err-root g c =
     let reach = visits.reaches.reached request (record { to = refl; each = λ s who. refl }) in
     rw why.2 (subst (λ x. Tries g.D.Disk k (record x { disk = c.root_since.new.disk; space = s1 }) who request (Err (refused_since tried why.0))) way
     (tries_unread g.D.Disk g.met.D.Disk.left_sized g.met.D.Disk.sized k 1 d0 visits.came.read.reads d1 s1 tried (subst (λ x. FinishesLeft g.D.Disk x.disk d1 x.space s1 (Ok tried)) (sym way) c.in_ok-tried.ensures) 1 c.root_since.new.disk calm.reads
-    there.id request who reach why.0 calm.sound calm.cause (rw why.1 at c.root_since.ensures.never)
+    there.id request who reach why.0 refl calm.sound calm.cause (rw why.1 at c.root_since.ensures.never)
     (λ s serves.
     let r = reach.0 s serves in
     let knows = knows_that g.D.Disk k s serves there.id (objects.File r.0) (block_shown k.space.left there.id.block) refl r.1.there in
@@ -116,7 +116,7 @@ returns g c = λ k to who visits.
     subst (λ (x : Root). IsRootAt (G.content k.disk) at x) (sym (same_root none)) (subst (λ (n : ℕ). IsRootAt (G.content k.disk) n was) (same_block none) (visits.came.read.rooted told)) in
     let done = tries_filed G g.met.D.Disk.left_sized g.met.D.Disk.sized k 1 d0 reads d1 s1 tried fin 1 d2 again there.id request who reach
     d3 s3 kind (Overwrite c.args.offset c.args.bytes.now) (write_changes to c.args.offset c.args.bytes.now c.are_bytes.ensures) c.write-ended.result
-    (root_top at root) refl c.write-ended.ensures.ends (λ told tells. c.write-ended.ensures.changes (is_there told tells))
+    (root_top at root) refl c.write-ended.ensures.ends refl (λ told tells. c.write-ended.ensures.changes (is_there told tells))
     (λ none size far told. far_block size at (G.content k.disk) root (bare none told) far) (λ some size far tells. far_block size at (G.content d1) root ((rw was_read at c.root_since.ensures).anew some tells) far) (λ special wanted. (rw wanted at (c.write-ended.ensures.memory (c.in_ok-room.ensures.room special))) refl)
     (λ s f serves r shut.
     let knows = knows_that G k s serves there.id (objects.File f) seen refl r.there in

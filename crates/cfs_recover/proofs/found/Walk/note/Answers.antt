@@ -1,5 +1,5 @@
-use Rattle.std.proofs.Common.{◌≡◌, inl, inr, ℕ, true, false, List, [], refl, sym, ◌∙◌, ap, subst, arith, rules, is_some}
-use Rattle.cfs_recover.proofs.Words.{IsSized, Kind, NamesNothing, Puid}
+use Rattle.std.proofs.Common.{◌≡◌, inl, inr, true, false, List, [], ◌∷◌, ◌++◌, refl, sym, ◌∙◌, ap, subst, arith, rules, is_some}
+use Rattle.cfs_recover.proofs.Words.{Found, IsSized, Kind, Listing, NamesNothing, Puid, insert_entry, puid_cmp}
 use Rattle.cfs_base.specs.declared.kind.Kind.TheVariants as kinds
 use Rattle.cfs_recover.specs.Found as spec
 use Rattle.cfs_recover.proofs.Named.{named_nothing}
@@ -23,10 +23,14 @@ returns-then-has_root-clause-told c image done walk named =
 
 pub invariant_of-self-2 : goal.invariant_of-self-2
 invariant_of-self-2 c =
+    let was = c.args.self.now in
+    let named = c.add.ensures.named in
+    let room = c.add.ensures.room in
+    let is : record { named = insert_entry puid_cmp was.directory.named c.args.id kinds.Index; room = was.directory.room } ≡ c.add.new.self = λ i. record { named = sym named i; room = sym room i } in
+    let pushed = sized_push was.directory was.found.items was.held.items was.sized c.args.id c.args.by kinds.Index (omega (arith, c.in_ok-check_slot.ensures.1, c.room.ensures.room)) (sym c.if-has_root.ensures) in
     record {
-      sized = sized_push _ c.args.self.now.found.items _ c.args.self.now.held.items _
-          (subst (λ (room : ℕ). IsSized room c.args.self.now.found.items c.args.self.now.held.items) (sym c.add.ensures.room) c.args.self.now.sized)
-          (omega (arith, c.in_ok-check_slot.ensures.1, c.room.ensures.room, c.add.ensures.room)) c.in_ok-push.ensures.items;
+      sized = subst (λ (xs : List Found). IsSized c.add.new.self xs was.held.items) (sym c.in_ok-push.ensures.items)
+          (subst (λ (d : Listing). IsSized d (was.found.items ++ record { block = c.args.id.block; by = c.args.by } ∷ []) was.held.items) is pushed);
     }
 
 pub returns-clause-told : goal.returns-clause-told

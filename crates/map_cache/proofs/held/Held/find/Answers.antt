@@ -16,6 +16,6 @@ pub returns-clause-none : goal.returns-clause-none
 returns-clause-none c = elim c.match-get.branch [
   | in-Some w ↦ λ none. cc
   | in-None w ↦ λ _. let no : lookup (nat_eq c.args.at) c.self.inside.blocks.entries ≡ None = sym c.get.ensures.value ∙ ap option_copied w.in-None.is in
-      let stays = found_none (holding c.self.inside.blocks.entries c.self.inside.blocks.cap c.self.inside.stage) c.args.at (ap is_some no) in
+      let stays = found_none (holding c.self.inside.blocks.entries c.self.inside.blocks.cap c.self.inside.stage c.self.inside.wants) c.args.at (ap is_some no) in
       (rw (w.self-inside-is, c.get.follows.holds-at-none, ← c.self.view_is) stays, w.into-is)
 ]
