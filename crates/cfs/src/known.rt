@@ -1,4 +1,4 @@
-//! Which files a command named, so that one isn't named twice.
+//! The files that a command named, so that none is named twice.
 use cfs_host::Identity;
 use std::alloc::{AllocError, Global};
 
@@ -16,13 +16,14 @@ pub(crate) struct Known<'a> {
 }
 
 impl<'a> Known<'a> {
+    /// Makes a list of no files. Takes no memory.
     pub fn new(alloc: Global) -> Known<'a> {
         Known {
             files: Vec::new(alloc),
         }
     }
 
-    /// Adds a file; nothing where it keeps no bytes.
+    /// Adds a file, or nothing if the file keeps no bytes. Fails for want of memory.
     pub fn add(&mut self, identity: Option<Identity>, path: &'a str) -> Result<(), AllocError> {
         if let Some(identity) = identity {
             self.files.push(Named { identity, path })?;
@@ -30,7 +31,7 @@ impl<'a> Known<'a> {
         Ok(())
     }
 
-    /// The name of this file, if it was opened before.
+    /// Returns the name under which this file was opened before, if it was.
     pub fn name_of(&self, identity: Option<Identity>) -> Option<&'a str> {
         let identity = identity?;
         let named = self.files.iter().find(|named| named.identity == identity)?;

@@ -1,10 +1,16 @@
-//! The Cambridge File Server. `cfs play CYLINDERS SEED COLLECTIONS IN OUT ..` serves 1 to 64 sessions on a new volume
-//! in memory, one for each pair IN OUT: it writes a reply to OUT for each request of the file IN, and a report to
-//! standard output. `-` is a standard stream. `cfs trace ..` does the same and reports the trail. `cfs format VOLUME
-//! CYLINDERS SEED` makes a volume in a file, and `cfs serve VOLUME SEED COLLECTIONS IN OUT ..` serves it; `pair-format`
-//! and `pair-serve` do so on a file that keeps each block twice, for a device that may tear blocks. `cfs check VOLUME`
-//! names each fault of a volume, and `cfs mend VOLUME` makes its maps anew. `cfs dirs VOLUME SEED IN OUT` serves lines of
-//! names. `cfs --help` and `cfs --version` print a page.
+//! The Cambridge File Server.
+//!
+//! `cfs play CYLINDERS SEED COLLECTIONS IN OUT ..` serves 1 to 64 sessions on a new volume in memory, one for each pair
+//! IN OUT: it writes a reply to OUT for each request of the file IN, and a report to standard output. `-` is a standard
+//! stream. `cfs trace ..` does the same and reports the trail.
+//!
+//! `cfs format VOLUME CYLINDERS SEED` makes a volume in a file, and `cfs serve VOLUME SEED COLLECTIONS IN OUT ..`
+//! serves it. `pair-format` and `pair-serve` do so on a file that keeps each block twice, for a device that may tear
+//! blocks.
+//!
+//! `cfs check VOLUME` names each fault of a volume, and `cfs mend VOLUME` makes its maps anew. `cfs dirs VOLUME SEED IN
+//! OUT` serves lines of names. `cfs converse VOLUME SEED EVERY IN OUT` answers the lines of one session as they come.
+//! `cfs --help` and `cfs --version` print a page.
 #![tactic(auto)]
 
 mod known;
@@ -26,8 +32,9 @@ use std::process::ExitCode;
 use std::sync::Wait;
 use std::thread::Threads;
 
-/// The words after the program's name; none, which is no form of words, where one of them is no text. Nothing for want
-/// of memory.
+/// Returns the words after the program's name.
+///
+/// If one of them is no text there are none, and that is no form of words. Returns `None` for want of memory.
 fn words(rt: &HostRuntime, alloc: Global) -> Option<Vec<String>> {
     let mut words = Vec::new(alloc);
     let told = match env::args(rt) {
@@ -41,7 +48,7 @@ fn words(rt: &HostRuntime, alloc: Global) -> Option<Vec<String>> {
     Some(words)
 }
 
-/// The disk of pairs of blocks in a file, where there is one.
+/// Returns the disk of pairs of blocks in a file, if there is a file.
 fn paired(file: Option<FileDisk>) -> Option<PairDisk<FileDisk>>
     ensures { option_map ⟦<PairDisk<FileDisk> as Disk>⟧.blocks result ≡ option_map
         (λ f. ⟦<FileDisk as Disk>⟧.blocks f / 3) file }
@@ -52,7 +59,7 @@ fn paired(file: Option<FileDisk>) -> Option<PairDisk<FileDisk>>
     }
 }
 
-/// Empties the files of replies that got none. Whether all could be.
+/// Empties the files of replies that got none. Returns whether all could be emptied.
 fn empty_all(sinks: &mut [AnySink]) -> bool {
     let mut all = true;
     for sink in sinks.iter_mut() {
@@ -61,9 +68,11 @@ fn empty_all(sinks: &mut [AnySink]) -> bool {
     all
 }
 
-/// What is left to do once a run has ended: a volume that could not be made is taken away, words of no form are told
-/// where the forms stand, and of sessions that were served the files of replies that got none are emptied. Answers the
-/// status.
+/// Does what is left to do once a run has ended, and returns the status.
+///
+/// A volume that could not be made is removed. If the words are of no form, standard error says where the forms are.
+/// If sessions were served, the files of replies that got none are emptied: if one can't be, the status is 5 in place
+/// of 0.
 fn finish<D: Disk + Drop>(
     rt: &HostRuntime,
     made: &Option<Path>,
@@ -84,7 +93,10 @@ fn finish<D: Disk + Drop>(
     ended.status
 }
 
-/// Does what the words ask, in threads, and answers the status.
+/// Does what the words ask, in threads, and returns the status.
+///
+/// If memory is wanting for the words or the files, or a file can't be opened, nothing is run, and the error is the
+/// status.
 fn run<R: Threads + Wait + Sync>(rt: &HostRuntime, threads: &R, alloc: Global) -> Result<u8, u8> {
     let Some(words) = words(rt, alloc) else {
         return Err(tell_starved(rt));
@@ -114,16 +126,18 @@ fn run<R: Threads + Wait + Sync>(rt: &HostRuntime, threads: &R, alloc: Global) -
     Ok(finish(rt, &opened.made, ended))
 }
 
-/// Three open files, so that none of the run's own takes the number of a standard stream that is closed. What such a
-/// stream is then can neither be read nor written.
+/// Three open files, so that none of the run's own takes the number of a standard stream that is closed.
+///
+/// Such a stream can then neither be read nor written.
 #[derive(Drop)]
 struct Held(File, File, File);
 
-/// Opens the folder of all others three times.
+/// Opens `/` three times.
 fn hold_streams(rt: &HostRuntime) -> io::Result<Held> {
     Ok(Held(fs::open(rt, "/")?, fs::open(rt, "/")?, fs::open(rt, "/")?))
 }
 
+/// Runs the program, and exits with its status.
 fn main(rt: HostRuntime) -> ExitCode {
     let alloc = rt.alloc();
     let _held = match hold_streams(&rt) {

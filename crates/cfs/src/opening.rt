@@ -13,42 +13,50 @@ use std::alloc::Global;
 use std::fs::File;
 use std::io::{self, Stdin, Stdout};
 
+/// A file that is read, or standard input.
 pub(crate) type AnySource = FileSource<Stream<File, Stdin>>;
 
+/// A reply file, or standard output.
 pub(crate) type AnySink = FileSink<Stream<ReplyFile, Stdout>>;
 
-/// The file of a run's volume, where it has one, and whether it is one of pairs of blocks; its sources and its sinks.
+/// The files of a run, opened.
 #[derive(Drop)]
 pub(crate) struct Opened {
+    /// The file of the volume, if the command names one.
     pub disk: Option<FileDisk>,
+    /// Whether that file is one of pairs of blocks.
     pub pair: bool,
+    /// The request files of the sessions, or the trail of an audit.
     pub sources: Vec<AnySource>,
+    /// The reply files of the sessions.
     pub sinks: Vec<AnySink>,
-    /// The file of the volume, where this run made it.
+    /// The name of the volume's file, if this run made it.
     pub made: Option<Path>,
 }
 
-/// Tells want of memory. Answers the status.
+/// Reports want of memory, and returns the status.
 pub(crate) fn tell_starved(rt: &HostRuntime) -> u8 {
     let _ = println!(rt; "status 7");
     7
 }
 
-/// Tells that this file cannot be opened or made, and on standard error why. Answers the status.
+/// Reports that this file cannot be opened or made, and why on standard error. Returns the status.
 fn tell_path(rt: &HostRuntime, path: &Path, why: &io::Error) -> u8 {
     let _ = println!(rt; "cfs: cannot open {}", path.as_str());
     let _ = eprintln!(rt; "cfs: {}: {why}", path.as_str());
     10
 }
 
-/// The same of a file of replies that the command has another name for. Answers the status.
+/// Reports that this reply file is the same file as `other`, which the command names too. Returns the status.
 fn tell_twin(rt: &HostRuntime, path: &Path, other: &str) -> u8 {
     let _ = println!(rt; "cfs: cannot open {}", path.as_str());
     let _ = eprintln!(rt; "cfs: {}: it is the same file as {other}", path.as_str());
     10
 }
 
-/// Adds a file to those that were opened. Where that can't be, it tells why and answers the status.
+/// Adds a file to those that were opened.
+///
+/// If that can't be done, this reports why, and the error is the status.
 fn add<'a>(
     rt: &HostRuntime,
     known: &mut Known<'a>,
@@ -61,7 +69,9 @@ fn add<'a>(
         .map_err(|_| tell_starved(rt))
 }
 
-/// The same of a file of replies, which must be none of them.
+/// Adds a reply file to those that were opened, of which it must be none.
+///
+/// If that can't be done, or it is one of them, this reports why, and the error is the status.
 fn add_new<'a>(
     rt: &HostRuntime,
     known: &mut Known<'a>,
@@ -75,7 +85,7 @@ fn add_new<'a>(
     }
 }
 
-/// The blocks of a file for a volume of so many cylinders.
+/// Returns how many blocks the file of a volume of `cylinders` cylinders has.
 fn file_blocks(pair: bool, cylinders: u32) -> u32
     requires { cylinders ≤ most_made pair }
     ensures { volume_blocks pair result ≡ 64 * cylinders }
@@ -87,7 +97,7 @@ fn file_blocks(pair: bool, cylinders: u32) -> u32
     }
 }
 
-/// Opens the file of a volume that is there, to read it alone or to write it too.
+/// Opens the file of an existing volume, only to read it if `reads` is set.
 fn open_existing(rt: &HostRuntime, path: &Path, reads: bool) -> io::Result<FileDisk> {
     if reads {
         FileDisk::read_only(rt, path.as_str())
@@ -96,7 +106,10 @@ fn open_existing(rt: &HostRuntime, path: &Path, reads: bool) -> io::Result<FileD
     }
 }
 
-/// Opens or makes the file of the volume, where one is named; one that is there to read it alone, or to write it too.
+/// Opens or makes the file of the volume, if one is named.
+///
+/// An existing file is opened only to read it if `reads` is set. If a file can't be opened or made, this reports why,
+/// and the error is the status.
 fn open_volume(
     rt: &HostRuntime,
     volume: &Option<Volume>,
@@ -138,6 +151,8 @@ fn add_volume<'a>(
 }
 
 /// Opens the request files, in order.
+///
+/// If one can't be opened, this reports why, and the error is the status.
 fn open_sources<'a>(
     rt: &HostRuntime,
     alloc: Global,
@@ -158,6 +173,8 @@ fn open_sources<'a>(
 }
 
 /// Opens or makes the reply files, in order. None is emptied.
+///
+/// If one can't be opened or made, or was opened before, this reports why, and the error is the status.
 fn open_sinks<'a>(
     rt: &HostRuntime,
     alloc: Global,
@@ -177,7 +194,7 @@ fn open_sinks<'a>(
     Ok(sinks)
 }
 
-/// The file of the volume, where it was made in this run.
+/// Returns the name of the volume's file, if this run made it.
 fn made_file(volume: Option<Volume>, disk: &Option<FileDisk>) -> Option<Path> {
     match (volume, disk) {
         (Some(Volume::Fresh { path, .. }), Some(disk)) if disk.is_made() => Some(path),
@@ -185,7 +202,9 @@ fn made_file(volume: Option<Volume>, disk: &Option<FileDisk>) -> Option<Path> {
     }
 }
 
-/// Opens these files: a volume that is there to read it alone, or to write it too.
+/// Opens these files. An existing volume is opened only to read it if `reads` is set.
+///
+/// If one can't be opened or made, this reports why, and the error is the status.
 fn open_files(rt: &HostRuntime, alloc: Global, files: &Files, reads: bool) -> Result<Opened, u8>
     requires { IfSome files.now.volume (HasCylinders files.now.pair) }
     ensures disk { IfOk result (λ o. FitsVolume files.now.volume
@@ -207,7 +226,9 @@ fn open_files(rt: &HostRuntime, alloc: Global, files: &Files, reads: bool) -> Re
     })
 }
 
-/// Opens what a command names, and nothing where there is none. Where it can't, it tells why and answers the status.
+/// Opens the files that a command names, or none if there is no command.
+///
+/// If one can't be opened or made, this reports why, and the error is the status.
 pub(crate) fn open(
     rt: &HostRuntime,
     alloc: Global,
@@ -215,7 +236,8 @@ pub(crate) fn open(
 ) -> Result<Opened, u8>
     ensures disk { IfOk result (λ o. HasDisk (asked_of command.entry)
         (option_map (λ f. volume_blocks o.pair (⟦<FileDisk as Disk>⟧.blocks f)) o.disk)) }
-    ensures places { IfOk result (λ o. HasPlaces (asked_of command.entry) (length o.sources.items) (length o.sinks.items)) }
+    ensures places { IfOk result (λ o. HasPlaces (asked_of command.entry) (length o.sources.items)
+        (length o.sinks.items)) }
 {
     let Some(command) = command else {
         return Ok(Opened {

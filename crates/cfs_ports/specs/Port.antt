@@ -23,13 +23,13 @@ pub record PortReading : Type 0 where
   pub failed : Bool
   pub has_left : Bool
 
--- nothing was read: the session knows the root index alone, and its sink hasn't failed
+-- nothing was read yet: the session knows only the root index, and its sink hasn't failed
 pub record IsNewPort (root : Puid) (p : PortReading) : Type 0 where
   pub names : names_of p.names ≡ no_names root
   pub goes : p.failed ≡ false
   pub stays : p.has_left ≡ false
 
--- the next line was taken, and so it was heard
+-- the next line was taken, and heard as this
 pub record TakesLine (old new : PortReading) (heard : Heard) : Type 0 where
   pub line : List ℕ
   pub taken : old.lines ≡ line ∷ new.lines
@@ -40,7 +40,7 @@ pub record TakesLine (old new : PortReading) (heard : Heard) : Type 0 where
   pub failed : new.failed ≡ old.failed
   pub stays : new.has_left ≡ old.has_left
 
--- the sink took all of the text, or some of its beginning where it failed
+-- the sink took all of the text, or some beginning of it if the sink failed
 abbrev pub Replied : Intake → Intake → List ℕ → Bool → Type 0
 Replied old new text true = Wrote old new text
 Replied old new text false = WroteSome old new text
@@ -52,7 +52,7 @@ pub record WritesReply (old new : PortReading) (name : Option (List ℕ)) (reply
   pub stays : new.has_left ≡ old.has_left
   pub replied : Replied old.sink new.sink (reply_line reply) (not new.failed)
 
--- it was told why a line is no request
+-- the session was told why its line is no request
 pub record TellsWhy (old new : PortReading) (why : Unread) : Type 0 where
   pub lines : new.lines ≡ old.lines
   pub names : new.names ≡ old.names

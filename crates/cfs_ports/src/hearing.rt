@@ -1,4 +1,4 @@
-//! What a session hears of a line.
+//! What a session makes of a line.
 ghost use Rattle.std.specs.Prelude.{◌≡◌};
 ghost use Rattle.cfs_script.specs.NameTable.{names_of};
 ghost use Rattle.cfs_ports.specs.Heard.{CanBind, Hears};
@@ -9,7 +9,7 @@ use cfs_script::{Name, Names, ScriptFault, Spoken, all_verbs, read_line};
 use std::alloc::Global;
 use ufs_model::{Request, Unread};
 
-/// What was heard of a line.
+/// What a line was heard as.
 #[derive(Drop)]
 pub enum Heard {
     /// A request, and the name that an ok reply to it binds.
@@ -17,10 +17,13 @@ pub enum Heard {
         request: Request,
         name: Option<Name>,
     },
+    /// No request, and why.
     Not(Unread),
 }
 
 /// Reads a line, and makes room for the name that it may bind.
+///
+/// If memory is wanting for either, the line is heard as no request. The names stay as they were.
 pub(crate) fn hear(alloc: Global, line: &[u8], names: &mut Names) -> Heard
     ensures heard { Hears (reading_of all_forms (names_of names.old) line.now)
         (name_spoken all_forms (words_of line.now)) result }

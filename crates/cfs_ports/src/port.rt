@@ -3,6 +3,7 @@ ghost use Rattle.std.specs.Prelude.{◌≡◌, ◌∷◌, [], true, length, vec_
 ghost use Rattle.cfs_script.specs.Room.{FitsLine};
 ghost use Rattle.ufs_model.specs.Script.{request_lines};
 ghost use Rattle.cfs_ports.specs.Heard.{HasRoomForName};
+ghost use Rattle.cfs_ports.specs.Lines.{is_within_line};
 ghost use Rattle.cfs_ports.specs.Port.{WritesReply, IsNewPort, Replied, TakesLine, TellsWhy};
 
 use crate::binding::bind_reply;
@@ -111,6 +112,17 @@ impl<K: Sink> Port<K> {
         Some(heard)
     }
 
+    /// Hears a line that came, and makes room for the name that it may bind. Nothing where it is no request line.
+    pub fn hear_line(&mut self, alloc: Global, line: &[u8]) -> Option<Heard>
+        requires over { self.old.lines ≡ [] }
+        requires within { is_within_line line.now ≡ true }
+        ensures heard { IfSome result (TakesLine (record self.old { lines = request_lines line.now }) self.new) }
+        ensures none { IfNone result ((request_lines line.now ≡ []) × (self.new ≡ self.old)) }
+    {
+        let next = next_line(line)?;
+        Some(hear(alloc, next.line, &mut self.names))
+    }
+
     /// Writes the line of a reply, and binds the name to what it names. Takes no memory.
     pub fn answer(&mut self, name: Option<Name>, reply: &Reply)
         requires name { HasRoomForName name self.old.names.room }
@@ -156,6 +168,13 @@ impl<K: Sink> Port<K> {
         ensures { result ≡ self.now.has_left }
     {
         self.has_left
+    }
+
+    /// The sink, to look at.
+    pub fn sink(&self) -> &K
+        ensures { K.intake result.now ≡ self.now.sink }
+    {
+        &self.sink
     }
 
     /// The sink.

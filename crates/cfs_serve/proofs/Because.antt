@@ -3,7 +3,7 @@ use Rattle.std.proofs.Common.{◌≡◌, ◌⊎◌, inl, inr, ℕ, ◌<◌, Bool
 use Rattle.cfs_serve.proofs.Cited.{AreWithinLimits, Asked, Audited, Audits, Cause, Counts, Damage, DiskFailed, EachSink, EachSource, EndedWell, Event, ended_line, Format, Formats, Graph, Ground, FoundSound, HadLeft, HasNone, Inspection, Inspects, IsLegal, IsStatus, IsText, IsTextBy, LimitPassed, Made, MemoryWanting, NoCountRose, Nothing, Opening, Outside, Page, Replied, Report, RoseIn, Showed, Shows, SinkFailed, SomeRose, SourceFailed, TellsMade, VolumeFault, VolumeRefused, WasMended, WritesReport, Wrote, collections_of, status_at_end, finishes_in, is_audit, is_calm, is_finding, is_inspection, is_refutation, is_service, last_cause, most_inspected, list_all, list_any, printed_line, printed_replies, report_text, request_lines, sink_faults, source_faults, status_line, status_of, text_by, turns_in, untold, wants_memory}
 use Rattle.cfs_serve.specs.declared.report.Cause.TheVariants as causes
 use Rattle.cfs_serve.specs.Top.{IsOverLimit}
-use Rattle.cfs_serve.specs.Words.{Dirs, Serves, Spins}
+use Rattle.cfs_serve.specs.Words.{Converses, Dirs, Serves, Spins}
 
 -- a service whose sinks took all
 pub record Served (asked : Asked) (ground : Ground) (trail : List Event) (old new : Outside) (counts : Option Counts) : Type 0 where
@@ -27,6 +27,7 @@ not_both (Inspects inspection) audits serves = no_service audits
 not_both (Serves service) audits serves = no_service audits
 not_both (Spins spin) audits serves = no_service audits
 not_both (Dirs names) audits serves = no_service audits
+not_both (Converses talk) audits serves = no_service audits
 not_both Nothing audits serves = no_service audits
 
 pub inspects_none : (asked : Asked) → is_audit asked ≡ true → is_inspection asked ≡ false
@@ -37,6 +38,7 @@ inspects_none (Inspects inspection) audits = absurd (no_service audits)
 inspects_none (Serves service) audits = refl
 inspects_none (Spins spin) audits = refl
 inspects_none (Dirs names) audits = refl
+inspects_none (Converses talk) audits = refl
 inspects_none Nothing audits = refl
 
 pub none_is : {X : Type 0} (o : Option X) → IsNone o → o ≡ None

@@ -1,17 +1,18 @@
 -- How a service begins, and what it comes to.
-use Rattle.std.proofs.Common.{Result, Ok, Err, IfOk, ◌≡◌, ℕ, zero, suc, true, List, [], ◌∷◌, ◌++◌, length, map, Some, slice_get, refl, sym, ap, ◌∙◌, subst, arith}
+use Rattle.std.proofs.Common.{Result, Ok, Err, IfOk, ◌≡◌, ℕ, zero, suc, false, true, List, [], ◌∷◌, ◌++◌, length, map, Some, slice_get, refl, sym, ap, ◌∙◌, subst, arith}
 use Rattle.cfs_serve.proofs.Logs.{begins, lasts_begins, told_begins}
 use Rattle.cfs_serve.proofs.Keeping.{kept_begins}
+use Rattle.ufs_model.specs.State.{opening}
 use Rattle.cfs_serve.specs.Machine.{charter_of}
 use Rattle.cfs_serve.specs.Service.{HasServed, IsServiceBegun, IsEndOf, IsServiceReady}
 use Rattle.cfs_serve.specs.declared.served.Served.{Served}
 use Rattle.cfs_serve.specs.declared.server.Server.{Ghosts}
 use Rattle.cfs_trail.specs.Trail.{Recorded}
-use Rattle.cfs_serve.proofs.Cited.{AllLeft, AreFresh, AreHeard, AreNew, AreOver, Event, IsFresh, IsLeave, IsSessionOver, IsSession, Puid, PortReading, Client, Terms, all_forms, append-nil, has_left_at, no_names, nothing, client_of, turns_from, turns_in}
+use Rattle.cfs_serve.proofs.Cited.{AllLeft, AreFresh, AreHeard, AreNew, AreOver, Event, Graph, IsFresh, IsLeave, IsSessionOver, IsSession, Puid, PortReading, Client, Terms, all_forms, append-nil, has_left_at, no_names, nothing, client_of, turns_from, turns_in}
 
 -- ---- as it begins
 
-fresh_session : (root : Puid) (i : ℕ) (client : Client) (p : PortReading) → IsFresh root client p → IsSession root i client p []
+pub fresh_session : (root : Puid) (i : ℕ) (client : Client) (p : PortReading) → IsFresh root client p → IsSession root i client p []
 fresh_session root i client p is = record {
   leaves = [];
   split = refl;
@@ -75,27 +76,25 @@ all_over t trail ps was left = record {
 
 -- ---- a service, by its charter
 
-module _ {A : Type 0} (v : Ghosts A) (server : A) (trail : Recorded) (ports : List PortReading) (collections turns : ℕ) (ready : IsServiceReady v server trail ports collections turns) where
-  abbrev charter : Terms A
+module _ {A : Type 0} (v : Ghosts A) (server : A) (ports : List PortReading) (collections : ℕ) where
+  abbrev pub charter : Terms A
   charter = charter_of server (v.seed server) (v.cylinders server) (v.root server) collections ports
 
-  pub begun : IsServiceBegun v charter server
-  begun = record {
-    opens = begins v.stands v.has_stopped v.is_damaged v.tally charter server refl ready.swept;
+  pub begun_so : v.has_stopped server ≡ false → v.words server ≡ 0 → (v.tally server).called ≡ collections → ((v.tally server).finished ≡ 0) × ((v.tally server).running ≡ false)
+      → ((graph : Graph) → v.stands server (opening graph) → (v.tally server).lost graph ≡ 0) → IsServiceBegun v charter server
+  begun_so runs words called idle swept = record {
+    opens = begins v.stands v.has_stopped v.is_damaged v.tally charter server refl swept;
     lasts = lasts_begins v.stands v.clock v.lasts charter server refl;
-    told = told_begins v.faults v.has_stopped v.is_damaged charter server refl ready.runs;
-    kept = kept_begins v.clock v.has_stopped v.tally charter server refl ready.idle;
-    runs = ready.runs;
+    told = told_begins v.faults v.has_stopped v.is_damaged charter server refl runs;
+    kept = kept_begins v.clock v.has_stopped v.tally charter server refl idle;
+    runs = runs;
     seed = refl;
     size = refl;
-    words = ready.words;
-    called = ready.called;
+    words = words;
+    called = called;
   }
 
-  pub fresh : AreFresh charter ports
-  fresh = new_fresh charter ports refl ready.new
-
-  served_so : {K : Type 0} (s : Served A K) → IsEndOf v charter s → AllLeft s.ports.items → HasServed v server ports collections s
+  pub served_so : {K : Type 0} (s : Served A K) → IsEndOf v charter s → AllLeft s.ports.items → HasServed v server ports collections s
   served_so s is left = record {
     run = λ graph standing. is.run server graph refl standing;
     lasts = λ graph standing first. is.lasts server graph refl standing first;
@@ -108,7 +107,7 @@ module _ {A : Type 0} (v : Ghosts A) (server : A) (trail : Recorded) (ports : Li
     called = is.called;
     starved = is.starved;
     failed = is.failed;
-    few = is.kept.few;
+    few = omega (arith, is.kept.few, is.called);
     tallied = is.kept.tallied;
     collected = is.collected;
     rise = is.kept.rise server refl;
@@ -116,6 +115,13 @@ module _ {A : Type 0} (v : Ghosts A) (server : A) (trail : Recorded) (ports : Li
     stops = λ graph standing. is.counted.stops server graph refl standing;
   }
 
-  pub has_served : {K E : Type 0} (result : Result (Served A K) E) → IfOk result (IsEndOf v charter) → IfOk result (λ s. AllLeft s.ports.items) → IfOk result (HasServed v server ports collections)
-  has_served (Ok s) is left = served_so s is left
+module _ {A : Type 0} (v : Ghosts A) (server : A) (trail : Recorded) (ports : List PortReading) (collections turns : ℕ) (ready : IsServiceReady v server trail ports collections turns) where
+  pub begun : IsServiceBegun v (charter v server ports collections) server
+  begun = begun_so v server ports collections ready.runs ready.words ready.called ready.idle ready.swept
+
+  pub fresh : AreFresh (charter v server ports collections) ports
+  fresh = new_fresh (charter v server ports collections) ports refl ready.new
+
+  pub has_served : {K E : Type 0} (result : Result (Served A K) E) → IfOk result (IsEndOf v (charter v server ports collections)) → IfOk result (λ s. AllLeft s.ports.items) → IfOk result (HasServed v server ports collections)
+  has_served (Ok s) is left = served_so v server ports collections s is left
   has_served (Err e) is left = tt

@@ -2,7 +2,7 @@
 use Rattle.std.proofs.Common.{◌≡◌, inl, inr, ℕ, ◌<◌, ◌≤◌, Bool, true, false, not, List, [], ◌∷◌, ◌++◌, length, map, slice_get, Option, Some, refl, sym, ap, ◌∙◌, subst, arith, ◌||◌}
 use Rattle.cfs_serve.proofs.Cited.{AreOver, AreClients, AreWithinLimits, Asked, AsksServer, Audits, BreaksOff, Cause, Counts, Ending, Event, Formats, Ground, HadLeft, HasBroken, HasPlaces, HasScript, Inspects, untold, HaveScripts, Intake, IsSessionOver, IsPlayed, IsRunOf, IsServedFrom, Nothing, Outside, Page, Puid, PortReading, Replied, Report, RoseIn, Client, Service, Shows, SomeRose, Supply, Wrote, all_forms, counts_of, events_of_session, has_broken, has_failed, is_short, is_verdict, length-map, list_any, most_lines, no_names, not_begun, option_map, printed_replies, request_lines, slice_get-map, slice_get_within, turns_from, turns_in, wants_memory}
 use Rattle.cfs_serve.specs.declared.report.Cause.TheVariants as causes
-use Rattle.cfs_serve.specs.Words.{Dirs, Serves, Spins}
+use Rattle.cfs_serve.specs.Words.{Converses, Dirs, Serves, Spins}
 use Rattle.ufs_model.specs.declared.asked.Event.TheVariants as events
 use Rattle.cfs_serve.specs.Played.{CountsSessions}
 use Rattle.cfs_serve.proofs.Lists.{each_of, failed_at, item, map_at, mapped, no_items, none_failed, one_failed, one_item, one_rose, same_length}
@@ -246,10 +246,12 @@ module _ (service : Service) (ground : Ground) (disk disk_after : Option ℕ) (s
 
 -- ---- every run
 
--- no spin is asked for, of which all this is said of its service, and no lines of names, of which more is said
+-- no spin is asked for, of which all this is said of its service, and neither lines of names nor a conversation, of
+-- which more is said
 abbrev pub NoSpin : Asked → Type 0
 NoSpin (Spins spin) = ⊥
 NoSpin (Dirs names) = ⊥
+NoSpin (Converses talk) = ⊥
 NoSpin (Shows page) = Unit {0}
 NoSpin (Formats format) = Unit {0}
 NoSpin (Audits trail) = Unit {0}
@@ -275,6 +277,7 @@ module _ (disk disk_after : Option ℕ) (sources sources_after : List Supply) (s
   pub facts : (asked : Asked) (ground : Ground) → From asked ground
   facts (Spins spin) ground never given asks = absurd never
   facts (Dirs names) ground never given asks = absurd never
+  facts (Converses talk) ground never given asks = absurd never
   facts Nothing ground plain none asks =
       rw (asks.told, asks.no_event, asks.no_end, asks.sources, asks.sinks, no_items sources none.0, no_items sinks none.1)
       (of_nothing ground disk disk_after report report_after)

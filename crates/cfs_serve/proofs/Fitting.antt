@@ -1,7 +1,7 @@
 -- A disk that fits the volume that the words name is the one that they want.
 use Rattle.std.proofs.Common.{ℕ, Bool, List, Option, subst}
 use Rattle.cfs_serve.proofs.Cited.{Asked, Audits, Files, FitsVolume, Formats, HasDisk, InFile, InMemory, Inspects, NamesVolume, Nothing, Place, Shows, Spins, Volume}
-use Rattle.cfs_serve.specs.Words.{Dirs, Serves}
+use Rattle.cfs_serve.specs.Words.{Converses, Dirs, Serves}
 
 -- a service on a volume at this place
 abbrev served_at : Place → (seed collections : ℕ) → List Files → Bool → Asked
@@ -20,4 +20,5 @@ fits volume blocks (Inspects inspection) named fit = subst (λ v. FitsVolume v b
 fits volume blocks (Audits trail) named fit = subst (λ v. FitsVolume v blocks) named fit
 fits volume blocks (Shows page) named fit = subst (λ v. FitsVolume v blocks) named fit
 fits volume blocks (Dirs names) named fit = subst (λ v. FitsVolume v blocks) named fit
+fits volume blocks (Converses talk) named fit = subst (λ v. FitsVolume v blocks) named fit
 fits volume blocks Nothing named fit = subst (λ v. FitsVolume v blocks) named fit

@@ -1,7 +1,7 @@
 -- What an inspection comes to, by what is told of it.
 use Rattle.std.proofs.Common.{◌≡◌, inl, inr, ◌≤◌, Bool, true, false, List, refl, sym, ◌∙◌, arith}
 use Rattle.cfs_serve.proofs.Cited.{Asked, Audits, Cause, CompletesInspection, Damage, Formats, Ground, IfInspects, Inspection, Inspects, IsInspected, NoCountRose, Nothing, Outside, RoseIn, Shows, is_inspection, most_inspected, status_of}
-use Rattle.cfs_serve.specs.Words.{Dirs, Serves, Spins}
+use Rattle.cfs_serve.specs.Words.{Converses, Dirs, Serves, Spins}
 use Rattle.cfs_serve.specs.declared.report.Cause.TheVariants as causes
 
 clash : true ≡ false → ⊥
@@ -19,6 +19,7 @@ each_inspected (Audits trail) P Q is then = tt
 each_inspected (Serves service) P Q is then = tt
 each_inspected (Spins spin) P Q is then = tt
 each_inspected (Dirs names) P Q is then = tt
+each_inspected (Converses talk) P Q is then = tt
 each_inspected Nothing P Q is then = tt
 
 pub of_inspected : (asked : Asked) (P : Inspection → Type 0) → is_inspection asked ≡ true → IfInspects asked P → (i : Inspection) × P i
@@ -29,6 +30,7 @@ of_inspected (Audits trail) P inspects is = absurd (never inspects)
 of_inspected (Serves service) P inspects is = absurd (never inspects)
 of_inspected (Spins spin) P inspects is = absurd (never inspects)
 of_inspected (Dirs names) P inspects is = absurd (never inspects)
+of_inspected (Converses talk) P inspects is = absurd (never inspects)
 of_inspected Nothing P inspects is = absurd (never inspects)
 
 -- where no limit was passed and no count rose

@@ -1,7 +1,7 @@
 -- What an audit comes to, by what was found of its source.
 use Rattle.std.proofs.Common.{◌≡◌, ◌⊎◌, inl, inr, ℕ, ◌<◌, ◌≤◌, Bool, true, false, List, [], ◌∷◌, length, Some, refl, sym, subst, arith}
 use Rattle.cfs_serve.proofs.Cited.{Asked, Audits, Cause, EachFrom, Finds, Formats, Had, Inspects, IsAudited, IsTrailOf, Judges, Nothing, Rose, Shows, SomeRose, Supply, status_at_end, faults_of_sources, is_audit, is_service, most_trail, status_of}
-use Rattle.cfs_serve.specs.Words.{Dirs, Serves, Spins}
+use Rattle.cfs_serve.specs.Words.{Converses, Dirs, Serves, Spins}
 use Rattle.cfs_serve.specs.declared.report.Cause.TheVariants as causes
 use Rattle.cfs_serve.proofs.Lists.{heads, tails}
 
@@ -19,6 +19,7 @@ serves_none (Inspects inspection) audits = refl
 serves_none (Serves service) audits = absurd (clash audits)
 serves_none (Spins spin) audits = absurd (clash audits)
 serves_none (Dirs names) audits = refl
+serves_none (Converses talk) audits = refl
 serves_none Nothing audits = refl
 
 -- the one source that had this text

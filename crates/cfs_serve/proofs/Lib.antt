@@ -8,6 +8,8 @@ mod Stepping
 mod Raising
 mod Workers
 mod Begun
+mod Pacing
+mod Hearing
 mod SureDisks
 mod Counting
 mod Texts
@@ -34,6 +36,7 @@ mod Leaves
 mod Playing
 mod Volumes
 mod Through
+mod Conversing
 mod Directories
 mod Along
 mod Answered
@@ -43,4 +46,6 @@ mod NamesOpened
 mod NamesThrough
 mod Lines
 mod NamesSaid
+mod TalkShown
+mod TalkSaid
 mod Cited

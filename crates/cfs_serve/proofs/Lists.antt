@@ -91,6 +91,10 @@ pub each_of : {P : Type 0} (holds : ℕ → P → P → Type 0) (olds news : Lis
 each_of holds olds news count each = each_from holds 0 olds news count (λ k old new at there.
     let here : k ≡ k + 0 = omega arith in subst (λ m. holds m old new) here (each k old new at there))
 
+-- what holds of the one item
+pub each_one : {P : Type 0} (holds : ℕ → P → P → Type 0) (xs ys : List P) (x y : P) → xs ≡ x ∷ [] → ys ≡ y ∷ [] → holds 0 x y → EachFrom holds 0 xs ys
+each_one holds xs ys x y is are has = rw (is, are) (has, tt)
+
 -- the last of one list goes to the other, which is kept the last one first
 pub one_moved : {A B C : Type 0} (f : A → C) (g : B → C) (xs : List A) (ys : List B) (x : A) (y : B) → f x ≡ g y
     → map f (xs ++ x ∷ []) ++ map g (reverse ys) ≡ map f xs ++ map g (reverse (ys ++ y ∷ []))

@@ -153,11 +153,9 @@ module _ {A : Type 0} (faults : A → ℕ) (has_stopped is_damaged : A → Bool)
   pub told_on : (e : Event) → TellsEvent faults has_stopped is_damaged old new e → IsTold faults has_stopped is_damaged t new (trail ++ e ∷ [])
   told_on e one = told_by e (tells_disk e) (λ silent. silent) one
 
-  -- by a step of the collector
-  pub told_step : (o : Option Event) → TellsSo faults has_stopped is_damaged old new false (is_calm_step o)
-      → IsTold faults has_stopped is_damaged t new (trail ++ recorded o)
-  told_step (Some e) one = told_by e false (λ silent. refl) one
-  told_step None one = subst (IsTold faults has_stopped is_damaged t new) (sym (append-nil trail)) (record {
+  -- by a call that makes none
+  pub told_rests : TellsSo faults has_stopped is_damaged old new false true → IsTold faults has_stopped is_damaged t new trail
+  told_rests one = record {
     since = λ begun is.
         let before = was.since begun is in
         record {
@@ -165,16 +163,27 @@ module _ {A : Type 0} (faults : A → ℕ) (has_stopped is_damaged : A → Bool)
           calm = λ runs none. before.calm (was_running (has_stopped old) (has_stopped new) one.stays runs) none;
           halts = halts_on begun false true before one;
         };
-  })
+  }
+
+  -- by a step of the collector
+  pub told_step : (o : Option Event) → TellsSo faults has_stopped is_damaged old new false (is_calm_step o)
+      → IsTold faults has_stopped is_damaged t new (trail ++ recorded o)
+  told_step (Some e) one = told_by e false (λ silent. refl) one
+  told_step None one = subst (IsTold faults has_stopped is_damaged t new) (sym (append-nil trail)) (told_rests one)
+
+-- a call that changes nothing of what is told
+pub tells_same : {A : Type 0} (faults : A → ℕ) (has_stopped is_damaged : A → Bool) (old new : A) → faults new ≡ faults old → has_stopped new ≡ has_stopped old → is_damaged new ≡ is_damaged old
+    → TellsSo faults has_stopped is_damaged old new false true
+tells_same faults has_stopped is_damaged old new count stopped damaged = record {
+  later = omega (arith, count);
+  told = λ is. absurd (cc is);
+  stays = λ is. stopped ∙ is;
+  calm = λ runs none. refl;
+  halts = λ is sound. inl (sym stopped ∙ is, sym damaged ∙ sound);
+}
 
 pub unread_tells : {A : Type 0} (faults : A → ℕ) (has_stopped is_damaged : A → Bool) (server : A) (who : ℕ) (why : Unread) → TellsEvent faults has_stopped is_damaged server server (events.Unread who why)
-unread_tells faults has_stopped is_damaged server who why = record {
-  later = omega arith;
-  told = λ is. absurd (cc is);
-  stays = λ is. is;
-  calm = λ runs none. refl;
-  halts = λ stopped sound. inl (stopped, sound);
-}
+unread_tells faults has_stopped is_damaged server who why = tells_same faults has_stopped is_damaged server server refl refl refl
 
 -- what is known of crashes goes on by one event
 pub lasts_on : {A : Type 0} (stands : A → State → Type 0) (has_stopped is_damaged : A → Bool) (tally : A → Tally) (clock : A → ℕ) (lasts : A → ℕ → Graph → List Event → List ℕ → Type 0)

@@ -1,7 +1,7 @@
 -- Lines of names on the volume of a disk: it is opened, and they are served, or nothing is.
 use Rattle.std.proofs.Common.{◌≡◌, ◌⊎◌, inl, inr, ℕ, ◌*◌, ◌≤◌, IsTrue, List, [], ◌∷◌, length, map, set, get_or, Some, None, refl, sym, ap, ◌∙◌, subst, arith}
 use Rattle.cfs_serve.proofs.Cited.{Cause, Ending, Ghosts, Graph, HaveScripts, Intake, IsLater, IsSound, IsSoundAs, IsUnservedCause, Kernel, LeavesSinceBarrier, Report, Rose, ServesVolume, StandsFor, Supply, ground_on, not_begun, opening, request_lines, untold}
-use Rattle.cfs_serve.proofs.Volumes.{since_try, unserved}
+use Rattle.cfs_serve.proofs.Volumes.{short_of_memory, since_try}
 use Rattle.cfs_serve.specs.Named.{CoreServesNames, CoreUnserved, RunsNames, ServesNames}
 use Rattle.cfs_serve.specs.Names.{DoesNames, OpensVolume}
 use Rattle.cfs_serve.specs.declared.report.Cause.TheVariants as causes
@@ -111,8 +111,7 @@ module _ {D : Type 0} (g : Ghosts D) (seed : ℕ) (old new : D) (core : Kernel D
   -- memory was wanting
   starved : CoreUnserved core sink sink_after report ending new → DoesSo
   starved is = does_none g seed ending old new sources sources_after sinks sinks_after report causes.Memory tt (sinks_are.1 ∙ ap (λ s. s ∷ []) is.untouched ∙ sym sinks_are.0) is.told is.no_end
-      (subst (λ d. ServesVolume g seed report ending [] [] old d) (sym is.disk_is) (unserved g old seed core.disk report ending [] [] causes.Memory later is.told is.no_end (λ e. cc)
-      (λ honest graph sound. inr (since_try g old core.disk _ (images honest graph sound))) (λ honest fault e. absurd (cc e)) (λ honest not. absurd (not (whole honest))) (λ e. absurd (cc e))))
+      (subst (λ d. ServesVolume g seed report ending [] [] old d) (sym is.disk_is) (short_of_memory g old seed core later images whole report ending [] [] is.told is.no_end))
 
   pub does_lines : CoreServesNames g core (request_lines script) sink sink_after report ending new ⊎ CoreUnserved core sink sink_after report ending new → DoesSo
   does_lines (inl is) = does is

@@ -1,6 +1,6 @@
 -- What `top` says of lines of names, from what they came to.
 use Rattle.std.proofs.Common.{◌≡◌, ◌⊎◌, inl, inr, ℕ, ◌<◌, ◌||◌, Bool, true, false, not, List, [], ◌∷◌, length, Option, Some, None, IsNone, IsSome, refl, sym, ap, ◌∙◌, subst, arith, get_or, length-append, slice_get, ◌≤◌, ◌++◌}
-use Rattle.cfs_serve.proofs.Cited.{AreWithinLimits, Cause, Counts, DiskFailed, EachSink, EachFrom, EachSource, Ending, Event, Graph, Ground, HadLeft, HasNone, HasPlaces, IsStopTold, IsTextBy, IsUnservedCause, IsWholeRun, LimitPassed, NoCountRose, Outside, Replied, Report, Rose, RoseIn, SinkFailed, SomeRose, SourceFailed, Supply, VolumeRefused, Wrote, has_fallen, is_short, length-map, list_any, last_cause, moment_in, most_script, not_begun, printed_line, report_text, request_lines, sink_faults, slice_get-get_or, slice_index_or, source_faults, status_at_end}
+use Rattle.cfs_serve.proofs.Cited.{AreWithinLimits, Cause, Counts, DiskFailed, EachSink, EachSource, Ending, Event, Graph, Ground, HadLeft, HasNone, HasPlaces, IsStopTold, IsTextBy, IsUnservedCause, IsWholeRun, LimitPassed, NoCountRose, Outside, Replied, Report, Rose, RoseIn, SinkFailed, SomeRose, SourceFailed, Supply, VolumeRefused, Wrote, has_fallen, is_short, length-map, list_any, last_cause, moment_in, most_script, not_begun, printed_line, report_text, request_lines, sink_faults, slice_get-get_or, slice_index_or, source_faults, status_at_end}
 use Rattle.cfs_serve.specs.declared.report.Cause.TheVariants as causes
 use Rattle.cfs_serve.specs.Named.{AreNamesServed, ServesNames}
 use Rattle.cfs_serve.specs.Names.{NamesEndedWell, SaidOfNames, places_in}
@@ -12,7 +12,7 @@ use Rattle.name_lines.specs.declared.answer.Answer.{Answer}
 use Rattle.name_lines.specs.Printed.{printed_answers, is_disk_answer, is_memory_answer}
 use Rattle.cfs_serve.proofs.Because as why
 use Rattle.cfs_serve.proofs.Endings.{Shown, shown_by, stop_told_by, well_by}
-use Rattle.cfs_serve.proofs.Lists.{one_item, one_rose}
+use Rattle.cfs_serve.proofs.Lists.{each_one, one_item, one_rose}
 use Rattle.cfs_serve.proofs.NoneServed.{clash, clash-sym}
 use Rattle.cfs_serve.proofs.Scripted.{had_count}
 use Rattle.cfs_serve.proofs.Scripted as scripted
@@ -226,9 +226,6 @@ module _ (names : NamesService) (ground : Ground) (old new : Outside) (count : l
   not_nothing cause is same = cc same
 
 -- ---- lines were served
-
-each_one : {P : Type 0} (holds : ℕ → P → P → Type 0) (xs ys : List P) (x y : P) → xs ≡ x ∷ [] → ys ≡ y ∷ [] → holds 0 x y → EachFrom holds 0 xs ys
-each_one holds xs ys x y is are has = rw (is, are) (has, tt)
 
 module _ (names : NamesService) (ground : Ground) (old new : Outside) (lines : List (List ℕ)) (told : List Answer) (counts : Counts) (cause : Cause) (report : Report) (ending : Ending)
     (served : AreNamesServed ground (RoseIn old.disk new.disk) old.sources old.sinks new.sinks lines told counts cause report ending)

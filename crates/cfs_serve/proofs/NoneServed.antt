@@ -2,7 +2,7 @@
 use Rattle.std.proofs.Common.{◌≡◌, ◌↔◌, inl, inr, ℕ, zero, suc, ◌<◌, ◌≤◌, Bool, true, false, List, [], ◌∷◌, length, slice_get, Option, Some, None, refl, sym, ap, ◌∙◌, subst, arith, get_or}
 use Rattle.cfs_serve.proofs.Cited.{AreWithinLimits, Asked, Audits, Cause, Did, EachFrom, Ending, Event, Finds, Format, Formats, Ground, Had, HasPlaces, Intake, IsUnservedCause, IsFirstRead, IsLegal, Nothing, Outside, Page, Replied, Report, Rose, RoseIn, Damage, IfInspects, Inspection, Inspects, IsInspected, Service, Shows, SomeRose, Supply, TellsMade, begins_in, collections_of, faults_of_sources, is_audit, is_inspection, is_service, is_verdict, makes_volume, length-map, untold, most_script, most_trail, not_begun, nothing, opening, printed_replies, slice_get-get_or, slice_index_or}
 use Rattle.cfs_serve.specs.declared.report.Cause.TheVariants as causes
-use Rattle.cfs_serve.specs.Words.{Dirs, IfServes, Serves, Spins, is_format}
+use Rattle.cfs_serve.specs.Words.{Converses, Dirs, IfServes, Serves, Spins, is_format}
 use Rattle.cfs_serve.proofs.Lists.{each_of, heads, never_none, one_rose}
 use Rattle.cfs_serve.proofs.Logs.{some_same}
 use Rattle.cfs_serve.proofs.Scripted.{had_count, within}
@@ -43,6 +43,7 @@ no_serves (Inspects inspection) holds none = tt
 no_serves (Spins spin) holds none = tt
 no_serves (Serves service) holds none = absurd (clash none)
 no_serves (Dirs names) holds none = tt
+no_serves (Converses talk) holds none = tt
 no_serves Nothing holds none = tt
 
 module _ (asked : Asked) (ground : Ground) (disk disk_after : Option ℕ) (sources sources_after : List Supply) (report report_after : Intake) (cause : Cause) (faults : List Damage) where

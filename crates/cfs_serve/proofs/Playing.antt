@@ -5,6 +5,7 @@ use Rattle.survival.specs.Held.{FitsDisk}
 use Rattle.ufs_model.specs.declared.collection.Collection.TheVariants as collections
 use Rattle.cfs_core.specs.declared.kernel.Stop.{Stop}
 use Rattle.cfs_serve.specs.Calls as calls
+use Rattle.cfs_serve.specs.Calls.{CallsOne}
 use Rattle.cyl_alloc.specs.Left.{LeftCommit, parts_left}
 use Rattle.cfs_serve.specs.Ending.{IsStopTimed, cause_by}
 use Rattle.cfs_serve.specs.Service.{HasServed}
@@ -66,6 +67,24 @@ none_lost cylinders free lost s room more = omega (arith, room, more)
 pub called_serves : {D : Type 0} (g : Ghosts D) (core : Kernel D) (n : ℕ) (s : State) → ServesIs g core s → ServesIs g (called core n) s
 called_serves g core n s serves = stored g core s serves (record core.collections { called = core.collections.called + n }) serves.collecting
 
+-- and so does one that stopped
+pub called_stands : {D : Type 0} (g : Ghosts D) (core : Kernel D) (n : ℕ) (s : State) → StandsFor g core s → StandsFor g (called core n) s
+called_stands g core n s stands = at core.stop stands
+  where
+    at : (o : Option Stop) → Stands g core s o → Stands g (called core n) s o
+    at None serves = called_serves g core n s serves
+    at (Some stop) front = record { drawn = front.drawn; directory = front.directory; grants = front.grants; stopped = front.stopped }
+
+-- one more has three events at most
+pub calls_one : {D : Type 0} (g : Ghosts D) (core : Kernel D) → CallsOne (λ k s. StandsFor g k s) (tally_of g) core (called core 1)
+calls_one g core = record {
+  stays = λ s stands. called_stands g core 1 s stands;
+  called = refl;
+  counts = (refl, refl);
+  events = omega arith;
+  lost = λ graph. refl;
+}
+
 -- where nothing is unfinished the Free blocks are those of the image to come
 pub free_now : {D : Type 0} (g : Ghosts D) (k : Kernel D) → k.space.left ≡ None → free_to_come g k ≡ sum k.space.free
 free_now g k none = ap (free_with g k) none
@@ -108,6 +127,30 @@ by_core g = record {
   lasts = λ k seed graph trail marks. RunSurvives g seed graph trail marks k.disk;
 }
 
+-- what a service came to by a core for which collections were called is so by it as it was before
+pub served_uncalled : {D K : Type 0} (g : Ghosts D) (core : Kernel D) (n : ℕ) (before : List PortReading) (collections : ℕ) (s : Served (Kernel D) K) → HasServed (by_core g) (called core n) before collections s
+    → HasServed (by_core g) core before collections s
+served_uncalled g core n before collections s is = record {
+  run = λ graph stands. let on = is.run graph (called_stands g core n (opening graph) stands) in
+      record { last = on.last; legal = on.legal; standing = on.standing; exact = on.exact; undamaged = on.undamaged; lost = on.lost };
+  lasts = λ graph stands. is.lasts graph (called_stands g core n (opening graph) stands);
+  over = is.over;
+  later = is.later;
+  ends = is.ends;
+  stop = is.stop;
+  timed = is.timed;
+  size = is.size;
+  called = is.called;
+  starved = is.starved;
+  failed = is.failed;
+  few = is.few;
+  tallied = is.tallied;
+  collected = is.collected;
+  rise = is.rise;
+  counted = is.counted;
+  stops = λ graph stands. is.stops graph (called_stands g core n (opening graph) stands);
+}
+
 none_left : (o : Option LeftCommit) → parts_left o ≡ 0 → o ≡ None
 none_left None is = refl
 none_left (Some l) is = absurd (omega (arith, is))
@@ -141,24 +184,21 @@ module _ {D K : Type 0} (g : Ghosts D) (sized : (d : D) → IsTrue (g.honest d) 
   abbrev rose : Type 0
   rose = Rose (g.faults core.disk) (g.faults server.disk)
 
-  module _ (n : ℕ) (runs : core.stop ≡ None) (is : HasServed (by_core g) (called core n) before n s)
+  module _ (n : ℕ) (runs : core.stop ≡ None) (is : HasServed (by_core g) core before n s)
       (report : Report) (report_is : report ≡ record { counts = Some counts; faults = []; cause = cause_by ending s.failed (has_broken ports) s.starved })
       (free_is : (last : State) → ServesIs g server last → sweeps_now last.collection ≡ false → last.grants ≡ [] → free_to_come g server ≡ free_once_tidy (length server.space.free) last.graph) where
     settled : ending.refused ≡ None → server.space.left ≡ None
     settled well = none_left server.space.left (is.collected.settled well)
 
-    undamaged : damaged (called core n) ≡ false
+    undamaged : damaged core ≡ false
     undamaged = rw runs refl
 
     module _ (graph : Graph) (stands : StandsFor g core (opening graph)) where
       begun : ServesIs g core (opening graph)
       begun = subst (Stands g core (opening graph)) runs stands
 
-      stands_on : StandsFor g (called core n) (opening graph)
-      stands_on = subst (Stands g (called core n) (opening graph)) (sym runs) (called_serves g core n (opening graph) begun)
-
-      on : IsRunOn (λ k s. StandsFor g k s) stopped damaged (tally_of g) core.words.seed (length core.space.free) graph (called core n) server trail
-      on = is.run graph stands_on
+      on : IsRunOn (λ k s. StandsFor g k s) stopped damaged (tally_of g) core.words.seed (length core.space.free) graph core server trail
+      on = is.run graph stands
 
       front : IsFront server on.last
       front = front_of g server on.last on.standing
@@ -231,8 +271,8 @@ module _ {D K : Type 0} (g : Ghosts D) (sized : (d : D) → IsTrue (g.honest d) 
       later = is.later;
       rise = is.rise;
       faults = is.counted;
-      stops = λ graph stands. is.stops graph (stands_on graph stands);
-      crashes = λ graph stands. is.lasts graph (stands_on graph stands) (begins graph (sound_left g sized left_sized core (opening graph) (begun graph stands)));
+      stops = is.stops;
+      crashes = λ graph stands. is.lasts graph stands (begins graph (sound_left g sized left_sized core (opening graph) (begun graph stands)));
       sound = λ well graph stands last legal.
           let here : (on graph stands).last ≡ last = some_same _ _ (sym (on graph stands).legal ∙ legal) in
           let all = went_well ending trail (has_broken ports) is.ends.refusal well in

@@ -1,7 +1,7 @@
 -- What `top` says follows from the steps of the run.
 use Rattle.std.proofs.Common.{◌≡◌, ℕ, ◌≤◌, true, false, List, length, refl, sym, ap, ◌∙◌}
 use Rattle.cfs_serve.proofs.Cited.{Asked, Audits, CompletesInspection, IsInspected, NoCountRose, RoseIn, most_inspected, Ending, Event, Formats, Ground, HasPlaces, Inspects, IsWholeRun, Nothing, Outside, Report, Said, Shows, status_at_end, is_service, last_cause}
-use Rattle.cfs_serve.specs.Words.{Dirs, Serves, Spins, is_format}
+use Rattle.cfs_serve.specs.Words.{Converses, Dirs, Serves, Spins, is_format}
 use Rattle.cfs_serve.proofs.Because as why
 use Rattle.cfs_serve.proofs.Facts.{NoSpin, facts}
 use Rattle.cfs_serve.proofs.Inspections.{completes, each_inspected, of_inspected}
@@ -15,6 +15,7 @@ no_service (Spins spin) makes = absurd (cc makes)
 no_service (Shows page) makes = refl
 no_service (Serves service) makes = absurd (cc makes)
 no_service (Dirs names) makes = refl
+no_service (Converses talk) makes = refl
 no_service Nothing makes = refl
 
 pub said : (asked : Asked) (ground : Ground) (old new : Outside) (told : Report) (status : ℕ) (ending : Ending) (trail : List Event)

@@ -56,7 +56,7 @@ no_turn_prints i (events.Vanish ids) is = refl
 no_turn_prints i events.Finished is = refl
 no_turn_prints i (events.Halted moment) is = refl
 
-other_turns : (i : ℕ) (e : Event) → is_of_session i e ≡ false → is_turn_of i e ≡ false
+pub other_turns : (i : ℕ) (e : Event) → is_of_session i e ≡ false → is_turn_of i e ≡ false
 other_turns i (events.Unread who why) is = is
 other_turns i (events.Ask who request reply) is = is
 other_turns i (events.Leave who stopped) is = refl
@@ -158,7 +158,7 @@ module _ (root : Puid) (i : ℕ) (client : Client) (p : ports.PortReading) (trai
 
 -- ---- all of them
 
-of_session : (i : ℕ) (e : Event) → is_of_session i e ≡ true → is_no_step e ≡ true
+pub of_session : (i : ℕ) (e : Event) → is_of_session i e ≡ true → is_no_step e ≡ true
 of_session i (events.Unread who why) is = refl
 of_session i (events.Ask who request reply) is = refl
 of_session i (events.Leave who stopped) is = refl
@@ -294,7 +294,7 @@ no_bound i (events.Ask who request reply) mine = (refl, refl)
 no_bound i (events.Leave who stopped) mine = (refl, refl)
 no_bound i e mine = absurd (cc mine)
 
-no_end : (i : ℕ) (p q : ports.PortReading) (e : Event) → Turned i p q e ⊎ Departs i p q e → (is_begin e ≡ false) × (is_finish e ≡ false)
+pub no_end : (i : ℕ) (p q : ports.PortReading) (e : Event) → Turned i p q e ⊎ Departs i p q e → (is_begin e ≡ false) × (is_finish e ≡ false)
 no_end i p q e (inl turned) = no_bound i e turned.whole
 no_end i p q e (inr departs) = rw departs.is (refl, refl)
 

@@ -2,9 +2,10 @@
 use Rattle.std.proofs.Common.{◌≡◌, ◌⊎◌, inl, inr, ℕ, zero, suc, ◌+◌, ◌*◌, ◌<◌, ◌≤◌, List, [], length, slice_get, Option, Some, refl, ap, subst, ◌∙◌, arith}
 use Rattle.cfs_serve.proofs.Cited.{AreShort, AreWithinLimits, Asked, AsksServer, Audits, Ending, Event, Formats, Ghosts, HasPlaces, Inspects, IsWholeRun, NoCountRose, Nothing, Opening, Outside, Report, Rose, Said, Says, Shows, Spin, Spins, drawn_scripts, status_at_end, first_line, get_or_from_slice_get, ground_of, last_cause, lines_in, most_script, opened, request_lines, script, service_of, slice_get_within, turns_in, within_spin}
 use Rattle.cfs_serve.specs.Traced.{IsWritten}
-use Rattle.cfs_serve.specs.Words.{Dirs, Serves}
+use Rattle.cfs_serve.specs.Words.{Converses, Dirs, Serves}
 use Rattle.cfs_serve.specs.declared.traced.Written.{Written}
 use Rattle.cfs_serve.proofs.NamesSaid.{said_of_names}
+use Rattle.cfs_serve.proofs.TalkSaid.{said_of_talk}
 use Rattle.cfs_serve.proofs.Saying.{said}
 
 -- what is known of scripts
@@ -85,6 +86,7 @@ module _ (lines : Lines) (short : Short) where
         said (Inspects inspection) (ground_of g (Inspects inspection) disk) old new told status ending trail tt given (whole (Inspects inspection) traced run)
     says (Serves service) traced given run = said (Serves service) (ground_of g (Serves service) disk) old new told status ending trail tt given (whole (Serves service) traced run)
     says (Dirs names) traced given run = said_of_names names (ground_of g (Dirs names) disk) old new told status ending trail given (whole (Dirs names) traced run)
+    says (Converses talk) traced given run = said_of_talk talk (ground_of g (Converses talk) disk) old new told status ending trail given (whole (Converses talk) traced run)
     says Nothing traced given run = said Nothing (ground_of g Nothing disk) old new told status ending trail tt given (whole Nothing traced run)
     says (Spins spin) traced given run =
         let service = Serves (service_of spin) in

@@ -102,6 +102,15 @@ knows_on clock stop old new trail made was one = record {
   timed = one.timed was.timed;
 }
 
+-- by a call that makes none, and leaves the stop and the clock as they are
+pub knows_rests : {A : Type 0} (clock : A → ℕ) (stop : A → Option Stop) (old new : A) (trail : List Event) → KnowsStop clock stop old trail → stop new ≡ stop old → clock new ≡ clock old
+    → KnowsStop clock stop new trail
+knows_rests clock stop old new trail was same still = record {
+  among = rw same was.among;
+  after = was.after;
+  timed = rw (same, still) was.timed;
+}
+
 -- a call that makes no event, or one that tells no stop
 pub stops_still : (stop : Option Stop) → StopsAmong stop stop []
 stops_still stop = sym (append-nil (option_to_list stop))

@@ -1,6 +1,6 @@
 -- A volume that was opened, and what a service comes to on it.
 use Rattle.std.proofs.Common.{◌≡◌, ◌⊎◌, inl, inr, ℕ, ◌*◌, ◌≤◌, List, [], Option, Some, None, Result, Ok, Err, IfOk, IsTrue, true, refl, sym, ap, ◌∙◌, subst, arith, length}
-use Rattle.cfs_serve.proofs.Cited.{AsksSessions, Cause, Counts, Ending, EndsService, Event, Ghosts, Graph, Ground, HaveScripts, IfSome, Image, Intake, IsUnservedCause, IsCaused, IsLater, IsNewCore, IsOpenFault, IsOpenedCore, IsPlayed, IsOpeningRefusal, IsRunFrom, IsRunOf, IsSound, IsSoundAs, IsSourceCause, Kernel, LeavesSinceBarrier, LeavesSinceTry, Places, PortReading, RecoverFault, Report, Rose, RoseIn, Client, ServesScripts, ServesVolume, StandsFor, Supply, front_of, ground_at, ground_on, not_begun, opened, opening, option_map, result_ok, opening_cause, untold}
+use Rattle.cfs_serve.proofs.Cited.{AsksSessions, Cause, Counts, Ending, EndsService, Event, Ghosts, Graph, Ground, HaveScripts, IfSome, Image, Intake, IsUnservedCause, IsCaused, IsLater, IsNewCore, IsOpenFault, IsOpenedCore, IsPlayed, IsOpeningRefusal, IsRunFrom, IsRunOf, IsSound, IsSoundAs, IsSourceCause, Kernel, LeavesSinceBarrier, LeavesSinceTry, Places, PortReading, RecoverFault, Report, Rose, RoseIn, Client, ServesScripts, ServesSessions, ServesVolume, StandsFor, Supply, front_of, ground_at, ground_on, not_begun, opened, opening, option_map, result_ok, opening_cause, untold}
 use Rattle.cfs_recover.specs.declared.fault.RecoverFault.TheVariants as whys
 use Rattle.cfs_base.proofs.Runs.{stands}
 use Rattle.cfs_base.specs.Disk.{Nothing}
@@ -81,6 +81,16 @@ module _ (a b : Ground) (seed collections : ℕ) (rose wide : Type 0) (cylinders
     spoiled = played.spoiled;
   }
 
+-- by what the volume of the core may read as
+module _ {D : Type 0} (g : Ghosts D) (core : Kernel D) (report : Report) (ending : Ending) (trail : List Event) (moments : List ℕ) (disk : D) (ground : Ground) (seed collections : ℕ) (wide : Type 0)
+    (words : core.words.seed ≡ seed) (cylinders : length core.space.free ≡ ground.cylinders) (reads : (graph : Graph) → ground.reads graph → StandsFor g core (opening graph))
+    (to : Rose (g.faults core.disk) (g.faults disk) → wide) where
+  pub sessions_played : (clients : List Client) (ports : List PortReading) (s : ServesSessions g core collections clients ports report ending trail moments disk)
+      → IsPlayed ground seed collections wide clients ports s.counts s.cause ending trail
+  sessions_played clients ports s =
+      played_on (ground_at g core) ground seed collections (Rose (g.faults core.disk) (g.faults disk)) wide cylinders reads to clients ports s.counts s.cause ending trail
+      (subst (λ w. IsPlayed (ground_at g core) w collections (Rose (g.faults core.disk) (g.faults disk)) clients ports s.counts s.cause ending trail) words s.played)
+
 -- scripts that were served on a core, or memory was wanting
 module _ {D : Type 0} (g : Ghosts D) (core : Kernel D) (scripts : List (List ℕ)) (sources sources_after : List Supply) (sinks after : List Intake) (report : Report) (ending : Ending)
     (trail : List Event) (moments : List ℕ) (disk : D) (ground : Ground) (seed collections : ℕ) (wide : Type 0) (have : HaveScripts sources scripts) (sound : ¬ ground.unsound) (words : core.words.seed ≡ seed)
@@ -97,8 +107,7 @@ module _ {D : Type 0} (g : Ghosts D) (core : Kernel D) (scripts : List (List ℕ
     clients = s.clients;
     ports = s.ports;
     matched = s.matched;
-    played = played_on (ground_at g core) ground seed collections (Rose (g.faults core.disk) (g.faults disk)) wide cylinders reads to s.clients s.ports s.serves.counts s.serves.cause ending trail
-        (subst (λ w. IsPlayed (ground_at g core) w collections (Rose (g.faults core.disk) (g.faults disk)) s.clients s.ports s.serves.counts s.serves.cause ending trail) words s.serves.played);
+    played = sessions_played g core report ending trail moments disk ground seed collections wide words cylinders reads to s.clients s.ports s.serves;
   })
   script_run (inr n) = inr (record { cause = causes.Memory; is = tt; nothing = n.0 })
 
@@ -201,6 +210,48 @@ module _ {D : Type 0} (g : Ghosts D) (old : D) (seed : ℕ) where
     stops = λ served. absurd (cc (rw told at served));
   }
 
+  -- one that holds a sound volume was opened
+  module _ (core : Kernel D) (later : IsLater g old core.disk)
+      (images : IsTrue (g.honest old) → (graph : Graph) → IsSoundAs (g.content old) graph → LeavesSinceBarrier g old core.disk (λ c. IsSoundAs c graph))
+      (whole : IsTrue (g.honest old) → IsSound (g.content old)) where
+    -- memory was wanting before a session was served
+    pub short_of_memory : (report : Report) (ending : Ending) (trail : List Event) (moments : List ℕ) → report ≡ untold causes.Memory → ending ≡ not_begun → ServesVolume g seed report ending trail moments old core.disk
+    short_of_memory report ending trail moments told none = unserved core.disk report ending trail moments causes.Memory later told none (λ e. cc)
+        (λ honest graph sound. inr (since_try g old core.disk _ (images honest graph sound))) (λ honest fault is. absurd (cc is)) (λ honest not. absurd (not (whole honest))) (λ is. absurd (cc is))
+
+    -- sessions were
+    pub sessions_served : (collections : ℕ) (clients : List Client) (ports : List PortReading) (report : Report) (ending : Ending) (trail : List Event) (moments : List ℕ) (new : D)
+        → core.words.seed ≡ seed → (IsTrue (g.honest old) → (graph : Graph) → IsSoundAs (g.content old) graph → StandsFor g core (opening graph))
+        → ServesSessions g core collections clients ports report ending trail moments new → ServesVolume g seed report ending trail moments old new
+    sessions_served collections clients ports report ending trail moments new words stands s = record {
+      opened = core.disk;
+      later = later;
+      rises = s.later;
+      rise = λ some. s.rise;
+      opening = λ honest graph sound. inr (since_try g old core.disk _ (images honest graph sound));
+      unserved = λ none. absurd (some_none (sym (ap (λ (r : Report). r.counts) s.told) ∙ none));
+      untouched = λ honest none. absurd (some_none (sym (ap (λ (r : Report). r.counts) s.told) ∙ none));
+      unsound = λ honest not. absurd (not (whole honest));
+      unread = λ none. absurd (some_none (sym (ap (λ (r : Report). r.counts) s.told) ∙ none));
+      timed = s.timed;
+      core = λ some. (
+        s.last,
+        s.last_disk,
+        record {
+          told = s.ends.told;
+          stop = s.ends.stop;
+          front = λ graph is last legal. s.ends.front graph (stands is.0 graph is.1) last (rw words legal);
+        },
+      );
+      crashes = λ some honest graph sound. rw (← words) (s.crashes graph (stands honest graph sound));
+      sound = λ well honest graph sound last legal. s.sound (sym (ap (λ (r : Report). r.cause) s.told) ∙ well) graph (stands honest graph sound) last (rw words legal);
+      faults = λ some. s.faults;
+      stops = λ some honest graph sound. s.stops graph (stands honest graph sound);
+    }
+      where
+        some_none : {x : Counts} → Some x ≡ None → ⊥
+        some_none e = cc
+
   -- scripts were
   pub served : (core : Kernel D) (collections : ℕ) (scripts : List (List ℕ)) (sinks after : List Intake) (report : Report) (ending : Ending) (trail : List Event) (moments : List ℕ)
       (new : D) → IsLater g old core.disk → core.words.seed ≡ seed
@@ -208,35 +259,9 @@ module _ {D : Type 0} (g : Ghosts D) (old : D) (seed : ℕ) where
       → (IsTrue (g.honest old) → (graph : Graph) → IsSoundAs (g.content old) graph → LeavesSinceBarrier g old core.disk (λ c. IsSoundAs c graph))
       → (IsTrue (g.honest old) → IsSound (g.content old))
       → ServesScripts g core collections scripts sinks after report ending trail moments new → ServesVolume g seed report ending trail moments old new
-  served core collections scripts sinks after report ending trail moments new later words stands images whole (inl s) = record {
-    opened = core.disk;
-    later = later;
-    rises = s.serves.later;
-    rise = λ some. s.serves.rise;
-    opening = λ honest graph sound. inr (since_try g old core.disk _ (images honest graph sound));
-    unserved = λ none. absurd (some_none (sym (ap (λ (r : Report). r.counts) s.serves.told) ∙ none));
-    untouched = λ honest none. absurd (some_none (sym (ap (λ (r : Report). r.counts) s.serves.told) ∙ none));
-    unsound = λ honest not. absurd (not (whole honest));
-    unread = λ none. absurd (some_none (sym (ap (λ (r : Report). r.counts) s.serves.told) ∙ none));
-    timed = s.serves.timed;
-    core = λ some. (
-      s.serves.last,
-      s.serves.last_disk,
-      record {
-        told = s.serves.ends.told;
-        stop = s.serves.ends.stop;
-        front = λ graph is last legal. s.serves.ends.front graph (stands is.0 graph is.1) last (rw words legal);
-      },
-    );
-    crashes = λ some honest graph sound. rw (← words) (s.serves.crashes graph (stands honest graph sound));
-    sound = λ well honest graph sound last legal. s.serves.sound (sym (ap (λ (r : Report). r.cause) s.serves.told) ∙ well) graph (stands honest graph sound) last (rw words legal);
-    faults = λ some. s.serves.faults;
-    stops = λ some honest graph sound. s.serves.stops graph (stands honest graph sound);
-  }
-    where
-      some_none : {x : Counts} → Some x ≡ None → ⊥
-      some_none e = cc
-  served core collections scripts sinks after report ending trail moments new later words stands images whole (inr n) = rw n.1 (unserved core.disk report ending trail moments causes.Memory later n.0.told n.0.no_end (λ e. cc) (λ honest graph sound. inr (since_try g old core.disk _ (images honest graph sound))) (λ honest fault is. absurd (cc is)) (λ honest not. absurd (not (whole honest))) (λ is. absurd (cc is)))
+  served core collections scripts sinks after report ending trail moments new later words stands images whole (inl s) =
+      sessions_served core later images whole collections s.clients s.ports report ending trail moments new words stands s.serves
+  served core collections scripts sinks after report ending trail moments new later words stands images whole (inr n) = rw n.1 (short_of_memory core later images whole report ending trail moments n.0.told n.0.no_end)
 
 pub refusal_ill : {D : Type 0} (g : Ghosts D) (old new : D) (cause : Cause) → IsOpeningRefusal g old new cause → ¬ (cause ≡ causes.Nothing)
 refusal_ill g old new cause is well = absurd (rw well at is)

@@ -162,7 +162,7 @@ finished_on progresses.Quiet left finished all tidied step none over = step refl
 finished_on progresses.Recorded left finished all tidied step none over = step refl over
 finished_on progresses.Finished left finished all tidied step none over = step refl over
 
-one_at_most : (o : Option Event) → length (recorded o) ≤ 1
+pub one_at_most : (o : Option Event) → length (recorded o) ≤ 1
 one_at_most None = omega arith
 one_at_most (Some e) = omega arith
 

@@ -14,12 +14,13 @@ use Rattle.vol_image.specs.Sound.{IsSoundAs, rooted_part}
 abbrev pub HasEntriesOf : Graph → Graph → Type 0
 HasEntriesOf g h = (d : Puid) → entries_in h d ≡ entries_in g d
 
--- An image reads as what is rooted of a graph, and that has its entries.
+-- An image reads as the rooted part of a graph, and that part keeps its entries.
 pub record ReadsRooted (image : Image) (g : Graph) : Type 0 where
   pub reads : IsSoundAs image (rooted_part g)
   pub stay : (d : Puid) → is_there (rooted_part g) d ≡ true → entries_in (rooted_part g) d ≡ entries_in g d
 
--- the next of these lines is under way: names are old, or new by it alone; or none is
+-- The next of these lines is under way: the names are as before it, or with its change. If no line is left, the graph
+-- is as it was.
 abbrev pub IsUnderWay : List (List ℕ) → Graph → Graph → Type 0
 IsUnderWay [] g h = h ≡ g
 IsUnderWay (line ∷ lines) g h = IsWithinLine (line_in line) g h
@@ -37,7 +38,8 @@ pub record IsAlong (cylinders : ℕ) (s : State) (lines : List (List ℕ)) (told
   pub next : IsUnderWay left state.graph h
 
 -- An image reads as a graph that has the directories of one along the run, each with its entries.
-pub record ReadsAlong (image : Image) (cylinders : ℕ) (s : State) (lines : List (List ℕ)) (told : List Answer) : Type 0 where
+pub record ReadsAlong (image : Image) (cylinders : ℕ) (s : State) (lines : List (List ℕ)) (told : List Answer)
+    : Type 0 where
   pub between : Graph
   pub along : IsAlong cylinders s lines told between
   pub graph : Graph

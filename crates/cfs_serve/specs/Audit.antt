@@ -1,4 +1,4 @@
--- What an audit tells of the source of a trail.
+-- What an audit reports of the source of a trail.
 use Rattle.std.specs.Prelude.{◌≡◌, ℕ, ◌≤◌, ◌<◌, List, length, Some}
 use Rattle.cfs_audit.specs.Verdict.{IsVerdict}
 use Rattle.cfs_audit.specs.declared.trail.Verdict.TheVariants as verdicts
@@ -15,7 +15,7 @@ Judges (causes.Illegal event) text = IsVerdict text (verdicts.Illegal event)
 Judges causes.Memory text = Unit {0}
 Judges cause text = ⊥
 
--- the text is all that the source had left, where it tells that, and within the limit
+-- the text is all that the source had left, if it tells that, and is within the limit
 pub record IsTrailOf (source : Supply) (text : List ℕ) : Type 0 where
   pub whole : (left : List ℕ) → source.left ≡ Some left → text ≡ left
   pub short : length text ≤ most_trail

@@ -38,8 +38,8 @@ tells_outcome (replies.Number n) = true
 tells_outcome (replies.Content bytes) = true
 tells_outcome reply = false
 
--- So many blocks are Free in this state: its room; but while a collection sweeps less than that by as many at most as
--- the objects had that are gone.
+-- The Free blocks of this state are its room. While a collection sweeps they may be fewer, by at most as many as the
+-- objects had that are gone.
 pub record FitsRoom (cylinders lost : ℕ) (s : State) (free : ℕ) : Type 0 where
   pub room : ℕ
   pub is_room : IsRoom cylinders s room
@@ -58,12 +58,12 @@ abbrev pub IsExactEvent : (cylinders lost : ℕ) → State → Event → Type 0
 IsExactEvent cylinders lost s (events.Ask who request reply) = IsExact cylinders lost s who request reply
 IsExactEvent cylinders lost s event = Unit {0}
 
--- the blocks of the objects that vanished last, after one event more
+-- the blocks of the objects that vanished last, after one more event
 abbrev pub lost_by : Event → State → State → ℕ → ℕ
 lost_by (events.Vanish ids) s t lost = graph_blocks s.graph - graph_blocks t.graph
 lost_by e s t lost = lost
 
--- and after a run from this state
+-- the same after a run from this state
 abbrev pub lost_in : (seed lost : ℕ) → State → List Event → ℕ
 lost_in seed lost s [] = lost
 lost_in seed lost s (e ∷ trail) = option_map_or (λ t. lost_in seed (lost_by e s t lost) t trail) (next seed s e) 0
@@ -90,8 +90,9 @@ CrashesGoOn stands clock lasts seed old new e = (graph : Graph) (trail : List Ev
     → replay seed graph trail ≡ Some s → stands old s
     → lasts old seed graph trail marks → lasts new seed graph (trail ++ e ∷ []) (marks ++ clock new ∷ [])
 
--- What a call tells of the disk, on any disk: a failed call that is told was one, and so was one by which the server
--- stopped, unless a block was damaged. Of a server that runs no other trouble is told; one that stopped stays so.
+-- What a call reports of the disk, on any disk. If it reports a failed call, a call failed. If the server stopped, a
+-- call failed too, unless a block was damaged. A server that runs reports no other trouble, and one that stopped stays
+-- so.
 pub record TellsSo {A : Type 0} (faults : A → ℕ) (has_stopped is_damaged : A → Bool) (old new : A)
     (fails calms : Bool) : Type 0 where
   pub later : faults old ≤ faults new
@@ -101,14 +102,14 @@ pub record TellsSo {A : Type 0} (faults : A → ℕ) (has_stopped is_damaged : A
   pub halts : has_stopped new ≡ true → is_damaged new ≡ false
       → ((has_stopped old ≡ true) × (is_damaged old ≡ false)) ⊎ Rose (faults old) (faults new)
 
--- and so an event does
+-- what an event reports of it
 abbrev pub TellsEvent : {A : Type 0} → (A → ℕ) → (has_stopped is_damaged : A → Bool) → A → A → Event → Type 0
 TellsEvent faults has_stopped is_damaged old new e =
     TellsSo faults has_stopped is_damaged old new (tells_disk e) (is_calm e)
 
 -- ---- one step of the collector
 
--- its event, if it is one: a step at which the server stopped is one too
+-- the event of a step, if it is one: a step at which the server stopped is one too
 abbrev pub event_by : Result Step CollectFault → Option Event
 event_by (Ok step) = event_of step
 event_by (Err faults.Memory) = None
@@ -117,12 +118,12 @@ event_by (Err (faults.Disk (Some moment))) = Some (events.Halted moment)
 event_by (Err (faults.Damaged damage moment)) = Some (events.Halted moment)
 event_by (Err (faults.Stopped moment)) = None
 
--- at which the server stopped
+-- the server stopped at this event
 abbrev pub tells_stop_at : Option Event → Bool
 tells_stop_at None = false
 tells_stop_at (Some e) = tells_stop e
 
--- a call of the disk failed in it
+-- a call of the disk failed in the step
 abbrev pub fails : Result Step CollectFault → Bool
 fails (Ok step) = false
 fails (Err faults.Memory) = false
@@ -130,8 +131,8 @@ fails (Err (faults.Disk doubt)) = true
 fails (Err (faults.Damaged damage moment)) = false
 fails (Err (faults.Stopped moment)) = false
 
--- A turn of the collector's worker: a part of a commit that is unfinished, or a step. A part is no event, as a step is
--- none that takes a rescue.
+-- A turn of the collector's worker, as a step. A part of an unfinished commit is no event, like a step that takes a
+-- rescue.
 abbrev pub as_step : Result (Option Step) CollectFault → Result Step CollectFault
 as_step (Ok None) = Ok steps.Took
 as_step (Ok (Some step)) = Ok step
@@ -141,7 +142,7 @@ abbrev pub is_calm_step : Option Event → Bool
 is_calm_step None = true
 is_calm_step (Some e) = is_calm e
 
--- a failed call that a step tells was one, and its event tells no other trouble of a server that runs
+-- if a step reports a failed call, a call failed; its event reports no other trouble of a server that runs
 abbrev pub TellsStep : {A : Type 0} → (A → ℕ) → (has_stopped is_damaged : A → Bool) → A → A
     → Result Step CollectFault → Type 0
 TellsStep faults has_stopped is_damaged old new result =
@@ -153,12 +154,12 @@ abbrev pub refusal_by : Result Step CollectFault → Option CollectFault
 refusal_by (Ok step) = None
 refusal_by (Err fault) = Some fault
 
--- the event may come, or the server stands for the state on
+-- the event may come; if there is none, the server still stands for the state
 abbrev pub MayMake : (State → Type 0) → (seed : ℕ) → State → Option Event → Type 0
 MayMake stands seed s None = stands s
 MayMake stands seed s (Some e) = MakesServed stands seed s e
 
--- and what is known of crashes goes on
+-- what is known of crashes goes on, with an event or without one
 abbrev pub MayGoOn : {A : Type 0} → (A → State → Type 0) → (A → ℕ) → (A → ℕ → Graph → List Event → List ℕ → Type 0)
     → (seed : ℕ) → A → A → Option Event → Type 0
 MayGoOn stands clock lasts seed old new None = (graph : Graph) (trail : List Event) (marks : List ℕ) (s : State)
@@ -168,8 +169,8 @@ MayGoOn stands clock lasts seed old new (Some e) = CrashesGoOn stands clock last
 
 -- ---- collections
 
--- How many collections were called for and how many of them are finished; whether one runs; how many steps, and how
--- many events, they have left; and how many blocks objects have still that are gone from a graph.
+-- How many collections were called for and how many of them are finished, whether one runs, how many steps and events
+-- they have left, and how many blocks objects still have that are gone from a graph.
 pub record Tally : Type 0 where
   pub called : ℕ
   pub finished : ℕ
@@ -178,8 +179,8 @@ pub record Tally : Type 0 where
   pub events : ℕ
   pub lost : Graph → ℕ
 
--- Where nothing is left to do a server that runs has finished as many collections as were called for. It wants memory
--- only where a collection would begin: none runs, and more were called for.
+-- If nothing is left to do, a server that runs has finished as many collections as were called for. It wants memory
+-- only to begin a collection: none runs, and more were called for.
 abbrev pub EndsCollecting : {A : Type 0} → (has_stopped : A → Bool) → (tally : A → Tally) → A → A
     → Result Step CollectFault
     → Type 0
@@ -189,7 +190,7 @@ EndsCollecting has_stopped tally old new (Err faults.Memory) =
     (has_stopped old ≡ false) × ((tally old).running ≡ false) × ((tally old).finished < (tally old).called)
 EndsCollecting has_stopped tally old new result = Unit {0}
 
--- those of a core; its blocks are those of the image to come
+-- the tally of a core; its blocks are those of the image to come
 abbrev pub tally_of : {D : Type 0} → Ghosts D → Kernel D → Tally
 tally_of g k = record {
   called = k.collections.called;
@@ -207,8 +208,16 @@ begun_so_far c = c.finished + (if c.running then 1 else 0)
 abbrev pub AsBefore : Tally → Tally → Type 0
 AsBefore c d = (d.finished ≡ c.finished) × (d.running ≡ c.running)
 
--- What an event does to the counts: a collection begins where none runs and more were called for. A step at which the
--- server stops says nothing of them.
+-- One more collection was called for. This is no event, and the server stands for what it stood for.
+pub record CallsOne {A : Type 0} (stands : A → State → Type 0) (tally : A → Tally) (old new : A) : Type 0 where
+  pub stays : (s : State) → stands old s → stands new s
+  pub called : (tally new).called ≡ (tally old).called + 1
+  pub counts : AsBefore (tally old) (tally new)
+  pub events : (tally new).events ≤ (tally old).events + 3
+  pub lost : (graph : Graph) → (tally new).lost graph ≡ (tally old).lost graph
+
+-- What an event does to the counts: a collection begins only if none runs and more were called for. A step at which
+-- the server stops says nothing of them.
 abbrev pub Counts : Event → Tally → Tally → Type 0
 Counts events.Began c d = (c.finished < c.called) × (c.running ≡ false) × (d.finished ≡ c.finished) × (d.running ≡ true)
 Counts events.Finished c d = (c.running ≡ true) × (d.finished ≡ c.finished + 1) × (d.running ≡ false)
@@ -227,17 +236,17 @@ pub record SessionPasses {A : Type 0} (clock : A → ℕ) (tally : A → Tally) 
   pub steps : (tally new).steps ≤ (tally old).steps + 1
   pub events : (tally new).events ≤ (tally old).events
 
--- a step that was made leaves fewer
+-- a step that was made leaves fewer steps
 abbrev pub SpendsStep : Tally → Tally → Result Step CollectFault → Type 0
 SpendsStep c d (Ok steps.Idle) = Unit {0}
 SpendsStep c d (Ok step) = (d.steps < c.steps) × (d.events + length (option_to_list (event_of step)) ≤ c.events)
 SpendsStep c d (Err fault) = Unit {0}
 
--- fewer steps are left, and one event less where it is told
+-- fewer steps are left, and one event less if `told` is set
 abbrev pub SpendsOne : Tally → Tally → (told : Bool) → Type 0
 SpendsOne c d told = (d.steps < c.steps) × (d.events + (if told then 1 else 0) ≤ c.events)
 
--- A part of a commit leaves fewer parts, and the collections as they are; a step is made where none is left, and
+-- A part of a commit leaves fewer parts, and the collections as they are. A step is made only if no part is left, and
 -- leaves none.
 abbrev pub SpendsTurn : {A : Type 0} → (unfinished : A → ℕ) → (tally : A → Tally) → A → A
     → Result (Option Step) CollectFault → Type 0
@@ -247,7 +256,7 @@ SpendsTurn unfinished tally old new (Ok (Some step)) =
     SpendsStep (tally old) (tally new) (Ok step) × (unfinished old ≡ 0) × (unfinished new ≡ 0)
 SpendsTurn unfinished tally old new (Err fault) = Unit {0}
 
--- And what a step of the collector does.
+-- What a step of the collector does, on any disk.
 pub record PassesStep {A : Type 0} (clock : A → ℕ) (has_stopped : A → Bool) (tally : A → Tally) (old new : A)
     (result : Result Step CollectFault) : Type 0 where
   pub later : clock old ≤ clock new
@@ -255,13 +264,13 @@ pub record PassesStep {A : Type 0} (clock : A → ℕ) (has_stopped : A → Bool
   pub stops : tells_stop_at (event_by result) ≡ true → has_stopped new ≡ true
   pub begins : event_by result ≡ Some events.Began → has_stopped new ≡ false
 
--- what an event does to the blocks of what is gone
+-- what an event does to the blocks of objects that are gone
 pub record Tallies {A : Type 0} (has_stopped : A → Bool) (tally : A → Tally) (seed : ℕ) (old new : A) (s : State)
     (e : Event) : Type 0 where
   pub lost : has_stopped new ≡ false → (t : State) → next seed s e ≡ Some t
       → (tally new).lost t.graph ≤ lost_by e s t ((tally old).lost s.graph)
 
--- and no event leaves no more of them than before
+-- without an event there are no more of them than before
 pub record ServerRests {A : Type 0} (has_stopped : A → Bool) (tally : A → Tally) (old new : A)
     (s : State) : Type 0 where
   pub lost : has_stopped new ≡ false → (tally new).lost s.graph ≤ (tally old).lost s.graph

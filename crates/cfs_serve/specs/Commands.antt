@@ -2,13 +2,14 @@
 use Rattle.std.specs.Prelude.{map, string_bytes, true, false, Option, Some, None}
 use Rattle.cfs_serve.specs.declared.command.Command.{Command}
 use Rattle.cfs_serve.specs.declared.command.Command.TheVariants as commands
+use Rattle.cfs_serve.specs.declared.command.Converse as talks
 use Rattle.cfs_serve.specs.declared.command.Dirs as dirs
 use Rattle.cfs_serve.specs.declared.command.Format as formats
 use Rattle.cfs_serve.specs.declared.command.Play.{Play}
 use Rattle.cfs_serve.specs.declared.command.Serve.{Serve}
 use Rattle.cfs_serve.specs.declared.command.Spin as spins
-use Rattle.cfs_serve.specs.Words.{Asked, Audits, Dirs, Format, Formats, InFile, InMemory, Inspects, NamesService, Nothing}
-use Rattle.cfs_serve.specs.Words.{Serves, Service, Shows, Spin, Spins, files_in}
+use Rattle.cfs_serve.specs.Words.{Asked, Audits, Conversation, Converses, Dirs, Format, Formats, InFile, InMemory}
+use Rattle.cfs_serve.specs.Words.{Inspects, NamesService, Nothing, Serves, Service, Shows, Spin, Spins, files_in}
 
 abbrev pub format_of : formats.Format → Format
 format_of f = record { volume = f.volume.now; cylinders = f.cylinders; seed = f.seed; pair = f.pair }
@@ -37,6 +38,15 @@ spin_of s = record { cylinders = s.cylinders; seed = s.seed; count = s.count }
 abbrev pub names_service : dirs.Dirs → NamesService
 names_service d = record { volume = d.volume.now; seed = d.seed; input = d.input.now; output = d.output.now }
 
+abbrev pub conversation : talks.Converse → Conversation
+conversation t = record {
+  volume = t.volume.now;
+  seed = t.seed;
+  every = t.every;
+  input = t.input.now;
+  output = t.output.now;
+}
+
 abbrev pub asked_of : Option Command → Asked
 asked_of (Some (commands.Page page)) = Shows page
 asked_of (Some (commands.Format format)) = Formats (format_of format)
@@ -47,4 +57,5 @@ asked_of (Some (commands.Play play)) = Serves (played_service play)
 asked_of (Some (commands.Spin spin)) = Spins (spin_of spin)
 asked_of (Some (commands.Serve serve)) = Serves (served_service serve)
 asked_of (Some (commands.Dirs dirs)) = Dirs (names_service dirs)
+asked_of (Some (commands.Converse talk)) = Converses (conversation talk)
 asked_of None = Nothing

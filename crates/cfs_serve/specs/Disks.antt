@@ -25,12 +25,12 @@ use Rattle.cfs_serve.specs.Volume.{EndsCore}
 use Rattle.cfs_serve.specs.Events.{tells_disk, tells_fault}
 use Rattle.cfs_serve.specs.Logs.{MomentsRise, faults_after, first_fault}
 use Rattle.cfs_serve.specs.Inspected.{InspectsVolume}
-use Rattle.cfs_serve.specs.Words.{Asked, Audits, Dirs, Format, Formats, InFile, InMemory, Inspects, Nothing, Place}
-use Rattle.cfs_serve.specs.Words.{Serves, Shows, Spins}
+use Rattle.cfs_serve.specs.Words.{Asked, Audits, Converses, Dirs, Format, Formats, InFile, InMemory, Inspects}
+use Rattle.cfs_serve.specs.Words.{Nothing, Place, Serves, Shows, Spins}
 
 -- A volume was made on a disk, or the disk failed.
 pub record MakesVolume {D : Type 0} (g : Ghosts D) (format : Format) (cause : Cause) (old new : D) : Type 0 where
-  -- where no failure is told, an honest disk is sound, reads as a root index of 64 empty slots whose identifier is
+  -- if no failure is reported, an honest disk is sound, reads as a root index of 64 empty slots whose identifier is
   -- block 2 and the seed's first word, and has nothing else
   pub made : IsTrue (g.honest old) → cause ≡ causes.Nothing → IsFormatted g new (word format.seed 0)
   -- a crash on the way leaves what it might have left before, or no volume, or that one
@@ -38,29 +38,29 @@ pub record MakesVolume {D : Type 0} (g : Ghosts D) (format : Format) (cause : Ca
   -- a call for each cylinder, and six more
   pub calls : MakesAtMost g (format.cylinders + 6) (format.cylinders + 6) old new
 
--- The first write or barrier that was tried is a barrier. Where it was done, whatever a crash left since, or leaves
--- now, has P.
+-- The first write or barrier that was tried is a barrier. If it was done, whatever a crash left since, or leaves now,
+-- has P.
 abbrev pub LeavesSinceTry : {D : Type 0} → Ghosts D → D → D → (Image → Type 0) → Type 0
 LeavesSinceTry {D} g old new P = (Rose (g.faults old) (g.faults new) × Rose (g.moment old) (g.moment new)
     × IsUntouched g old new × (g.tries new ≡ count_after (g.tries old)))
     ⊎ ((mid : D) × IsSettled g mid × IsUntouched g old mid × (g.tries mid ≡ count_after (g.tries old))
     × Leaves g mid new P)
 
--- it is told of the sources that they weren't served
+-- the cause is in the sources
 abbrev pub is_of_sources : Cause → Bool
 is_of_sources (causes.Source n) = true
 is_of_sources (causes.Long n) = true
 is_of_sources causes.LongTotal = true
 is_of_sources cause = false
 
--- neither its count of failed calls nor its clock has fallen
+-- neither the disk's count of failed calls nor its clock has fallen
 abbrev pub IsLater : {D : Type 0} → Ghosts D → D → D → Type 0
 IsLater g old new = (g.faults old ≤ g.faults new) × (g.moment old ≤ g.moment new)
 
--- A volume was served: of an honest disk that held a sound one, which read as some graph.
+-- What serving a volume does to its disk. An honest disk that holds a sound volume reads as some graph.
 pub record ServesVolume {D : Type 0} (g : Ghosts D) (seed : ℕ) (told : Report) (ending : Ending) (trail : List Event)
     (moments : List ℕ) (old new : D) : Type 0 where
-  -- the disk as the opening ended, or as it was where it came to none
+  -- the disk as the opening left it, or as it was if there was no opening
   pub opened : D
   pub later : IsLater g old opened
   pub rises : g.faults opened ≤ g.faults new
@@ -70,29 +70,29 @@ pub record ServesVolume {D : Type 0} (g : Ghosts D) (seed : ℕ) (told : Report)
   pub opening : IsTrue (g.honest old) → (graph : Graph) → IsSoundAs (g.content old) graph
       → (opened ≡ old) ⊎ LeavesSinceTry g old opened (λ c. IsSoundAs c graph)
   pub unserved : told.counts ≡ None → new ≡ opened
-  -- nothing was written where the volume was refused for what is wrong with it, or isn't sound; and a source that failed
-  -- or is too long left it unopened
+  -- if the volume was refused for what is wrong with it, or isn't sound, nothing was written; if a source failed or is
+  -- too long, the volume wasn't opened
   pub untouched : IsTrue (g.honest old) → told.counts ≡ None → (fault : VolumeFault) → told.cause ≡ causes.Volume fault
       → IsUntouched g old new
   pub unsound : IsTrue (g.honest old) → ¬ IsSound (g.content old) → IsUntouched g old new
   pub unread : told.counts ≡ None → is_of_sources told.cause ≡ true → new ≡ old
-  -- what one leaves since an event was recorded survives so many events of the run or more, and since the opening any
-  -- number
+  -- what a crash leaves since the k-th event was recorded survives at least k events of the run, and since the opening
+  -- any number
   pub crashes : IsSome told.counts → IsTrue (g.honest old) → (graph : Graph) → IsSoundAs (g.content old) graph
       → RunSurvives g seed graph trail (g.moment opened ∷ moments) new
-  -- where all went well the disk that is handed back is sound, and reads as what is rooted after the last event
+  -- if all went well the disk that is handed back is sound, and reads as what is rooted after the last event
   pub sound : told.cause ≡ causes.Nothing → IsTrue (g.honest old) → (graph : Graph) → IsSoundAs (g.content old) graph
       → (last : State) → replay seed graph trail ≡ Some last → IsSoundAs (g.content new) (rooted_part last.graph)
-  -- The count of failed calls rose since the opening by the Disk replies of the trail at least, and by one for a step
-  -- of the collector that was refused for one without a doubt; of an honest disk that held a sound volume by its stops
-  -- besides.
+  -- Since the opening the count of failed calls rose at least by the Disk replies of the trail, and by one if a step of
+  -- the collector was refused for a failed call without a doubt. If an honest disk held a sound volume, it rose by the
+  -- stops of the trail too.
   pub faults : IsSome told.counts → faults_after tells_disk trail
       (first_fault ending.refused (g.faults opened)) ≤ g.faults new
   pub stops : IsSome told.counts → IsTrue (g.honest old) → (graph : Graph) → IsSoundAs (g.content old) graph
       → faults_after tells_fault trail (first_fault ending.refused (g.faults opened)) ≤ g.faults new
   -- a core that stopped did so at the last call of the disk
   pub timed : IsStopTimed ending.stop (g.moment new)
-  -- there is the core that told its status last, with its disk as it is handed back
+  -- the core that gave its status last, with its disk as it is handed back
   pub core : IsSome told.counts → (last : Kernel D) × (last.disk ≡ new) × EndsCore seed
       (λ graph. IsTrue (g.honest old) × IsSoundAs (g.content old) graph) ending trail last
 
@@ -115,8 +115,8 @@ ServesOn g (InFile path pair) seed told ending trail moments (Some old) (Some ne
 ServesOn g (InFile path pair) seed told ending trail moments (Some old) None = ⊥
 ServesOn g (InFile path pair) seed told ending trail moments None new = ⊥
 
--- A volume is made, inspected or served on the disk that is asked for; else there is none, before and after. What lines
--- of names do to one is told with them.
+-- A volume is made, inspected or served on the disk that is asked for. Else there is no disk, before and after. What
+-- lines of names and a conversation do to a disk is said with them.
 abbrev pub OnDisk : {D : Type 0} → Ghosts D → Asked → Report → Ending → List Event → List ℕ → Option D
     → Option D → Type 0
 OnDisk g (Formats format) told ending trail moments old new = MakesOn g format told.cause old new
@@ -127,4 +127,5 @@ OnDisk g (Audits text) told ending trail moments old new = new ≡ old
 OnDisk g (Spins spin) told ending trail moments old new = new ≡ old
 OnDisk g (Shows page) told ending trail moments old new = new ≡ old
 OnDisk g (Dirs names) told ending trail moments old new = Unit {0}
+OnDisk g (Converses talk) told ending trail moments old new = Unit {0}
 OnDisk g Nothing told ending trail moments old new = new ≡ old

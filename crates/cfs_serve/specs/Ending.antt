@@ -1,6 +1,6 @@
 -- How a service ended: why its core stopped, what ended its collector, and what spoiled it.
-use Rattle.std.specs.Prelude.{◌≡◌, ◌||◌, ◌<◌, ◌-◌, ℕ, Bool, true, false, List, [], ◌∷◌, ◌++◌, Option, Some, None, is_none}
-use Rattle.std.specs.Prelude.{option_map, option_and_then, option_to_list}
+use Rattle.std.specs.Prelude.{◌≡◌, ◌||◌, ◌<◌, ◌-◌, ℕ, Bool, true, false, List, [], ◌∷◌, ◌++◌, Option, Some, None}
+use Rattle.std.specs.Prelude.{is_none, option_map, option_and_then, option_to_list}
 use Rattle.std.specs.List.{list_any, list_all}
 use Rattle.cfs_base.specs.declared.refusal.Damage.{Damage}
 use Rattle.cfs_core.specs.Asked.{stopped_by}
@@ -28,7 +28,7 @@ damage_in stop = option_and_then (λ (s : Stop). s.damage) stop
 
 -- ---- why the core stopped
 
--- The stop that an event tells. Of a leave, and of a step of the collector, it tells the moment alone, and not this
+-- The stop that an event reports. Of a leave, and of a step of the collector, it reports only the moment, and not this
 -- damage.
 abbrev pub told_stop : Option Damage → Event → Option Stop
 told_stop damage (events.Ask who request reply) = stopped_by reply None
@@ -36,17 +36,17 @@ told_stop damage (events.Leave who (Some moment)) = Some (record { moment = mome
 told_stop damage (events.Halted moment) = Some (record { moment = moment; damage = damage })
 told_stop damage event = None
 
--- all that a trail tells
+-- all stops that a trail reports
 abbrev pub stops_in : Option Damage → List Event → List Stop
 stops_in damage [] = []
 stops_in damage (e ∷ trail) = option_to_list (told_stop damage e) ++ stops_in damage trail
 
--- These events were made: a core that stopped stays so, and of one that ran one of them tells why it stopped.
+-- These events were made. A core that had stopped stays so. If a core that ran has stopped, one event reports why.
 abbrev pub StopsAmong : Option Stop → Option Stop → List Event → Type 0
 StopsAmong before after made = option_to_list after ≡ option_to_list before ++ stops_in (damage_in after) made
 
--- Of a server that stopped, whose disk has this moment now: it stopped at the moment of the call that failed, or at this
--- one where a block was damaged. No call of the disk came after.
+-- The moment at which a server stopped whose disk has the moment `now`: that of the call that failed, or `now` if a
+-- block was damaged. No call of the disk came after.
 abbrev pub moment_of_stop : Option Damage → (now : ℕ) → ℕ
 moment_of_stop None now = now - 1
 moment_of_stop (Some damage) now = now
@@ -57,7 +57,7 @@ IsStopTimed (Some stop) now = stop.moment ≡ moment_of_stop stop.damage now
 
 -- ---- replies that it has stopped
 
--- they tell the moment at which it did before
+-- a reply that it has stopped has the moment at which it did
 abbrev pub IsStoppedReply : (stopped : Option ℕ) → Event → Type 0
 IsStoppedReply stopped (events.Ask who request (replies.Stopped moment)) = stopped ≡ Some moment
 IsStoppedReply stopped event = Unit {0}
@@ -74,20 +74,22 @@ AreStoppedReplies stopped (e ∷ trail) = IsStoppedReply stopped e × AreStopped
 -- ---- a call, and all of them
 
 -- These events were made by a call.
-pub record MakesStop {A : Type 0} (clock : A → ℕ) (stop : A → Option Stop) (old new : A) (made : List Event) : Type 0 where
+pub record MakesStop {A : Type 0} (clock : A → ℕ) (stop : A → Option Stop) (old new : A) (made : List Event)
+    : Type 0 where
   pub among : StopsAmong (stop old) (stop new) made
   pub after : AreStoppedReplies (moment_in (stop old)) made
   pub timed : IsStopTimed (stop old) (clock old) → IsStopTimed (stop new) (clock new)
 
--- They are the trail of a server that ran as it began.
-pub record KnowsStop {A : Type 0} (clock : A → ℕ) (stop : A → Option Stop) (server : A) (trail : List Event) : Type 0 where
+-- The trail of a server that ran as it began.
+pub record KnowsStop {A : Type 0} (clock : A → ℕ) (stop : A → Option Stop) (server : A) (trail : List Event)
+    : Type 0 where
   pub among : StopsAmong None (stop server) trail
   pub after : AreStoppedReplies None trail
   pub timed : IsStopTimed (stop server) (clock server)
 
 -- ---- why the collector was done
 
--- a refusal at which the core stopped tells that stop
+-- a refusal at which the core stopped names that stop
 abbrev pub TellsStop : Option CollectFault → Option Stop → Type 0
 TellsStop (Some (faults.Disk (Some moment))) stop = stop ≡ Some (record { moment = moment; damage = None })
 TellsStop (Some (faults.Damaged damage moment)) stop = stop ≡ Some (record { moment = moment; damage = Some damage })
@@ -113,7 +115,7 @@ is_failure (Some stop) = is_none stop.damage
 abbrev pub has_fallen : Ending → Bool
 has_fallen ending = is_fault ending.refused || is_failure ending.stop
 
--- it wanted memory; or the core had stopped, and then that is told
+-- memory was wanting; or the core had stopped, and then the stop is reported in its place
 abbrev pub is_want_of_memory : Option CollectFault → Bool
 is_want_of_memory (Some faults.Memory) = true
 is_want_of_memory (Some (faults.Stopped moment)) = true
@@ -146,15 +148,15 @@ cause_of ending trail broken = cause_by ending (list_any tells_disk trail) broke
 
 -- ---- all of it
 
--- How a service ended of which the disk's count rose, or didn't, whatever disk it is.
+-- How a service ended, on any disk. `rose` says that the disk's count of failed calls rose.
 pub record EndsService (rose : Type 0) (collections : ℕ) (ending : Ending) (trail : List Event) : Type 0 where
-  -- the trail tells this stop once, and no other; and none where the core runs
+  -- the trail reports this stop once, and no other; if the core runs, it reports none
   pub stops : StopsAmong None ending.stop trail
-  -- and a reply that it has stopped comes only after
+  -- a reply that it has stopped comes only after
   pub after : AreStoppedReplies None trail
   pub refusal : TellsStop ending.refused ending.stop
-  -- where no collection is called for the collector wants no memory
+  -- if no collection is called for, the collector wants no memory
   pub quiet : collections ≡ 0 → ending.refused ≡ Some faults.Memory → ⊥
   pub failed : has_failed ending trail ≡ true → rose
-  -- of a core that runs no event tells other trouble than a failed call
+  -- if the core runs, no event reports other trouble than a failed call
   pub calm : ending.stop ≡ None → list_any tells_disk trail ≡ false → list_all is_calm trail ≡ true

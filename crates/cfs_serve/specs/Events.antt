@@ -1,4 +1,4 @@
--- What events tell of memory and of the disk, and whose they are.
+-- What events report of memory and of the disk, and whose they are.
 use Rattle.std.specs.Prelude.{◌||◌, ◌≡◌, ℕ, ◌==◌, Bool, true, false, List, [], ◌∷◌, ◌++◌, filter, length, Some, None}
 use Rattle.cfs_base.specs.Outside.{Intake}
 use Rattle.cfs_streams.specs.Writing.{Wrote, WroteSome}
@@ -9,18 +9,18 @@ use Rattle.ufs_model.specs.declared.asked.Event.{Event}
 use Rattle.ufs_model.specs.declared.asked.Event.TheVariants as events
 use Rattle.ufs_model.specs.Printed.{printed, printed_replies}
 
--- want of memory was told
+-- the event reports want of memory
 abbrev pub wants_memory : Event → Bool
 wants_memory (events.Unread who unread.Memory) = true
 wants_memory (events.Ask who request replies.Memory) = true
 wants_memory event = false
 
--- a failed call of the disk was told
+-- it reports a failed call of the disk
 abbrev pub tells_disk : Event → Bool
 tells_disk (events.Ask who request (replies.Disk doubt)) = true
 tells_disk event = false
 
--- it tells that the server stopped in it
+-- it reports that the server stopped
 abbrev pub tells_stop : Event → Bool
 tells_stop (events.Leave who (Some moment)) = true
 tells_stop (events.Halted moment) = true
@@ -29,7 +29,7 @@ tells_stop event = false
 abbrev pub tells_fault : Event → Bool
 tells_fault event = tells_disk event || tells_stop event
 
--- a block was found damaged
+-- it reports a damaged block
 abbrev pub tells_damage : Event → Bool
 tells_damage (events.Ask who request (replies.Damaged damage moment)) = true
 tells_damage event = false

@@ -12,16 +12,17 @@ use Rattle.cfs_recover.specs.declared.fault.RecoverFault.{RecoverFault}
 use Rattle.cfs_recover.specs.declared.fault.RecoverFault.TheVariants as whys
 use Rattle.cfs_serve.specs.declared.report.VolumeFault.{VolumeFault}
 use Rattle.cfs_serve.specs.declared.report.VolumeFault.TheVariants as faults
-use Rattle.cfs_serve.specs.Words.{Asked, Audits, Dirs, Formats, InFile, InMemory, Inspects, Nothing, Place, Serves}
-use Rattle.cfs_serve.specs.Words.{Shows, Spins}
+use Rattle.cfs_serve.specs.Words.{Asked, Audits, Converses, Dirs, Formats, InFile, InMemory, Inspects, Nothing}
+use Rattle.cfs_serve.specs.Words.{Place, Serves, Shows, Spins}
 
--- the cylinders of the volume and its blocks, the graphs that it may read as, and that it is known to be no sound one
+-- What is known of a volume: its cylinders and blocks, the graphs that it may read as, and whether it is known to be
+-- unsound.
 pub record Ground : Type 1 where
   pub cylinders : ℕ
   pub blocks : ℕ
   pub reads : Graph → Type 0
   pub unsound : Type 0
-  -- and that this is wrong with it
+  -- this is wrong with it
   pub faulty : VolumeFault → Type 0
 
 -- the graph of a new volume: a root index of empty slots
@@ -37,13 +38,13 @@ new_ground cylinders seed = record {
   faulty = λ fault. ⊥;
 }
 
--- why it isn't opened
+-- why a volume with this fault isn't opened
 abbrev pub why : VolumeFault → RecoverFault
 why faults.NotVolume = whys.NotVolume
 why (faults.Version found) = whys.Version found
 why (faults.Damaged damage) = whys.Damaged damage
 
--- a volume on a disk: of one that isn't honest nothing is known
+-- a volume on a disk; if the disk isn't honest, nothing is known of what it holds
 abbrev pub ground_on : {D : Type 0} → Ghosts D → D → Ground
 ground_on g d = record {
   cylinders = g.blocks d / 64;
@@ -56,13 +57,13 @@ ground_on g d = record {
 abbrev pub no_ground : Ground
 no_ground = record { cylinders = 0; blocks = 0; reads = λ graph. ⊥; unsound = ⊥; faulty = λ fault. ⊥ }
 
--- why it isn't mended
+-- why a volume with this fault isn't mended
 abbrev pub mend_fault : VolumeFault → MendFault
 mend_fault faults.NotVolume = refusals.NotVolume
 mend_fault (faults.Version found) = refusals.Version found
 mend_fault (faults.Damaged damage) = refusals.Damaged damage
 
--- a volume that is inspected: of one that is mended it is told what can't be healed
+-- a volume that is inspected; if it is to be mended, its fault is one that can't be healed
 abbrev pub inspected_on : {D : Type 0} → Ghosts D → (mends : Bool) → D → Ground
 inspected_on g false d = ground_on g d
 inspected_on g true d = record (ground_on g d) {
@@ -81,7 +82,7 @@ abbrev ground_at : {D : Type 0} → Ghosts D → Place → (seed : ℕ) → Opti
 ground_at g (InMemory cylinders) seed disk = new_ground cylinders seed
 ground_at g (InFile path pair) seed disk = served_at g disk
 
--- of what is asked for, and the disk of the volume where it is in a file
+-- the ground of what is asked for, with the disk of the volume if it is in a file
 abbrev pub ground_of : {D : Type 0} → Ghosts D → Asked → Option D → Ground
 ground_of g (Serves service) disk = ground_at g service.volume service.seed disk
 ground_of g (Formats format) disk = no_ground
@@ -90,4 +91,5 @@ ground_of g (Inspects inspection) disk = inspected_at g inspection.mends disk
 ground_of g (Spins spin) disk = new_ground spin.cylinders spin.seed
 ground_of g (Shows page) disk = no_ground
 ground_of g (Dirs names) disk = served_at g disk
+ground_of g (Converses talk) disk = served_at g disk
 ground_of g Nothing disk = no_ground

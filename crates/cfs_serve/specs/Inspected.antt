@@ -1,4 +1,4 @@
--- What is told of a volume that is checked or mended.
+-- What is reported of a volume that is checked or mended.
 use Rattle.std.specs.Prelude.{◌≡◌, ◌↔◌, ◌⊎◌, ◌+◌, ◌*◌, ◌<◌, Bool, true, false, IsTrue, List, [], ◌∷◌, None}
 use Rattle.cfs_base.specs.Calls.{HasFailed, MakesAtMost}
 use Rattle.cfs_base.specs.Disk.{Image}
@@ -23,7 +23,7 @@ use Rattle.cfs_serve.specs.declared.report.Report.{Report}
 use Rattle.cfs_serve.specs.declared.report.VolumeFault.{VolumeFault}
 use Rattle.cfs_serve.specs.declared.report.VolumeFault.TheVariants as faults
 
--- ---- what is told
+-- ---- what is reported
 
 -- why a volume isn't loaded
 abbrev pub load_cause : LoadFault → Cause
@@ -40,8 +40,9 @@ abbrev pub ListsIf : (mends : Bool) → VolumeFault → List Damage → Type 0
 ListsIf true fault listed = listed ≡ []
 ListsIf false fault listed = ListsFaults fault listed
 
--- Of a volume that isn't known to be unsound it is told that it is sound, or, where it is mended, nothing. Of one that
--- may read as no graph it is told what is wrong with it, and of the disk that it failed; or memory was wanting.
+-- What an inspection reports, and lists. A check reports that a volume is sound only if it isn't known to be unsound; a
+-- mending that is done reports nothing. A fault is reported only if there is no graph that the volume may read as, and
+-- a failed disk only if a call failed. Memory may be wanting.
 abbrev pub TellsInspection : Ground → (mends : Bool) → (rose : Type 0) → Cause → List Damage → Type 0
 TellsInspection ground mends rose (causes.Sound objects left) listed =
     (mends ≡ false) × (listed ≡ []) × ¬ ground.unsound
@@ -53,19 +54,19 @@ TellsInspection ground mends rose causes.Memory listed = listed ≡ []
 TellsInspection ground mends rose causes.LongVolume listed = listed ≡ []
 TellsInspection ground mends rose cause listed = ⊥
 
--- and that it has more blocks than are loaded exactly where it has
+-- that a volume has more blocks than are loaded is reported exactly if it has
 pub record IsInspected (ground : Ground) (mends : Bool) (rose : Type 0) (cause : Cause)
     (listed : List Damage) : Type 0 where
   pub long : (cause ≡ causes.LongVolume) ↔ (most_inspected < ground.blocks)
   pub tells : TellsInspection ground mends rose cause listed
 
--- it is told of an inspection alone
+-- only an inspection has this cause
 abbrev pub is_finding : Cause → Bool
 is_finding (causes.Sound objects left) = true
 is_finding causes.LongVolume = true
 is_finding cause = false
 
--- why it isn't mended
+-- why a volume isn't mended
 abbrev pub mend_cause : MendFault → Cause
 mend_cause mendings.Disk = causes.Disk None
 mend_cause mendings.NotVolume = causes.Volume faults.NotVolume
@@ -75,7 +76,8 @@ mend_cause mendings.Memory = causes.Memory
 
 -- ---- a check
 
--- that an image is sound, or what is wrong with it: all its faults, of which the first is the cause
+-- What is reported of an image: that it is sound, or what is wrong with it, with all its faults, of which the first is
+-- the cause.
 abbrev pub TellsFound : Image → Cause → List Damage → Type 0
 TellsFound image (causes.Sound objects left) listed = (listed ≡ []) × IsChecked image (checks.Sound objects left)
 TellsFound image (causes.Volume faults.NotVolume) listed = (listed ≡ []) × IsChecked image checks.NotVolume
@@ -85,7 +87,8 @@ TellsFound image (causes.Volume (faults.Damaged first)) listed =
     ListsFaults (faults.Damaged first) listed × IsChecked image (checks.Faults listed)
 TellsFound image cause listed = ⊥
 
--- that of what was read, which is an honest disk's content; or that a call of the disk failed; or want of memory
+-- What a check reports: this of the image that was read, which is an honest disk's content; or that a call of the disk
+-- failed; or want of memory.
 abbrev pub TellsChecked : {D : Type 0} → Ghosts D → D → D → Cause → List Damage → Type 0
 TellsChecked g old new (causes.Disk moment) listed = (listed ≡ []) × (moment ≡ None) × HasFailed g old new
 TellsChecked g old new causes.Memory listed = listed ≡ []
@@ -98,15 +101,15 @@ pub record ChecksVolume {D : Type 0} (g : Ghosts D) (told : Report) (old new : D
   -- nothing was written: a barrier was made, and each block read once
   pub untouched : IsUntouched g old new
   pub calls : MakesAtMost g (g.blocks old + 1) 1 old new
-  -- one that has more blocks than are loaded, and no other, is refused for that, and isn't called
+  -- a volume is refused for its size exactly if it has more blocks than are loaded, and then no call is made
   pub large : (told.cause ≡ causes.LongVolume) ↔ (most_inspected < g.blocks old)
   pub uncalled : told.cause ≡ causes.LongVolume → new ≡ old
   pub tells : TellsChecked g old new told.cause told.faults
 
 -- ---- a mending
 
--- of an honest disk that it was mended, or the first fault that can't be healed; that a call of it failed; or want of
--- memory
+-- What a mending reports: of an honest disk that its volume was mended, or the first fault that can't be healed; or
+-- that a call of the disk failed; or want of memory.
 abbrev pub TellsMended : {D : Type 0} → Ghosts D → D → D → Cause → Type 0
 TellsMended g old new causes.Nothing = IsTrue (g.honest old) → IsMended g old new
 TellsMended g old new (causes.Volume fault) =

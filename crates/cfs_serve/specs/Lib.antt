@@ -16,6 +16,8 @@ pub mod SureDisk
 pub mod Ground
 pub mod Scripts
 pub mod Played
+pub mod Talk
+pub mod Talking
 pub mod Lines
 pub mod Along
 pub mod Named
@@ -31,4 +33,5 @@ pub mod Whole
 pub mod Disks
 pub mod Top
 pub mod Names
+pub mod Conversed
 pub mod Says

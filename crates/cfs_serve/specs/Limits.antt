@@ -9,7 +9,7 @@ most_cylinders = 1024
 abbrev pub most_file_cylinders : ℕ
 most_file_cylinders = 65536
 
--- and of the largest of pairs of blocks
+-- the cylinders of the largest volume of pairs of blocks
 abbrev pub most_pair_cylinders : ℕ
 most_pair_cylinders = 16384
 

@@ -18,7 +18,7 @@ use Rattle.cfs_serve.specs.declared.answering.Told.{Told}
 abbrev pub session : ℕ
 session = 0
 
--- ---- what is told
+-- ---- what is reported
 
 abbrev pub told_nothing : Told
 told_nothing = record { answers = 0; failed = false; starved = false; took = true }
@@ -32,8 +32,8 @@ told_with told answer took = record {
 }
 
 -- a line was done, and its answer written
-pub record AnswersOne {A : Type 0} (g : Ghosts A) (line : List ℕ) (before : Told) (sink sink_after : Intake) (old new : A)
-    (result : Told) : Type 0 where
+pub record AnswersOne {A : Type 0} (g : Ghosts A) (line : List ℕ) (before : Told) (sink sink_after : Intake)
+    (old new : A) (result : Told) : Type 0 where
   pub answer : Answer
   pub told : result ≡ told_with before answer result.took
   pub replied : Replied sink sink_after (answer_line answer) result.took
@@ -51,8 +51,8 @@ pub record BreaksOffIn (old new : Intake) (told : List Answer) : Type 0 where
   pub wrote : Wrote old mid (printed_answers before)
   pub failed : WroteSome mid new (answer_line last)
 
--- The first of some lines were answered, and the others are left. None was served after one whose answer the sink didn't
--- take.
+-- The first of these lines were answered, and the others are left. None was served after one whose answer the sink
+-- didn't take.
 pub record AnswersFirst (all left : List (List ℕ)) (sink sink_after : Intake) (took : Bool) (lines : List (List ℕ))
     (told : List Answer) : Type 0 where
   pub first : all ≡ lines ++ left
@@ -62,7 +62,7 @@ pub record AnswersFirst (all left : List (List ℕ)) (sink sink_after : Intake) 
 
 -- ---- what was done
 
--- from one state to another
+-- the lines were done, from one state to another
 pub data ServesLines {A : Type 0} (g : Ghosts A) (a : A) (s : State) :
     List (List ℕ) → List Answer → A → State → Type 0 where
   Begun : ServesLines g a s [] [] a s
@@ -71,7 +71,7 @@ pub data ServesLines {A : Type 0} (g : Ghosts A) (a : A) (s : State) :
       → ServesFrom g session (line_in line) answer b c t u
       → ServesLines g a s (lines ++ line ∷ []) (told ++ answer ∷ []) c u
 
--- the count of failed calls, with one for each that is told
+-- the count of failed calls, with one more for each that is reported
 abbrev pub faults_told : List Answer → ℕ → ℕ
 faults_told [] n = n
 faults_told (a ∷ told) n = faults_told told (if is_disk_answer a then count_after n else n)
@@ -90,7 +90,7 @@ pub record HasAnswered {A : Type 0} (g : Ghosts A) (all left : List (List ℕ)) 
   pub went : (s : State) → g.stands old s → s.grants ≡ []
       → (t : State) × g.stands new t × (t.grants ≡ []) × ServesLines g old s lines told new t
 
--- All were, if the sink took all answers.
+-- All lines were answered, if the sink took all answers.
 pub record AnswersLines {A : Type 0} (g : Ghosts A) (all : List (List ℕ)) (sink sink_after : Intake) (old new : A)
     (result : Told) : Type 0 where
   pub left : List (List ℕ)

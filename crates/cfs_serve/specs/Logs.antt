@@ -11,11 +11,12 @@ use Rattle.ufs_model.specs.State.{State, opening}
 use Rattle.ufs_model.specs.Run.{replay}
 use Rattle.cfs_ports.specs.Port.{PortReading, WritesReply}
 use Rattle.cfs_base.specs.Outside.{Rose, count_after}
-use Rattle.cfs_serve.specs.Calls.{AreExact, IsTallied, Tally, lost_in}
+use Rattle.cfs_serve.specs.Calls.{AreExact, IsTallied, Tally, begun_so_far, lost_in}
 use Rattle.cfs_serve.specs.Charter.{Terms}
 use Rattle.cfs_serve.specs.Ending.{EndsService}
 use Rattle.cfs_serve.specs.declared.ending.Ending.{Ending}
-use Rattle.cfs_serve.specs.Events.{begins_in, is_calm, is_no_step, is_of_session, tells_disk, tells_fault, tells_stop}
+use Rattle.cfs_serve.specs.Events.{begins_in, is_calm, is_finish, is_no_step, is_of_session, tells_disk, tells_fault}
+use Rattle.cfs_serve.specs.Events.{tells_stop}
 use Rattle.cfs_core.specs.declared.collecting.CollectFault.{CollectFault}
 use Rattle.cfs_core.specs.declared.collecting.CollectFault.TheVariants as faults
 use Rattle.cfs_core.specs.declared.kernel.Stop.{Stop}
@@ -28,18 +29,18 @@ pub record ServerLog (A : Type 0) : Type 0 where
   -- the disk's moment as each was recorded
   pub moments : List ℕ
   pub room : ℕ
-  -- want of memory was told
+  -- want of memory was reported
   pub starved : Bool
-  -- a failed call of the disk was told
+  -- a failed call of the disk was reported
   pub failed : Bool
 
 -- one event more was recorded, with the disk's moment as it is now
 abbrev pub IsStamped : {A : Type 0} → (A → ℕ) → ServerLog A → ServerLog A → Type 0
 IsStamped clock old new = new.moments ≡ old.moments ++ clock new.server ∷ []
 
--- The trail is a legal run on this graph, and the server stands for the state after it; on a disk each answer is exact;
--- and no block was found damaged. As long as the server runs, it has of objects that are gone no more blocks than the
--- last ones had.
+-- The trail is a legal run on this graph, and the server stands for the state after it. On a disk each answer is exact.
+-- If no block was found damaged as the server began, none was since. As long as the server runs, it has no more blocks
+-- of objects that are gone than the last ones had.
 pub record IsRunOn {A : Type 0} (stands : A → State → Type 0) (has_stopped is_damaged : A → Bool) (tally : A → Tally)
     (seed cylinders : ℕ) (graph : Graph) (begun server : A) (trail : List Event) : Type 0 where
   pub last : State
@@ -49,29 +50,29 @@ pub record IsRunOn {A : Type 0} (stands : A → State → Type 0) (has_stopped i
   pub undamaged : is_damaged begun ≡ false → is_damaged server ≡ false
   pub lost : has_stopped server ≡ false → (tally server).lost last.graph ≤ lost_in seed 0 (opening graph) trail
 
--- so it is on each graph on which the server began
+-- the same on each graph on which the server began
 abbrev pub IsRun : {A : Type 0} → (A → State → Type 0) → (has_stopped is_damaged : A → Bool) → (A → Tally) → Terms A → A
     → List Event → Type 0
 IsRun {A} stands has_stopped is_damaged tally t server trail = (begun : A) (graph : Graph) → t.began ≡ Some begun
     → stands begun (opening graph)
     → IsRunOn stands has_stopped is_damaged tally t.seed t.cylinders graph begun server trail
 
--- each is at least the one before it, from this one on, and the last one at least them all
+-- no moment is below the one before it, from `first` on, and none above `last`
 abbrev pub MomentsRise : (first : ℕ) → List ℕ → (last : ℕ) → Type 0
 MomentsRise first [] last = first ≤ last
 MomentsRise first (m ∷ moments) last = (first ≤ m) × MomentsRise m moments last
 
--- What is so whatever disk it is: no more collections began than were called for; as long as the server runs, it counts
--- those of the trail; and since it began no moment is below the one before it.
+-- What holds on any disk. No more collections began than were called for. As long as the server runs, it counts those
+-- of the trail. Since it began, no moment is below the one before it.
 pub record IsLogKept {A : Type 0} (clock : A → ℕ) (has_stopped : A → Bool) (tally : A → Tally) (t : Terms A)
     (server : A)
     (trail : List Event) (moments : List ℕ) : Type 0 where
-  pub few : begins_in trail ≤ t.collections
+  pub few : begins_in trail ≤ (tally server).called
   pub tallied : has_stopped server ≡ false → IsTallied (tally server) trail
   pub rise : (begun : A) → t.began ≡ Some begun → MomentsRise (clock begun) moments (clock server)
 
--- What the trail tells of the disk, whatever disk it is. Of a server that runs, and no failed call of which is told, no
--- trouble is; one that stopped did so by a failed call, unless a block was damaged.
+-- What the trail reports of the disk, on any disk. If the server runs and no failed call is reported, no other trouble
+-- is. If it stopped, a call had failed, unless a block was damaged.
 pub record Told {A : Type 0} (faults : A → ℕ) (has_stopped is_damaged : A → Bool) (begun server : A)
     (trail : List Event)
     : Type 0 where
@@ -79,12 +80,12 @@ pub record Told {A : Type 0} (faults : A → ℕ) (has_stopped is_damaged : A �
   pub calm : has_stopped server ≡ false → list_any tells_disk trail ≡ false → list_all is_calm trail ≡ true
   pub halts : has_stopped server ≡ true → is_damaged server ≡ false → Rose (faults begun) (faults server)
 
--- so it is since the server began
+-- the same since the server began
 pub record IsTold {A : Type 0} (faults : A → ℕ) (has_stopped is_damaged : A → Bool) (t : Terms A) (server : A)
     (trail : List Event) : Type 0 where
   pub since : (begun : A) → t.began ≡ Some begun → Told faults has_stopped is_damaged begun server trail
 
--- how it ended since the server began
+-- how the service ended, by what came since the server began
 pub record HasEnded {A : Type 0} (faults : A → ℕ) (t : Terms A) (server : A) (ending : Ending)
     (trail : List Event) : Type 0 where
   pub later : (begun : A) → t.began ≡ Some begun → faults begun ≤ faults server
@@ -107,25 +108,25 @@ abbrev pub is_quiet_fault : Option CollectFault → Bool
 is_quiet_fault (Some (faults.Disk None)) = true
 is_quiet_fault refused = false
 
--- the count with it
+-- the count of failed calls, with one more for such a step
 abbrev pub first_fault : Option CollectFault → ℕ → ℕ
 first_fault refused n = if is_quiet_fault refused then count_after n else n
 
--- the count of them after this trail, of whose events each counts for which this holds
+-- the count of failed calls after this trail, with one more for each event for which `counts` holds
 abbrev pub faults_after : (Event → Bool) → List Event → ℕ → ℕ
 faults_after counts [] n = n
 faults_after counts (e ∷ trail) n = faults_after counts trail (if counts e then count_after n else n)
 
--- It is at least what the trail's Disk replies come to; and, where the server began on a sound volume, its stops with
--- them.
+-- The server's count of failed calls is at least what the Disk replies of the trail come to. If the server began on a
+-- sound volume, the stops count too.
 pub record CountsFaults {A : Type 0} (faults : A → ℕ) (stands : A → State → Type 0) (t : Terms A) (first : ℕ → ℕ)
     (server : A) (trail : List Event) : Type 0 where
   pub told : (begun : A) → t.began ≡ Some begun → faults_after tells_disk trail (first (faults begun)) ≤ faults server
   pub stops : (begun : A) (graph : Graph) → t.began ≡ Some begun → stands begun (opening graph)
       → faults_after tells_fault trail (first (faults begun)) ≤ faults server
 
--- A turn made an event, or none. The count didn't fall in it; where the event has a Disk reply it rose, and so it did
--- where the event tells a stop of a server that began on a sound volume.
+-- A turn made an event, or none. The count of failed calls didn't fall. It rose if the event has a Disk reply, and if
+-- it reports a stop of a server that began on a sound volume.
 pub record Raises {A : Type 0} (faults : A → ℕ) (stands : A → State → Type 0) (t : Terms A)
     (old new : ServerLog A) : Type 0 where
   pub made : Option Event
@@ -153,7 +154,7 @@ pub record Answered {A : Type 0} (old new : ServerLog A) (who : ℕ) (request : 
 
 -- ---- a step of the collector
 
--- the moment with which it was recorded, if it was
+-- the moment with which an event was recorded, if one was
 abbrev pub stamps : Option Event → ℕ → List ℕ
 stamps None moment = []
 stamps (Some e) moment = moment ∷ []
@@ -186,8 +187,8 @@ abbrev pub refusal_in : CollectorTurn → Option CollectFault
 refusal_in (progresses.Refused fault) = Some fault
 refusal_in progress = None
 
--- It is an event of no session, recorded with the disk's moment; and there is none where nothing is told to be
--- recorded.
+-- A turn of the collector made an event of no session, recorded with the disk's moment, or none. It made none unless
+-- the progress says that one was recorded.
 pub record LogSteps {A : Type 0} (clock : A → ℕ) (old new : ServerLog A) (progress : CollectorTurn) : Type 0 where
   pub event : Option Event
   pub events : new.events ≡ old.events ++ recorded event
@@ -195,5 +196,22 @@ pub record LogSteps {A : Type 0} (clock : A → ℕ) (old new : ServerLog A) (pr
   pub stamped : new.moments ≡ old.moments ++ stamps event (clock new.server)
   pub room : new.room + length (recorded event) ≡ old.room
   pub none : is_recorded progress ≡ false → event ≡ None
-  -- where no step was made it is a stop
+  -- if no step was made, the event is a stop
   pub stop : is_step progress ≡ false → (e : Event) → event ≡ Some e → is_no_step e ≡ true
+
+-- whether a collection is finished by a step, by its event
+abbrev pub finishes : Option Event → Bool
+finishes None = false
+finishes (Some e) = is_finish e
+
+-- and by what is told of it
+abbrev pub is_finished : CollectorTurn → Bool
+is_finished progresses.Finished = true
+is_finished progress = false
+
+-- A turn at no refusal. Where the trail's collections were counted they still are. No more have begun than were called
+-- for, if no more had. One more is finished where that is told.
+pub record CountsTurn (c d : Tally) (old new : List Event) (progress : CollectorTurn) : Type 0 where
+  pub tallied : IsTallied c old → IsTallied d new
+  pub begun : begun_so_far c ≤ c.called → begun_so_far d ≤ c.called
+  pub finished : d.finished ≡ c.finished + (if is_finished progress then 1 else 0)

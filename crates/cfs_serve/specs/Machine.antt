@@ -26,20 +26,20 @@ use Rattle.cfs_serve.specs.declared.logged.CollectorTurn.{CollectorTurn}
 pub record Hearing (A : Type 0) : Type 0 where
   pub logged : ServerLog A
   pub ports : List PortReading
-  -- the turns that the collector may make now, no step where it rests; all that it has left, and how many events of it
-  -- there is room for
+  -- the turns that the collector may make now (no step while it rests), all turns that it has left, and how many of its
+  -- events there is room for
   pub turns : ℕ
   pub left : ℕ
   pub events : ℕ
-  -- the refusal at which it was done
+  -- the refusal at which the collector was done
   pub refused : Option CollectFault
 
--- the parts of a commit that it has to make: none once it was refused
+-- the parts of a commit that the collector has to make: none once it was refused
 abbrev pub parts_now : Option CollectFault → (parts : ℕ) → ℕ
 parts_now None parts = parts
 parts_now (Some fault) parts = 0
 
--- the turns that it may make now, of so many steps and parts
+-- the turns that it may make now, of the steps and the parts that are left
 abbrev pub turns_now : (resting : Bool) → (steps parts : ℕ) → ℕ
 turns_now true steps parts = parts
 turns_now false steps parts = steps + parts
@@ -51,9 +51,9 @@ abbrev pub IsLeave : ℕ → Bool → List Event → Type 0
 IsLeave i false leaves = leaves ≡ []
 IsLeave i true leaves = (stopped : Option ℕ) × (leaves ≡ events.Leave i stopped ∷ [])
 
--- Session i: its events are the turns of its script as far as it was read, and then one leave where it has left, which
--- it does at the script's end or once its sink failed. Its sink has taken its replies; where it failed, all but the
--- last, and some beginning of that one.
+-- Session i. Its events are the turns of its script as far as it was read, and then one leave if it has left, which it
+-- does at the script's end or once its sink failed. Its sink has taken its replies. If the sink failed, it has taken
+-- all but the last, and some beginning of that one.
 pub record IsSession (root : Puid) (i : ℕ) (client : Client) (p : PortReading) (trail : List Event) : Type 0 where
   pub leaves : List Event
   pub split : events_of_session i trail ≡ turns_in i trail ++ leaves
@@ -65,8 +65,8 @@ pub record IsSession (root : Puid) (i : ℕ) (client : Client) (p : PortReading)
   pub replied : Replied client.sink p.sink (printed_replies i trail) (not p.failed)
   pub broken : p.failed ≡ true → BreaksOff i client.sink p.sink (turns_in i trail)
 
--- So it is with each session, and no event is of a session without a script; where no collection is called for, none is
--- a step of one.
+-- Each session is so, and no event is of a session without a script. If no collection is called for, no event is a step
+-- of one.
 pub record AreHeard {A : Type 0} (t : Terms A) (trail : List Event) (ports : List PortReading) : Type 0 where
   pub count : length ports ≡ length t.clients
   pub each : (k : ℕ) (client : Client) (p : PortReading) → slice_get t.clients k ≡ Some client
@@ -75,12 +75,12 @@ pub record AreHeard {A : Type 0} (t : Terms A) (trail : List Event) (ports : Lis
   pub none : (k : ℕ) → length ports ≤ k → events_of_session k trail ≡ []
   pub sessions : t.collections ≡ 0 → list_all is_no_step trail ≡ true
 
--- where no collection is called for, the collector has no step to make
+-- if no collection is called for, the collector has no step to make
 abbrev pub HasNoCollector : {A : Type 0} → Terms A → (turns : ℕ) → Type 0
 HasNoCollector t turns = t.collections ≡ 0 → turns ≡ 0
 
--- A collector that isn't done has a turn more than it makes steps, though each line still to come should add one; and
--- room for an event more than they are.
+-- A collector that isn't done has more turns than it may make steps, even if each line still to come adds one, and room
+-- for more events than it may make.
 abbrev pub HasTurns : (turns events : ℕ) → (lines : ℕ) → Tally → Type 0
 HasTurns turns events lines c = 0 < turns → (c.steps + lines < turns) × (c.events < events)
 
@@ -142,7 +142,8 @@ pub record IsSessionTurn {A : Type 0} (clock : A → ℕ) (i : ℕ) (old new : H
   pub stamped : IsStamped clock old.logged new.logged
   pub collector : (new.events ≡ old.events) × (new.refused ≡ old.refused)
 
--- A turn of the collector, which wasn't done: a step or a part, and one turn less at least; the ports are as they were.
+-- A turn of a collector that wasn't done: a step or a part. At least one turn less is left, and the ports are as they
+-- were.
 pub record IsCollectorTurn {A : Type 0} (clock : A → ℕ) (old new : Hearing A) : Type 0 where
   pub progress : CollectorTurn
   pub steps : LogSteps clock old.logged new.logged progress
@@ -162,14 +163,14 @@ adds_one old new (Some e) is = inr (e, is)
 
 -- ---- the workers
 
--- Worker w is the session of that number, or past them the collector, which has so many turns left; is it done?
+-- Whether worker w is done: the session of that number or, past them, the collector, which has `turns` turns left.
 abbrev pub is_done_in : List PortReading → (turns w : ℕ) → Bool
 is_done_in [] turns zero = turns == 0
 is_done_in [] turns (suc w) = true
 is_done_in (p ∷ ports) turns zero = p.has_left
 is_done_in (p ∷ ports) turns (suc w) = is_done_in ports turns w
 
--- and how many turns has it left?
+-- how many turns it has left
 abbrev pub turns_left_in : List PortReading → (turns w : ℕ) → ℕ
 turns_left_in [] turns zero = turns
 turns_left_in [] turns (suc w) = 0
@@ -223,8 +224,8 @@ charter_of server seed cylinders root collections ports =
 
 -- ---- what it comes to
 
--- A session that has left: its events are turns of its script, all of them or else its sink failed, and then its leave;
--- its sink has taken the replies.
+-- A session that has left. Its events are the turns of its script, all of them unless its sink failed, and then its
+-- leave. Its sink has taken the replies.
 pub record IsSessionOver (root : Puid) (trail : List Event) (i : ℕ) (client : Client) (after : Intake)
     (failed : Bool) : Type 0 where
   pub turns : turns_in i trail ≡ turns_from all_forms i (no_names root) client.lines (turns_in i trail)
@@ -234,8 +235,7 @@ pub record IsSessionOver (root : Puid) (trail : List Event) (i : ℕ) (client : 
   pub replied : Replied client.sink after (printed_replies i trail) (not failed)
   pub broken : failed ≡ true → BreaksOff i client.sink after (turns_in i trail)
 
--- So it is with each of them, and no event is of another session; where no collection is called for, none is a step of
--- one.
+-- Each session has left so, and no event is of another. If no collection is called for, no event is a step of one.
 pub record AreOver (root : Puid) (collections : ℕ) (clients : List Client) (trail : List Event)
     (ports : List PortReading) : Type 0 where
   pub count : length ports ≡ length clients

@@ -38,7 +38,7 @@ abbrev pub CountsAnswers : List Answer → Counts → Type 0
 CountsAnswers told counts =
     (counts.sessions ≡ 1) × (counts.replies ≡ length told) × (counts.collections ≡ 0)
 
--- what is counted of objects and of Free is what the core told last, and so is the stop
+-- the counts of objects and of Free blocks are what the core reported last, and so is the stop
 pub record TellsCore (ending : Ending) (counts : Counts) : Type 0 where
   pub status : Status
   pub is : ending.last ≡ Some status
@@ -61,7 +61,7 @@ pub record ServesNames (reads : Graph → Type 0) (rose : Type 0) (all : List (L
   pub undamaged : (graph : Graph) → reads graph → damage_in ending.stop ≡ None
   pub spoiled : cause ≡ cause_by ending (list_any is_disk_answer told) (not took) (list_any is_memory_answer told)
 
--- They were read of the one source, within the limits, and answered in the one sink; and the report is this one.
+-- The lines were read from the only source, within the limits, and answered in the only sink. The report is this one.
 pub record AreNamesServed (ground : Ground) (rose : Type 0) (sources : List Supply) (sinks sinks_after : List Intake)
     (lines : List (List ℕ)) (told : List Answer) (counts : Counts) (cause : Cause) (report : Report)
     (ending : Ending) : Type 0 where
@@ -77,7 +77,7 @@ pub record AreNamesServed (ground : Ground) (rose : Type 0) (sources : List Supp
 
 -- ---- from a graph on
 
--- each Full names at least so many blocks
+-- a Full names at least `free` blocks
 abbrev pub IsFullWith : (free : ℕ) → Answer → Type 0
 IsFullWith free (answers.Refused (refusals.Asked (replies.Full need))) = free ≤ need.free
 IsFullWith free answer = Unit {0}
@@ -92,23 +92,23 @@ pub record RunsNames {D : Type 0} (g : Ghosts D) (cylinders : ℕ) (graph : Grap
   -- as the last line left it
   pub last : State
   pub run : IsNamesRun cylinders (opening graph) lines told last
-  -- the core stopped in a line, which tells it, or later, or not at all
+  -- the core stopped in a line, whose answer reports it, or later, or not at all
   pub stopped : (moment : ℕ) → last.stopped ≡ Some moment → moment_in ending.stop ≡ Some moment
   pub stop : IsStopTold cause (moment_in ending.stop)
   pub objects : counts.objects ≡ length last.graph.objects
-  -- where the core runs: what its last commit had left is carried out, if that wasn't refused, and then so much is Free;
-  -- and no Full named less than is Free at last
+  -- If the core runs, what its last commit had left is carried out, unless that was refused, and then this many blocks
+  -- are Free. No Full named fewer than are Free at last.
   pub free : ending.stop ≡ None → ending.refused ≡ None → counts.free ≡ free_once_tidy cylinders last.graph
   pub full : ending.stop ≡ None → AreFullWith counts.free told
-  -- where all went well the disk is sound and reads as what is rooted at last, with its names
+  -- if all went well, the disk is sound and reads as what is rooted at last, with its names
   pub sound : cause ≡ causes.Nothing → ReadsRooted (g.content new) last.graph
-  -- Where no request is in doubt, whatever a crash leaves since the opening has the names that some of the lines left, or
-  -- with them what the next would change; and what one leaves now has those of all.
+  -- If no request is in doubt, whatever a crash leaves since the opening has the names that some first lines left, or
+  -- these with the change of the next line. If the core runs, what a crash leaves now has the names of all lines.
   pub crashes : last.stopped ≡ None → (c : Image) → g.left_since new (g.moment opened) c
       → ReadsAlong c cylinders (opening graph) lines told
   pub now : ending.stop ≡ None → (c : Image) → left_now g new c → ReadsRooted c last.graph
 
--- A run of names on a disk that was opened so.
+-- Lines of names were served on a disk whose volume was opened.
 pub record HasServedNames {D : Type 0} (g : Ghosts D) (ground : Ground) (rose : Type 0) (sources : List Supply)
     (sinks sinks_after : List Intake) (report : Report) (ending : Ending) (opened new : D) : Type 0 where
   pub lines : List (List ℕ)
@@ -116,7 +116,7 @@ pub record HasServedNames {D : Type 0} (g : Ghosts D) (ground : Ground) (rose : 
   pub counts : Counts
   pub cause : Cause
   pub served : AreNamesServed ground rose sources sinks sinks_after lines told counts cause report ending
-  -- the count of failed calls rose by those that are told
+  -- the count of failed calls rose by those that are reported
   pub faults : faults_told told (first_fault ending.refused (g.faults opened)) ≤ g.faults new
   pub on : (graph : Graph) → ground.reads graph
       → RunsNames g ground.cylinders graph lines told counts cause ending opened new
@@ -124,8 +124,8 @@ pub record HasServedNames {D : Type 0} (g : Ghosts D) (ground : Ground) (rose : 
 -- ---- by a core
 
 -- The lines were answered by a core, which is over; its disk is handed back.
-pub record CoreServesNames {D : Type 0} (g : Ghosts D) (core : Kernel D) (all : List (List ℕ)) (sink sink_after : Intake)
-    (report : Report) (ending : Ending) (disk : D) : Type 0 where
+pub record CoreServesNames {D : Type 0} (g : Ghosts D) (core : Kernel D) (all : List (List ℕ))
+    (sink sink_after : Intake) (report : Report) (ending : Ending) (disk : D) : Type 0 where
   pub lines : List (List ℕ)
   pub told : List Answer
   pub took : Bool

@@ -37,8 +37,8 @@ pub record OpensVolume {D : Type 0} (g : Ghosts D) (told : Report) (old opened n
   pub opening : IsTrue (g.honest old) → (graph : Graph) → IsSoundAs (g.content old) graph
       → (opened ≡ old) ⊎ LeavesSinceTry g old opened (λ c. IsSoundAs c graph)
   pub unserved : told.counts ≡ None → new ≡ opened
-  -- nothing was written where the volume was refused for what is wrong with it, or isn't sound; and a source that failed
-  -- or is too long left it unopened
+  -- if the volume was refused for what is wrong with it, or isn't sound, nothing was written; if a source failed or is
+  -- too long, the volume wasn't opened
   pub untouched : IsTrue (g.honest old) → told.counts ≡ None → (fault : VolumeFault) → told.cause ≡ causes.Volume fault
       → IsUntouched g old new
   pub unsound : IsTrue (g.honest old) → ¬ IsSound (g.content old) → IsUntouched g old new
@@ -61,20 +61,20 @@ NamesOn g ground places places_after told ending (Some old) (Some new) =
 NamesOn g ground places places_after told ending (Some old) None = ⊥
 NamesOn g ground places places_after told ending None new = ⊥
 
--- where they are asked for
+-- the same, if lines of names are asked for
 abbrev pub IfNames : {D : Type 0} → Ghosts D → Asked → Ground → (places places_after : Places) → Report → Ending
     → Option D → Option D → Type 0
 IfNames g (Dirs names) ground places places_after told ending old new =
     NamesOn g ground places places_after told ending old new
 IfNames g asked ground places places_after told ending old new = Unit {0}
 
--- what is outside, but for the report
+-- what is outside, except the sink of the report
 abbrev pub places_in : Outside → Places
 places_in o = record { disk = o.disk; sources = o.sources; sinks = o.sinks }
 
 -- ---- what the status says
 
--- 0: each request line has one answer in the sink, of which none tells a failed call or want of memory
+-- 0: each request line has one answer in the sink, and none reports a failed call or want of memory
 pub record NamesEndedWell (told : Report) (old new : Outside) : Type 0 where
   pub served : WasServed told
   pub nothing : told.cause ≡ causes.Nothing
@@ -85,12 +85,12 @@ pub record NamesEndedWell (told : Report) (old new : Outside) : Type 0 where
   pub calm : (list_any is_disk_answer answers ≡ false) × (list_any is_memory_answer answers ≡ false)
   pub reported : Wrote old.report new.report (report_text told)
 
--- Of lines of names: what is told, and what the status says, as of a service.
+-- What is reported of lines of names, and what the status says.
 pub record SaidOfNames (names : NamesService) (ground : Ground) (old new : Outside) (told : Report) (status : ℕ)
     (ending : Ending) (trail : List Event) : Type 0 where
   pub places : HasPlaces (Dirs names) (length new.sources) (length new.sinks)
   pub no_event : trail ≡ []
-  -- nothing was served, and then the sink took no byte, nothing ended, and it is told why
+  -- if nothing was served, the sink took no byte, nothing ended, and the report says why
   pub unserved : IsNone told.counts → (new.sinks ≡ old.sinks) × (ending ≡ not_begun) × ¬ (told.cause ≡ causes.Nothing)
   pub sound : WasServed told → ¬ ground.unsound
   pub within_limits : WasServed told → (scripts : List (List ℕ)) → HadLeft old scripts → AreWithinLimits scripts
@@ -110,7 +110,8 @@ pub record SaidOfNames (names : NamesService) (ground : Ground) (old new : Outsi
   -- a limit that was passed gives 9, unless a source failed or memory was wanting
   pub over : (scripts : List (List ℕ)) → HadLeft old scripts → ¬ (AreWithinLimits scripts)
       → (status ≡ 9) ⊎ (told.cause ≡ causes.Memory) ⊎ (status ≡ 6)
-  -- where no limit was passed and no count rose it is 0 or 7 on a sound volume, and 3 or 7 on one that is known to be none
+  -- if no limit was passed and no count rose, it is 0 or 7 on a sound volume, and 3 or 7 on one that is known to be
+  -- unsound
   pub complete : (scripts : List (List ℕ)) → HadLeft old scripts → AreWithinLimits scripts → NoCountRose old new
       → (graph : Graph) → ground.reads graph → (status ≡ 0) ⊎ (status ≡ 7)
   pub refused : (scripts : List (List ℕ)) → HadLeft old scripts → AreWithinLimits scripts → NoCountRose old new

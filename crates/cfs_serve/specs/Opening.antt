@@ -1,4 +1,4 @@
--- What is told of a volume that wasn't opened.
+-- What is reported of a volume that wasn't opened.
 use Rattle.std.specs.Prelude.{◌≡◌, IsTrue, Result, Ok, Err, None}
 use Rattle.cfs_base.specs.Outside.{Rose}
 use Rattle.cfs_base.specs.declared.disk.Disk.{Ghosts}
@@ -20,8 +20,8 @@ opening_cause (whys.Version found) = causes.Volume (faults.Version found)
 opening_cause (whys.Damaged d) = causes.Volume (faults.Damaged d)
 opening_cause whys.Memory = causes.Memory
 
--- a fault that an honest disk has, and then it holds no sound volume; a failed call only where one failed; else want of
--- memory
+-- Why a volume wasn't opened. A fault is one that an honest disk has, and then it holds no sound volume. A failed call
+-- is reported only if one failed. Else memory was wanting.
 abbrev pub IsOpeningRefusal : {D : Type 0} → Ghosts D → D → D → Cause → Type 0
 IsOpeningRefusal g old new (causes.Volume fault) =
     IsTrue (g.honest old) → (¬ IsSound (g.content old)) × IsOpenFault (g.content old) (why fault)

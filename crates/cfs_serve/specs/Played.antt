@@ -28,9 +28,9 @@ use Rattle.cfs_serve.specs.declared.report.Cause.TheVariants as causes
 use Rattle.cfs_serve.specs.declared.ending.Ending.{Ending}
 use Rattle.cfs_serve.specs.declared.report.Report.{Report}
 
--- ---- what is counted and told
+-- ---- what is counted and reported
 
--- the counts of a service of so many sessions, by its trail and its last graph
+-- the counts of a service, by its sessions, its trail and its last graph
 abbrev pub counts_of : (sessions : ℕ) → List Event → Graph → (free : ℕ) → Counts
 counts_of sessions trail graph free = record {
   sessions = sessions;
@@ -46,8 +46,8 @@ CountsSessions sessions trail counts =
     (counts.sessions ≡ sessions) × (counts.replies ≡ length (filter is_reply trail))
     × (counts.collections ≡ finishes_in trail)
 
--- Whatever disk it is: what is counted of objects and of Free is what the core told last. That status tells the stop,
--- and of a core that runs the collections of the trail.
+-- On any disk the counts of objects and of Free blocks are those of the status that the core gave last. It also has the
+-- stop and, if the core runs, the collections of the trail.
 pub record TellsLast (collections : ℕ) (ending : Ending) (trail : List Event) (counts : Counts) : Type 0 where
   pub status : Status
   pub is : ending.last ≡ Some status
@@ -58,11 +58,12 @@ pub record TellsLast (collections : ℕ) (ending : Ending) (trail : List Event) 
   pub finished : ending.stop ≡ None → status.finished ≡ finishes_in trail
   pub running : ending.stop ≡ None → begins_in trail ≡ finishes_in trail + (if status.running then 1 else 0)
 
--- what is Free is all but the map of each cylinder, the label, and the blocks of the objects
+-- how many blocks are Free: all except the map of each cylinder, the label, and the blocks of the objects
 abbrev pub free_once_tidy : (cylinders : ℕ) → Graph → ℕ
 free_once_tidy cylinders graph = 63 * cylinders - 1 - graph_blocks graph
 
--- Of a sound volume: the server stopped at the moment that is told of the disk, and else not, and no block is damaged.
+-- On a sound volume no block is damaged. Of a failed disk the moment at which the server stopped is reported, if it
+-- did. With any other cause it didn't stop.
 abbrev pub IsStopTold : Cause → (stopped : Option ℕ) → Type 0
 IsStopTold (causes.Disk moment) stopped = moment ≡ stopped
 IsStopTold (causes.Volume fault) stopped = ⊥
@@ -70,7 +71,7 @@ IsStopTold cause stopped = stopped ≡ None
 
 -- ---- sessions that were served
 
--- From this graph the trail is a legal run, and each reply exact; where no call of the disk failed, none is behind an
+-- From this graph the trail is a legal run, and each reply is exact. If no call of the disk failed, none is behind an
 -- event.
 pub record IsRunFrom (cylinders seed collections : ℕ) (graph : Graph) (rose : Type 0) (sessions : ℕ) (counts : Counts)
     (cause : Cause) (ending : Ending) (trail : List Event) : Type 0 where
@@ -80,7 +81,7 @@ pub record IsRunFrom (cylinders seed collections : ℕ) (graph : Graph) (rose : 
   pub calm : ¬ rose → list_all is_calm trail ≡ true
   pub stop : IsStopTold cause last.stopped
   pub counted : counts ≡ counts_of sessions trail last.graph counts.free
-  -- where the collector was done at no refusal, nothing is unfinished
+  -- if the collector wasn't refused, nothing is unfinished
   pub free : ending.refused ≡ None → last.stopped ≡ None → sweeps_now last.collection ≡ false
       → counts.free ≡ free_once_tidy cylinders last.graph
   -- once as many collections are finished as were called for, nothing sweeps
@@ -107,9 +108,9 @@ pub record IsPlayed (ground : Ground) (seed collections : ℕ) (rose : Type 0) (
   pub ends : EndsService rose collections ending trail
   -- no more collections began than were called for
   pub few : begins_in trail ≤ collections
-  -- where the collector was done at no refusal, as many are finished
+  -- if the collector wasn't refused, as many are finished
   pub collected : ending.refused ≡ None → finishes_in trail ≡ collections
-  -- it wanted memory only where one would begin
+  -- it wanted memory only to begin one
   pub wanting : ending.refused ≡ Some faults.Memory → IsWanting collections trail
   -- no block of a sound volume is found damaged
   pub undamaged : (graph : Graph) → ground.reads graph → damage_in ending.stop ≡ None
@@ -133,7 +134,7 @@ pub record ServesNothing (sinks after : List Intake) (report : Report) (ending :
 
 -- ---- from the sources on
 
--- the volume may read as no graph
+-- there is no graph that the volume may read as
 abbrev pub HasNone : Ground → Type 0
 HasNone ground = (graph : Graph) → ¬ ground.reads graph
 

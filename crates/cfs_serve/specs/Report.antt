@@ -54,7 +54,6 @@ abbrev pub fault_lines : List Damage → List ℕ
 fault_lines ds = flat_map fault_line ds
 
 -- what is wrong with a volume; of a damage the block and its code
-
 abbrev pub fault_text : VolumeFault → List ℕ
 fault_text faults.NotVolume = codes "volume not-volume\n"
 fault_text (faults.Version found) = numbered (codes "volume version") found
@@ -86,6 +85,6 @@ ending_text cause = cause_text cause ++ numbered (codes "status") (status_of cau
 abbrev pub report_text : Report → List ℕ
 report_text r = fault_lines r.faults ++ counts_text r.counts ++ ending_text r.cause
 
--- where nothing was served and no fault of a volume was found
+-- the report of a run that served nothing and found no faults to list
 abbrev pub untold : Cause → Report
 untold cause = record { counts = None; faults = []; cause = cause }

@@ -20,7 +20,7 @@ AreWithinLimits scripts = AreShort scripts × (lines_in scripts ≤ most_lines)
 
 -- ---- what the sources had left
 
--- these are all that they had, where each tells it
+-- these are all that the sources had, if each tells it
 abbrev pub Had : List Supply → List (List ℕ) → Type 0
 Had sources scripts = map (λ s. s.left) sources ≡ map Some scripts
 

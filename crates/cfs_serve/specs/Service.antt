@@ -20,8 +20,8 @@ use Rattle.cfs_serve.specs.declared.server.Server.{Ghosts}
 
 -- ---- as it begins
 
--- A server that ran and of which nothing was asked yet, with these collections called for; ports whose sessions are new;
--- an empty trail with room for all their events; and more turns than the collector may need.
+-- A service is ready to begin. Its server runs, and nothing was asked of it yet but these collections. The sessions of
+-- its ports are new. The trail is empty, with room for all events. There are more turns than the collector may need.
 pub record IsServiceReady {A : Type 0} (v : Ghosts A) (server : A) (trail : Recorded)
     (ports : List PortReading) (collections turns : ℕ) : Type 0 where
   pub no_event : trail.events ≡ []
@@ -39,7 +39,7 @@ pub record IsServiceReady {A : Type 0} (v : Ghosts A) (server : A) (trail : Reco
   pub sessions : length ports ≤ 64
   pub most : collections ≤ 1000
 
--- such a server, by the charter of its service
+-- what is known of such a server, by the charter of its service
 pub record IsServiceBegun {A : Type 0} (v : Ghosts A) (t : Terms A) (server : A) : Type 0 where
   pub opens : IsRun v.stands v.has_stopped v.is_damaged v.tally t server []
   pub lasts : Lasts v.stands v.clock v.lasts t server [] []
@@ -53,8 +53,8 @@ pub record IsServiceBegun {A : Type 0} (v : Ghosts A) (t : Terms A) (server : A)
 
 -- ---- as it has ended
 
--- The collector was done at no refusal, and then as many collections are finished as were called for and no commit is
--- unfinished; or it was refused, and wanted memory only where one would begin.
+-- If the collector wasn't refused, as many collections are finished as were called for, and no commit is unfinished. It
+-- was refused for want of memory only as a collection would begin.
 pub record HasCollected {A K : Type 0} (v : Ghosts A) (collections : ℕ) (s : Served A K) : Type 0 where
   pub all : s.ending.refused ≡ None → finishes_in s.trail.events ≡ collections
   pub settled : s.ending.refused ≡ None → v.unfinished s.server ≡ 0
@@ -68,11 +68,10 @@ pub record IsClosed {A : Type 0} (v : Ghosts A) (t : Terms A) (c : Closed A) : T
   pub kept : IsLogKept v.clock v.has_stopped v.tally t c.server c.trail.events c.trail.moments
   pub stops : KnowsStop v.clock v.stop c.server c.trail.events
   pub size : v.cylinders c.server ≡ t.cylinders
-  pub called : (v.tally c.server).called ≡ t.collections
   pub starved : c.starved ≡ list_any wants_memory c.trail.events
   pub failed : c.failed ≡ list_any tells_disk c.trail.events
 
--- by the charter of the service
+-- what a service comes to, by its charter
 pub record IsEndOf {A K : Type 0} (v : Ghosts A) (t : Terms A) (s : Served A K) : Type 0 where
   pub run : IsRun v.stands v.has_stopped v.is_damaged v.tally t s.server s.trail.events
   pub lasts : Lasts v.stands v.clock v.lasts t s.server s.trail.events s.trail.moments
@@ -88,13 +87,13 @@ pub record IsEndOf {A K : Type 0} (v : Ghosts A) (t : Terms A) (s : Served A K) 
   pub starved : s.starved ≡ list_any wants_memory s.trail.events
   pub failed : s.failed ≡ list_any tells_disk s.trail.events
 
--- and by the server that was handed in
+-- what it comes to, by the server that was handed in
 pub record HasServed {A K : Type 0} (v : Ghosts A) (began : A) (ports : List PortReading)
     (collections : ℕ) (s : Served A K) : Type 0 where
   -- on each graph that the server stood for, a legal run, of which it stands for the last state
   pub run : (graph : Graph) → v.stands began (opening graph) → IsRunOn v.stands v.has_stopped v.is_damaged v.tally
       (v.seed began) (v.cylinders began) graph began s.server s.trail.events
-  -- and what was known of crashes as it began is known of the whole trail, from the moments of its events on
+  -- what was known of crashes as it began is known of the whole trail, from the moments of its events on
   pub lasts : (graph : Graph) → v.stands began (opening graph)
       → v.lasts began (v.seed began) graph [] (v.clock began ∷ [])
       → v.lasts s.server (v.seed began) graph s.trail.events (v.clock began ∷ s.trail.moments)
@@ -115,8 +114,8 @@ pub record HasServed {A K : Type 0} (v : Ghosts A) (began : A) (ports : List Por
   pub collected : HasCollected v collections s
   -- no moment is below the one before it
   pub rise : MomentsRise (v.clock began) s.trail.moments (v.clock s.server)
-  -- The disk's count of failed calls is at least what the Disk replies come to, and a step that was refused for one
-  -- without a doubt; and the stops with them, on each graph that the server stood for.
+  -- The disk's count of failed calls is at least what the Disk replies come to, with a step that was refused for a
+  -- failed call without a doubt. On each graph that the server stood for, the stops count too.
   pub counted : faults_after tells_disk s.trail.events (first_fault s.ending.refused (v.faults began))
       ≤ v.faults s.server
   pub stops : (graph : Graph) → v.stands began (opening graph)

@@ -9,7 +9,7 @@ use Rattle.cfs_core.specs.declared.tidying.Tidy.TheVariants as tidies
 use Rattle.cfs_core.specs.declared.tidying.TidyFault.{TidyFault}
 use Rattle.cfs_serve.specs.Turns.{fault_as}
 
--- parts were made
+-- some parts were made
 pub data MakesParts {D : Type 0} (g : Ghosts D) (old : Kernel D) : Kernel D → Type 0 where
   Begun : MakesParts g old old
   After : {mid new : Kernel D} → MakesParts g old mid → TidiesVolume g mid new (Ok tidies.Step) → MakesParts g old new

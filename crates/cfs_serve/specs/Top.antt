@@ -1,4 +1,4 @@
--- What a whole run comes to, for whoever started it: the trail, the sinks, what is told, and what the status says.
+-- What a whole run comes to, for whoever started it: the trail, the sinks, the report, and what the status says.
 use Rattle.std.specs.Prelude.{◌≡◌, ◌↔◌, ℕ, ◌+◌, ◌<◌, ◌≤◌, ◌⊎◌, Bool, true, false, List, [], ◌∷◌, ◌++◌, map, length}
 use Rattle.std.specs.Prelude.{get_or, slice_index_or, Option, Some, None, IfSome, IsSome, IsNone, option_map}
 use Rattle.std.specs.List.{list_any, list_all}
@@ -47,8 +47,8 @@ use Rattle.cfs_serve.specs.Words.{most_in_source}
 
 -- ---- what is outside
 
--- how often the volume's disk failed, where there is one; and what is known of the sources, of the sinks, and of the
--- sink of the report
+-- how often the volume's disk failed, if there is one, and what is known of the sources, of the sinks, and of the sink
+-- of the report
 pub record Outside : Type 0 where
   pub disk : Option ℕ
   pub sources : List Supply
@@ -106,13 +106,13 @@ pub record NoCountRose (old new : Outside) : Type 0 where
 
 -- ---- scripts, and their limits
 
--- all that each source had left, where each tells it
+-- all that each source had left, if each tells it
 abbrev pub HadLeft : Outside → List (List ℕ) → Type 0
 HadLeft o scripts = Had o.sources scripts
 
 -- ---- the trail
 
--- A session was served from a script: all that its source had left, where it tells that.
+-- A session was served from a script: all that its source had left, if it tells that.
 pub record IsServedFrom (root : Puid) (trail : List Event) (all : Bool) (session : ℕ) (source : Supply) : Type 0 where
   pub script : List ℕ
   pub whole : (left : List ℕ) → source.left ≡ Some left → script ≡ left
@@ -122,9 +122,9 @@ pub record IsServedFrom (root : Puid) (trail : List Event) (all : Bool) (session
   pub turns : AreTurns all_forms session root script trail
   pub answered : all ≡ true → length (turns_in session trail) ≡ length (request_lines script)
 
--- ---- what is told
+-- ---- what is reported
 
--- it was served
+-- something was served
 abbrev pub WasServed : Report → Type 0
 WasServed told = IsSome told.counts
 
@@ -133,7 +133,7 @@ abbrev pub HasBroken : Bool → Outside → (took : ℕ → Bool) → Type 0
 HasBroken true o took = (k : ℕ) × (k < length o.sinks) × (took k ≡ false)
 HasBroken false o took = (k : ℕ) → took k ≡ true
 
--- nothing is told that is worse than want of memory
+-- nothing worse than want of memory is reported
 abbrev pub is_mild : Cause → Bool
 is_mild causes.Nothing = true
 is_mild (causes.Page page) = true
@@ -151,29 +151,30 @@ is_mild (causes.BadLine line) = false
 is_mild (causes.Illegal event) = false
 is_mild (causes.Sound objects left) = true
 
--- the verdict on a trail is told; and it isn't that the trail is legal
+-- the verdict on a trail is reported
 abbrev pub is_verdict : Cause → Bool
 is_verdict (causes.Legal n) = true
 is_verdict (causes.BadLine line) = true
 is_verdict (causes.Illegal event) = true
 is_verdict cause = false
 
+-- a verdict is reported, and it isn't that the trail is legal
 abbrev pub is_refutation : Cause → Bool
 is_refutation (causes.BadLine line) = true
 is_refutation (causes.Illegal event) = true
 is_refutation cause = false
 
--- the report's text was written whole, or its sink failed and has some of its beginning
+-- the report's text was written whole, or its sink failed and has some beginning of it
 abbrev pub WritesReport : (text : List ℕ) → Outside → Outside → Type 0
 WritesReport text old new = Wrote old.report new.report text ⊎ WroteSome old.report new.report text
 
--- the sink of the report failed, and nothing worse is told
+-- the sink of the report failed, and nothing worse is reported
 abbrev pub SpoilsReport : Cause → Outside → Outside → Type 0
 SpoilsReport cause old new = (is_mild cause ≡ true) × Rose old.report.faults new.report.faults
 
 -- ---- what a status says
 
--- it is that of the cause that is told, but for a report that failed
+-- the status is that of the cause that is reported, or 5 if the report's sink failed
 abbrev pub IsStatus : ℕ → Cause → Outside → Outside → Type 0
 IsStatus status cause old new = (status ≡ status_of cause) ⊎ ((status ≡ 5) × SpoilsReport cause old new)
 
@@ -185,7 +186,7 @@ pub record EndedWell (asked : Asked) (ground : Ground) (told : Report) (trail : 
   -- each script was read to its end, and each of its request lines has one reply
   pub answered : EachSource (λ session source _. (left : List ℕ) → source.left ≡ Some left
       → length (turns_in session trail) ≡ length (request_lines left)) old new
-  -- each sink holds all replies of its session, and none of them tells want of memory
+  -- each sink holds all replies of its session, and none of them reports want of memory
   pub replied : EachSink (λ session sink outside_after. Wrote sink outside_after (printed_replies session trail))
       old new
   pub memory : list_any wants_memory trail ≡ false
@@ -209,7 +210,7 @@ pub record Made (asked : Asked) (told : Report) (old new : Outside) : Type 0 whe
   pub is : told ≡ untold causes.Nothing
   pub written : Wrote old.report new.report (report_text told)
 
--- or a trail was audited: all that its source had left is a legal one, of so many events
+-- or a trail was audited: all that its source had left is a legal one, of `events` events
 pub record Audited (asked : Asked) (told : Report) (old new : Outside) : Type 0 where
   pub events : ℕ
   pub asks : is_audit asked ≡ true
@@ -217,7 +218,7 @@ pub record Audited (asked : Asked) (told : Report) (old new : Outside) : Type 0 
   pub legal : EachSource (λ _ source _. (left : List ℕ) → source.left ≡ Some left → IsLegal left events) old new
   pub written : Wrote old.report new.report (report_text told)
 
--- or a volume was checked, and isn't known to be no sound one
+-- or a volume was checked, and isn't known to be unsound
 pub record FoundSound (asked : Asked) (ground : Ground) (told : Report) (old new : Outside) : Type 0 where
   pub volume : List ℕ
   pub objects : ℕ
@@ -234,29 +235,29 @@ pub record WasMended (asked : Asked) (told : Report) (old new : Outside) : Type 
   pub is : told ≡ untold causes.Nothing
   pub written : Wrote old.report new.report (report_text told)
 
--- 3: the volume was refused as it was opened, and this is wrong with it; or the core stopped at a block that is
--- damaged. It isn't known to be sound.
+-- 3: the volume was refused as it was opened, and this is wrong with it; or the core stopped at a damaged block. The
+-- volume isn't known to be sound.
 abbrev pub VolumeRefused : Ground → Report → Type 0
 VolumeRefused ground told =
     ((fault : VolumeFault) × (told.cause ≡ causes.Volume fault) × (IsNone told.counts → ground.faulty fault))
     × HasNone ground
 
--- 4: the disk failed, and so it is told
+-- 4: the disk failed, and the report says so
 abbrev pub DiskFailed : Report → Outside → Outside → Type 0
 DiskFailed told old new = ((moment : Option ℕ) × (told.cause ≡ causes.Disk moment)) × RoseIn old.disk new.disk
 
--- 5: a session's sink failed, and so it is told; or that of the report
+-- 5: a session's sink failed, and the report says so; or the report's sink failed
 abbrev pub SinkFailed : Report → Outside → Outside → Type 0
 SinkFailed told old new = (WasServed told × (told.cause ≡ causes.Sink) × SomeRose (sink_faults old) (sink_faults new))
     ⊎ SpoilsReport told.cause old new
 
--- 6: nothing was served, and the source failed whose number is told, the first that failed or is too long
+-- 6: nothing was served: the source of the reported number failed, the first that failed or is too long
 abbrev pub SourceFailed : Report → Outside → Outside → Type 0
 SourceFailed told old new =
     (n : ℕ) × (told ≡ untold (causes.Source n)) × (n < length old.sources)
     × Rose (get_or (source_faults old) n 0) (get_or (source_faults new) n 0) × IsFirstRead old.sources new.sources n
 
--- 7: memory was wanting, also for a line of the report where nothing worse is told; and its text is whole
+-- 7: memory was wanting, perhaps only for a line of the report, if nothing worse is reported; its text is written whole
 abbrev pub MemoryWanting : (short : Bool) → Cause → (text : List ℕ) → Outside → Outside → Type 0
 MemoryWanting short cause text old new = (last_cause short cause ≡ causes.Memory) × Wrote old.report new.report text
 
@@ -273,18 +274,18 @@ IsOverLimit asked ground causes.LongVolume old new =
     (is_inspection asked ≡ true) × (most_inspected < ground.blocks)
 IsOverLimit asked ground cause old new = ⊥
 
--- 9: nothing was served, and it is told which limit was passed
+-- 9: nothing was served, and the report says which limit was passed
 abbrev pub LimitPassed : Asked → Ground → Report → Outside → Outside → Type 0
 LimitPassed asked ground told old new = IsNone told.counts × IsOverLimit asked ground told.cause old new
 
--- What an audit comes to where no count rose: the verdict on a text within the limit, by which the status is 0 or 8; of
--- a longer one 9; or want of memory.
+-- What an audit comes to if no count rose: the verdict on a text within the limit, with status 0 or 8; status 9 for a
+-- longer text; or want of memory.
 abbrev pub IsAudited : (status : ℕ) → Cause → (text : List ℕ) → Type 0
 IsAudited status cause text =
     ((length text ≤ most_trail) × (is_verdict cause ≡ true) × Judges cause text × (status ≡ status_of cause))
     ⊎ ((most_trail < length text) × (status ≡ 9)) ⊎ (status ≡ 7)
 
--- What an inspection comes to where no limit was passed and no count rose.
+-- What an inspection comes to if no limit was passed and no count rose.
 pub record CompletesInspection (ground : Ground) (mends : Bool) (status : ℕ) : Type 0 where
   pub sound : (graph : Graph) → ground.reads graph → (status ≡ 0) ⊎ (status ≡ 7)
   pub unsound : mends ≡ false → ground.unsound → (status ≡ 3) ⊎ (status ≡ 7)
@@ -292,51 +293,51 @@ pub record CompletesInspection (ground : Ground) (mends : Bool) (status : ℕ) :
 
 -- ---- all that is said
 
--- Of a service on a volume that reads as this graph: the trail is a legal run on it, and each answer exact; and what is
--- told.
+-- What a service did and reported on a volume that reads as this graph. The trail is a legal run on it, and each answer
+-- is exact.
 pub record DidOn (service : Service) (ground : Ground) (graph : Graph) (old new : Outside) (told : Report)
     (ending : Ending)
     (trail : List Event) : Type 0 where
   pub last : State
   pub legal : replay service.seed graph trail ≡ Some last
-  -- each Full names the room of the state before it, but for blocks not yet swept of objects that are gone; and each
+  -- each Full names the room of the state before it, less the blocks, not yet swept, of objects that are gone; each
   -- request that was done left four blocks of the room beside its need
   pub exact : 0 < ground.cylinders → AreExact ground.cylinders service.seed 0 (opening graph) trail
-  -- where no call of the disk failed, none is behind an event, and no stop
+  -- if no call of the disk failed, no failed call and no stop is behind an event
   pub calm : ¬ (RoseIn old.disk new.disk) → list_all is_calm trail ≡ true
-  -- no block is damaged: no event tells one, and the core stopped at none
+  -- no block is damaged: no event reports one, and the core stopped at none
   pub undamaged : (list_any tells_damage trail ≡ false) × (damage_in ending.stop ≡ None)
-  -- the moment that is told of a disk is that of the stop; with another cause there was none, and no block was damaged
+  -- the moment that is reported of a disk is that of the stop; with another cause there was no stop, and no damage
   pub stop : WasServed told → IsStopTold told.cause last.stopped
-  -- the counts are those of the trail and of the last graph; of what is Free, where there was no stop, no refusal of
-  -- the collector, and nothing sweeps
+  -- the counts are those of the trail and of the last graph, and that of Free blocks is too if there was no stop, the
+  -- collector wasn't refused, and nothing sweeps
   pub counted : IfSome told.counts (λ counts. (counts ≡ counts_of (length old.sources) trail last.graph counts.free)
       × (ending.refused ≡ None → last.stopped ≡ None → sweeps_now last.collection ≡ false
       → counts.free ≡ free_once_tidy ground.cylinders last.graph))
   -- once as many collections are finished as were called for, nothing sweeps
   pub rests : last.stopped ≡ None → finishes_in trail ≡ service.collections → sweeps_now last.collection ≡ false
-  -- the graph that was served is one, so that the laws of what vanishes hold of the trail
+  -- the graph that was served is a good one, so that the laws of what vanishes hold of the trail
   pub whole : WasServed told → IsGraph graph
 
--- What a run does and tells: by what its words ask for, what its volume is, what is outside before and after, what is
--- told, and the trail.
+-- What a run does and reports: by what its words ask for, what its volume is, what is outside before and after, the
+-- report, and the trail.
 pub record Did (asked : Asked) (ground : Ground) (old new : Outside) (told : Report) (ending : Ending)
     (trail : List Event)
     : Type 0 where
   -- as many sources and sinks are handed back as there were
   pub places : HasPlaces asked (length new.sources) (length new.sinks)
-  -- nothing was served, and then there is no event, no sink took a byte, and nothing ended; or each session left
+  -- if nothing was served, there is no event, no sink took a byte, and nothing ended; else each session left
   pub unserved : IsNone told.counts → (trail ≡ []) × (new.sinks ≡ old.sinks) × (ending ≡ not_begun)
   pub unasked : is_service asked ≡ false → IsNone told.counts
   pub leaves : WasServed told → EachSource (λ session _ _. (stopped : Option ℕ)
       × (events_of_session session trail ≡ turns_in session trail ++ events.Leave session stopped ∷ [])) old new
-  -- where no collection is called for none of the events is a step of one
+  -- if no collection is called for, no event is a step of one
   pub sessions : collections_of asked ≡ 0 → list_all is_no_step trail ≡ true
   pub others : (k : ℕ) → length old.sources ≤ k → events_of_session k trail ≡ []
   -- from each graph that the volume may read as, the events are a legal run
   pub on : IfServes asked (λ service. (graph : Graph) → ground.reads graph
       → DidOn service ground graph old new told ending trail)
-  -- a volume that is known to be no sound one is never served
+  -- a volume that is known to be unsound is never served
   pub sound : WasServed told → ¬ ground.unsound
   -- whether each session's sink took all replies
   pub took : ℕ → Bool
@@ -350,51 +351,51 @@ pub record Did (asked : Asked) (ground : Ground) (old new : Outside) (told : Rep
   -- what was served is within the limits
   pub within : is_service asked ≡ true → WasServed told → (scripts : List (List ℕ)) → HadLeft old scripts
       → AreWithinLimits scripts
-  -- the sink has taken the replies, all or some of their beginning
+  -- the sink has taken the replies, all or some beginning of them
   pub replied : EachSink (λ session sink outside_after. Replied sink outside_after (printed_replies session trail)
       (took session)) old new
   -- a session whose sink failed ends with the reply in which it failed: no line after it was served
   pub broken : WasServed told → EachSink (λ session sink outside_after. took session ≡ false
       → BreaksOff session sink outside_after (turns_in session trail)) old new
-  -- it is told exactly that the words are of no form, or that this page was asked for
+  -- the report says that the words are of no form, or that this page was asked for, exactly if it is so
   pub words : (told.cause ≡ causes.Words) ↔ (asked ≡ Nothing)
   pub page : (page : Page) → (told.cause ≡ causes.Page page) ↔ (asked ≡ Shows page)
-  -- where nothing was served it is told why, unless a volume was to be made or mended: of one that was to be made only a
-  -- failed disk is told
+  -- if nothing was served, the report says why, unless a volume was to be made or mended; of one that was to be made it
+  -- reports only a failed disk
   pub cause : IsNone told.counts → makes_volume asked ≡ false → ¬ (told.cause ≡ causes.Nothing)
   pub made : is_format asked ≡ true → TellsMade told.cause old.disk new.disk
-  -- of an audit it is told what was found of its source, and a verdict of nothing else
+  -- an audit reports what was found of its source, and only an audit reports a verdict
   pub audited : is_audit asked ≡ true → EachSource (λ _ source outside_after. Finds told.cause source outside_after)
       old new
   pub verdict : is_verdict told.cause ≡ true → is_audit asked ≡ true
-  -- of an inspection it is told what was found of the volume, and of nothing else are faults listed
+  -- an inspection reports what was found of the volume, and only an inspection lists faults
   pub inspected : IfInspects asked (λ i. IsInspected ground i.mends (RoseIn old.disk new.disk) told.cause told.faults)
   pub bare : is_inspection asked ≡ false → told.faults ≡ []
-  -- after serving the first is told that has come: a failed call, a damage, a sink that broke, want of memory
+  -- a service reports the first of these that has come: a failed call, a damage, a sink that broke, want of memory
   pub ends : WasServed told → EndsService (RoseIn old.disk new.disk) (collections_of asked) ending trail
   pub spoiled : WasServed told → told.cause ≡ cause_of ending trail fell
   -- whatever volume it is, the report counts the sessions, the replies and the finished collections of the trail
   pub counts : IfSome told.counts (CountsSessions (length old.sources) trail)
-  -- and tells of objects and of Free what the core told last, which is handed back
+  -- its counts of objects and of Free blocks are those of the core's last status, which is handed back
   pub last : IfSome told.counts (TellsLast (collections_of asked) ending trail)
   -- no more collections began than were called for
   pub few : begins_in trail ≤ collections_of asked
-  -- the collector was done at a refusal, or as many are finished as were called for
+  -- if the collector wasn't refused, as many are finished as were called for
   pub collected : WasServed told → ending.refused ≡ None → finishes_in trail ≡ collections_of asked
-  -- memory was wanting for it only where one would begin
+  -- the collector wanted memory only to begin one
   pub wanting : ending.refused ≡ Some faults.Memory → IsWanting (collections_of asked) trail
 
--- Of all but a spin: all this, and what the status says.
+-- What is said of a run, other than a spin, lines of names and a conversation: all this, and what the status says.
 pub record Said (asked : Asked) (ground : Ground) (old new : Outside) (told : Report) (status : ℕ) (ending : Ending)
     (trail : List Event) : Type 0 where
   pub did : Did asked ground old new told ending trail
-  -- The report's sink has taken its text, all or some of its beginning: the lines or, of a trace that was served, the
-  -- trail, as far as its lines found memory.
+  -- The report's sink has taken its text, all or some beginning of it. That is its lines or, of a trace that was
+  -- served, the trail, as far as there was memory for its lines.
   pub short : Bool
   pub text : List ℕ
   pub is_text : IsText asked told trail short text
   pub reported : WritesReport text old new
-  -- the status is that of the cause, or 5 for a report that failed; and what each status says
+  -- the status is that of the cause, or 5 for a report that failed; then what each status says
   pub is_status : IsStatus status (last_cause short told.cause) old new
   pub status_0 : status ≡ 0 → EndedWell asked ground told trail old new ⊎ Showed told old new ⊎ Made asked told old new
       ⊎ Audited asked told old new ⊎ FoundSound asked ground told old new ⊎ WasMended asked told old new
@@ -413,10 +414,10 @@ pub record Said (asked : Asked) (ground : Ground) (old new : Outside) (told : Re
   pub overlong : is_audit asked ≡ true → (text : List ℕ) → HadLeft old (text ∷ []) → most_trail < length text
       → (status ≡ 9) ⊎ (told.cause ≡ causes.Memory) ⊎ (status ≡ 6)
   pub oversized : is_inspection asked ≡ true → most_inspected < ground.blocks → status ≡ 9
-  -- that a volume is sound, or too long to be loaded, is told of an inspection alone
+  -- only an inspection reports that a volume is sound, or too long to be loaded
   pub finding : is_finding told.cause ≡ true → is_inspection asked ≡ true
-  -- Where no limit was passed and no count rose: a service on a sound volume gives 0 or 7, and on one that is known to
-  -- be no sound one 3 or 7; and a page, or a volume to be made, gives 0.
+  -- If no limit was passed and no count rose, a service on a sound volume gives 0 or 7, and on one that is known to be
+  -- unsound 3 or 7. A page, or a volume to be made, gives 0.
   pub complete : is_service asked ≡ true → (scripts : List (List ℕ)) → HadLeft old scripts → AreWithinLimits scripts
       → NoCountRose old new → (graph : Graph) → ground.reads graph → (status ≡ 0) ⊎ (status ≡ 7)
   pub refused : is_service asked ≡ true → (scripts : List (List ℕ)) → HadLeft old scripts → AreWithinLimits scripts
@@ -425,7 +426,7 @@ pub record Said (asked : Asked) (ground : Ground) (old new : Outside) (told : Re
       → IsAudited status told.cause text
   pub shown : (page : Page) → asked ≡ Shows page → NoCountRose old new → status ≡ 0
   pub formatted : is_format asked ≡ true → NoCountRose old new → status ≡ 0
-  -- an inspection of a sound volume gives 0 or 7, a check of one that is known to be no sound one 3 or 7, and any 0, 3
-  -- or 7
+  -- an inspection of a sound volume gives 0 or 7, a check of one that is known to be unsound 3 or 7, and any inspection
+  -- 0, 3 or 7
   pub inspected : IfInspects asked (λ i. ground.blocks ≤ most_inspected → NoCountRose old new
       → CompletesInspection ground i.mends status)

@@ -17,7 +17,7 @@ pub record IsTraced (o : Opening) (cause : Cause) (trail : List Event) (old new 
   pub is : IsTrail o cause trail written.short text
   pub taken : Replied old new text written.whole
 
--- and so it is with the text of a report
+-- the sink has taken the report's text in the same way
 pub record IsWritten (asked : Asked) (told : Report) (trail : List Event) (old new : Intake)
     (written : Written) : Type 0 where
   pub text : List ℕ

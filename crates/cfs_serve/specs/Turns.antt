@@ -11,7 +11,7 @@ use Rattle.cfs_core.specs.declared.tidying.Tidy.{Tidy}
 use Rattle.cfs_core.specs.declared.tidying.TidyFault.{TidyFault}
 use Rattle.cfs_core.specs.declared.tidying.TidyFault.TheVariants as tidy_faults
 
--- the fault of a step that is told in the same words
+-- the fault of a step that is reported in the same words
 abbrev pub fault_as : TidyFault → CollectFault
 fault_as (tidy_faults.Disk doubt) = faults.Disk doubt
 fault_as (tidy_faults.Damaged damage moment) = faults.Damaged damage moment
@@ -25,7 +25,7 @@ abbrev pub step_made : Result Step CollectFault → Result (Option Step) Collect
 step_made (Ok step) = Ok (Some step)
 step_made (Err fault) = Err fault
 
--- A part of the commit that is unfinished, and else a step.
+-- A part of the commit that is unfinished, or else a step.
 pub data TakesTurn {D : Type 0} (g : Ghosts D) (old new : Kernel D)
     (result : Result (Option Step) CollectFault) : Type 0 where
   Tidied : (made : Result Tidy TidyFault) → result ≡ part_made made → IsSome old.space.left

@@ -25,8 +25,8 @@ use Rattle.cfs_serve.specs.Logs.{MomentsRise, faults_after, first_fault}
 use Rattle.cfs_serve.specs.Report.{untold}
 use Rattle.cfs_serve.specs.Played.{AreClients, IsPlayed, ServesNothing}
 
--- the core stands for a root index of empty slots on so many cylinders; no word was drawn, it hasn't stopped, and no
--- collection was called for
+-- The core stands for a root index of empty slots, on `cylinders` cylinders. It runs, no word was drawn, and no
+-- collection was called for.
 pub record IsNewCore {D : Type 0} (g : Ghosts D) (cylinders seed : ℕ) (k : Kernel D) : Type 0 where
   pub stands : StandsFor g k (opening (opened seed))
   pub words : k.words ≡ record { seed = seed; drawn = 0 }
@@ -51,7 +51,7 @@ ground_at g core = record {
   faulty = λ fault. ⊥;
 }
 
--- what a core tells of itself
+-- what a core reports of itself
 pub record IsStatusOf {D : Type 0} (k : Kernel D) (status : Status) : Type 0 where
   pub objects : status.objects ≡ length k.directory.named
   pub free : status.free ≡ sum k.space.free
@@ -61,7 +61,7 @@ pub record IsStatusOf {D : Type 0} (k : Kernel D) (status : Status) : Type 0 whe
   pub called : status.called ≡ k.collections.called
   pub finished : status.finished ≡ k.collections.finished
 
--- The core as it ended: what it told last is what it has and counts, whether it stopped or not; and from each graph on
+-- The core as it ended. What it reported last is what it has and counts, whether it stopped or not. From each graph on
 -- which it began it came to the identifiers, the grants and the stop of the last state.
 pub record EndsCore {D : Type 0} (seed : ℕ) (began : Graph → Type 0) (ending : Ending) (trail : List Event)
     (last : Kernel D) : Type 0 where
@@ -89,7 +89,7 @@ pub record ServesSessions {D : Type 0} (g : Ghosts D) (core : Kernel D) (collect
   pub sound : cause ≡ causes.Nothing → (graph : Graph) → StandsFor g core (opening graph) → (last : State)
       → replay core.words.seed graph trail ≡ Some last
       → IsSoundAs (g.content disk) (rooted_part last.graph)
-  -- what the count of failed calls came to by the trail and the refusal at which the collector was done
+  -- the count of failed calls is at least what the trail and the collector's refusal come to
   pub faults : faults_after tells_disk trail (first_fault ending.refused (g.faults core.disk)) ≤ g.faults disk
   pub stops : (graph : Graph) → StandsFor g core (opening graph)
       → faults_after tells_fault trail (first_fault ending.refused (g.faults core.disk)) ≤ g.faults disk
@@ -104,7 +104,7 @@ pub record IsUnserved {D : Type 0} (core : Kernel D) (before after : List PortRe
   pub ports : after ≡ before
   pub disk_is : disk ≡ core.disk
 
--- the sessions of these scripts were
+-- the sessions of these scripts were served
 pub record ServesCliented {D : Type 0} (g : Ghosts D) (core : Kernel D) (collections : ℕ) (scripts : List (List ℕ))
     (sinks after : List Intake) (report : Report) (ending : Ending) (trail : List Event) (moments : List ℕ)
     (disk : D) : Type 0 where

@@ -1,4 +1,4 @@
--- A core of which it is known, whatever its disk, that a failed call is behind its stop.
+-- A core of which it is known, on any disk, that a failed call is behind its stop, unless a block was damaged.
 use Rattle.std.specs.Prelude.{◌≡◌, ℕ, ◌≤◌, true, length, is_some, option_and_then}
 use Rattle.cfs_base.specs.Outside.{Rose}
 use Rattle.cfs_base.specs.declared.disk.Disk.{Ghosts}
@@ -9,7 +9,7 @@ use Rattle.ufs_model.specs.declared.asker.Asker as askers
 use Rattle.ufs_model.specs.Need.{one_if}
 use Rattle.cfs_serve.specs.Ending.{is_failure}
 
--- its disk had failed so often when it was handed in
+-- its disk had failed `before` times when the core was handed in
 pub record IsWatched {D : Type 0} (g : Ghosts D) (before : ℕ) (k : Kernel D) : Type 0 where
   pub later : before ≤ g.faults k.disk
   pub fell : is_failure k.stop ≡ true → Rose before (g.faults k.disk)

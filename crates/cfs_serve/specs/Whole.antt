@@ -1,6 +1,6 @@
 -- A whole run, step by step: the words, the sources and the sinks, the report and the status. What `top` says follows
 -- from it.
-use Rattle.std.specs.Prelude.{◌≡◌, ℕ, ◌+◌, ◌*◌, ◌≤◌, ◌⊎◌, Bool, true, false, List, [], length, slice_get, Option}
+use Rattle.std.specs.Prelude.{◌≡◌, ℕ, ◌+◌, ◌*◌, ◌≤◌, ◌⊎◌, Bool, true, false, List, [], ◌∷◌, length, slice_get, Option}
 use Rattle.std.specs.Prelude.{Some, None, IsSome}
 use Rattle.cfs_base.specs.Outside.{Intake, Supply, Rose}
 use Rattle.cfs_ports.specs.Port.{Replied}
@@ -13,8 +13,8 @@ use Rattle.cfs_serve.specs.declared.report.Counts.{Counts}
 use Rattle.cfs_serve.specs.declared.report.Report.{Report}
 use Rattle.cfs_serve.specs.declared.paths.Volume.{Volume}
 use Rattle.cfs_serve.specs.declared.paths.Volume.TheVariants as volumes
-use Rattle.cfs_serve.specs.Words.{Asked, Place, Dirs, InFile, InMemory, Inspects, Shows, Audits, Formats, Serves, Spin}
-use Rattle.cfs_serve.specs.Words.{Spins, Nothing, most_made}
+use Rattle.cfs_serve.specs.Words.{Asked, Place, Converses, Dirs, InFile, InMemory, Inspects, Shows, Audits, Formats}
+use Rattle.cfs_serve.specs.Words.{Serves, Spin, Spins, Nothing, most_made}
 use Rattle.cfs_serve.specs.Limits.{most_cylinders}
 use Rattle.cfs_serve.specs.Spun.{drains, drawn_sources}
 use Rattle.cfs_serve.specs.Audit.{Finds}
@@ -24,9 +24,11 @@ use Rattle.cfs_serve.specs.Inspected.{IsInspected}
 use Rattle.cfs_serve.specs.Report.{status_of, untold}
 use Rattle.cfs_serve.specs.Text.{IsText, last_cause}
 use Rattle.cfs_serve.specs.Named.{AreNamesServed}
+use Rattle.cfs_serve.specs.Talk.{HasConversed, HasNotConversed, talk_cause, talk_report}
+use Rattle.cfs_serve.specs.declared.talk.TalkEnd.{TalkEnd}
 use Rattle.cfs_serve.specs.Played.{IsRunOf, ServesNone}
 
--- what is outside: how often the volume's disk failed, where there is one, and what is known of the sources and of the
+-- what is outside: how often the volume's disk failed, if there is one, and what is known of the sources and of the
 -- sinks
 pub record Places : Type 0 where
   pub disk : Option ℕ
@@ -38,7 +40,7 @@ abbrev NamesPlace : Place → Option Volume → Type 0
 NamesPlace (InMemory cylinders) volume = volume ≡ None
 NamesPlace (InFile path pair) volume = volume ≡ Some (volumes.Existing path)
 
--- it is named and sized as the words have it, or none is named
+-- the volume is named and sized as the words say, or none is named
 abbrev pub NamesVolume : Asked → Option Volume → Type 0
 NamesVolume (Formats format) volume = volume ≡ Some (volumes.Fresh format.volume format.cylinders)
 NamesVolume (Serves service) volume = NamesPlace service.volume volume
@@ -47,14 +49,15 @@ NamesVolume (Inspects inspection) volume = volume ≡ Some (volumes.Existing ins
 NamesVolume (Spins spin) volume = volume ≡ None
 NamesVolume (Shows page) volume = volume ≡ None
 NamesVolume (Dirs names) volume = volume ≡ Some (volumes.Existing names.volume)
+NamesVolume (Converses talk) volume = volume ≡ Some (volumes.Existing talk.volume)
 NamesVolume Nothing volume = volume ≡ None
 
--- as many cylinders as a volume may have, of pairs of blocks or not
+-- a volume that is made has as many cylinders as it may have, of pairs of blocks or not
 abbrev pub HasCylinders : (pair : Bool) → Volume → Type 0
 HasCylinders pair (volumes.Fresh path cylinders) = (1 ≤ cylinders) × (cylinders ≤ most_made pair)
 HasCylinders pair (volumes.Existing path) = Unit {0}
 
--- a disk of so many blocks for a volume that is made, one of any size for one that is there, or none
+-- there is a disk of the right size for a volume that is made, one of any size for an existing volume, or none
 abbrev pub FitsVolume : Option Volume → (blocks : Option ℕ) → Type 0
 FitsVolume (Some (volumes.Fresh path cylinders)) blocks = blocks ≡ Some (64 * cylinders)
 FitsVolume (Some (volumes.Existing path)) blocks = IsSome blocks
@@ -64,7 +67,7 @@ abbrev HasPlaceDisk : Place → (blocks : Option ℕ) → Type 0
 HasPlaceDisk (InMemory cylinders) blocks = blocks ≡ None
 HasPlaceDisk (InFile path pair) blocks = IsSome blocks
 
--- and so it is with what the words ask for
+-- the same, by what the words ask for
 abbrev pub HasDisk : Asked → (blocks : Option ℕ) → Type 0
 HasDisk (Formats format) blocks = blocks ≡ Some (64 * format.cylinders)
 HasDisk (Serves service) blocks = HasPlaceDisk service.volume blocks
@@ -73,9 +76,10 @@ HasDisk (Inspects inspection) blocks = IsSome blocks
 HasDisk (Spins spin) blocks = blocks ≡ None
 HasDisk (Shows page) blocks = blocks ≡ None
 HasDisk (Dirs names) blocks = IsSome blocks
+HasDisk (Converses talk) blocks = IsSome blocks
 HasDisk Nothing blocks = blocks ≡ None
 
--- a source and a sink for each session, and of lines of names; the source of a trail; or none
+-- a source and a sink for each session, and for lines of names and a conversation; the source of a trail; or none
 abbrev pub HasPlaces : Asked → (sources sinks : ℕ) → Type 0
 HasPlaces (Serves service) sources sinks = (sources ≡ length service.sessions) × (sinks ≡ length service.sessions)
 HasPlaces (Audits trail) sources sinks = (sources ≡ 1) × (sinks ≡ 0)
@@ -84,9 +88,10 @@ HasPlaces (Spins spin) sources sinks = (sources ≡ 0) × (sinks ≡ 0)
 HasPlaces (Formats format) sources sinks = (sources ≡ 0) × (sinks ≡ 0)
 HasPlaces (Shows page) sources sinks = (sources ≡ 0) × (sinks ≡ 0)
 HasPlaces (Dirs names) sources sinks = (sources ≡ 1) × (sinks ≡ 1)
+HasPlaces (Converses talk) sources sinks = (sources ≡ 1) × (sinks ≡ 1)
 HasPlaces Nothing sources sinks = (sources ≡ 0) × (sinks ≡ 0)
 
--- no service was asked for: nothing was served, no sink took a byte, and this is told
+-- no service was asked for: nothing was served, no sink took a byte, and this cause is reported
 pub record AsksNone (cause : Cause) (old new : Places) (report : Report) (ending : Ending)
     (trail : List Event) : Type 0 where
   pub no_event : trail ≡ []
@@ -95,7 +100,7 @@ pub record AsksNone (cause : Cause) (old new : Places) (report : Report) (ending
   pub sinks : new.sinks ≡ old.sinks
   pub told : report ≡ untold cause
 
--- An audit was asked for: nothing was served, and this is told of its one source.
+-- An audit was asked for: nothing was served, and this is reported of its only source.
 pub record AsksAudit (old new : Places) (report : Report) (ending : Ending) (trail : List Event) : Type 0 where
   pub no_event : trail ≡ []
   pub no_end : ending ≡ not_begun
@@ -105,17 +110,17 @@ pub record AsksAudit (old new : Places) (report : Report) (ending : Ending) (tra
   pub found : (source after : Supply) → slice_get old.sources 0 ≡ Some source → slice_get new.sources 0 ≡ Some after
       → Finds report.cause source after
 
--- its count of faults rose
+-- the disk's count of faults rose
 abbrev pub RoseIn : Option ℕ → Option ℕ → Type 0
 RoseIn (Some old) (Some new) = Rose old new
 RoseIn (Some old) None = ⊥
 RoseIn None new = ⊥
 
--- of a volume that was made nothing is told; else its disk failed, and that is told
+-- nothing is reported of a volume that was made; else its disk failed, and that is reported
 abbrev pub TellsMade : Cause → (old new : Option ℕ) → Type 0
 TellsMade cause old new = (cause ≡ causes.Nothing) ⊎ ((cause ≡ causes.Disk None) × RoseIn old new)
 
--- An inspection was asked for: nothing was served, and this is told of the volume.
+-- An inspection was asked for: nothing was served, and this is reported of the volume.
 pub record AsksInspection (ground : Ground) (mends : Bool) (old new : Places) (report : Report) (ending : Ending)
     (trail : List Event) : Type 0 where
   pub no_event : trail ≡ []
@@ -125,7 +130,7 @@ pub record AsksInspection (ground : Ground) (mends : Bool) (old new : Places) (r
   pub told : report ≡ record { counts = None; faults = report.faults; cause = report.cause }
   pub found : IsInspected ground mends (RoseIn old.disk new.disk) report.cause report.faults
 
--- sessions were asked for, and so it went
+-- sessions were asked for, and this is what it came to
 pub record AsksSessions (ground : Ground) (seed collections : ℕ) (old new : Places) (report : Report) (ending : Ending)
     (trail : List Event) : Type 0 where
   pub sources : length new.sources ≡ length old.sources
@@ -138,7 +143,7 @@ pub record AsksSessions (ground : Ground) (seed collections : ℕ) (old new : Pl
 abbrev pub spun : Spin → Places → Places
 spun spin p = record { disk = p.disk; sources = drawn_sources spin.seed spin.count; sinks = drains }
 
--- A spin was asked for, which has room: its own sessions were, and of what is outside nothing was touched.
+-- A spin was asked for, which has room. Its own sessions were asked for, and nothing outside was touched.
 pub record AsksSpin (spin : Spin) (ground : Ground) (old new : Places) (report : Report) (ending : Ending)
     (trail : List Event) : Type 0 where
   pub sources : new.sources ≡ old.sources
@@ -156,7 +161,7 @@ pub record HaveNames (ground : Ground) (old new : Places) (report : Report) (end
   pub served : AreNamesServed ground (RoseIn old.disk new.disk) old.sources old.sinks new.sinks lines told counts cause
       report ending
 
--- They were asked for, and were served, or nothing was; there is no event.
+-- Lines of names were asked for, and were served, or nothing was. There is no event.
 pub record AsksNames (ground : Ground) (old new : Places) (report : Report) (ending : Ending)
     (trail : List Event) : Type 0 where
   pub no_event : trail ≡ []
@@ -164,6 +169,31 @@ pub record AsksNames (ground : Ground) (old new : Places) (report : Report) (end
   pub sinks : length new.sinks ≡ length old.sinks
   pub run : HaveNames ground old new report ending
       ⊎ ServesNone ground (RoseIn old.disk new.disk) old.sources new.sources old.sinks new.sinks report ending trail
+
+-- a conversation was had
+pub record HaveConversed (ground : Ground) (seed every : ℕ) (old new : Places) (report : Report) (ending : Ending)
+    (trail : List Event) : Type 0 where
+  pub source : Supply
+  pub source_after : Supply
+  pub sink : Intake
+  pub sink_after : Intake
+  pub sources_are : (old.sources ≡ source ∷ []) × (new.sources ≡ source_after ∷ [])
+  pub sinks_are : (old.sinks ≡ sink ∷ []) × (new.sinks ≡ sink_after ∷ [])
+  pub end : TalkEnd
+  pub counts : Counts
+  pub cause : Cause
+  pub told : report ≡ talk_report counts (talk_cause cause end)
+  pub conversed : HasConversed ground seed every (RoseIn old.disk new.disk) source source_after sink sink_after end
+      counts cause ending trail
+
+-- A conversation was asked for, and was had, or not.
+pub record AsksTalk (ground : Ground) (seed every : ℕ) (old new : Places) (report : Report) (ending : Ending)
+    (trail : List Event) : Type 0 where
+  pub sources : length new.sources ≡ length old.sources
+  pub sinks : length new.sinks ≡ length old.sinks
+  pub run : HaveConversed ground seed every old new report ending trail
+      ⊎ HasNotConversed ground (RoseIn old.disk new.disk) old.sources new.sources old.sinks new.sinks report ending
+      trail
 
 abbrev pub AsksServer : Asked → Ground → (old new : Places) → Report → Ending → List Event → Type 0
 AsksServer (Serves service) ground old new report ending trail =
@@ -175,10 +205,12 @@ AsksServer (Inspects inspection) ground old new report ending trail =
     AsksInspection ground inspection.mends old new report ending trail
 AsksServer (Spins spin) ground old new report ending trail = AsksSpin spin ground old new report ending trail
 AsksServer (Dirs names) ground old new report ending trail = AsksNames ground old new report ending trail
+AsksServer (Converses talk) ground old new report ending trail =
+    AsksTalk ground talk.seed talk.every old new report ending trail
 AsksServer (Shows page) ground old new report ending trail = AsksNone (causes.Page page) old new report ending trail
 AsksServer Nothing ground old new report ending trail = AsksNone causes.Words old new report ending trail
 
--- the status: that of the cause, but for a report that could not be written where nothing worse is told
+-- the status: that of the cause, or 5 if the report could not be written and nothing worse is reported
 abbrev pub status_at_end : (written : Bool) → Cause → ℕ
 status_at_end true cause = status_of cause
 status_at_end false causes.Nothing = 5
@@ -202,7 +234,7 @@ pub record IsWholeRun (asked : Asked) (ground : Ground) (old new : Places) (repo
     (told : Report)
     (status : ℕ) (ending : Ending) (trail : List Event) : Type 0 where
   pub run : AsksServer asked ground old new told ending trail
-  -- the sink of the report has taken all of its text, or some of its beginning
+  -- the sink of the report has taken all of its text, or some beginning of it
   pub short : Bool
   pub text : List ℕ
   pub is_text : IsText asked told trail short text

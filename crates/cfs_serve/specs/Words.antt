@@ -7,10 +7,10 @@ use Rattle.ufs_model.specs.Spoken.{Reading, Is, Unbound, Bad, number_in}
 use Rattle.cfs_serve.specs.declared.page.Page.{Page}
 use Rattle.cfs_serve.specs.declared.page.Page.TheVariants as pages
 use Rattle.cfs_serve.specs.Limits.{most_collections, most_cylinders, most_file_cylinders, most_pair_cylinders}
-use Rattle.cfs_serve.specs.Limits.{most_script, most_sessions, most_trail}
+use Rattle.cfs_serve.specs.Limits.{most_lines, most_script, most_sessions, most_trail}
 
--- where the volume of a service is: a new one in memory, of so many cylinders, or one in a file, which may be of pairs
--- of blocks
+-- where the volume of a service is: a new one in memory, of `cylinders` cylinders, or one in a file, which may be of
+-- pairs of blocks
 pub data Place : Type 0 where
   InMemory : (cylinders : ℕ) → Place
   InFile : (path : List ℕ) (pair : Bool) → Place
@@ -36,7 +36,7 @@ pub record Format : Type 0 where
   pub seed : ℕ
   pub pair : Bool
 
--- what was read, where something was
+-- what was read, if something was
 abbrev pub read_or_none : {A : Type 0} → Reading A → Option A
 read_or_none (Is x) = Some x
 read_or_none Unbound = None
@@ -48,7 +48,7 @@ is_file_word w = nat_lt 0 (length w)
 abbrev pub is_stream : List ℕ → Bool
 is_stream w = bytes_eq w (codes "-")
 
--- words, two and two
+-- words in pairs
 abbrev pub files_in : List (List ℕ) → List Files
 files_in [] = []
 files_in (word ∷ []) = []
@@ -64,7 +64,7 @@ outputs_in words = map (λ f. f.output) (files_in words)
 abbrev pub streams_in : List (List ℕ) → ℕ
 streams_in words = length (filter is_stream words)
 
--- They are 1 to 64 pairs of file words, and at most one input and one output is a standard stream.
+-- These are 1 to 64 pairs of file words, and at most one input and one output is a standard stream.
 abbrev pub are_files : List (List ℕ) → Bool
 are_files words =
     (length words % 2 == 0) && nat_lt 0 (length words) && nat_le (length words) (2 * most_sessions) && list_all
@@ -225,8 +225,32 @@ dirs_in (verb ∷ volume ∷ seed ∷ input ∷ output ∷ []) =
     if bytes_eq verb (codes "dirs") then dirs_of volume input output (read_or_none (number_in seed)) else None
 dirs_in words = None
 
+-- a conversation: the file of its volume, its seed, after how many lines a collection is called for, and where its
+-- lines come from and their replies go
+pub record Conversation : Type 0 where
+  pub volume : List ℕ
+  pub seed : ℕ
+  pub every : ℕ
+  pub input : List ℕ
+  pub output : List ℕ
+
+abbrev converse_of : (volume input output : List ℕ) → Option ℕ → Option ℕ → Option Conversation
+converse_of volume input output (Some seed) (Some every) =
+    if is_volume_word volume && nat_le every most_lines && is_file_word input && is_file_word output
+    then Some (record { volume = volume; seed = seed; every = every; input = input; output = output }) else None
+converse_of volume input output (Some seed) None = None
+converse_of volume input output None every = None
+
+-- `converse VOLUME SEED EVERY IN OUT`
+abbrev pub converse_in : List (List ℕ) → Option Conversation
+converse_in (verb ∷ volume ∷ seed ∷ every ∷ input ∷ output ∷ []) =
+    if bytes_eq verb (codes "converse") then converse_of volume input output (read_or_none (number_in seed))
+    (read_or_none (number_in every))
+    else None
+converse_in words = None
+
 -- what the words of a command ask for: a page, a volume, an audit of a trail, an inspection of a volume, a spin, a
--- service, lines of names, or nothing
+-- service, lines of names, a conversation, or nothing
 pub data Asked : Type 0 where
   Shows : Page → Asked
   Formats : Format → Asked
@@ -235,30 +259,33 @@ pub data Asked : Type 0 where
   Spins : Spin → Asked
   Serves : Service → Asked
   Dirs : NamesService → Asked
+  Converses : Conversation → Asked
   Nothing : Asked
 
-abbrev either : Option Page → Option Format → (trail check mend : Option (List ℕ)) → (play : Option Service) → Option Spin
-    → (serve : Option Service) → (dirs : Option NamesService) → Asked
-either (Some page) format trail check mend play spin serve dirs = Shows page
-either None (Some format) trail check mend play spin serve dirs = Formats format
-either None None (Some trail) check mend play spin serve dirs = Audits trail
-either None None None (Some volume) mend play spin serve dirs = Inspects (record { volume = volume; mends = false })
-either None None None None (Some volume) play spin serve dirs = Inspects (record { volume = volume; mends = true })
-either None None None None None (Some play) spin serve dirs = Serves play
-either None None None None None None (Some spin) serve dirs = Spins spin
-either None None None None None None None (Some serve) dirs = Serves serve
-either None None None None None None None None (Some names) = Dirs names
-either None None None None None None None None None = Nothing
+abbrev either : Option Page → Option Format → (trail check mend : Option (List ℕ)) → (play : Option Service)
+    → Option Spin → (serve : Option Service) → (dirs : Option NamesService) → Option Conversation → Asked
+either (Some page) format trail check mend play spin serve dirs talk = Shows page
+either None (Some format) trail check mend play spin serve dirs talk = Formats format
+either None None (Some trail) check mend play spin serve dirs talk = Audits trail
+either None None None (Some volume) mend play spin serve dirs talk =
+    Inspects (record { volume = volume; mends = false })
+either None None None None (Some volume) play spin serve dirs talk = Inspects (record { volume = volume; mends = true })
+either None None None None None (Some play) spin serve dirs talk = Serves play
+either None None None None None None (Some spin) serve dirs talk = Spins spin
+either None None None None None None None (Some serve) dirs talk = Serves serve
+either None None None None None None None None (Some names) talk = Dirs names
+either None None None None None None None None None (Some talk) = Converses talk
+either None None None None None None None None None None = Nothing
 
 abbrev pub asked_in : List (List ℕ) → Asked
 asked_in words =
     either (page_in words) (format_in words) (audit_in words) (check_in words) (mend_in words) (play_in words)
-    (spin_in words) (serve_in words) (dirs_in words)
+    (spin_in words) (serve_in words) (dirs_in words) (converse_in words)
 
 abbrev pub asked_by : {Z : Type 0} → List (String Z) → Asked
 asked_by words = asked_in (map string_bytes words)
 
--- where a service is asked for, this holds of it
+-- this holds of the service that is asked for, if one is
 abbrev pub IfServes : Asked → (Service → Type 0) → Type 0
 IfServes (Shows page) holds = Unit {0}
 IfServes (Formats format) holds = Unit {0}
@@ -267,6 +294,7 @@ IfServes (Inspects inspection) holds = Unit {0}
 IfServes (Spins spin) holds = Unit {0}
 IfServes (Serves service) holds = holds service
 IfServes (Dirs names) holds = Unit {0}
+IfServes (Converses talk) holds = Unit {0}
 IfServes Nothing holds = Unit {0}
 
 abbrev pub is_service : Asked → Bool
@@ -277,6 +305,7 @@ is_service (Inspects inspection) = false
 is_service (Spins spin) = false
 is_service (Serves service) = true
 is_service (Dirs names) = false
+is_service (Converses talk) = false
 is_service Nothing = false
 
 -- how many collections are called for
@@ -288,6 +317,7 @@ collections_of (Inspects inspection) = 0
 collections_of (Spins spin) = 2
 collections_of (Serves service) = service.collections
 collections_of (Dirs names) = 0
+collections_of (Converses talk) = 0
 collections_of Nothing = 0
 
 -- the volume's file is one of pairs of blocks
@@ -303,6 +333,7 @@ is_pair (Inspects inspection) = false
 is_pair (Spins spin) = false
 is_pair (Serves service) = is_pair_place service.volume
 is_pair (Dirs names) = false
+is_pair (Converses talk) = false
 is_pair Nothing = false
 
 abbrev pub is_format : Asked → Bool
@@ -313,6 +344,7 @@ is_format (Inspects inspection) = false
 is_format (Spins spin) = false
 is_format (Serves service) = false
 is_format (Dirs names) = false
+is_format (Converses talk) = false
 is_format Nothing = false
 
 abbrev pub is_audit : Asked → Bool
@@ -323,9 +355,10 @@ is_audit (Inspects inspection) = false
 is_audit (Spins spin) = false
 is_audit (Serves service) = false
 is_audit (Dirs names) = false
+is_audit (Converses talk) = false
 is_audit Nothing = false
 
--- where a volume is to be inspected, this holds of the inspection
+-- this holds of the inspection that is asked for, if one is
 abbrev pub IfInspects : Asked → (Inspection → Type 0) → Type 0
 IfInspects (Shows page) holds = Unit {0}
 IfInspects (Formats format) holds = Unit {0}
@@ -334,6 +367,7 @@ IfInspects (Inspects inspection) holds = holds inspection
 IfInspects (Spins spin) holds = Unit {0}
 IfInspects (Serves service) holds = Unit {0}
 IfInspects (Dirs names) holds = Unit {0}
+IfInspects (Converses talk) holds = Unit {0}
 IfInspects Nothing holds = Unit {0}
 
 abbrev pub is_inspection : Asked → Bool
@@ -344,9 +378,10 @@ is_inspection (Inspects inspection) = true
 is_inspection (Spins spin) = false
 is_inspection (Serves service) = false
 is_inspection (Dirs names) = false
+is_inspection (Converses talk) = false
 is_inspection Nothing = false
 
--- a volume is to be made or mended, and where that is done there is nothing to tell
+-- a volume is to be made or mended, and once that is done there is nothing to report
 abbrev pub makes_volume : Asked → Bool
 makes_volume (Shows page) = false
 makes_volume (Formats format) = true
@@ -355,6 +390,7 @@ makes_volume (Inspects inspection) = inspection.mends
 makes_volume (Spins spin) = false
 makes_volume (Serves service) = false
 makes_volume (Dirs names) = false
+makes_volume (Converses talk) = false
 makes_volume Nothing = false
 
 -- the bytes of the longest source
@@ -366,4 +402,5 @@ most_in_source (Inspects inspection) = most_script
 most_in_source (Spins spin) = most_script
 most_in_source (Serves service) = most_script
 most_in_source (Dirs names) = most_script
+most_in_source (Converses talk) = most_script
 most_in_source Nothing = most_script

@@ -15,20 +15,21 @@ use ufs_model::Asker;
 /// The one session of a run of names.
 const SESSION: Session = 0;
 
-/// What was told of lines, and whether the sink took it.
+/// What the answers to lines reported, and whether the sink took them.
 #[derive(Clone, Copy, Debug)]
 pub(crate) struct Told {
-    /// Lines that were answered.
+    /// How many lines were answered.
     pub answers: u64,
-    /// A failed call of the disk was told.
+    /// Whether an answer reported a failed call of the disk.
     pub failed: bool,
-    /// Want of memory was told.
+    /// Whether an answer reported want of memory.
     pub starved: bool,
-    /// The sink took each answer.
+    /// Whether the sink took each answer.
     pub took: bool,
 }
 
 impl Told {
+    /// Returns the state before the first answer.
     fn nothing() -> Told
         ensures { result ≡ spec.told_nothing }
     {
@@ -40,7 +41,7 @@ impl Told {
         }
     }
 
-    /// With one answer more, which the sink took or didn't.
+    /// Returns the state after one more answer, which the sink took or didn't.
     fn with(self, answer: &Answer, took: bool) -> Told
         requires { self.answers < 9223372036854775808 }
         ensures { result ≡ spec.told_with self answer.now took }
@@ -54,7 +55,7 @@ impl Told {
     }
 }
 
-/// Does what a line asks, and writes its answer.
+/// Does what a line asks, and writes its answer. Returns `told` with that answer.
 fn answer_one<A: Asker, K: Sink>(
     asker: &mut A,
     alloc: Global,
@@ -75,7 +76,9 @@ fn answer_one<A: Asker, K: Sink>(
     told.with(&answer, took)
 }
 
-/// Answers the request lines of a script in order, and stops at the first whose answer the sink doesn't take.
+/// Answers the request lines of a script in order.
+///
+/// It stops after the first line whose answer the sink doesn't take.
 pub(crate) fn answer_lines<A: Asker, K: Sink>(
     asker: &mut A,
     alloc: Global,

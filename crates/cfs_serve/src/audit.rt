@@ -1,4 +1,4 @@
-//! Audits: the trail of a source is read and judged.
+//! Audits: the trail in a source is read and judged.
 ghost use Rattle.std.specs.Prelude.{◌≡◌, ◌≤◌, Some, length, map, slice_get};
 ghost use Rattle.cfs_base.specs.Outside.{Supply};
 ghost use Rattle.cfs_serve.specs.Audit.{Finds, Judges};
@@ -10,7 +10,7 @@ use cfs_base::Source;
 use cfs_streams::{ReadFault, read_whole};
 use std::alloc::Global;
 
-/// What is told of the text of a trail.
+/// Returns the verdict on the text of a trail, or want of memory.
 fn judge(alloc: Global, text: &[u8]) -> Cause
     requires { length text.now ≤ 268435456 }
     ensures { Judges result text.now }
@@ -23,7 +23,9 @@ fn judge(alloc: Global, text: &[u8]) -> Cause
     }
 }
 
-/// Reads the source of a trail whole, and tells what is found.
+/// Reads the source of a trail whole, and returns what is found.
+///
+/// That is the verdict; or that the source failed or is too long, or that memory was wanting.
 fn audit_source<S: Source>(alloc: Global, source: &mut S) -> Cause
     ensures { Finds result (S.supply source.old) (S.supply source.new) }
 {
@@ -35,7 +37,7 @@ fn audit_source<S: Source>(alloc: Global, source: &mut S) -> Cause
     }
 }
 
-/// The same, of the one source that there is.
+/// Audits the trail in the only source.
 pub(crate) fn audit_only<S: Source>(alloc: Global, sources: &mut Vec<S>) -> Cause
     requires { length sources.old.items ≡ 1 }
     ensures count { length sources.new.items ≡ length sources.old.items }

@@ -1,4 +1,4 @@
-//! Volumes in files, of which map blocks are held in memory while they are served.
+//! Volumes in files, whose map blocks are held in memory while they are served.
 ghost use Rattle.std.specs.Prelude.{◌≡◌, ◌≤◌, Some, length, map};
 ghost use Rattle.cfs_serve.specs.Disks.{ServesVolume};
 ghost use Rattle.cfs_serve.specs.Ground.{ground_on};
@@ -14,8 +14,10 @@ use std::alloc::Global;
 use std::sync::Wait;
 use std::thread::Threads;
 
-/// Reads the sources, and serves their scripts on the volume of this disk, which comes back. Map blocks are read of the
-/// disk once, and then held.
+/// Reads the sources, and serves their scripts on the volume of this disk.
+///
+/// Map blocks are read from the disk once, and then held. If memory is wanting for that, no source is read. Returns
+/// what the service came to, and the disk.
 pub(crate) fn serve_cached<
     D: Disk + Send,
     S: Source,

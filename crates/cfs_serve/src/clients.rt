@@ -1,4 +1,4 @@
-//! The ports of the clients of a service, from their scripts and sinks, and their sinks when they have left.
+//! The ports of a service's clients: made from scripts and sinks, and taken apart once the clients have left.
 ghost use Rattle.std.specs.Prelude.{◌≡◌, ◌≤◌, ◌+◌, ◌++◌, [], IfNone, IfSome, length, map, reverse, vec_capacity};
 ghost use Rattle.ufs_model.specs.Script.{request_lines};
 ghost use Rattle.cfs_serve.specs.Machine.{AreNew};
@@ -8,7 +8,7 @@ use cfs_base::{Puid, Sink};
 use cfs_ports::Port;
 use std::alloc::Global;
 
-/// Takes these ports apart, the last one first, and puts their sinks after those that are here.
+/// Takes these ports apart, the last one first, and puts their sinks after those in `sinks`.
 fn unstack<K: Sink>(mut ports: Vec<Port<K>>, sinks: &mut Vec<K>)
     requires room { length sinks.old.items + length ports.items ≤ vec_capacity sinks.old }
     ensures sinks { map K.intake sinks.new.items ≡ map K.intake sinks.old.items ++ map (λ p. p.sink)
@@ -22,8 +22,9 @@ fn unstack<K: Sink>(mut ports: Vec<Port<K>>, sinks: &mut Vec<K>)
     ports.destroy_empty();
 }
 
-/// The ports of sessions with these scripts and sinks, the last one first; no sink is left. None for want of memory,
-/// and then the sinks are as they were.
+/// Makes the ports of sessions with these scripts and sinks, the last one first.
+///
+/// No sink is left in `sinks`. Returns `None` for want of memory, and then the sinks are as they were.
 fn stack_ports<K: Sink>(
     alloc: Global,
     root: Puid,
@@ -56,8 +57,9 @@ fn stack_ports<K: Sink>(
     Some(ports)
 }
 
-/// The ports of sessions with these scripts and sinks; no sink is left. None for want of memory, and then the sinks are
-/// as they were.
+/// Makes the ports of sessions with these scripts and sinks, in order.
+///
+/// No sink is left in `sinks`. Returns `None` for want of memory, and then the sinks are as they were.
 pub(crate) fn make_ports<K: Sink>(
     alloc: Global,
     root: Puid,

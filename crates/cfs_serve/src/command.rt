@@ -25,27 +25,36 @@ pub enum Command<'a> {
     Serve(Serve<'a>),
     /// To serve lines of names on a volume in a file.
     Dirs(Dirs<'a>),
+    /// To answer a session on a volume in a file as it asks.
+    Converse(Converse<'a>),
 }
 
 /// A volume that is to be made.
 #[derive(Clone, Copy, Debug)]
 pub struct Format<'a> {
+    /// The name of its file.
     pub volume: &'a str,
+    /// How many cylinders of 64 blocks it has.
     pub cylinders: u32,
+    /// The seed of the root index's identifier.
     pub seed: u64,
-    /// Its file is one of pairs of blocks.
+    /// Whether its file is one of pairs of blocks.
     pub pair: bool,
     ghost sized: { (1 ≤ cylinders) × (cylinders ≤ most_made pair) },
 }
 
-/// Sessions on a new volume in memory. Their files are named two and two.
+/// Sessions on a new volume in memory.
 #[derive(Clone, Copy, Debug)]
 pub struct Play<'a> {
+    /// How many cylinders of 64 blocks the volume has.
     pub cylinders: u32,
+    /// The seed of the service.
     pub seed: u64,
+    /// How many collections are called for.
     pub collections: u32,
+    /// The names of the sessions' files: for each the request file, and then the reply file.
     pub files: &'a [String],
-    /// Its report is the trail.
+    /// Whether the report is the trail.
     pub traced: bool,
     ghost sized: { (1 ≤ cylinders) × (cylinders ≤ 1024) },
     ghost most: { collections ≤ 1000 },
@@ -55,22 +64,28 @@ pub struct Play<'a> {
 /// Four drawn sessions on a new volume in memory.
 #[derive(Clone, Copy, Debug)]
 pub struct Spin {
+    /// How many cylinders of 64 blocks the volume has.
     pub cylinders: u32,
+    /// The seed of the service, and of the lines that are drawn.
     pub seed: u64,
-    /// How many lines are drawn for each session.
+    /// How many lines are drawn for each session, after its first.
     pub count: u64,
     ghost sized: { (1 ≤ cylinders) × (cylinders ≤ 1024) },
     ghost fits: { 12 * count + 64 ≤ 63 * cylinders },
 }
 
-/// Sessions on a volume in a file. Their files are named two and two.
+/// Sessions on a volume in a file.
 #[derive(Clone, Copy, Debug)]
 pub struct Serve<'a> {
+    /// The name of the volume's file.
     pub volume: &'a str,
+    /// The seed of the service.
     pub seed: u64,
+    /// How many collections are called for.
     pub collections: u32,
+    /// The names of the sessions' files: for each the request file, and then the reply file.
     pub files: &'a [String],
-    /// Its file is one of pairs of blocks.
+    /// Whether the volume's file is one of pairs of blocks.
     pub pair: bool,
     ghost most: { collections ≤ 1000 },
     ghost few: { length (files_in (map string_bytes files.now)) ≤ 64 },
@@ -79,10 +94,28 @@ pub struct Serve<'a> {
 /// Lines of names on a volume in a file.
 #[derive(Clone, Copy, Debug)]
 pub struct Dirs<'a> {
+    /// The name of the volume's file.
     pub volume: &'a str,
+    /// The seed of the service.
     pub seed: u64,
-    /// Where the lines come from.
+    /// The name of the file from which the lines come.
     pub input: &'a str,
-    /// Where their answers go.
+    /// The name of the file to which their answers go.
     pub output: &'a str,
+}
+
+/// A session on a volume in a file, answered as it asks.
+#[derive(Clone, Copy, Debug)]
+pub struct Converse<'a> {
+    /// The name of the volume's file.
+    pub volume: &'a str,
+    /// The seed of the service.
+    pub seed: u64,
+    /// After how many lines a collection is called for, or 0 for never.
+    pub every: u64,
+    /// The name of the file from which the lines come.
+    pub input: &'a str,
+    /// The name of the file to which their replies go.
+    pub output: &'a str,
+    ghost most: { every ≤ 500000 },
 }

@@ -30,7 +30,7 @@ use map_cache::{CacheFault, MapCache};
 use std::alloc::Global;
 use std::marker::{Brand, Model};
 
-/// Carries out what the last commit has left. What refused it, if something did.
+/// Carries out what the last commit has left. Returns what refused it, if something did.
 fn tidy_all<D: Disk>(core: &mut Core<D>) -> Option<CollectFault>
     ensures { TidiesAll D.Disk core.old core.new result }
 {
@@ -45,7 +45,7 @@ fn tidy_all<D: Disk>(core: &mut Core<D>) -> Option<CollectFault>
     }
 }
 
-/// Answers the request lines of a script by a core, which comes back.
+/// Answers the request lines of a script by a core. Returns what the answers reported, and the core.
 fn answer_by<D: Disk, K: Sink, J: Since>(
     core: Core<D>,
     alloc: Global,
@@ -57,8 +57,8 @@ fn answer_by<D: Disk, K: Sink, J: Since>(
     requires core { IsCoreUncalled core }
     requires few { length (request_lines script.now) ≤ 500000 }
     requires room { REPLY_ROOM ≤ vec_capacity reply.old }
-    ensures answers { AnswersLines (by_core D.Disk) (request_lines script.now) (K.intake sink.old) (K.intake sink.new) core
-        result.1 result.0 }
+    ensures answers { AnswersLines (by_core D.Disk) (request_lines script.now) (K.intake sink.old) (K.intake sink.new)
+        core result.1 result.0 }
     ensures watched { IsWatched D.Disk (D.faults core.disk) result.1 }
 {
     let mut asker: Watched<D, J> = Watched::new(core);
@@ -66,7 +66,7 @@ fn answer_by<D: Disk, K: Sink, J: Since>(
     (told, asker.into_core())
 }
 
-/// The report on lines that were answered, by the core's last status.
+/// Returns the report on lines that were answered, by the core's last status.
 fn report_on(alloc: Global, told: Told, ending: Ending, last: Status) -> Report
     ensures { result ≡ record {
       counts = Some (record {
@@ -93,8 +93,9 @@ fn report_on(alloc: Global, told: Told, ending: Ending, last: Status) -> Report
     }
 }
 
-/// Answers the request lines of a script by a core, and then carries out what the last commit has left. The disk comes
-/// back.
+/// Answers the request lines of a script by a core, and then carries out what the last commit has left.
+///
+/// If memory is wanting for an answer's text, no line is answered. Returns what the run came to, and the disk.
 fn serve_lines<D: Disk, K: Sink>(
     alloc: Global,
     core: Core<D>,
@@ -130,7 +131,10 @@ fn serve_lines<D: Disk, K: Sink>(
     (played, core.into_disk())
 }
 
-/// Reads the source, and serves its lines on the volume of this disk, which comes back.
+/// Reads the source, and serves its lines on the volume of this disk.
+///
+/// If the source can't be read or the volume can't be opened, no line is served. Returns what the run came to, and the
+/// disk.
 fn serve_opened<D: Disk, S: Source, K: Sink>(
     alloc: Global,
     seed: u64,
@@ -166,8 +170,10 @@ fn serve_opened<D: Disk, S: Source, K: Sink>(
     serve_lines(alloc, core, scripts.scripts[0].as_slice(), &mut sinks[0])
 }
 
-/// Reads the source, and serves its lines of names on the volume of this disk, which comes back. Map blocks are read of
-/// the disk once, and then held.
+/// Reads the source, and serves its lines of names on the volume of this disk.
+///
+/// Map blocks are read from the disk once, and then held. If memory is wanting for that, the source isn't read. Returns
+/// what the run came to, and the disk.
 pub(crate) fn serve_dirs<D: Disk, S: Source, K: Sink>(
     alloc: Global,
     asked: &Dirs<'_>,

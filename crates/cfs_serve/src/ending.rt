@@ -5,20 +5,19 @@ ghost use Rattle.cfs_serve.specs.Ending as spec;
 use crate::report::{Cause, VolumeFault};
 use cfs_core::{CollectFault, Status, Stop};
 
-/// Why the core stopped, what ended the collector before as many collections were finished as were called for, and what
-/// the core told of itself last.
+/// How a service ended.
 #[derive(Clone, Copy, Debug, PartialEq, Eq)]
 pub struct Ending {
-    /// Nothing where the core runs.
+    /// Why the core stopped, or `None` if it runs.
     pub stop: Option<Stop>,
-    /// The refusal at which the collector was done.
+    /// The refusal that ended the collector before as many collections were finished as were called for.
     pub refused: Option<CollectFault>,
-    /// The core's status once each session had left and the collector was done; nothing where nothing was served.
+    /// The core's status once each session had left and the collector was done, or `None` if nothing was served.
     pub last: Option<Status>,
 }
 
 impl Ending {
-    /// Nothing was served.
+    /// Returns the ending of a run that served nothing.
     pub(crate) fn none() -> Ending
         ensures { result ≡ spec.not_begun }
     {
@@ -29,7 +28,7 @@ impl Ending {
         }
     }
 
-    /// Whether the core or the collector ended by a call of the disk that failed.
+    /// Returns whether a failed call of the disk ended the core or the collector.
     fn has_fallen(self) -> bool
         ensures { result ≡ spec.has_fallen self }
     {
@@ -40,7 +39,7 @@ impl Ending {
         }
     }
 
-    /// Whether the collector was refused for want of memory or since the core had stopped.
+    /// Returns whether the collector was refused for want of memory, or because the core had stopped.
     fn is_short(self) -> bool
         ensures { result ≡ spec.is_short self }
     {
@@ -50,8 +49,10 @@ impl Ending {
         )
     }
 
-    /// What spoiled the service, the worst first: where a reply told a failed call of the disk, a sink broke, or an
-    /// answer told want of memory, or not.
+    /// Returns what spoiled the service: the worst, if more than one thing did.
+    ///
+    /// `failed` is set if a reply reported a failed call of the disk, `broken` if a sink broke, and `starved` if an
+    /// answer reported want of memory.
     pub(crate) fn cause(self, failed: bool, broken: bool, starved: bool) -> Cause
         ensures { result ≡ spec.cause_by self failed broken starved }
     {

@@ -47,7 +47,7 @@ impl From<NoMemory> for Cause {
     }
 }
 
-/// What is told of a volume with these faults.
+/// Returns the report on a volume with these faults, of which the first is the cause.
 fn tell_faults(faults: Damages) -> Report
     requires { faults ≢ [] }
     ensures counts { result.counts ≡ None }
@@ -64,7 +64,7 @@ fn tell_faults(faults: Damages) -> Report
     }
 }
 
-/// What is told of what was found of a volume.
+/// Returns the report on what was found of a volume.
 fn tell(alloc: Global, checked: Checked) -> Report
     requires { (faults : List Pair) → checked ≡ Checked.Faults faults → faults ≢ [] }
     ensures counts { result.counts ≡ None }
@@ -79,7 +79,9 @@ fn tell(alloc: Global, checked: Checked) -> Report
     Report::untold(alloc, cause)
 }
 
-/// Loads the volume of a disk and tells what is found of it; or why it can't be told.
+/// Loads the volume of a disk, and returns the report on what is found.
+///
+/// If it can't be loaded or checked, the error is the cause to report.
 fn check<D: Disk, R: Threads + Sync>(rt: &R, alloc: Global, disk: &mut D) -> Result<Report, Cause>
     ensures counts { IfOk result (λ told. told.counts ≡ None) }
     ensures checked { MatchResult result (λ told. ChecksVolume D.Disk told disk.old disk.new)
@@ -90,7 +92,9 @@ fn check<D: Disk, R: Threads + Sync>(rt: &R, alloc: Global, disk: &mut D) -> Res
     Ok(tell(alloc, checked))
 }
 
-/// Checks the volume of a disk. Answers what is to be told: all its faults, or that it is sound.
+/// Checks the volume of a disk, and returns the report.
+///
+/// It lists all faults, or says that the volume is sound, or why it could not be checked. Nothing is written.
 pub(crate) fn check_volume<D: Disk, R: Threads + Sync>(
     rt: &R,
     alloc: Global,
@@ -105,7 +109,9 @@ pub(crate) fn check_volume<D: Disk, R: Threads + Sync>(
     }
 }
 
-/// Loads the volume of a disk and mends it; or why it can't be.
+/// Loads the volume of a disk and mends it.
+///
+/// If it can't be loaded or mended, the error is the cause to report.
 fn load_and_mend<D: Disk, R: Threads + Sync>(
     rt: &R,
     alloc: Global,
@@ -119,7 +125,10 @@ fn load_and_mend<D: Disk, R: Threads + Sync>(
     Ok(())
 }
 
-/// Mends the volume of a disk. Answers what is to be told: nothing, or why it isn't mended.
+/// Mends the volume of a disk, and returns the report.
+///
+/// Its cause is `Nothing`, or why the volume isn't mended. If a fault can't be healed or memory is wanting, nothing is
+/// written.
 pub(crate) fn mend_volume<D: Disk, R: Threads + Sync>(rt: &R, alloc: Global, disk: &mut D) -> Report
     ensures counts { result.counts ≡ None }
     ensures mended { MendsVolume D.Disk result disk.old disk.new }

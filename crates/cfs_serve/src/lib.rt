@@ -1,7 +1,10 @@
-//! A whole run: words are read; a volume is made on a disk, or one is checked, or sources are read whole and their
-//! sessions or lines of names served, on a volume in memory or on a disk; and a report is written. The program above
-//! uses one contract, that of `top`. Below it, `Service` serves any number of sessions, and a collector, on whatever
-//! server.
+//! All that the program does, apart from opening its files.
+//!
+//! The words of a command are read. A volume is made, checked or mended, a trail is judged, sources are read whole and
+//! their sessions or lines of names served, or a session is answered as it asks. Then a report is written.
+//!
+//! The program above uses one contract, that of `top`. Below it, `Service` serves any number of sessions, and a
+//! collector, on whatever server.
 #![tactic(auto)]
 
 mod answering;
@@ -9,6 +12,7 @@ mod audit;
 mod cached;
 mod clients;
 mod command;
+mod converse;
 mod dirs;
 mod ending;
 mod inspecting;
@@ -31,12 +35,13 @@ mod service;
 mod serving;
 mod spin;
 mod sure_disk;
+mod talk;
 mod traced;
 mod volume;
 mod watched;
 mod words;
 
-pub use command::{Command, Dirs, Format, Play, Serve, Spin};
+pub use command::{Command, Converse, Dirs, Format, Play, Serve, Spin};
 pub use ending::Ending;
 pub use limits::{
     HELD_MAPS, MOST_COLLECTIONS, MOST_CYLINDERS, MOST_FILE_CYLINDERS, MOST_INSPECTED, MOST_LINES,

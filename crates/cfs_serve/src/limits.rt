@@ -32,7 +32,7 @@ pub const MOST_SESSIONS: usize = 64;
 /// The collections that a service may be called for.
 pub const MOST_COLLECTIONS: u64 = 1_000;
 
-/// The constants are those of the definitions. This does nothing: it is a law.
+/// The constants are those of the definitions. This is a law: the call does nothing.
 pub fn limits_are_stated()
     ensures cylinders { MOST_CYLINDERS ≡ limits.most_cylinders }
     ensures inspected { MOST_INSPECTED ≡ limits.most_inspected }

@@ -10,13 +10,15 @@ ghost use Rattle.cfs_ports.specs.Heard.{HasRoomForName};
 ghost use Rattle.cfs_base.specs.Outside.{Rose};
 ghost use Rattle.cfs_serve.specs.Charter.{Terms};
 ghost use Rattle.cfs_serve.specs.Events.{tells_disk, wants_memory};
-ghost use Rattle.cfs_serve.specs.Calls.{SessionPasses, SpendsStep, SpendsOne, Tally, as_step, event_by, refusal_by};
+ghost use Rattle.cfs_serve.specs.Calls.{CallsOne, SessionPasses, SpendsStep, SpendsOne, Tally, as_step, event_by};
+ghost use Rattle.cfs_serve.specs.Calls.{refusal_by};
 ghost use Rattle.cfs_serve.specs.Ending.{IsWanting, KnowsStop, TellsStop};
 ghost use Rattle.cfs_serve.specs.Events.{finishes_in};
 ghost use Rattle.cfs_serve.specs.Logs.{IsLogKept, IsRun, IsStamped, IsTold, Lasts, Raises, Answered};
 ghost use Rattle.cfs_serve.specs.Logs.{is_progress_made};
 ghost use Rattle.cfs_serve.specs.Logs.{StaysStopped};
-ghost use Rattle.cfs_serve.specs.Logs.{LogSteps, is_quiet_fault, is_recorded, is_step, recorded, refusal_in};
+ghost use Rattle.cfs_serve.specs.Logs.{CountsTurn, LogSteps, finishes, is_finished, is_quiet_fault, is_recorded};
+ghost use Rattle.cfs_serve.specs.Logs.{is_step, recorded, refusal_in};
 ghost use Rattle.cfs_serve.specs.Logs.{stamps};
 ghost use Rattle.cfs_serve.specs.Service.{IsServiceBegun, IsClosed};
 
@@ -30,8 +32,9 @@ use std::alloc::Global;
 use std::marker::{Brand, Model, PhantomData};
 use ufs_model::{Event, Reply, Request, Unread};
 
-/// Which service it is: what was fixed when it was made. It is part of a machine's type, so that no machine can be taken for
-/// that of another service.
+/// What was fixed when a service was made.
+///
+/// It is part of a machine's type, so that no machine can be taken for that of another service.
 pub trait Charter<A> {
     ghost use Rattle.cfs_serve.specs.Charter.{Terms};
 
@@ -45,24 +48,26 @@ impl<A> Charter<A> for Brand {
     ghost charter = { nothing };
 }
 
-/// A server and what it did.
+/// A server and the trail of what it did.
 #[derive(Drop)]
 pub struct LoggedServer<A: Server, J: Charter<A>> {
     server: A,
     trail: Trail,
-    /// Want of memory was told.
+    /// Whether want of memory was reported.
     starved: bool,
-    /// A failed call of the disk was told.
+    /// Whether a failed call of the disk was reported.
     failed: bool,
     of: PhantomData<J>,
 }
 
-/// What a logged server had: its server and its trail, and whether want of memory and a failed call of the disk were told.
+/// What a logged server had as it was closed.
 #[derive(Drop)]
 pub(crate) struct Closed<A> {
     pub server: A,
     pub trail: Trail,
+    /// Whether want of memory was reported.
     pub starved: bool,
+    /// Whether a failed call of the disk was reported.
     pub failed: bool,
 }
 
@@ -75,11 +80,11 @@ pub enum CollectorTurn {
     Tidied,
     /// A step was made that is no event.
     Quiet,
-    /// It was recorded.
+    /// A step was made, and recorded as an event.
     Recorded,
-    /// It was recorded, and a collection is finished by it.
+    /// A step was made and recorded, and a collection is finished by it.
     Finished,
-    /// It was refused.
+    /// The turn was refused.
     Refused(CollectFault),
 }
 
@@ -107,13 +112,13 @@ impl<A: Server, J: Charter<A>> Model for LoggedServer<A, J> {
         × (A.words j.server ≤ length j.trail.events) × (j.starved ≡ list_any wants_memory j.trail.events)
         × Lasts A.stands A.clock A.lasts J.charter j.server j.trail.events j.trail.moments
         × IsTold A.faults A.has_stopped A.is_damaged J.charter j.server j.trail.events
-        × ((A.tally j.server).called ≡ J.charter.collections) × (j.failed ≡ list_any tells_disk j.trail.events)
+        × (j.failed ≡ list_any tells_disk j.trail.events)
         × KnowsStop A.clock A.stop j.server j.trail.events
         × IsLogKept A.clock A.has_stopped A.tally J.charter j.server j.trail.events j.trail.moments };
 }
 
 impl<A: Server, J: Charter<A>> LoggedServer<A, J> {
-    /// Nothing happened yet.
+    /// Makes the log of a server of which nothing was asked yet.
     pub fn new(server: A, trail: Trail) -> LoggedServer<A, J>
         requires no_event { trail.events ≡ [] }
         requires begun { IsServiceBegun A.Server J.charter server }
@@ -131,7 +136,7 @@ impl<A: Server, J: Charter<A>> LoggedServer<A, J> {
         }
     }
 
-    /// How many events the trail has.
+    /// Returns how many events the trail has.
     pub fn events(&self) -> u64
         ensures { result ≡ length self.now.events }
     {
@@ -146,6 +151,7 @@ impl<A: Server, J: Charter<A>> LoggedServer<A, J> {
         ensures stays { StaysStopped A.stop self.old self.new }
         ensures raised { Raises A.faults A.stands J.charter self.old self.new }
         ensures passes { SessionPasses A.clock A.tally self.old.server self.new.server }
+        ensures called { (A.tally self.new.server).called ≡ (A.tally self.old.server).called }
         ensures room { self.new.room + 1 ≡ self.old.room }
     {
         self.starved = starved_at(why, self.starved);
@@ -153,7 +159,7 @@ impl<A: Server, J: Charter<A>> LoggedServer<A, J> {
         self.trail.push(Event::Unread { session, why }, moment);
     }
 
-    /// Answers a session, lets its port write the reply, and records it.
+    /// Answers a request of a session, lets its port write the reply, and records both.
     pub fn ask<K: Sink>(
         &mut self,
         alloc: Global,
@@ -170,6 +176,7 @@ impl<A: Server, J: Charter<A>> LoggedServer<A, J> {
         ensures stays { StaysStopped A.stop self.old self.new }
         ensures raised { Raises A.faults A.stands J.charter self.old self.new }
         ensures passes { SessionPasses A.clock A.tally self.old.server self.new.server }
+        ensures called { (A.tally self.new.server).called ≡ (A.tally self.old.server).called }
     {
         let reply = self.server.answer(alloc, session, &request);
         self.starved = starved_by(&reply, self.starved);
@@ -186,7 +193,7 @@ impl<A: Server, J: Charter<A>> LoggedServer<A, J> {
         );
     }
 
-    /// A session leaves.
+    /// Lets a session leave, and records it.
     pub fn leave(&mut self, session: Session)
         requires { 0 < self.old.room }
         ensures events { (stopped : Option ℕ) × (self.new.events ≡ self.old.events
@@ -195,6 +202,7 @@ impl<A: Server, J: Charter<A>> LoggedServer<A, J> {
         ensures stays { StaysStopped A.stop self.old self.new }
         ensures raised { Raises A.faults A.stands J.charter self.old self.new }
         ensures passes { SessionPasses A.clock A.tally self.old.server self.new.server }
+        ensures called { (A.tally self.new.server).called ≡ (A.tally self.old.server).called }
         ensures room { self.new.room + 1 ≡ self.old.room }
     {
         let stopped = self.server.leave(session);
@@ -202,7 +210,20 @@ impl<A: Server, J: Charter<A>> LoggedServer<A, J> {
         self.trail.push(Event::Leave { session, stopped }, moment);
     }
 
-    /// How many parts are left of a commit.
+    /// Calls for one collection more.
+    pub fn call(&mut self)
+        requires { (A.tally self.old.server).called < 4294967295 }
+        ensures log { self.new ≡ record self.old { server = self.new.server } }
+        ensures called { CallsOne A.stands A.tally self.old.server self.new.server }
+        ensures stop { A.stop self.new.server ≡ A.stop self.old.server }
+        ensures clock { A.clock self.new.server ≡ A.clock self.old.server }
+        ensures faults { A.faults self.new.server ≡ A.faults self.old.server }
+        ensures unfinished { A.unfinished self.new.server ≡ A.unfinished self.old.server }
+    {
+        self.server.call();
+    }
+
+    /// Returns how many parts of a commit are left.
     pub fn parts_left(&self) -> u64
         ensures is { result ≡ A.unfinished self.now.server }
         ensures small { result < 4611686018427387904 }
@@ -210,7 +231,7 @@ impl<A: Server, J: Charter<A>> LoggedServer<A, J> {
         self.server.parts_left()
     }
 
-    /// A turn of the collector, recorded where it is an event.
+    /// Makes a turn of the collector, and records it if it is an event. Returns how far it came.
     pub fn turn(&mut self, alloc: Global) -> CollectorTurn
         requires { 0 < self.old.room }
         ensures steps { LogSteps A.clock self.old self.new result }
@@ -218,19 +239,23 @@ impl<A: Server, J: Charter<A>> LoggedServer<A, J> {
         ensures refusal { TellsStop (refusal_in result) (A.stop self.new.server) }
         ensures quiet { is_quiet_fault (refusal_in result) ≡ true
             → Rose (A.faults self.old.server) (A.faults self.new.server) × (self.new.events ≡ self.old.events) }
+        ensures called { (A.tally self.new.server).called ≡ (A.tally self.old.server).called }
         ensures wanting { refusal_in result ≡ Some CollectFault.Memory
-            → IsWanting J.charter.collections self.new.events }
+            → IsWanting (A.tally self.new.server).called self.new.events }
         // Nothing is left to do once as many collections are finished as were called for.
-        ensures idle { result ≡ CollectorTurn.Idle → finishes_in self.new.events ≡ J.charter.collections }
-        // One that was made leaves fewer steps, and one event less where it is one.
+        ensures idle { result ≡ CollectorTurn.Idle
+            → finishes_in self.new.events ≡ (A.tally self.new.server).called }
+        // A step that was made leaves fewer steps, and one event less if it is an event.
         ensures spends { is_progress_made result ≡ true
             → SpendsOne (A.tally self.old.server) (A.tally self.new.server) (is_recorded result) }
-        // A part that was made leaves fewer parts, and the collections as they are; a step is made where none is left.
+        // A part that was made leaves fewer parts, and the collections as they are. A step is made if no part is left.
         ensures tidied { result ≡ CollectorTurn.Tidied → (A.unfinished self.new.server < A.unfinished self.old.server)
             × ((A.tally self.new.server).steps ≡ (A.tally self.old.server).steps)
             × ((A.tally self.new.server).events ≡ (A.tally self.old.server).events) }
         ensures settled { is_step result ≡ true
             → (A.unfinished self.old.server ≡ 0) × (A.unfinished self.new.server ≡ 0) }
+        ensures counts { refusal_in result ≡ None → CountsTurn (A.tally self.old.server) (A.tally self.new.server)
+            self.old.events self.new.events result }
     {
         let made = self.server.turn(alloc);
         let moment = self.server.moment();
@@ -239,7 +264,7 @@ impl<A: Server, J: Charter<A>> LoggedServer<A, J> {
         progress
     }
 
-    /// What it had.
+    /// Takes the logged server apart.
     pub fn close(self) -> Closed<A>
         ensures server { result.server ≡ self.server }
         ensures events { result.trail.events ≡ self.events }
@@ -261,7 +286,7 @@ impl<A: Server, J: Charter<A>> LoggedServer<A, J> {
     }
 }
 
-/// Whether this reply tells want of memory, or memory was wanting before.
+/// Returns whether this reply reports want of memory, or memory was wanting before.
 fn starved_by(reply: &Reply, before: bool) -> bool
     ensures { (who : ℕ) (request : requests.Request)
         → result ≡ (wants_memory (events.Ask who request reply.now) || before) }
@@ -272,7 +297,7 @@ fn starved_by(reply: &Reply, before: bool) -> bool
     }
 }
 
-/// Whether this reply tells a failed call of the disk, or one was told before.
+/// Returns whether this reply reports a failed call of the disk, or one was reported before.
 fn failed_by(reply: &Reply, before: bool) -> bool
     ensures { (who : ℕ) (request : requests.Request)
         → result ≡ (tells_disk (events.Ask who request reply.now) || before) }
@@ -283,7 +308,7 @@ fn failed_by(reply: &Reply, before: bool) -> bool
     }
 }
 
-/// Whether memory was wanting for a line that is no request, or before.
+/// Returns whether memory was wanting for a line that is no request, or before.
 fn starved_at(why: Unread, before: bool) -> bool
     ensures { (who : ℕ) → result ≡ (wants_memory (events.Unread who why) || before) }
 {
@@ -293,7 +318,7 @@ fn starved_at(why: Unread, before: bool) -> bool
     }
 }
 
-/// The event of a turn of the collector, if it is one, and how far it came.
+/// Returns the event of a turn of the collector, if it is one, and how far the turn came.
 fn progress_of(made: Result<Option<Step>, CollectFault>) -> (Option<Event>, CollectorTurn)
     ensures event { result.0 ≡ event_by (as_step made) }
     ensures none { is_recorded result.1 ≡ false → event_by (as_step made) ≡ None }
@@ -305,6 +330,7 @@ fn progress_of(made: Result<Option<Step>, CollectFault>) -> (Option<Event>, Coll
         → SpendsOne c d (is_recorded result.1) }
     ensures refusal { refusal_in result.1 ≡ refusal_by (as_step made) }
     ensures refused { (fault : faulted.CollectFault) → result.1 ≡ CollectorTurn.Refused fault → made ≡ Err fault }
+    ensures finishes { finishes result.0 ≡ is_finished result.1 }
 {
     match made {
         Ok(None) => (None, CollectorTurn::Tidied),
@@ -317,7 +343,7 @@ fn progress_of(made: Result<Option<Step>, CollectFault>) -> (Option<Event>, Coll
     }
 }
 
-/// The event of a refusal, where the server stopped.
+/// Returns the event of a refusal, if the server stopped.
 fn halt_of(fault: CollectFault) -> Option<Event>
     ensures { result ≡ event_by (Err fault) }
 {
@@ -331,7 +357,7 @@ fn halt_of(fault: CollectFault) -> Option<Event>
     }
 }
 
-/// Records an event with the disk's moment, where there is one.
+/// Records an event, if there is one, with the disk's moment.
 fn push_some(trail: &mut Trail, event: Option<Event>, moment: u64)
     requires { 0 < trail.old.room }
     ensures events { trail.new.events ≡ trail.old.events ++ recorded event }

@@ -25,8 +25,9 @@ pub struct ServiceMachine<A: Server, J: Charter<A>, K: Sink> {
     logged: LoggedServer<A, J>,
     ports: Vec<Port<K>>,
     rest: Rest,
-    /// The collector makes no step once a collection is finished, until the sessions have left.
+    /// Whether the collector makes no step once a collection is finished, until the sessions have left.
     rests: bool,
+    /// Whether it makes none now.
     resting: bool,
     /// Where the answers' memory comes from.
     alloc: Global,
@@ -65,10 +66,11 @@ impl<A: Server, J: Charter<A>, K: Sink> Model for ServiceMachine<A, J, K> {
         × TellsStop h.rest.refused (A.stop h.logged.server)
         × (h.rest.refused ≡ Some faults.Memory → IsWanting J.charter.collections h.logged.events)
         × (h.rest.refused ≡ None → 0 < h.rest.events)
-        × (h.rest.turns < 4611686018427387904) };
+        × (h.rest.turns < 4611686018427387904)
+        × ((A.tally h.logged.server).called ≡ J.charter.collections) };
 }
 
-/// One turn of a session: its next line or, at the script's end and once its sink failed, its leave.
+/// Makes one turn of a session: its next line or, at the script's end and once its sink failed, its leave.
 fn port_turn<A: Server, J: Charter<A>, K: Sink>(
     alloc: Global,
     logged: &mut LoggedServer<A, J>,
@@ -84,6 +86,7 @@ fn port_turn<A: Server, J: Charter<A>, K: Sink>(
     ensures stays { StaysStopped A.stop logged.old logged.new }
     ensures raised { Raises A.faults A.stands J.charter logged.old logged.new }
     ensures passes { SessionPasses A.clock A.tally logged.old.server logged.new.server }
+    ensures called { (A.tally logged.new.server).called ≡ (A.tally logged.old.server).called }
 {
     if port.has_failed() {
         port.leave();
@@ -103,7 +106,7 @@ fn port_turn<A: Server, J: Charter<A>, K: Sink>(
     }
 }
 
-/// Whether the collector rests after this turn: a part of a commit changes nothing in that.
+/// Returns whether the collector rests after this turn. A part of a commit changes nothing in that.
 fn rests_after(rests: bool, resting: bool, progress: CollectorTurn) -> bool
     ensures { progress ≡ CollectorTurn.Tidied → result ≡ resting }
 {
@@ -115,7 +118,7 @@ fn rests_after(rests: bool, resting: bool, progress: CollectorTurn) -> bool
 }
 
 impl<A: Server, J: Charter<A>, K: Sink> ServiceMachine<A, J, K> {
-    /// The machine of a service, in which nothing happened.
+    /// Makes the machine of a service in which nothing has happened.
     pub fn new(alloc: Global, service: Service<A, K>) -> ServiceMachine<A, J, K>
         requires begun { IsServiceBegun A.Server J.charter service.server }
         requires fresh { AreFresh J.charter service.ports.items }
@@ -140,7 +143,7 @@ impl<A: Server, J: Charter<A>, K: Sink> ServiceMachine<A, J, K> {
         }
     }
 
-    /// One turn of a session that stays.
+    /// Makes one turn of a session that hasn't left.
     fn session_turn(&mut self, session: u32)
         requires at { session < length self.old.ports }
         requires stays { has_left_at (slice_get self.old.ports session) ≡ false }
@@ -151,7 +154,9 @@ impl<A: Server, J: Charter<A>, K: Sink> ServiceMachine<A, J, K> {
         port_turn(self.alloc, &mut self.logged, session, port);
     }
 
-    /// One turn of the collector that isn't done: a part of a commit, or a step. At a refusal it is done for good.
+    /// Makes one turn of a collector that isn't done: a part of a commit, or a step.
+    ///
+    /// At a refusal the collector is done for good.
     fn collector_turn(&mut self)
         requires { 0 < self.old.turns }
         ensures turn { IsCollectorTurn A.clock self.old self.new }
@@ -162,7 +167,7 @@ impl<A: Server, J: Charter<A>, K: Sink> ServiceMachine<A, J, K> {
         self.resting = rests_after(self.rests, self.resting, progress);
     }
 
-    /// The parts of a commit that the collector has to make.
+    /// Returns how many parts of a commit the collector has to make: none once it was refused.
     fn parts_now(&self) -> u64
         ensures is { result ≡ parts_now self.now.refused (A.unfinished self.now.logged.server) }
         ensures small { result < 4611686018427387904 }
@@ -173,7 +178,7 @@ impl<A: Server, J: Charter<A>, K: Sink> ServiceMachine<A, J, K> {
         }
     }
 
-    /// The turns that the collector may make now.
+    /// Returns how many turns the collector may make now.
     fn turns_now(&self) -> u64
         ensures { result ≡ self.now.turns }
     {
@@ -185,7 +190,7 @@ impl<A: Server, J: Charter<A>, K: Sink> ServiceMachine<A, J, K> {
         }
     }
 
-    /// All that it has left.
+    /// Returns how many turns the collector has left in all.
     fn all_left(&self) -> u64
         ensures { result ≡ self.now.left }
     {
@@ -193,8 +198,9 @@ impl<A: Server, J: Charter<A>, K: Sink> ServiceMachine<A, J, K> {
         self.rest.turns + parts
     }
 
-    /// Makes the collector's turns that are left once the sessions have. Then no commit is unfinished, unless it was
-    /// refused.
+    /// Makes the collector's turns that are left once the sessions have left.
+    ///
+    /// Then no commit is unfinished, unless the collector was refused.
     pub fn collect_rest(&mut self)
         ensures left { self.new.left ≡ 0 }
         ensures ports { self.new.ports ≡ self.old.ports }
@@ -205,7 +211,7 @@ impl<A: Server, J: Charter<A>, K: Sink> ServiceMachine<A, J, K> {
         }
     }
 
-    /// Whether a session has left. One that isn't there has.
+    /// Returns whether a session has left. One that doesn't exist has.
     fn has_left(&self, session: u32) -> bool
         ensures left { result ≡ has_left_at (slice_get self.now.ports session) }
         ensures there { result ≡ false → session < length self.now.ports }
@@ -216,7 +222,9 @@ impl<A: Server, J: Charter<A>, K: Sink> ServiceMachine<A, J, K> {
         }
     }
 
-    /// How many turns a session has left: one for each line, and its leave. One that isn't there has none.
+    /// Returns how many turns a session has left: one for each line, and its leave.
+    ///
+    /// One that has left or doesn't exist has none.
     fn left_of(&self, session: u32) -> u64
         ensures { result ≡ turns_left_at (slice_get self.now.ports session) }
     {
@@ -226,7 +234,7 @@ impl<A: Server, J: Charter<A>, K: Sink> ServiceMachine<A, J, K> {
         self.ports[session as usize].lines_left() + 1
     }
 
-    /// Whether a worker is done: a session, or past them the collector.
+    /// Returns whether a worker is done: a session, or past them the collector.
     #[tactic(auto, using(crate::proofs::Workers::session_done, crate::proofs::Workers::collector_done))]
     fn is_over(&self, worker: u32) -> bool
         ensures { result ≡ is_done_in self.now.ports self.now.turns worker }
@@ -238,7 +246,7 @@ impl<A: Server, J: Charter<A>, K: Sink> ServiceMachine<A, J, K> {
         }
     }
 
-    /// How many turns it has left.
+    /// Returns how many turns a worker has left.
     #[tactic(auto, using(crate::proofs::Workers::session_left, crate::proofs::Workers::collector_left))]
     fn rest_of(&self, worker: u32) -> u64
         ensures { result ≡ turns_left_in self.now.ports self.now.turns worker }
@@ -250,7 +258,7 @@ impl<A: Server, J: Charter<A>, K: Sink> ServiceMachine<A, J, K> {
         }
     }
 
-    /// One turn of a worker that isn't done.
+    /// Makes one turn of a worker that isn't done.
     #[tactic(auto, using(crate::proofs::Workers::collector_stays, crate::proofs::Workers::session_stays))]
     fn turn_of(&mut self, worker: u32)
         requires { is_done_in self.old.ports self.old.turns worker ≡ false }
@@ -299,7 +307,7 @@ impl<A: Server, J: Charter<A>, K: Sink> ServiceMachine<A, J, K> {
         }
     }
 
-    /// The server and the ports.
+    /// Takes the machine apart, and returns the server and the ports.
     pub fn into_unserved(self) -> Unserved<A, K>
         ensures server { result.server ≡ self.logged.server }
         ensures ports { result.ports.items ≡ self.ports }
@@ -319,7 +327,9 @@ impl<A: Server, J: Charter<A>, K: Sink> ServiceMachine<A, J, K> {
     }
 }
 
-/// The workers are the sessions, and past them the collector. A turn is one line, or the leave; or one part or step.
+/// The workers are the sessions, and past them the collector.
+///
+/// A session's turn is one line, or its leave. A turn of the collector is one part of a commit, or one step.
 #[tactic(auto, using(crate::proofs::Workers::as_many))]
 impl<A: Server, J: Charter<A>, K: Sink> Machine for ServiceMachine<A, J, K> {
     ghost use Rattle.std.specs.Prelude.{suc, length};

@@ -1,17 +1,18 @@
-//! The pages that the program prints for its own sake.
+//! The pages that the program prints.
 ghost use Rattle.std.specs.Prelude.{◌≡◌};
 ghost use Rattle.cfs_serve.specs.Pages.{page_text};
 
+/// A page that the program prints in place of a report.
 #[derive(Clone, Copy, Debug, PartialEq, Eq)]
 pub enum Page {
-    /// Of `--help`: the forms of the words, and the statuses.
+    /// The page of `--help`: the forms of the words, and the statuses.
     Help,
-    /// Of `--version`.
+    /// The page of `--version`.
     Version,
 }
 
 impl Page {
-    /// What is printed.
+    /// Returns what is printed.
     pub fn text(self) -> &'static [u8]
         ensures { result.now ≡ page_text self }
     {
@@ -36,6 +37,9 @@ cfs serve VOLUME SEED COLLECTIONS IN OUT ..
 cfs dirs VOLUME SEED IN OUT
     serve lines of names on the volume in the file VOLUME: directories in which
     names lead to files, indices and other directories
+cfs converse VOLUME SEED EVERY IN OUT
+    answer a session on the volume in the file VOLUME, line by line as it asks;
+    a collection is called for after every EVERY lines (0: never) and at its end
 cfs check VOLUME
     name each fault of the volume in the file VOLUME, or tell that it is sound
 cfs mend VOLUME

@@ -20,6 +20,7 @@ impl Model for Path {
 }
 
 impl Path {
+    /// Returns the name as text.
     pub fn as_str(&self) -> &str
         ensures { result.now ≡ self.now }
     {
@@ -27,7 +28,7 @@ impl Path {
     }
 }
 
-/// Files of files, in order.
+/// Names of files, in order.
 #[derive(Debug, Drop)]
 pub struct Paths {
     paths: Vec<Path>,
@@ -42,6 +43,7 @@ impl Model for Paths {
 }
 
 impl Paths {
+    /// Returns the names.
     pub fn as_slice(&self) -> &[Path]
         ensures { result.now ≡ self.now }
     {
@@ -52,22 +54,26 @@ impl Paths {
 /// A volume in a file.
 #[derive(Debug, Drop)]
 pub enum Volume {
-    /// It is there, and is served.
+    /// The volume exists.
     Existing { path: Path },
-    /// It is to be made, of so many cylinders.
+    /// The volume is to be made, of `cylinders` cylinders.
     Fresh { path: Path, cylinders: u32 },
 }
 
-/// What a command names: its volume, where it has one in a file; the sources of its sessions and their sinks, session
-/// by session; and whether the file is one of pairs of blocks.
+/// The files that a command names.
 #[derive(Debug, Drop)]
 pub struct Files {
+    /// The volume, if it is in a file.
     pub volume: Option<Volume>,
+    /// The request files, session by session, or the trail of an audit.
     pub sources: Paths,
+    /// The reply files, session by session.
     pub sinks: Paths,
+    /// Whether the volume's file is one of pairs of blocks.
     pub pair: bool,
 }
 
+/// Copies the name of a file. Fails for want of memory.
 pub(crate) fn path_of(alloc: Global, text: &str) -> Result<Path, AllocError>
     ensures { IfOk result (λ p. p ≡ text.now) }
 {
@@ -76,8 +82,9 @@ pub(crate) fn path_of(alloc: Global, text: &str) -> Result<Path, AllocError>
     })
 }
 
-/// The files that these words name, two and two: where the requests of each session come from, and where its replies
-/// go.
+/// Copies the names that these words give in pairs: of each session's request file, and of its reply file.
+///
+/// Fails for want of memory.
 pub(crate) fn session_paths(alloc: Global, words: &[String]) -> Result<(Paths, Paths), AllocError>
     ensures { IfOk result (λ p. (p.0 ≡ inputs_in (map string_bytes words.now))
         × (p.1 ≡ outputs_in (map string_bytes words.now))) }
@@ -93,7 +100,7 @@ pub(crate) fn session_paths(alloc: Global, words: &[String]) -> Result<(Paths, P
     Ok((Paths { paths: inputs }, Paths { paths: outputs }))
 }
 
-/// One name.
+/// Copies one name. Fails for want of memory.
 pub(crate) fn one_path(alloc: Global, text: &str) -> Result<Paths, AllocError>
     ensures { IfOk result (λ p. p ≡ text.now ∷ []) }
 {
@@ -102,7 +109,7 @@ pub(crate) fn one_path(alloc: Global, text: &str) -> Result<Paths, AllocError>
     Ok(Paths { paths })
 }
 
-/// No names. Takes no memory.
+/// Returns no names. Takes no memory.
 pub(crate) fn no_paths(alloc: Global) -> Paths
     ensures { result ≡ [] }
 {

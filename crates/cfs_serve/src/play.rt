@@ -1,6 +1,8 @@
-//! A service.
-ghost use Rattle.std.specs.Prelude.{◌≡◌, ◌⊎◌, ◌<◌, ◌≤◌, ◌+◌, ◌*◌, [], None, Some, filter, length, map};
+//! A service of scripts, from its sources to its report.
+ghost use Rattle.std.specs.Prelude.{◌≡◌, ◌⊎◌, ◌<◌, ◌≤◌, ◌+◌, ◌*◌, List, [], None, Some, filter, length, map, ℕ};
 ghost use Rattle.std.specs.List.{sum_by};
+ghost use Rattle.cfs_core.specs.Kernel.{Kernel};
+ghost use Rattle.cfs_ports.specs.Port.{PortReading};
 ghost use Rattle.cfs_serve.specs.Disks.{ServesVolume};
 ghost use Rattle.cfs_serve.specs.Ending.{cause_by, not_begun};
 ghost use Rattle.cfs_serve.specs.Events as spec;
@@ -9,6 +11,7 @@ ghost use Rattle.cfs_serve.specs.Machine.{AreNew, client_of, turns_left};
 ghost use Rattle.cfs_serve.specs.Played as played;
 ghost use Rattle.cfs_serve.specs.Report.{untold};
 ghost use Rattle.cfs_serve.specs.Scripts.{lines_in};
+ghost use Rattle.cfs_serve.specs.Service.{HasServed};
 ghost use Rattle.cfs_serve.specs.Volume.{IsCoreUncalled, IsUnserved, ServesScripts, ServesSessions};
 ghost use Rattle.cfs_serve.specs.Whole.{AsksSessions};
 
@@ -18,6 +21,7 @@ use crate::ending::Ending;
 use crate::report::{Cause, Counts, Report};
 use crate::scripts::{Scripts, read_scripts};
 use crate::served::{Served, Unserved};
+use crate::server::Server;
 use crate::service::{Schedule, Service};
 use crate::volume::{Unopened, new_volume, open_volume};
 use cfs_base::{Disk, Gate, Sink, Source};
@@ -38,21 +42,21 @@ pub(crate) struct Played {
     pub ending: Ending,
 }
 
-/// Whether this is a reply to a request line.
+/// Returns whether this event is the reply to a request line.
 fn is_reply(event: &Event) -> bool
     ensures { result ≡ spec.is_reply event.now }
 {
     matches!(event, Event::Unread { .. } | Event::Ask { .. })
 }
 
-/// Whether a collection is finished by this event.
+/// Returns whether a collection is finished by this event.
 fn is_finish(event: &Event) -> bool
     ensures { result ≡ spec.is_finish event.now }
 {
     matches!(event, Event::Finished)
 }
 
-/// How many collections are finished in a trail.
+/// Returns how many collections are finished in a trail.
 fn count_finished(trail: &Trail) -> u64
     ensures { result ≡ length (filter spec.is_finish trail.now.events) }
 {
@@ -65,7 +69,7 @@ fn count_finished(trail: &Trail) -> u64
     count
 }
 
-/// How many replies a trail has.
+/// Returns how many replies a trail has.
 fn count_replies(trail: &Trail) -> u64
     ensures { result ≡ length (filter spec.is_reply trail.now.events) }
 {
@@ -78,7 +82,7 @@ fn count_replies(trail: &Trail) -> u64
     count
 }
 
-/// Nothing is served, and this is told.
+/// Returns what a run comes to that serves nothing, with this report.
 pub(crate) fn unserved(alloc: Global, report: Report) -> Played
     ensures report { result.report ≡ report }
     ensures trail { result.trail.events ≡ [] }
@@ -91,7 +95,7 @@ pub(crate) fn unserved(alloc: Global, report: Report) -> Played
     }
 }
 
-/// Nothing is served, for this cause.
+/// Returns what a run comes to that serves nothing, for this cause.
 pub(crate) fn nothing(alloc: Global, cause: Cause) -> Played
     ensures report { result.report ≡ untold cause }
     ensures trail { result.trail.events ≡ [] }
@@ -100,14 +104,14 @@ pub(crate) fn nothing(alloc: Global, cause: Cause) -> Played
     unserved(alloc, Report::untold(alloc, cause))
 }
 
-/// Whether the sink of one of these failed.
+/// Returns whether the sink of one of these ports failed.
 fn has_broken<K: Sink>(ports: &[Port<K>]) -> bool
     ensures { result ≡ played.has_broken ports.now }
 {
     ports.iter().any(|port| port.has_failed())
 }
 
-/// The report on sessions that were served, by the core's last status.
+/// Returns the report on sessions that were served, by the core's last status.
 fn report_on<A, K: Sink>(alloc: Global, served: &Served<A, K>, last: Status) -> Report
     ensures { result ≡ record {
       counts = Some (record {
@@ -136,8 +140,48 @@ fn report_on<A, K: Sink>(alloc: Global, served: &Served<A, K>, last: Status) -> 
     }
 }
 
-/// The steps that the collector may make: so many for each collection, one for each turn of a session, which may
-/// add one, and one in which nothing is left to do.
+/// Returns what sessions came to that a core has served, by its last status, with the ports and the disk.
+pub(crate) fn close_service<D: Disk, K: Sink>(
+    alloc: Global,
+    served: Served<Core<D>, K>,
+) -> (Played, Vec<Port<K>>, D)
+    ensures trail { result.0.trail ≡ served.trail }
+    ensures refused { result.0.ending.refused ≡ served.ending.refused }
+    ensures ports { result.1.items ≡ served.ports.items }
+    ensures sessions { (core : Kernel D) (before : List PortReading) (collections : ℕ) → core.stop ≡ None
+        → HasServed ⟦<Core<D> as Server>⟧ core before collections served
+        → ServesSessions D.Disk core collections (map client_of before) result.1.items result.0.report result.0.ending
+        result.0.trail.events result.0.trail.moments result.2 }
+{
+    survival::laws::runs_survive::<D>();
+    crate::laws::images_are_whole::<D>();
+    let last = served.server.status();
+    served.server.has_room();
+    let report = report_on(alloc, &served, last);
+    let Served {
+        server,
+        trail,
+        ports,
+        starved: _,
+        failed: _,
+        ending,
+    } = served;
+    let ending = Ending {
+        last: Some(last),
+        ..ending
+    };
+    let played = Played {
+        report,
+        trail,
+        ending,
+    };
+    (played, ports, server.into_disk())
+}
+
+/// Returns how many steps the collector may make.
+///
+/// They are `each` for each collection, one for each turn of a session, which may add one, and one in which nothing is
+/// left to do.
 fn count_steps(collections: u32, each: u64, turns: u64) -> u64
     requires most { collections ≤ 1000 }
     requires small { each < 140737488355328 }
@@ -148,8 +192,10 @@ fn count_steps(collections: u32, each: u64, turns: u64) -> u64
     u64::from(collections) * each + turns + 1
 }
 
-/// Serves the sessions of these ports, which come back, and calls for collections. The disk comes back. The sessions
-/// make no more turns than these, and so add no more steps to those of the collections.
+/// Serves the sessions of these ports, and calls for collections.
+///
+/// The sessions make at most `turns` turns, and so add at most as many steps to those of the collections. If memory is
+/// wanting for the service, nothing is served. Returns what it came to, the ports and the disk.
 fn serve_ports<D: Disk + Send, K: Sink + Send, G: Gate + Sync, R: Threads + Wait + Sync>(
     rt: &R,
     alloc: Global,
@@ -174,8 +220,6 @@ fn serve_ports<D: Disk + Send, K: Sink + Send, G: Gate + Sync, R: Threads + Wait
 {
     core.call_for(schedule.collections);
     core.has_room();
-    survival::laws::runs_survive::<D>();
-    crate::laws::images_are_whole::<D>();
     let steps = count_steps(schedule.collections, core.most_steps(), turns);
     let service = Service {
         server: core,
@@ -184,36 +228,18 @@ fn serve_ports<D: Disk + Send, K: Sink + Send, G: Gate + Sync, R: Threads + Wait
         schedule,
         turns: steps,
     };
-    let served = match service.run(rt, alloc, gate) {
-        Ok(served) => served,
+    match service.run(rt, alloc, gate) {
+        Ok(served) => close_service(alloc, served),
         Err(Unserved { server, ports }) => {
-            return (nothing(alloc, Cause::Memory), ports, server.into_disk());
+            (nothing(alloc, Cause::Memory), ports, server.into_disk())
         }
-    };
-    let last = served.server.status();
-    served.server.has_room();
-    let report = report_on(alloc, &served, last);
-    let ending = Ending {
-        last: Some(last),
-        ..served.ending
-    };
-    let Served {
-        server,
-        trail,
-        ports,
-        starved: _,
-        failed: _,
-        ending: _,
-    } = served;
-    let played = Played {
-        report,
-        trail,
-        ending,
-    };
-    (played, ports, server.into_disk())
+    }
 }
 
-/// Serves these scripts, with a sink for each, and calls for collections. The disk comes back.
+/// Serves these scripts, with a sink for each, and calls for collections.
+///
+/// If memory is wanting for the service, nothing is served, and no sink takes a byte. Returns what it came to, and the
+/// disk.
 pub(crate) fn serve_scripts<
     D: Disk + Send,
     K: Sink + Send,
@@ -254,6 +280,8 @@ pub(crate) fn serve_scripts<
 }
 
 /// Reads the sources, and serves their scripts on a new volume in memory.
+///
+/// If a source can't be read, or memory is wanting, nothing is served, and the report says why.
 pub(crate) fn play<S: Source, K: Sink + Send, G: Gate + Sync, R: Threads + Wait + Sync>(
     rt: &R,
     alloc: Global,
@@ -284,7 +312,10 @@ pub(crate) fn play<S: Source, K: Sink + Send, G: Gate + Sync, R: Threads + Wait 
     played
 }
 
-/// Reads the sources, and serves their scripts on the volume of this disk, which comes back.
+/// Reads the sources, and serves their scripts on the volume of this disk.
+///
+/// If a source can't be read, the volume can't be opened, or memory is wanting, nothing is served, and the report says
+/// why. Returns what the service came to, and the disk.
 pub(crate) fn serve_volume<
     D: Disk + Send,
     S: Source,

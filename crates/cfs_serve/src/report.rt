@@ -11,17 +11,18 @@ use cfs_streams::write_whole;
 use itoa::Buffer;
 use std::alloc::Global;
 
-/// What was served.
+/// What was served, in numbers.
 #[derive(Clone, Copy, Debug, PartialEq, Eq)]
 pub struct Counts {
+    /// How many sessions there were.
     pub sessions: u64,
-    /// Request lines that were answered.
+    /// How many request lines were answered.
     pub replies: u64,
-    /// Collections that were finished.
+    /// How many collections were finished.
     pub collections: u64,
-    /// Objects in the graph.
+    /// How many objects the graph has.
     pub objects: u64,
-    /// Blocks that are Free.
+    /// How many blocks are Free.
     pub free: u64,
 }
 
@@ -30,51 +31,51 @@ pub struct Counts {
 pub enum VolumeFault {
     /// The file holds no volume.
     NotVolume,
-    /// It holds a volume of this version, which is another.
+    /// The file holds a volume of another version, which is this one.
     Version(u32),
-    /// A block of it is damaged.
+    /// A block of the volume is damaged.
     Damaged(Damage),
 }
 
-/// What ended a run before its end, or spoiled it; or that a page was asked for, the verdict on a trail, or that a
-/// volume is sound.
+/// What a run came to: nothing to report, what ended it early or spoiled it, or what it found.
 #[derive(Clone, Copy, Debug, PartialEq, Eq)]
 pub enum Cause {
+    /// All went well, and there is nothing more to report.
     Nothing,
-    /// This page was asked for, and it is all that the report has.
+    /// This page was asked for, and is all that the report has.
     Page(Page),
     /// The words are of no form.
     Words,
     /// The volume was refused as it was opened, or its service stopped at a block that is damaged.
     Volume(VolumeFault),
-    /// The volume's disk failed. The moment of the disk at which the service stopped, if it did.
+    /// The volume's disk failed. If the service stopped, this is the moment of the disk at which it did.
     Disk(Option<u64>),
     /// A session's sink failed.
     Sink,
-    /// That source failed.
+    /// The source of this number failed.
     Source(u64),
-    /// Want of memory, in a reply or elsewhere.
+    /// Memory was wanting, for a reply or elsewhere.
     Memory,
-    /// That source has more bytes than a request file may have.
+    /// The source of this number has more bytes than a request file, or an audited trail, may have.
     Long(u64),
     /// The files have more request lines than a run may have.
     LongTotal,
-    /// The volume has more blocks than one may have that is checked or mended.
+    /// The volume has more blocks than can be checked or mended.
     LongVolume,
-    /// The trail is legal, and has so many events.
+    /// The trail is legal, and has `events` events.
     Legal { events: u64 },
-    /// This line of the trail, counted from 1, is none that a trail has there.
+    /// This line of the trail, counted from 1, is not one that a trail may have there.
     BadLine { line: u64 },
     /// This event of the trail, counted from 1, may not happen.
     Illegal { event: u64 },
-    /// The volume is sound. It has so many objects, and leaves so many blocks beside the maps, the label and the objects.
+    /// The volume is sound. It has `objects` objects, and `left` blocks beside these, the maps and the label.
     Sound { objects: u32, left: u32 },
 }
 
 impl Cause {
     ghost use Rattle.cfs_serve.specs.Report.{status_of};
 
-    /// The status of a run that ended so.
+    /// Returns the status of a run that ended for this cause.
     pub fn status(self) -> u8
         ensures { result ≡ status_of self }
     {
@@ -93,7 +94,7 @@ impl Cause {
 
     ghost use Rattle.cfs_serve.specs.Text.{last_cause};
 
-    /// What the status is of, where memory was wanting for a line of the report or not.
+    /// Returns the cause that the status gives. `short` is set if memory was wanting for a line of the report.
     pub(crate) fn at_last(self, short: bool) -> Cause
         ensures { result ≡ last_cause short self }
     {
@@ -105,7 +106,7 @@ impl Cause {
 
     ghost use Rattle.cfs_serve.specs.Report.{cause_text};
 
-    /// Writes the line of the cause, where it has one.
+    /// Writes the line of the cause, if it has one.
     fn write_line<K: Sink>(self, sink: &mut K) -> Result<(), Failed>
         ensures { WritesWhole (K.intake sink.old) (K.intake sink.new) (cause_text self) result }
     {
@@ -139,7 +140,7 @@ impl Cause {
 
     ghost use Rattle.cfs_serve.specs.Report.{ending_text};
 
-    /// Writes the lines that end the report, or the page that stands in its place.
+    /// Writes the lines that end the report, or the page in its place.
     fn write_ending<K: Sink>(self, sink: &mut K) -> Result<(), Failed>
         ensures { WritesWhole (K.intake sink.old) (K.intake sink.new) (ending_text self) result }
     {
@@ -188,7 +189,7 @@ fn write_damage<K: Sink>(sink: &mut K, word: &[u8], damage: Damage) -> Result<()
 impl VolumeFault {
     ghost use Rattle.cfs_serve.specs.Report.{fault_text};
 
-    /// Writes its line.
+    /// Writes the line of the fault.
     fn write<K: Sink>(self, sink: &mut K) -> Result<(), Failed>
         ensures { WritesWhole (K.intake sink.old) (K.intake sink.new) (fault_text self) result }
     {
@@ -206,7 +207,7 @@ impl Counts {
     ghost use Rattle.std.specs.Prelude.{Some};
     ghost use Rattle.cfs_serve.specs.Report.{counts_text, served_text};
 
-    /// Writes a line for each.
+    /// Writes a line for each count.
     fn write<K: Sink>(self, sink: &mut K) -> Result<(), Failed>
         ensures { WritesWhole (K.intake sink.old) (K.intake sink.new) (counts_text (Some self)) result }
     {
@@ -214,7 +215,7 @@ impl Counts {
         write_number(sink, b"free", self.free)
     }
 
-    /// Writes a line for each but the last.
+    /// Writes a line for each count but the last.
     fn write_served<K: Sink>(self, sink: &mut K) -> Result<(), Failed>
         ensures { WritesWhole (K.intake sink.old) (K.intake sink.new) (served_text self) result }
     {
@@ -225,13 +226,14 @@ impl Counts {
     }
 }
 
-/// What is told of a run.
+/// The report of a run.
 #[derive(Debug, Drop)]
 pub struct Report {
-    /// Nothing where nothing was served.
+    /// What was served, or `None` if nothing was.
     pub counts: Option<Counts>,
-    /// Those of a volume that was checked.
+    /// The faults of a volume that was checked.
     pub faults: Damages,
+    /// What the run came to, by which its status goes.
     pub cause: Cause,
 }
 
@@ -240,7 +242,7 @@ impl Report {
     ghost use Rattle.cfs_serve.specs.Report as spec;
     ghost use Rattle.cfs_serve.specs.Report.{counts_text, fault_lines, report_text};
 
-    /// Where nothing was served and no fault of a volume was found. Takes no memory.
+    /// Returns the report of a run that served nothing and found no faults to list. Takes no memory.
     pub(crate) fn untold(alloc: Global, cause: Cause) -> Report
         ensures { result ≡ spec.untold cause }
     {
@@ -251,6 +253,7 @@ impl Report {
         }
     }
 
+    /// Writes a line for each fault.
     fn write_faults<K: Sink>(&self, sink: &mut K) -> Result<(), Failed>
         ensures { WritesWhole (K.intake sink.old) (K.intake sink.new) (fault_lines self.now.faults) result }
     {
@@ -261,6 +264,7 @@ impl Report {
         Ok(())
     }
 
+    /// Writes the lines of the counts, if something was served.
     fn write_counts<K: Sink>(&self, sink: &mut K) -> Result<(), Failed>
         ensures { WritesWhole (K.intake sink.old) (K.intake sink.new) (counts_text self.now.counts) result }
     {
@@ -271,6 +275,8 @@ impl Report {
     }
 
     /// Writes the lines of the report.
+    ///
+    /// If the sink fails, it has taken some beginning of them.
     pub fn write<K: Sink>(&self, sink: &mut K) -> Result<(), Failed>
         ensures { WritesWhole (K.intake sink.old) (K.intake sink.new) (report_text self.now) result }
     {

@@ -1,4 +1,4 @@
-//! What is left to the collector.
+//! What the collector has left to do.
 ghost use Rattle.std.specs.Prelude.{◌≡◌, ◌<◌, ◌≤◌, ◌+◌, ◌*◌, if◌then◌else◌, true, None, Some};
 ghost use Rattle.cfs_core.specs.declared.collecting.CollectFault as faulted;
 ghost use Rattle.cfs_serve.specs.Logs.{is_progress_made, is_recorded, is_step, refusal_in};
@@ -9,16 +9,19 @@ use cfs_core::CollectFault;
 /// The steps that the collector has left, and what ended it.
 #[derive(Clone, Copy, Debug, PartialEq, Eq)]
 pub struct Rest {
+    /// How many steps the collector may still make.
     pub turns: u64,
-    /// How many events of it there is room for.
+    /// How many of its events there is room for.
     pub events: u64,
     /// The refusal at which it was done.
     pub refused: Option<CollectFault>,
 }
 
 impl Rest {
-    /// As so many collections are called for: three events for each, and one at which the server stops. Where none is,
-    /// there is no step, and that one event.
+    /// Returns what is left as `collections` collections are called for.
+    ///
+    /// There is room for three events for each, and for one at which the server stops. If none is called for, there is
+    /// no step, and room for that one event.
     pub(crate) fn new(collections: u32, turns: u64) -> Rest
         requires most { collections ≤ 1000 }
         ensures none { collections ≡ 0 → result ≡ record { turns = 0; events = 1; refused = None } }
@@ -31,7 +34,7 @@ impl Rest {
         Rest::on(turns, 3 * u64::from(collections) + 1)
     }
 
-    /// So many turns are left, and room for so many events.
+    /// Returns the rest in which `turns` steps are left, and room for `events` events.
     fn on(turns: u64, events: u64) -> Rest
         ensures { result ≡ record { turns = turns; events = events; refused = None } }
     {
@@ -42,7 +45,7 @@ impl Rest {
         }
     }
 
-    /// No step is left to make. The server may stop still, as a commit is carried out.
+    /// Returns the rest in which no step is left. The server may still stop, as a commit is carried out.
     fn over() -> Rest
         ensures { result ≡ record { turns = 0; events = 1; refused = None } }
     {
@@ -53,7 +56,7 @@ impl Rest {
         }
     }
 
-    /// It was refused, and is done.
+    /// Returns the rest of a collector that was refused, and is done.
     fn refused_by(fault: CollectFault) -> Rest
         ensures { result ≡ record { turns = 0; events = 0; refused = Some fault } }
     {
@@ -64,7 +67,9 @@ impl Rest {
         }
     }
 
-    /// What is left after a turn. No step is left once nothing is left to do, and at a refusal all is over.
+    /// Returns what is left after a turn.
+    ///
+    /// No step is left once nothing is left to do, and at a refusal all is over.
     pub(crate) fn after(self, progress: CollectorTurn) -> Rest
         requires runs { self.refused ≡ None }
         requires some { is_step progress ≡ true → 0 < self.turns }

@@ -9,12 +9,14 @@ ghost use Rattle.cfs_serve.specs.Ground.{ground_of};
 ghost use Rattle.cfs_serve.specs.Text.{first_line, printed_line};
 ghost use Rattle.cfs_serve.specs.Traced.{IsWritten};
 ghost use Rattle.cfs_serve.specs.Names.{IfNames, places_in};
+ghost use Rattle.cfs_serve.specs.Conversed.{IfTalks};
 ghost use Rattle.cfs_serve.specs.Says.{Says};
 ghost use Rattle.cfs_serve.specs.Top.{before, outside_after};
 
 use crate::audit::audit_only;
 use crate::cached::serve_cached;
 use crate::command::Command;
+use crate::converse::converse;
 use crate::dirs::serve_dirs;
 use crate::ending::Ending;
 use crate::inspecting::{check_volume, mend_volume};
@@ -33,23 +35,26 @@ use trail_text::Opening;
 /// What is outside a run: its volume, and where bytes come from and go.
 #[derive(Drop)]
 pub struct Bay<D, S, K> {
-    /// The file of a volume; nothing for one in memory.
+    /// The disk of the volume, if it is in a file.
     pub disk: Option<D>,
-    /// One for each session.
+    /// One for each session, or the trail of an audit.
     pub sources: Vec<S>,
     /// One for each session.
     pub sinks: Vec<K>,
+    /// Where the report goes.
     pub report: K,
 }
 
 /// A run that has ended: its status, what was outside it, handed back, and what it came to.
 #[derive(Drop)]
 pub struct Ended<D, S, K> {
+    /// The status of the program.
     pub status: u8,
     pub disk: Option<D>,
     pub sources: Vec<S>,
     pub sinks: Vec<K>,
     pub report: K,
+    /// The events of a service.
     pub trail: Trail,
     /// What the report says, as far as its sink took it.
     pub told: Report,
@@ -57,7 +62,7 @@ pub struct Ended<D, S, K> {
     pub ending: Ending,
 }
 
-/// The status of a run whose report was written, or was not.
+/// Returns the status of a run whose report was written, or was not.
 fn status_of(written: bool, cause: Cause) -> u8
     ensures { result ≡ status_at_end written cause }
 {
@@ -68,7 +73,7 @@ fn status_of(written: bool, cause: Cause) -> u8
     }
 }
 
-/// Makes a fresh volume of a disk. Answers what is to be told.
+/// Makes a fresh volume on a disk, and returns the cause to report.
 fn make_volume<D: Disk>(disk: &mut D, seed: u64) -> Cause
     requires whole { D.blocks disk.old % 64 ≡ 0 }
     requires some { 1 ≤ D.blocks disk.old }
@@ -84,7 +89,7 @@ fn make_volume<D: Disk>(disk: &mut D, seed: u64) -> Cause
     }
 }
 
-/// The first line of the trail, where a trace is asked for.
+/// Returns the first line of the trail, if a trace is asked for.
 fn trace_of(command: Option<Command<'_>>) -> Option<Opening>
     ensures { result ≡ first_line (asked_of command.entry) }
 {
@@ -97,7 +102,9 @@ fn trace_of(command: Option<Command<'_>>) -> Option<Opening>
     }
 }
 
-/// Does what is asked for, on the volume of the disk, where there is one, which comes back.
+/// Does what is asked for, on the volume of the disk, if there is one.
+///
+/// Returns what the run came to, and the disk.
 fn do_asked<D: Disk + Send, S: Source, K: Sink + Send, G: Gate + Sync, R: Threads + Wait + Sync>(
     rt: &R,
     alloc: Global,
@@ -135,6 +142,18 @@ fn do_asked<D: Disk + Send, S: Source, K: Sink + Send, G: Gate + Sync, R: Thread
           sinks = map K.intake sinks.new.items;
         })
         result.0.report result.0.ending disk result.1 }
+    ensures talks { IfTalks D.Disk (asked_of command.entry) (ground_of D.Disk (asked_of command.entry) disk)
+        (record {
+          disk = option_map D.faults disk;
+          sources = map S.supply sources.old.items;
+          sinks = map K.intake sinks.old.items;
+        })
+        (record {
+          disk = option_map D.faults result.1;
+          sources = map S.supply sources.new.items;
+          sinks = map K.intake sinks.new.items;
+        })
+        result.0.report result.0.ending result.0.trail.events result.0.trail.moments disk result.1 }
 {
     match (command, disk) {
         (None, disk) => (nothing(alloc, Cause::Words), disk),
@@ -162,20 +181,25 @@ fn do_asked<D: Disk + Send, S: Source, K: Sink + Send, G: Gate + Sync, R: Thread
             let (played, disk) = serve_dirs(alloc, &asked, disk, sources, sinks);
             (played, Some(disk))
         }
+        (Some(Command::Converse(asked)), Some(disk)) => {
+            let (played, disk) = converse(alloc, &asked, disk, sources, sinks);
+            (played, Some(disk))
+        }
         (
             Some(
                 Command::Format(_)
                 | Command::Check(_)
                 | Command::Mend(_)
                 | Command::Serve(_)
-                | Command::Dirs(_),
+                | Command::Dirs(_)
+                | Command::Converse(_),
             ),
             None,
         ) => unreachable!(),
     }
 }
 
-/// The same, where sessions were served.
+/// Returns the first line of the trail that is printed in place of a report, if one is.
 fn printed(trace: Option<Opening>, counts: Option<Counts>) -> Option<Opening>
     ensures { (asked : Asked) → trace ≡ first_line asked → result ≡ printed_line asked counts }
 {
@@ -185,7 +209,7 @@ fn printed(trace: Option<Opening>, counts: Option<Counts>) -> Option<Opening>
     }
 }
 
-/// Writes the report: its lines or, of a trace that was served, its trail.
+/// Writes the report: its lines or, for a trace that was served, the trail. Returns how it was written.
 fn write_report<K: Sink>(
     alloc: Global,
     trace: Option<Opening>,
@@ -205,9 +229,13 @@ fn write_report<K: Sink>(
     }
 }
 
-/// Does what the words of a command ask, which none do where there is no command: shows a page, makes a volume, audits
-/// a trail, checks or mends a volume, serves sessions, those that are named or those of a spin, or serves lines of names;
-/// and writes the report.
+/// Runs a command, and writes its report.
+///
+/// A command shows a page, makes, checks or mends a volume, audits a trail, serves sessions, named ones or those of a
+/// spin, or lines of names, or answers a session as it asks. If there is no command, the words were of no form, and the
+/// report says so.
+///
+/// What was outside is handed back in every case. If something failed, the status says so.
 pub fn top<D: Disk + Send, S: Source, K: Sink + Send, G: Gate + Sync, R: Threads + Wait + Sync>(
     rt: &R,
     alloc: Global,
@@ -217,14 +245,19 @@ pub fn top<D: Disk + Send, S: Source, K: Sink + Send, G: Gate + Sync, R: Threads
 ) -> Ended<D, S, K>
     requires disk { HasDisk (asked_of command) (option_map D.blocks bay.disk) }
     requires places { HasPlaces (asked_of command) (length bay.sources.items) (length bay.sinks.items) }
-    ensures disk { OnDisk D.Disk (asked_of command.entry) result.told result.ending result.trail.events result.trail.moments
-        bay.disk result.disk }
+    ensures disk { OnDisk D.Disk (asked_of command.entry) result.told result.ending result.trail.events
+        result.trail.moments bay.disk result.disk }
     ensures said { Says (asked_of command.entry) (ground_of D.Disk (asked_of command.entry) bay.disk)
         (before D.faults S.supply K.intake bay) (outside_after D.faults S.supply K.intake result) result.told
         result.status result.ending result.trail.events }
     ensures names { IfNames D.Disk (asked_of command.entry) (ground_of D.Disk (asked_of command.entry) bay.disk)
-        (places_in (before D.faults S.supply K.intake bay)) (places_in (outside_after D.faults S.supply K.intake result))
+        (places_in (before D.faults S.supply K.intake bay))
+        (places_in (outside_after D.faults S.supply K.intake result))
         result.told result.ending bay.disk result.disk }
+    ensures talks { IfTalks D.Disk (asked_of command.entry) (ground_of D.Disk (asked_of command.entry) bay.disk)
+        (places_in (before D.faults S.supply K.intake bay))
+        (places_in (outside_after D.faults S.supply K.intake result))
+        result.told result.ending result.trail.events result.trail.moments bay.disk result.disk }
 {
     cfs_workload::laws::scripts_have_so_many_lines();
     let Bay {

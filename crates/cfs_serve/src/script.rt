@@ -9,7 +9,7 @@ use cfs_script::next_line;
 use std::alloc::Global;
 use std::marker::Model;
 
-/// How many request lines a script has.
+/// Returns how many request lines a script has.
 pub(crate) fn count_lines(script: &[u8]) -> u64
     ensures count { result ≡ length (request_lines script.now) }
     ensures few { result ≤ length script.now }
@@ -23,7 +23,7 @@ pub(crate) fn count_lines(script: &[u8]) -> u64
     count
 }
 
-/// A script. It knows how many request lines it has.
+/// The script of a session, and how many request lines it has.
 #[derive(Drop)]
 pub(crate) struct Script {
     bytes: Vec<u8>,
@@ -42,6 +42,7 @@ impl Model for Script {
 }
 
 impl Script {
+    /// Makes a script of these bytes, and counts its request lines.
     pub fn new(bytes: Vec<u8>) -> Script
         ensures { result ≡ bytes.items }
     {
@@ -49,13 +50,14 @@ impl Script {
         Script { bytes, lines }
     }
 
+    /// Returns the bytes of the script.
     pub fn as_slice(&self) -> &[u8]
         ensures { result.now ≡ self.now }
     {
         self.bytes.as_slice()
     }
 
-    /// How many request lines it has.
+    /// Returns how many request lines the script has.
     pub fn lines(&self) -> u64
         ensures count { result ≡ length (request_lines self.now) }
         ensures few { result ≤ length self.now }
@@ -63,7 +65,9 @@ impl Script {
         self.lines
     }
 
-    /// The port of a session with this script, which knows the root index. The sink comes back where memory is wanting.
+    /// Makes the port of a session with this script, which knows the root index.
+    ///
+    /// If memory is wanting, the error is the sink.
     pub fn into_port<K: Sink>(self, alloc: Global, root: Puid, sink: K) -> Result<Port<K>, K>
         ensures new { IfOk result (IsNewPort root) }
         ensures lines { IfOk result (λ p. p.lines ≡ request_lines self) }

@@ -16,7 +16,9 @@ pub(crate) struct Scripts {
     pub lines: u64,
 }
 
-/// Reads the source of that number whole. What is to be told where it gives no script.
+/// Reads the source of this number whole.
+///
+/// If it gives no script, the error is the cause to report: it failed or is too long, or memory was wanting.
 fn read_script<S: Source>(alloc: Global, source: &mut S, number: u64) -> Result<Script, Cause>
     ensures script { IfOk result (HasScript (S.supply source.old)) }
     ensures cause { IfErr result (IsOneCause number (S.supply source.old) (S.supply source.new)) }
@@ -29,8 +31,10 @@ fn read_script<S: Source>(alloc: Global, source: &mut S, number: u64) -> Result<
     }
 }
 
-/// Reads each source whole, one after the other, and then counts the request lines. What is to be told where they
-/// aren't served: of the first source that failed or has too much, and else of all of them.
+/// Reads each source whole, one after the other, and then counts the request lines.
+///
+/// If the scripts can't be served, the error is the cause to report: the first source that failed or is too long, too
+/// many request lines in all, or want of memory.
 pub(crate) fn read_scripts<S: Source>(alloc: Global, sources: &mut Vec<S>) -> Result<Scripts, Cause>
     requires few { length sources.old.items ≤ 64 }
     ensures scripts { IfOk result (λ s. HaveScripts (map S.supply sources.old.items) s.scripts.items) }

@@ -1,6 +1,6 @@
-//! What a service stands on: a server that sessions ask and leave.
+//! The server of a service, which sessions ask and leave.
 ghost use Rattle.std.specs.Prelude.{◌≡◌, ◌+◌, ◌<◌, ◌≤◌, ℕ, Bool, List, [], ◌∷◌, Ok, Option, true, false, IsSome};
-ghost use Rattle.std.specs.Prelude.{IsTrue, is_some, length};
+ghost use Rattle.std.specs.Prelude.{IsTrue, None, is_some, length};
 ghost use Rattle.cfs_base.specs.Disk.{Image};
 ghost use Rattle.cfs_base.specs.declared.identifier.Puid.{Puid};
 ghost use Rattle.cfs_base.specs.Outside.{Rose};
@@ -8,8 +8,8 @@ ghost use Rattle.cfs_script.specs.Room.{FitsLine};
 ghost use Rattle.ufs_model.specs.declared.asked.Event.TheVariants as events;
 ghost use Rattle.ufs_model.specs.Asks.{IsAsked};
 ghost use Rattle.ufs_model.specs.State.{State};
-ghost use Rattle.cfs_serve.specs.Calls.{CrashesGoOn, IsExact, MakesServed, MayGoOn, MayMake, MayTally, Tallies, Tally};
-ghost use Rattle.cfs_serve.specs.Calls.{TellsEvent};
+ghost use Rattle.cfs_serve.specs.Calls.{CallsOne, CrashesGoOn, IsExact, MakesServed, MayGoOn, MayMake, MayTally};
+ghost use Rattle.cfs_serve.specs.Calls.{Tallies, Tally, TellsEvent};
 ghost use Rattle.cfs_serve.specs.Calls.{EndsCollecting, SessionPasses, PassesStep, SpendsTurn, TellsStep, as_step};
 ghost use Rattle.cfs_serve.specs.Calls.{event_by, refusal_by, tells_stop_at};
 ghost use Rattle.cfs_serve.specs.Turns.{TakesTurn, fault_as};
@@ -25,8 +25,9 @@ use cfs_core::{CollectFault, Core, Step, Stop, TidyFault};
 use std::alloc::Global;
 use ufs_model::{Reply, Request};
 
-/// A server that sessions ask and leave and that collects, and that tells of its disk how often a call failed. It stands
-/// for states of the definitions.
+/// A server that sessions ask and leave, and that collects.
+///
+/// It stands for states of the definitions, and says how often a call of its disk failed.
 pub trait Server {
     /// Whether it stands for this state.
     ghost stands: { Self → State → Type 0 };
@@ -47,7 +48,7 @@ pub trait Server {
 
     ghost has_stopped: { Self → Bool };
 
-    /// It stopped, and at a block that is damaged.
+    /// Whether it stopped at a damaged block.
     ghost is_damaged: { Self → Bool };
 
     ghost stopped_so: { (a : Self) → has_stopped a ≡ is_some (stop a) };
@@ -57,10 +58,10 @@ pub trait Server {
     /// The clock of its disk.
     ghost clock: { Self → ℕ };
 
-    /// Its collections, and the blocks that objects have still which are gone.
+    /// Its collections, and how many blocks objects that are gone still have.
     ghost tally: { Self → Tally };
 
-    /// How many parts are left of a commit.
+    /// How many parts of a commit are left.
     ghost unfinished: { Self → ℕ };
 
     /// Its root index.
@@ -69,7 +70,7 @@ pub trait Server {
     /// What is known, for a seed and a graph, of the crashes of a run with these events and the moments of its marks.
     ghost lasts: { Self → ℕ → Graph → List Event → List ℕ → Type 0 };
 
-    /// The answer to a request of the language, as `ask` gives it, with all that is known of it on a disk.
+    /// Answers a request of a session, as `Core::ask` does.
     fn answer(&mut self, alloc: Global, who: Session, request: &Request) -> Reply
         requires words { words self.old < 4294967295 }
         ensures event { (s : State) → stands self.old s
@@ -92,7 +93,7 @@ pub trait Server {
         ensures seed { seed self.new ≡ seed self.old }
         ensures drawn { words self.new ≤ words self.old + 1 };
 
-    /// A session leaves. The moment at which the server stopped in this call, if it did.
+    /// Lets a session leave. Returns the moment at which the server stopped in this call, if it did.
     fn leave(&mut self, who: Session) -> Option<u64>
         ensures event { (s : State) → stands self.old s
             → MakesServed (stands self.new) (seed self.old) s (events.Leave who result) }
@@ -112,8 +113,9 @@ pub trait Server {
         ensures seed { seed self.new ≡ seed self.old }
         ensures drawn { words self.new ≤ words self.old };
 
-    /// A turn of the collector: one part of a commit, where one is unfinished, and else one step, the first that is
-    /// due. It is an event or none.
+    /// Makes a turn of the collector: one part of a commit if one is unfinished, and else the step that is due.
+    ///
+    /// Returns the step, or `None` for a part. If the turn was refused, the error says why.
     fn turn(&mut self, alloc: Global) -> Result<Option<Step>, CollectFault>
         ensures event { (s : State) → stands self.old s
             → MayMake (stands self.new) (seed self.old) s (event_by (as_step result)) }
@@ -136,16 +138,29 @@ pub trait Server {
         ensures seed { seed self.new ≡ seed self.old }
         ensures drawn { words self.new ≤ words self.old };
 
-    /// How many parts are left of a commit.
+    /// Calls for one more collection.
+    fn call(&mut self)
+        requires few { (tally self.old).called < 4294967295 }
+        ensures called { CallsOne stands tally self.old self.new }
+        ensures stop { stop self.new ≡ stop self.old }
+        ensures clock { clock self.new ≡ clock self.old }
+        ensures faults { faults self.new ≡ faults self.old }
+        ensures unfinished { unfinished self.new ≡ unfinished self.old }
+        ensures size { cylinders self.new ≡ cylinders self.old }
+        ensures seed { seed self.new ≡ seed self.old }
+        ensures drawn { words self.new ≡ words self.old }
+        ensures lasts { MayGoOn stands clock lasts (seed self.old) self.old self.new None };
+
+    /// Returns how many parts of a commit are left.
     fn parts_left(&self) -> u64
         ensures is { result ≡ unfinished self.now }
         ensures small { result < 4611686018427387904 };
 
-    /// Why it stopped, if it did.
+    /// Returns why the server stopped, if it did.
     fn stopped(&self) -> Option<Stop>
         ensures { result ≡ stop self.now };
 
-    /// The disk's clock. A line that is no request makes no call of the disk.
+    /// Returns the moment of the disk. A line that is no request makes no call of it.
     fn moment(&self) -> u64
         ensures clock { result ≡ clock self.now }
         ensures lasts { (who : ℕ) (why : Unread)
@@ -153,7 +168,7 @@ pub trait Server {
             (events.Unread who why) };
 }
 
-/// The fault of a step that is told in the same words.
+/// Returns the fault of a collector's step that is reported in the same words.
 pub(crate) fn fault_of(fault: TidyFault) -> CollectFault
     ensures { result ≡ fault_as fault }
 {
@@ -164,7 +179,7 @@ pub(crate) fn fault_of(fault: TidyFault) -> CollectFault
     }
 }
 
-/// A part of the commit that is unfinished, and else a step of the collector.
+/// Makes a part of the commit that is unfinished, or else a step of the collector.
 fn turn_of<D: Disk>(core: &mut Core<D>, alloc: Global) -> Result<Option<Step>, CollectFault>
     ensures { TakesTurn D.Disk core.old core.new result }
 {
@@ -243,6 +258,10 @@ impl<D: Disk> Server for Core<D> {
         let made = turn_of(self, alloc);
         self.has_room();
         made
+    }
+
+    fn call(&mut self) {
+        self.call_for(1);
     }
 
     fn parts_left(&self) -> u64 {

@@ -9,20 +9,22 @@ use cfs_trail::Trail;
 /// Which collections a service makes.
 #[derive(Clone, Copy, Debug)]
 pub(crate) struct Schedule {
-    /// How many are called for.
+    /// How many collections are called for.
     pub collections: u32,
-    /// The collector makes no step once one is finished, until the sessions have left.
+    /// Whether the collector makes no step once one is finished, until the sessions have left.
     pub rests: bool,
 }
 
-/// A server, the trail in which its events are recorded, and the ports of its sessions; which collections are made, and
-/// how many turns the collector may make for them.
+/// A service that is ready to begin.
 #[derive(Drop)]
 pub(crate) struct Service<A: Server, K: Sink> {
     pub server: A,
+    /// Where the events are recorded: empty, with room for all of them.
     pub trail: Trail,
+    /// The ports of the sessions.
     pub ports: Vec<Port<K>>,
     pub schedule: Schedule,
+    /// How many turns the collector may make for its collections.
     pub turns: u64,
     ghost ready: { IsServiceReady A.Server server trail ports.items schedule.collections turns },
 }

@@ -16,6 +16,8 @@ use std::sync::Wait;
 use std::thread::Threads;
 
 /// Makes a machine of this charter, and all its turns.
+///
+/// If memory is wanting for the front, the error hands back the server and the ports.
 fn serve_by<
     A: Server + Send,
     J: Charter<A> + Send,
@@ -38,12 +40,17 @@ fn serve_by<
 }
 
 impl<A: Server + Send, K: Sink + Send> Service<A, K> {
-    /// Serves the sessions, each in a thread, until each has left: at its script's end, or once its sink failed. Beside
-    /// them, in a thread of its own, the collector carries out what a commit has left, and makes its steps, of which
-    /// there are fewer than it is given, until as many collections are finished as were called for or it is refused.
-    /// Before each of its turns a session or the collector passes the gate, and is told how many events the trail has.
-    /// Turns are made by tickets. Takes no memory but for the front, the threads, the answers and the collector. Where
-    /// memory is wanting for the front nothing is served.
+    /// Serves the sessions until each has left, and collects beside them.
+    ///
+    /// Each session has a thread, and leaves at its script's end or once its sink failed. The collector has a thread
+    /// of its own. It carries out what a commit has left, and makes its steps, which are fewer than it is given. It is
+    /// done once as many collections are finished as were called for, or at a refusal.
+    ///
+    /// Turns are made by tickets. Before each turn a session or the collector passes the gate, and learns how many
+    /// events the trail has.
+    ///
+    /// Takes memory only for the front, the threads, the answers and the collector. If memory is wanting for the front,
+    /// nothing is served, and the error has the server and the ports as they were.
     pub fn run<G: Gate + Sync, R: Threads + Wait + Sync>(
         self,
         rt: &R,

@@ -33,7 +33,7 @@ impl Sink for Drain {
     }
 }
 
-/// The script of one session. None for want of memory.
+/// Draws the script of one session. Returns `None` for want of memory.
 fn draw(alloc: Global, seed: u64, session: u32, count: u64) -> Option<Script>
     requires { session < 4 }
     ensures { IfSome result (λ s. s ≡ workload.script seed session count) }
@@ -44,7 +44,7 @@ fn draw(alloc: Global, seed: u64, session: u32, count: u64) -> Option<Script>
     }
 }
 
-/// The scripts of all. None for want of memory.
+/// Draws the scripts of all four sessions. Returns `None` for want of memory.
 fn draw_scripts(alloc: Global, seed: u64, count: u64) -> Option<Scripts>
     requires { count ≤ 5370 }
     ensures scripts { IfSome result (λ s. s.scripts.items ≡ drawn_scripts seed count) }
@@ -63,8 +63,10 @@ fn draw_scripts(alloc: Global, seed: u64, count: u64) -> Option<Scripts>
     }
 }
 
-/// Draws the scripts of four sessions, so many lines for each and the first, and serves them on a new volume in memory,
-/// where it calls for two collections: one beside them, and one when they have left.
+/// Draws the scripts of four sessions, and serves them on a new volume in memory.
+///
+/// Each script has a first line, and as many drawn lines as are asked for. Two collections are called for: one beside
+/// the sessions, and one once they have left. If memory is wanting, nothing is served, and the report says so.
 pub(crate) fn spin<G: Gate + Sync, R: Threads + Wait + Sync>(
     rt: &R,
     alloc: Global,

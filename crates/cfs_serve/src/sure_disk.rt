@@ -79,7 +79,7 @@ impl Disk for SureDisk {
 }
 
 impl SureDisk {
-    /// So many zero blocks.
+    /// Makes a disk of `blocks` zero blocks.
     pub fn new(alloc: Global, blocks: u32) -> Result<SureDisk, NoMemory>
         ensures { IfOk result (λ d. ⟦<SureDisk as Disk>⟧.blocks d ≡ blocks) }
     {

@@ -15,13 +15,13 @@ use trail_text::{Opening, print_event, print_opening};
 /// How a report was written.
 #[derive(Clone, Copy, Debug, PartialEq, Eq)]
 pub(crate) struct Written {
-    /// The sink took all of it.
+    /// Whether the sink took all of it.
     pub whole: bool,
-    /// Memory was wanting for a line of it, and it ends before that line.
+    /// Whether memory was wanting for a line of it, so that it ends before that line.
     pub short: bool,
 }
 
-/// Writes a line with its end.
+/// Writes a line and its end.
 fn write_line<K: Sink>(sink: &mut K, line: &str) -> Result<(), Failed>
     ensures { WritesWhole (K.intake sink.old) (K.intake sink.new) (ended line.now) result }
 {
@@ -29,8 +29,9 @@ fn write_line<K: Sink>(sink: &mut K, line: &str) -> Result<(), Failed>
     write_whole(sink, b"\n")
 }
 
-/// Writes the first line of a trail and those of its events, up to one for which memory is wanting. Answers whether
-/// there was one.
+/// Writes the first line of a trail and those of its events, up to one for which memory is wanting.
+///
+/// Returns whether there was such a line. If the sink fails, it has taken some beginning of the lines.
 fn write_lines<K: Sink>(
     alloc: Global,
     opening: Opening,
@@ -55,8 +56,9 @@ fn write_lines<K: Sink>(
     Ok(false)
 }
 
-/// Writes the trail as a report, with the status of this cause; where memory is wanting for a line, the lines before it
-/// and the status.
+/// Writes the trail as a report, with the status of this cause.
+///
+/// If memory is wanting for a line, the lines before it and the status are written.
 pub(crate) fn write_trail<K: Sink>(
     alloc: Global,
     opening: Opening,

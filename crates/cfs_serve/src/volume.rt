@@ -1,4 +1,4 @@
-//! Volumes, opened.
+//! How volumes are opened.
 ghost use Rattle.std.specs.Prelude.{◌≡◌, ◌*◌, ◌≤◌, IfErr, IfOk, IfSome, IsTrue, None, length};
 ghost use Rattle.cfs_core.specs.Opened.{IsOpenedCore};
 ghost use Rattle.cfs_serve.specs.Disks.{IsLater};
@@ -16,7 +16,7 @@ use cfs_core::{Core, OpenFault};
 use cfs_recover::RecoverFault;
 use std::alloc::Global;
 
-/// A new volume of so many cylinders, opened. None for want of memory.
+/// Makes a volume of `cylinders` cylinders in memory, and opens it. Returns `None` for want of memory.
 pub(crate) fn new_volume(alloc: Global, cylinders: u32, seed: u64) -> Option<Core<SureDisk>>
     requires some { 1 ≤ cylinders }
     requires most { cylinders ≤ 1024 }
@@ -29,14 +29,14 @@ pub(crate) fn new_volume(alloc: Global, cylinders: u32, seed: u64) -> Option<Cor
     Core::open(alloc, disk, seed).ok()
 }
 
-/// A volume that was not opened: what is to be told, and the disk.
+/// A volume that was not opened: the cause to report, and the disk.
 #[derive(Drop)]
 pub(crate) struct Unopened<D> {
     pub cause: Cause,
     pub disk: D,
 }
 
-/// What is to be told of a volume that was not opened.
+/// Returns the cause to report of a volume that was not opened.
 fn told_by(why: RecoverFault) -> Cause
     ensures { result ≡ opening_cause why }
 {
@@ -49,7 +49,9 @@ fn told_by(why: RecoverFault) -> Cause
     }
 }
 
-/// Opens the volume of a disk that a crash left.
+/// Opens the volume of a disk, as a crash may have left it.
+///
+/// If it can't be opened, the error has the cause to report, and the disk.
 pub(crate) fn open_volume<D: Disk>(
     alloc: Global,
     disk: D,
@@ -61,13 +63,12 @@ pub(crate) fn open_volume<D: Disk>(
     ensures idle { IfOk result (λ core. core.collections ≡ record { collector = None; called = 0; finished = 0 }) }
     ensures sound { IsTrue (D.honest disk) → IfOk result (λ core. IsSound (D.content disk)) }
     ensures size { IfOk result (λ core. D.blocks disk ≡ 64 * length core.space.free) }
-    // Nothing was written where it is refused for what is wrong with it, or isn't sound.
+    // If the volume is refused for what is wrong with it, or isn't sound, nothing was written.
     ensures untouched { IsTrue (D.honest disk) → IfErr result (λ e. (fault : volume_faults.VolumeFault)
         → e.cause ≡ Cause.Volume fault → IsUntouched D.Disk disk e.disk) }
     ensures unsound { IsTrue (D.honest disk) → ¬ IsSound (D.content disk)
         → IsUntouched D.Disk disk (disk_refused result) }
-    // Where it is refused, this is told: a failed call only where one failed, a fault of the volume only where it isn't
-    // sound.
+    // What is reported of a refusal: a failed call only if one failed, a fault of the volume only if it isn't sound.
     ensures refused { IfErr result (λ e. IsOpeningRefusal D.Disk disk e.disk e.cause) }
     ensures images { IsTrue (D.honest disk) → (graph : Graph) → IsSoundAs (D.content disk) graph
         → LeavesSinceBarrier D.Disk disk (disk_refused result) (λ c. IsSoundAs c graph) }

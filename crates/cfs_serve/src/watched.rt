@@ -1,4 +1,4 @@
-//! A core of which it is known, whatever its disk, that a failed call is behind its stop.
+//! A core of which it is known, on any disk, that a failed call is behind its stop, unless a block was damaged.
 ghost use Rattle.std.specs.Prelude.{◌≡◌, None};
 ghost use Rattle.cfs_serve.specs.Watched.{IsWatched};
 
@@ -39,6 +39,7 @@ impl<D: Disk, J: Since> Model for Watched<D, J> {
 }
 
 impl<D: Disk, J: Since> Watched<D, J> {
+    /// Watches a core from now on.
     pub fn new(core: Core<D>) -> Watched<D, J>
         requires faults { J.faults ≡ D.faults core.disk }
         requires runs { core.stop ≡ None }
@@ -50,6 +51,7 @@ impl<D: Disk, J: Since> Watched<D, J> {
         }
     }
 
+    /// Returns the core.
     pub fn into_core(self) -> Core<D>
         ensures core { result ≡ self }
         ensures watched { IsWatched D.Disk J.faults self }

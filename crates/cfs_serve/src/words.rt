@@ -2,41 +2,43 @@
 ghost use Rattle.std.specs.Prelude.{◌≡◌, ◌≤◌, [], ◌∷◌, length, map, option_map, string_bytes, true};
 ghost use Rattle.std.specs.List.{list_all};
 ghost use Rattle.ufs_model.specs.Spoken.{number_in};
-ghost use Rattle.cfs_serve.specs.Commands.{asked_of, format_of, names_service, played_service, served_service, spin_of};
+ghost use Rattle.cfs_serve.specs.Commands.{asked_of, conversation, format_of, names_service, played_service};
+ghost use Rattle.cfs_serve.specs.Commands.{served_service, spin_of};
 ghost use Rattle.cfs_serve.specs.Words as spec;
-ghost use Rattle.cfs_serve.specs.Words.{asked_by, asked_in, audit_in, check_in, dirs_in, files_in, format_in};
-ghost use Rattle.cfs_serve.specs.Words.{inputs_in, is_file_word, mend_in, outputs_in, page_in, play_in, read_or_none};
-ghost use Rattle.cfs_serve.specs.Words.{serve_in, spin_in, streams_in};
+ghost use Rattle.cfs_serve.specs.Words.{asked_by, asked_in, audit_in, check_in, converse_in, dirs_in, files_in};
+ghost use Rattle.cfs_serve.specs.Words.{format_in, inputs_in, is_file_word, mend_in, outputs_in, page_in, play_in};
+ghost use Rattle.cfs_serve.specs.Words.{read_or_none, serve_in, spin_in, streams_in};
 
-use crate::command::{Command, Dirs, Format, Play, Serve, Spin};
+use crate::command::{Command, Converse, Dirs, Format, Play, Serve, Spin};
 use crate::limits::{
-    MOST_COLLECTIONS, MOST_CYLINDERS, MOST_FILE_CYLINDERS, MOST_PAIR_CYLINDERS, MOST_SESSIONS,
+    MOST_COLLECTIONS, MOST_CYLINDERS, MOST_FILE_CYLINDERS, MOST_LINES, MOST_PAIR_CYLINDERS,
+    MOST_SESSIONS,
 };
 use crate::page::Page;
 use cfs_script::number_of;
 
-/// The number that a word writes: 1 to 20 decimal digits within a u64.
+/// Returns the number that a word writes: 1 to 20 decimal digits, within a `u64`.
 fn number(word: &str) -> Option<u64>
     ensures { result ≡ read_or_none (number_in word.now) }
 {
     number_of(word.as_bytes())
 }
 
-/// Whether a word names a standard stream.
+/// Returns whether a word names a standard stream.
 fn is_stream(word: &str) -> bool
     ensures { result ≡ spec.is_stream word.now }
 {
     word == "-"
 }
 
-/// Whether each word names a file.
+/// Returns whether each word names a file.
 fn name_files(words: &[String]) -> bool
     ensures { result ≡ list_all is_file_word (map string_bytes words.now) }
 {
     words.iter().all(|word| !word.is_empty())
 }
 
-/// How many of the inputs are standard streams, and how many of the outputs.
+/// Returns how many of the inputs are standard streams, and how many of the outputs.
 fn count_streams(words: &[String]) -> (usize, usize)
     ensures inputs { result.0 ≡ streams_in (inputs_in (map string_bytes words.now)) }
     ensures outputs { result.1 ≡ streams_in (outputs_in (map string_bytes words.now)) }
@@ -56,7 +58,8 @@ fn count_streams(words: &[String]) -> (usize, usize)
     (inputs, outputs)
 }
 
-/// Whether these are 1 to 64 pairs of file words, of which one input and one output at most is a standard stream.
+/// Returns whether these are 1 to 64 pairs of file words, in which at most one input and one output is a standard
+/// stream.
 fn are_files(words: &[String]) -> bool
     ensures are { result ≡ spec.are_files (map string_bytes words.now) }
     ensures few { result ≡ true → length (files_in (map string_bytes words.now)) ≤ 64 }
@@ -71,7 +74,7 @@ fn are_files(words: &[String]) -> bool
     inputs <= 1 && outputs <= 1
 }
 
-/// A page, by its word.
+/// Parses the word of a page.
 fn page(word: &str) -> Option<Page>
     ensures { result ≡ page_in (word.now ∷ []) }
 {
@@ -82,7 +85,7 @@ fn page(word: &str) -> Option<Page>
     }
 }
 
-/// The trail of an audit.
+/// Parses an audit, and returns the name of its trail.
 fn audit<'a>(verb: &str, trail: &'a str) -> Option<&'a str>
     ensures { option_map (λ t. t.now) result ≡ audit_in (verb.now ∷ trail.now ∷ []) }
 {
@@ -93,7 +96,7 @@ fn audit<'a>(verb: &str, trail: &'a str) -> Option<&'a str>
     }
 }
 
-/// The volume of a check.
+/// Parses a check, and returns the name of its volume.
 fn check<'a>(verb: &str, volume: &'a str) -> Option<&'a str>
     ensures { option_map (λ v. v.now) result ≡ check_in (verb.now ∷ volume.now ∷ []) }
 {
@@ -104,7 +107,7 @@ fn check<'a>(verb: &str, volume: &'a str) -> Option<&'a str>
     }
 }
 
-/// The volume of a mending.
+/// Parses a mending, and returns the name of its volume.
 fn mend<'a>(verb: &str, volume: &'a str) -> Option<&'a str>
     ensures { option_map (λ v. v.now) result ≡ mend_in (verb.now ∷ volume.now ∷ []) }
 {
@@ -115,7 +118,7 @@ fn mend<'a>(verb: &str, volume: &'a str) -> Option<&'a str>
     }
 }
 
-/// A form of two words that names a volume.
+/// Parses a form of two words that names a volume.
 fn inspection<'a>(verb: &str, volume: &'a str) -> Option<Command<'a>>
     requires { audit_in (verb.now ∷ volume.now ∷ []) ≡ None }
     ensures { asked_of result ≡ asked_in (verb.now ∷ volume.now ∷ []) }
@@ -126,7 +129,7 @@ fn inspection<'a>(verb: &str, volume: &'a str) -> Option<Command<'a>>
     }
 }
 
-/// A volume to be made.
+/// Parses a volume that is to be made.
 fn format<'a>(verb: &str, volume: &'a str, cylinders: &str, seed: &str) -> Option<Format<'a>>
     ensures { option_map format_of result ≡ format_in (verb.now ∷ volume.now ∷ cylinders.now ∷ seed.now ∷ []) }
 {
@@ -148,7 +151,7 @@ fn format<'a>(verb: &str, volume: &'a str, cylinders: &str, seed: &str) -> Optio
     })
 }
 
-/// A spin.
+/// Parses a spin.
 fn spin(verb: &str, cylinders: &str, seed: &str, count: &str) -> Option<Spin>
     ensures { option_map spin_of result ≡ spin_in (verb.now ∷ cylinders.now ∷ seed.now ∷ count.now ∷ []) }
 {
@@ -171,7 +174,7 @@ fn spin(verb: &str, cylinders: &str, seed: &str, count: &str) -> Option<Spin>
     })
 }
 
-/// Sessions on a volume in memory.
+/// Parses sessions on a volume in memory.
 fn play<'a>(
     verb: &str,
     cylinders: &str,
@@ -205,7 +208,7 @@ fn play<'a>(
     })
 }
 
-/// Sessions on a volume in a file.
+/// Parses sessions on a volume in a file.
 fn serve<'a>(
     verb: &str,
     volume: &'a str,
@@ -238,7 +241,7 @@ fn serve<'a>(
     })
 }
 
-/// Lines of names on a volume in a file.
+/// Parses lines of names on a volume in a file.
 fn dirs<'a>(
     verb: &str,
     volume: &'a str,
@@ -267,7 +270,41 @@ fn dirs<'a>(
     })
 }
 
-/// A form of two words.
+/// Parses a conversation on a volume in a file.
+fn converse<'a>(
+    verb: &str,
+    volume: &'a str,
+    seed: &str,
+    every: &str,
+    ends: &'a [String],
+) -> Option<Converse<'a>>
+    ensures { option_map conversation result ≡ converse_in (verb.now ∷ volume.now ∷ seed.now ∷ every.now
+        ∷ map string_bytes ends.now) }
+{
+    let [input, output] = ends else {
+        return None;
+    };
+    if verb != "converse" {
+        return None;
+    }
+    let seed = number(seed)?;
+    let every = number(every)?;
+    if volume.is_empty() || is_stream(volume) || every > MOST_LINES {
+        return None;
+    }
+    if input.is_empty() || output.is_empty() {
+        return None;
+    }
+    Some(Converse {
+        volume,
+        seed,
+        every,
+        input: input.as_str(),
+        output: output.as_str(),
+    })
+}
+
+/// Parses a form of two words.
 fn two<'a>(verb: &str, file: &'a str) -> Option<Command<'a>>
     ensures { asked_of result ≡ asked_in (verb.now ∷ file.now ∷ []) }
 {
@@ -277,7 +314,7 @@ fn two<'a>(verb: &str, file: &'a str) -> Option<Command<'a>>
     }
 }
 
-/// A form of four words.
+/// Parses a form of four words.
 fn four<'a>(verb: &str, first: &'a str, second: &str, third: &str) -> Option<Command<'a>>
     ensures { asked_of result ≡ asked_in (verb.now ∷ first.now ∷ second.now ∷ third.now ∷ []) }
 {
@@ -287,7 +324,7 @@ fn four<'a>(verb: &str, first: &'a str, second: &str, third: &str) -> Option<Com
     }
 }
 
-/// A form with a volume and files.
+/// Parses a form with a volume and files.
 fn with_volume<'a>(
     verb: &str,
     volume: &'a str,
@@ -299,13 +336,16 @@ fn with_volume<'a>(
     requires some { 1 ≤ length files.now }
     ensures { asked_of result ≡ asked_in (verb.now ∷ volume.now ∷ seed.now ∷ third.now ∷ map string_bytes files.now) }
 {
-    match serve(verb, volume, seed, third, files) {
-        Some(serve) => Some(Command::Serve(serve)),
-        None => Some(Command::Dirs(dirs(verb, volume, seed, third, files)?)),
+    if let Some(serve) = serve(verb, volume, seed, third, files) {
+        return Some(Command::Serve(serve));
+    }
+    match dirs(verb, volume, seed, third, files) {
+        Some(dirs) => Some(Command::Dirs(dirs)),
+        None => Some(Command::Converse(converse(verb, volume, seed, third, files)?)),
     }
 }
 
-/// A form with files.
+/// Parses a form with files.
 fn with_files<'a>(
     verb: &str,
     first: &'a str,
@@ -323,7 +363,7 @@ fn with_files<'a>(
 }
 
 impl<'a> Command<'a> {
-    /// What the words after the program's name ask for; nothing where they are of no form.
+    /// Parses the words after the program's name. Returns `None` if they are of no form.
     pub fn parse(words: &'a [String]) -> Option<Command<'a>>
         ensures { asked_of result ≡ asked_by words.now }
     {

@@ -2,10 +2,9 @@ use Rattle.std.proofs.Common.{is_some, sym, ◌≡◌, ◌∙◌, ℕ, ◌+◌, 
 use Rattle.collector_steps.specs.Left.{most_steps}
 use Rattle.cfs_core.specs.Left.{events_ahead, steps_ahead}
 use Rattle.cfs_core.specs.declared.collecting.Collections.{Collections}
-use Rattle.cfs_serve.proofs.Cited.{AreNew, Stands, collection_runs, blocks_of_grant, opening, sum_by}
-use Rattle.cfs_serve.proofs.Playing.{by_core, none_lost, served}
+use Rattle.cfs_serve.proofs.Cited.{AreNew, Stands, collection_runs, opening}
+use Rattle.cfs_serve.proofs.Playing.{by_core, none_lost, served_uncalled}
 use Rattle.cfs_serve.specs.Service.{HasServed}
-use Rattle.cfs_serve.specs.Volume.{IsStatusOf}
 use Rattle.cfs_serve.proofs.play.serve_ports.Goals as goal
 
 -- so many steps, and events, as the collections have that were called for
@@ -48,25 +47,13 @@ invariant_of-service g c =
       };
     }
 
-pub returns : goal.returns
-returns g c =
-    let last = c.status-last in
-    let last_is : IsStatusOf c.in-Ok.served.server last.result = record {
-      objects = last.ensures.objects;
-      free = last.ensures.free;
-      stopped = last.ensures.stopped;
-      damage = last.ensures.damage;
-      running = last.ensures.running;
-      called = last.ensures.called;
-      finished = last.ensures.finished;
-    } in
-    let facts : HasServed (by_core g.D.Disk) c.call_for.new.self c.args.ports.items c.args.schedule.collections c.in-Ok.served = c.in-Ok.ensures.served in
-    rw c.into_disk-2.ensures (inl (served g.D.Disk c.images_are_whole.ensures.sized c.images_are_whole.ensures.left_sized c.args.core c.args.ports.items c.in-Ok.served last.result last_is
-    c.args.schedule.collections c.requires.core.runs
-    (subst (λ k. HasServed (by_core g.D.Disk) k c.args.ports.items c.args.schedule.collections c.in-Ok.served) c.call_for.ensures facts)
-    c.report_on-report.result c.report_on-report.ensures
-    (λ s serves calm none. let undrafted : sum_by blocks_of_grant s.grants ≡ 0 = ap (sum_by blocks_of_grant) none in omega (arith, c.has_room-2.ensures.room s serves calm, undrafted))
-    (λ graph reads. c.runs_survive.ensures.begin c.args.core.words.seed graph c.args.core.disk reads)))
+pub returns-in-Ok : goal.returns-in-Ok
+returns-in-Ok g c =
+    let core = c.args.core in
+    let n = c.args.schedule.collections in
+    let facts : HasServed (by_core g.D.Disk) c.call_for.new.self c.args.ports.items n c.in-Ok.served = c.in-Ok.ensures.served in
+    inl (c.close_service.ensures.sessions core c.args.ports.items n c.requires.core.runs
+    (served_uncalled g.D.Disk core n c.args.ports.items n c.in-Ok.served (subst (λ k. HasServed (by_core g.D.Disk) k c.args.ports.items n c.in-Ok.served) c.call_for.ensures facts)))
 
 pub returns-in-Err : goal.returns-in-Err
 returns-in-Err g c =

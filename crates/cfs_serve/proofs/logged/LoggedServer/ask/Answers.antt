@@ -29,10 +29,9 @@ invariant_of-self g c =
       c.starved_by-self-inside.ensures c.args.session c.args.request ∙ ap (λ b. wants_memory e || b) kept.4 ∙ sym (any-push wants_memory trail e),
       lasts_on g.A.Server.stands g.A.Server.has_stopped g.A.Server.is_damaged g.A.Server.tally g.A.Server.clock g.A.Server.lasts t trail c.self.inside.trail.moments old new e kept.0 kept.5 (rw (← kept.1) (answer.lasts)),
       told_on g.A.Server.faults g.A.Server.has_stopped g.A.Server.is_damaged t trail old new kept.6 e answer.tells,
-      answer.called ∙ kept.7,
-      c.failed_by-self-inside.ensures c.args.session c.args.request ∙ ap (λ b. tells_disk e || b) kept.8 ∙ sym (any-push tells_disk trail e),
-      knows_on g.A.Server.clock g.A.Server.stop old new trail (e ∷ []) kept.9 answer.stops,
-      kept_on g.A.Server.clock g.A.Server.has_stopped g.A.Server.tally t trail c.self.inside.trail.moments old new kept.10 answer.tells.stays answer.passes e refl refl,
+      c.failed_by-self-inside.ensures c.args.session c.args.request ∙ ap (λ b. tells_disk e || b) kept.7 ∙ sym (any-push tells_disk trail e),
+      knows_on g.A.Server.clock g.A.Server.stop old new trail (e ∷ []) kept.8 answer.stops,
+      kept_on g.A.Server.clock g.A.Server.has_stopped g.A.Server.tally t trail c.self.inside.trail.moments old new kept.9 answer.tells.stays answer.called answer.passes e refl refl,
     )
 
 pub returns-clause-stays : goal.returns-clause-stays

@@ -26,10 +26,9 @@ invariant_of-self g c =
       kept.4 ∙ sym (any-push wants_memory trail e),
       lasts_on g.A.Server.stands g.A.Server.has_stopped g.A.Server.is_damaged g.A.Server.tally g.A.Server.clock g.A.Server.lasts t trail c.self.inside.trail.moments old new e kept.0 kept.5 (rw (← kept.1) (left.lasts)),
       told_on g.A.Server.faults g.A.Server.has_stopped g.A.Server.is_damaged t trail old new kept.6 e left.tells,
-      left.called ∙ kept.7,
-      kept.8 ∙ sym (any-push tells_disk trail e),
-      knows_on g.A.Server.clock g.A.Server.stop old new trail (e ∷ []) kept.9 left.stops,
-      kept_on g.A.Server.clock g.A.Server.has_stopped g.A.Server.tally t trail c.self.inside.trail.moments old new kept.10 left.tells.stays left.passes e refl refl,
+      kept.7 ∙ sym (any-push tells_disk trail e),
+      knows_on g.A.Server.clock g.A.Server.stop old new trail (e ∷ []) kept.8 left.stops,
+      kept_on g.A.Server.clock g.A.Server.has_stopped g.A.Server.tally t trail c.self.inside.trail.moments old new kept.9 left.tells.stays left.called left.passes e refl refl,
     )
 
 pub returns-clause-stays : goal.returns-clause-stays

@@ -6,6 +6,7 @@ use Rattle.cfs_serve.proofs.Keeping.{collected_at, kept_step, wanting_at}
 use Rattle.cfs_serve.proofs.Stepping.{lasts_step, nobodys, quiet_made, run_step, silent, silent_step, spends_as, stop_only, tidied_only, unwanting, wanting_made}
 use Rattle.cfs_serve.proofs.Stopping.{knows_on}
 use Rattle.cfs_serve.proofs.Raising.{step_raised}
+use Rattle.cfs_serve.proofs.Pacing.{counts_turn}
 use Rattle.cfs_serve.proofs.logged.LoggedServer.turn.Goals as goal
 
 pub invariant_of-self : goal.invariant_of-self
@@ -27,10 +28,9 @@ invariant_of-self g c =
       lasts_step trail g.A.Server.stands g.A.Server.has_stopped g.A.Server.is_damaged g.A.Server.tally t old new kept.0 (event_by made) (nobodys made) g.A.Server.clock g.A.Server.lasts c.self.inside.trail.moments kept.5
           (rw (← kept.1) did.lasts),
       told_step g.A.Server.faults g.A.Server.has_stopped g.A.Server.is_damaged t trail old new kept.6 (event_by made) did.tells.0,
-      did.called ∙ kept.7,
-      kept.8 ∙ silent_step trail tells_disk silent (event_by made) (nobodys made),
-      knows_on g.A.Server.clock g.A.Server.stop old new trail (recorded (event_by made)) kept.9 did.stops.0,
-      kept_step g.A.Server.clock g.A.Server.has_stopped g.A.Server.tally t trail c.self.inside.trail.moments old new kept.10 did.tells.0.stays kept.7 made did.passes,
+      kept.7 ∙ silent_step trail tells_disk silent (event_by made) (nobodys made),
+      knows_on g.A.Server.clock g.A.Server.stop old new trail (recorded (event_by made)) kept.8 did.stops.0,
+      kept_step g.A.Server.clock g.A.Server.has_stopped g.A.Server.tally t trail c.self.inside.trail.moments old new kept.9 did.tells.0.stays did.called made did.passes,
     )
 
 pub returns-clause-refusal : goal.returns-clause-refusal
@@ -59,9 +59,9 @@ returns-clause-idle g c = λ idle.
     let did = c.turn-made.ensures in
     let kept = c.self.invariant in
     let all = rw (ap as_step (c.progress_of-event.ensures.idle idle)) at did.ends in
-    let now = kept_step g.A.Server.clock g.A.Server.has_stopped g.A.Server.tally t trail c.self.inside.trail.moments old new kept.10 did.tells.0.stays kept.7 made did.passes in
+    let now = kept_step g.A.Server.clock g.A.Server.has_stopped g.A.Server.tally t trail c.self.inside.trail.moments old new kept.9 did.tells.0.stays did.called made did.passes in
     rw (c.push_some.ensures.events, c.progress_of-event.ensures.event)
-    (collected_at g.A.Server.clock g.A.Server.has_stopped g.A.Server.tally t (trail ++ recorded (event_by made)) _ new now all.0 (all.1 ∙ did.called ∙ kept.7))
+    (collected_at g.A.Server.clock g.A.Server.has_stopped g.A.Server.tally t (trail ++ recorded (event_by made)) _ new now all.0 all.1)
 
 pub returns-clause-spends : goal.returns-clause-spends
 returns-clause-spends g c = λ made. rw (← c.self.view_is)
@@ -98,5 +98,12 @@ returns-clause-wanting g c = λ wants.
     let did = c.turn-made.ensures in
     let made = wanting_made (as_step c.turn-made.result) (sym c.progress_of-event.ensures.refusal ∙ wants) in
     let due = rw made at did.ends in
-    rw (c.push_some.ensures.events, c.progress_of-event.ensures.event, made, append-nil trail)
-    (wanting_at g.A.Server.clock g.A.Server.has_stopped g.A.Server.tally t trail c.self.inside.trail.moments c.self.inside.server c.self.invariant.10 due.0 due.1 due.2 c.self.invariant.7)
+    rw (c.push_some.ensures.events, c.progress_of-event.ensures.event, made, append-nil trail, did.called)
+    (wanting_at g.A.Server.clock g.A.Server.has_stopped g.A.Server.tally t trail c.self.inside.trail.moments c.self.inside.server c.self.invariant.9 due.0 due.1 due.2)
+
+pub returns-clause-counts : goal.returns-clause-counts
+returns-clause-counts g c = λ none.
+    let made = c.turn-made.result in
+    let did = c.progress_of-event.ensures in
+    rw (← c.self.view_is) (counts_turn (g.A.Server.tally c.self.inside.server) (g.A.Server.tally c.turn-made.new.self) c.self.inside.trail.events made c.progress_of-event.result.1 c.push_some.new.trail.events
+    (rw did.event at c.push_some.ensures.events) (sym did.refusal ∙ none) c.turn-made.ensures.passes.counts (rw did.event at did.finishes))

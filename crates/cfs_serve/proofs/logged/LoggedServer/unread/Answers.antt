@@ -25,10 +25,9 @@ invariant_of-self g c =
           (rw (← kept.1) (c.moment-moment.ensures.lasts c.args.session c.args.why)),
       told_on g.A.Server.faults g.A.Server.has_stopped g.A.Server.is_damaged t trail server server kept.6 e
           (unread_tells g.A.Server.faults g.A.Server.has_stopped g.A.Server.is_damaged server c.args.session c.args.why),
-      kept.7,
-      kept.8 ∙ sym (any-push tells_disk trail e),
-      knows_on g.A.Server.clock g.A.Server.stop server server trail (e ∷ []) kept.9 (knows_unread g.A.Server.clock g.A.Server.stop server c.args.session c.args.why),
-      kept_on g.A.Server.clock g.A.Server.has_stopped g.A.Server.tally t trail c.self.inside.trail.moments server server kept.10 (λ is. is) (unread_passes g.A.Server.clock g.A.Server.tally server) e refl refl,
+      kept.7 ∙ sym (any-push tells_disk trail e),
+      knows_on g.A.Server.clock g.A.Server.stop server server trail (e ∷ []) kept.8 (knows_unread g.A.Server.clock g.A.Server.stop server c.args.session c.args.why),
+      kept_on g.A.Server.clock g.A.Server.has_stopped g.A.Server.tally t trail c.self.inside.trail.moments server server kept.9 (λ is. is) refl (unread_passes g.A.Server.clock g.A.Server.tally server) e refl refl,
     )
 
 pub returns-clause-raised : goal.returns-clause-raised

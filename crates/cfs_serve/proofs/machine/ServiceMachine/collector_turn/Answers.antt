@@ -50,7 +50,8 @@ invariant_of-self g c =
     let none = not_refused c.self.inside.rest.refused c.self.inside.resting turns parts k.7 now in
     let some : is_step progress ≡ true → 0 < turns =
     λ step. (acts c.self.inside.resting turns (parts_now c.self.inside.rest.refused parts) (rw none (did.settled step).0) now).1 in
-    let left = c.after-self-inside.result in (
+    let left = c.after-self-inside.result in
+    let called = did.called ∙ k.13 in (
       heard_on t g.A.Server.clock old new ports progress turns events k.0 k.1 k.2 some k.5 steps,
       room_on t g.A.Server.clock old new ports progress turns events k.0 k.1 k.2 some k.5 steps left.events (omega (arith, told, rest.room)),
       few_on t g.A.Server.clock old new ports progress turns events k.0 k.1 k.2 some k.5 steps left.events (omega (arith, told, rest.room)),
@@ -62,14 +63,15 @@ invariant_of-self g c =
       λ called. omega (arith, rest.less, k.5 called),
       λ over whole. finished_on progress left.turns (finishes_in new.events) t.collections
           (λ is. ap finishes_in (steps.events ∙ ap (λ o. old.events ++ recorded o) (steps.none (rw is refl)) ∙ append-nil old.events) ∙ k.6 (sym (ap (λ r. r.turns) (rest.tidied is)) ∙ over) none)
-          (λ step less. did.idle (rest.idle step less)) (sym rest.refused ∙ whole) over,
+          (λ step less. did.idle (rest.idle step less) ∙ called) (sym rest.refused ∙ whole) over,
       rest.on,
       counted_step g.A.Server.faults g.A.Server.stands t old new did.raised left.refused
           (subst (λ o. CountsFaults g.A.Server.faults g.A.Server.stands t (first_fault o) old.server old.events) none k.8) (λ quiet. did.quiet (rw rest.refused at quiet)),
       rw rest.refused did.refusal,
-      λ wants. did.wanting (sym rest.refused ∙ wants),
+      λ wants. rw (← called) (did.wanting (sym rest.refused ∙ wants)),
       rest.paired,
       omega (arith, rest.less, k.12),
+      called,
     )
 
 pub returns-clause-turn : goal.returns-clause-turn

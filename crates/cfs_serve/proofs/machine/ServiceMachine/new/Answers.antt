@@ -61,4 +61,5 @@ invariant_of-result g c =
       λ wants. absurd (cc (rest.refused, wants)),
       λ _. rest.paired,
       omega (arith, rest.least, c.args.service.ready.small),
+      rw made.server c.requires.begun.called,
     )

@@ -1,4 +1,4 @@
-use Rattle.std.proofs.Common.{◌∷◌, [], arith, ap, length, length-set, length-append, refl}
+use Rattle.std.proofs.Common.{◌∷◌, [], ◌∙◌, arith, ap, length, length-set, length-append, refl}
 use Rattle.cfs_serve.proofs.Sessions.{collected_by, wanting_by, found, some_work, heard_by, work_on}
 use Rattle.cfs_serve.proofs.Raising.{counted_turn}
 use Rattle.cfs_serve.proofs.Stopping.{tells_on}
@@ -39,6 +39,7 @@ invariant_of-self g c =
       λ wants. rw moves.recorded (wanting_by g.J.Charter.charter.collections c.self.inside.logged.events c.args.session p q moves.event moves.kind (k.10 wants)),
       k.11,
       k.12,
+      c.port_turn.ensures.called ∙ k.13,
     )
 
 pub returns-clause-turn : goal.returns-clause-turn
