@@ -4,8 +4,9 @@ ghost use Rattle.std.specs.Prelude.{◌≡◌, ◌≤◌, IfSome};
 use cfs_base::{Block, BlockNo, Disk, Failed, Place};
 use cyl_map::{BlockState, Map, MapEntry};
 
-/// A disk of a volume whose last cylinder alone has Free blocks. It tells nothing, and keeps of what is written the
-/// last cylinder's map.
+/// A disk of a volume of which only the last cylinder has Free blocks.
+///
+/// It tells nothing, and keeps only the last cylinder's map of what is written.
 #[derive(Drop)]
 pub struct LastCylinderFree {
     cylinders: u32,
@@ -16,7 +17,7 @@ pub struct LastCylinderFree {
     ghost size: { cylinders ≤ 65536 },
 }
 
-/// A map whose first blocks belong to the root index, and whose others are Free.
+/// Returns a map whose first blocks belong to the root index, and whose others are Free.
 fn map_with(held: u8) -> Option<Map> {
     let mut map = Map::decode(&Block::zero()).ok()?;
     for entry in 0..held.min(64) {
@@ -32,6 +33,7 @@ fn map_with(held: u8) -> Option<Map> {
 }
 
 impl LastCylinderFree {
+    /// Makes the disk of a volume of `cylinders` cylinders.
     pub fn new(cylinders: u32) -> Option<LastCylinderFree>
         requires { cylinders ≤ 65536 }
         ensures { IfSome result (λ disk. disk.cylinders ≡ cylinders) }

@@ -1,5 +1,7 @@
-//! Claims and releases for a clock to be held to: `alloc_bench CYLINDERS COUNT` counts a volume whose last cylinder
-//! alone has Free blocks, makes COUNT rounds of two claims and two releases, and prints what it did.
+//! Claims and releases for timing.
+//!
+//! `alloc_bench CYLINDERS COUNT` counts a volume of which only the last cylinder has Free blocks, makes COUNT rounds
+//! of two claims and two releases, and prints what it did.
 #![tactic(auto)]
 
 mod disk;
@@ -22,7 +24,7 @@ struct Volume {
 }
 
 impl Volume {
-    /// None where it can't be counted.
+    /// Opens the volume, or returns `None` if it can't be counted.
     fn open(alloc: Global, cylinders: u32) -> Option<Volume>
         requires some { 1 ≤ cylinders }
         requires most { cylinders ≤ 65536 }
@@ -32,7 +34,7 @@ impl Volume {
         Some(Volume { disk, space })
     }
 
-    /// Two claims and two releases, the second release of the first block in each other round.
+    /// Makes two claims and two releases. If `turned` is set, the second block is released first.
     fn round(&mut self, turned: bool) -> Option<()> {
         let first = self.space.claim(&mut self.disk, Place::Leaf(7), 2).ok()?;
         let second = self.space.claim(&mut self.disk, Place::Node(1), 2).ok()?;
@@ -46,7 +48,7 @@ impl Volume {
     }
 }
 
-/// The two numbers that the program's words are.
+/// Returns the two numbers that the program's words are.
 fn numbers(rt: &HostRuntime) -> Option<(u32, u32)> {
     let mut words = env::args(rt).ok()?.skip(1);
     let cylinders = words.next()?.as_str().parse::<u32>().ok()?;

@@ -26,11 +26,11 @@ abbrev pub pointers_at : Root → Way → ℕ → List ℕ
 pointers_at root way zero = root.nodes
 pointers_at root way (suc d) = (get_or way.nodes d no_node).leaves
 
--- the one on the path
+-- the pointer on the path at that depth
 abbrev pub pointer_on : Root → Way → ℕ → ℕ
 pointer_on root way d = get_or (pointers_at root way d) (get_or way.path d 0) 0
 
--- the block with the pointer at a depth: the root's, and then those of the nodes
+-- the block that has the pointer at a depth: the root's, and then those of the nodes
 abbrev pub holder_on : ℕ → Root → Way → ℕ → ℕ
 holder_on at root way zero = at
 holder_on at root way (suc d) = pointer_on root way d
@@ -46,11 +46,11 @@ way_leaves way = (way_node way).leaves
 abbrev pub IsWay : Image → Root → Way → Type 0
 IsWay image root way = (d : ℕ) → d < way.read → pointers_at root way (suc d) ≡ leaves_at image (pointer_on root way d)
 
--- on any disk its pointers lead to blocks of a disk of this size
+-- on any disk the pointers of the nodes that were read lead to blocks of a disk of this size
 abbrev pub IsWayWithin : ℕ → Way → Type 0
 IsWayWithin size way = (d : ℕ) → d < way.read → All (λ n. n < size) (get_or way.nodes d no_node).leaves
 
--- and so does the root's pointer on the path, where its node was read
+-- so does the root's pointer on the path, if its node was read
 abbrev pub IsTopWithin : ℕ → Root → Way → Type 0
 IsTopWithin size root way = 0 < way.read → pointer_on root way 0 < size
 
@@ -87,8 +87,8 @@ pub record ArePut (image : Image) (nodes : List Node) (blocks : List ℕ) : Type
 
 -- ---- a path cut
 
--- of a node along the path: in the last there is no pointer from this place on; each before it has the next of the
--- blocks at its place, and none past it
+-- A node along the path. The last has no pointer from this place on. Each before it has the next of the blocks at its
+-- place, and no pointer past it.
 pub record CutsAlong (path blocks : List ℕ) (place d : ℕ) (old new : Node) : Type 0 where
   pub last : suc d ≡ node_levels → CutsAt (λ j. get_or old.leaves j 0) place (λ j. get_or new.leaves j 0)
   pub inner : suc d < node_levels → CutsPast (λ j. get_or old.leaves j 0) (get_or path (suc d) 0)

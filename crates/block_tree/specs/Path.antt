@@ -14,7 +14,7 @@ pub record IsPath (path : List ℕ) : Type 0 where
   pub top : get_or path 0 0 < node_pointers.count
   pub rest : (d : ℕ) → get_or path (suc d) 0 < leaf_pointers.count
 
--- two paths share so many places
+-- the first n places of two paths are the same
 abbrev pub SamePlaces : ℕ → List ℕ → List ℕ → Type 0
 SamePlaces n p q = (d : ℕ) → d < n → get_or p d 0 ≡ get_or q d 0
 
@@ -22,7 +22,7 @@ SamePlaces n p q = (d : ℕ) → d < n → get_or p d 0 ≡ get_or q d 0
 abbrev pub no_node : Node
 no_node = record { leaves = [] }
 
--- a path, and the nodes along it, of which so many were read
+-- a path, and the nodes along it, of which the first `read` were read
 pub record IsGoodWay (path : List ℕ) (nodes : List Node) (read : ℕ) : Type 0 where
   pub places : IsPath path
   pub each : (d : ℕ) → d < node_levels → IsNode (get_or nodes d no_node)

@@ -15,7 +15,7 @@ numbers_from bytes from count = map (λ k. number_at bytes (from + k)) (range_wi
 abbrev pub numbers_spelling : List ℕ → List ℕ
 numbers_spelling numbers = flat_map (to_be_bytes w32) numbers
 
--- where the pointers of a block lie: as many numbers, from the given one on
+-- where the pointers of a block are: `count` numbers, beginning at number `from`
 pub record Level : Type 0 where
   pub from : ℕ
   pub count : ℕ
@@ -28,20 +28,20 @@ node_pointers = record { from = 8; count = 120 }
 abbrev pub leaf_pointers : Level
 leaf_pointers = record { from = 0; count = 128 }
 
--- how many levels of nodes lie below a root
+-- how many levels of nodes are below a root
 abbrev pub node_levels : ℕ
 node_levels = 1
 
--- so many levels of nodes, down to the leaves
+-- `height` levels of nodes, down to the leaves
 abbrev pub levels_below : ℕ → List Level
 levels_below height = replicate height leaf_pointers
 
--- how many leaves lie below a block with these levels
+-- how many leaves are below a block with these levels
 abbrev pub width : List Level → ℕ
 width [] = 1
 width (level ∷ levels) = level.count * width levels
 
--- the leaves that an object may have
+-- how many leaves an object may have
 abbrev pub leaf_limit : ℕ
 leaf_limit = width (node_pointers ∷ levels_below node_levels)
 

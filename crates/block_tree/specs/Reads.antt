@@ -20,7 +20,7 @@ use Rattle.block_tree.specs.declared.root.Root.{Root}
 abbrev pub IsPast : ℕ → ℕ → Type 0
 IsPast size block = (block ≢ 0) × (size ≤ block)
 
--- Why following pointers ended: a device call failed, or this pointer is past the disk's end and, where the disk tells
+-- Why following pointers ended: a device call failed, or this pointer is past the disk's end and, if the disk tells
 -- its content, has P.
 abbrev pub IsFault : {D : Type 0} → Ghosts D → D → D → (Pointer → Type 0) → TreeFault → Type 0
 IsFault g old new P faults.Disk = HasFailed g old new
@@ -32,7 +32,7 @@ abbrev pub holder_block : ℕ → Option ℕ → ℕ
 holder_block r None = r
 holder_block r (Some block) = block
 
--- what is told of it: a failed device call as it is, and a pointer past the disk by the block that has it
+-- what is reported of it: a failed device call as it is, and a pointer past the disk by the block that has it
 abbrev pub trouble_of : ℕ → TreeFault → Trouble
 trouble_of r faults.Disk = trouble.Disk false
 trouble_of r (faults.BadPointer block holder) =
@@ -40,7 +40,7 @@ trouble_of r (faults.BadPointer block holder) =
 
 -- ---- nodes
 
--- the leaf pointers of the node at a block; where that is 0 the node is absent, and has no leaf
+-- the leaf pointers of the node at a block; if that is 0 the node is absent, and has no leaf
 abbrev pub leaves_at : Image → ℕ → List ℕ
 leaves_at image zero = replicate leaf_pointers.count 0
 leaves_at image (suc n) = pointers_of leaf_pointers (block_at image (suc n))
@@ -50,7 +50,7 @@ pub record IsNear (size : ℕ) (image : Image) (block : ℕ) : Type 0 where
   pub here : block < size
   pub leaves : (k : ℕ) → get_or (leaves_at image block) k 0 < size
 
--- ---- why a root, a node or a leaf can't be read: a device call failed, or the block is named in which the damage is
+-- ---- why a root, a node or a leaf can't be read: a device call failed, or the block with the damage is named
 
 abbrev pub is_damage : Trouble → Bool
 is_damage (trouble.Disk tried) = false
@@ -61,13 +61,13 @@ abbrev pub HasStoppedBy : {D : Type 0} → Ghosts D → D → D → Trouble → 
 HasStoppedBy g old new (trouble.Disk tried) = HasStopped g tried old new
 HasStoppedBy g old new (trouble.Damaged damage) = ⊥
 
--- or the block at which a root should be is none
+-- or the block that should be a root is no root
 abbrev pub IsRootTrouble : {D : Type 0} → Ghosts D → ℕ → D → D → Trouble → Type 0
 IsRootTrouble g at old new (trouble.Disk tried) = (tried ≡ false) × HasStopped g tried old new
 IsRootTrouble g at old new (trouble.Damaged damage) = (damage ≡ record { block = at; code = no_root })
     × (Tells g old → (root : Root) → ¬ IsRootBlock (block_at (g.content old) at) root)
 
--- the pointer to a node leads past the disk, which its holder has, or one of the node's own does
+-- the pointer to a node, which its holder has, leads past the disk, or one of the node's own pointers does
 pub data IsNodeDamage {D : Type 0} (g : Ghosts D) (block holder : ℕ) (old : D) (damage : Damage) : Type 0 where
   Far : damage ≡ record { block = holder; code = past_disk } → IsPast (g.blocks old) block
       → IsNodeDamage g block holder old damage

@@ -14,7 +14,7 @@ use Rattle.block_tree.specs.Prefix.{IsFirstMisspelt}
 abbrev pub IsFill : Kind → ℕ → Type 0
 IsFill kind fill = kind ≡ Index → fill ≡ 0
 
--- no size is above the limit; an index has a slot or more, of 8 bytes each
+-- no size is above the limit, and an index has at least one slot, of 8 bytes each
 pub record IsSize (kind : Kind) (size : ℕ) : Type 0 where
   pub limit : size ≤ size_limit
   pub slots : kind ≡ Index → (8 ≤ size) × (size % 8 ≡ 0)
@@ -54,6 +54,6 @@ pub record IsRootBlock (block : List ℕ) (root : Root) : Type 0 where
   pub good : IsGoodRoot root
   pub spelled : block ≡ root_spelling root
 
--- Some root block begins with the bytes before this place, and none with the bytes up to and with it.
+-- Some root block begins with the bytes before this place, and none with the bytes up to it and with it.
 abbrev pub IsFirstBadByte : List ℕ → ℕ → Type 0
 IsFirstBadByte block byte = IsFirstMisspelt IsGoodRoot root_spelling block byte

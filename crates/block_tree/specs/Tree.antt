@@ -1,4 +1,4 @@
--- A tree of blocks over an image: what stands at the end of each path of pointers, from a root's content down.
+-- A tree of blocks over an image: the block at the end of each path of pointers, from a root's content down.
 use Rattle.std.specs.Prelude.{◌≡◌, ◌≢◌, ℕ, zero, suc, ◌/◌, ◌%◌, ◌<◌, ◌≤◌, List, [], ◌∷◌, ◌++◌, length, get_or}
 use Rattle.std.specs.Prelude.{replicate, filter, not, ◌==◌, Option, Some, None}
 use Rattle.std.specs.List.{range_with_len}
@@ -20,7 +20,7 @@ path_to (level ∷ levels) leaf = leaf / width levels ∷ path_to levels (leaf %
 
 -- ---- the tree
 
--- the pointer at a place, 0 past the last
+-- the pointer at a place, or 0 past the last
 abbrev pub pointer : Level → List ℕ → ℕ → ℕ
 pointer level content k = get_or (pointers_of level content) k 0
 
@@ -32,7 +32,7 @@ end_of image levels zero (k ∷ path) = 0
 end_of image [] (suc n) (k ∷ path) = 0
 end_of image (level ∷ levels) (suc n) (k ∷ path) = end_of image levels (pointer level (block_at image (suc n)) k) path
 
--- the block at the end of each path below a block of this content, 0 where none stands there
+-- the block at the end of each path below a block of this content, or 0 if there is none
 abbrev pub below : Image → List Level → List ℕ → List ℕ → ℕ
 below image levels content [] = 0
 below image [] content (k ∷ path) = 0
@@ -48,15 +48,15 @@ tree_of image root = below image (levels_of root) root
 abbrev pub leaf_count : List ℕ → ℕ
 leaf_count root = width (levels_of root)
 
--- the block of a leaf, 0 where the leaf is absent
+-- the block of a leaf, or 0 if the leaf is absent
 abbrev pub leaf_block : Image → List ℕ → ℕ → ℕ
 leaf_block image root leaf = tree_of image root (path_to (levels_of root) leaf)
 
--- of the first so many leaves those that are there, in rising order
+-- those of the first `count` leaves that have a block, in increasing order
 abbrev pub leaves_with_blocks : Image → List ℕ → ℕ → List ℕ
 leaves_with_blocks image root count = filter (λ leaf. not (leaf_block image root leaf == 0)) (range_with_len 0 count)
 
--- what a leaf with this block reads as: its content, or fill bytes where it is absent
+-- what a leaf with this block reads as: its content, or fill bytes if it is absent
 abbrev pub bytes_in : Image → ℕ → ℕ → List ℕ
 bytes_in image fill zero = replicate 512 fill
 bytes_in image fill (suc n) = block_at image (suc n)
@@ -73,7 +73,7 @@ HasNoDeadEnd image root =
 
 -- ---- pointers
 
--- the node to which a path leads, which has the pointers that the path may go on with; with no place it is the root,
+-- the node to which a path leads, which has the pointers with which the path may go on; for no place it is the root,
 -- which isn't named
 abbrev pub holder_at : Image → List ℕ → List ℕ → Option ℕ
 holder_at image root [] = None
@@ -100,7 +100,7 @@ pub record PastOn (image : Image) (size : ℕ) (root : List ℕ) (leaf : ℕ) (p
   pub is : p ≡ pointer_at image root path k
   pub past : IsPast size p.block
 
--- one that isn't the last
+-- a pointer on the path that isn't the last
 pub record PastAbove (image : Image) (size : ℕ) (root : List ℕ) (leaf : ℕ) (p : Pointer) : Type 0 where
   pub past : PastOn image size root leaf p
   pub above : past.rest ≢ []
@@ -112,7 +112,7 @@ pub record LeadsPast (image : Image) (size : ℕ) (root : List ℕ) (r block : �
   pub at : block ≡ holder_block r (holder_at image root path)
   pub past : IsPast size (tree_of image root (path ++ k ∷ []))
 
--- none is
+-- no such pointer is past the end
 abbrev pub HasNearPath : Image → (size : ℕ) → List ℕ → ℕ → Type 0
 HasNearPath image size root leaf = (p : Pointer) → ¬ PastAbove image size root leaf p
 
@@ -121,10 +121,10 @@ pub record IsQuiet (image : Image) (size : ℕ) (root : List ℕ) (leaf : ℕ) :
   pub absent : leaf_block image root leaf ≡ 0
   pub followed : HasNearPath image size root leaf
 
--- each leaf from one on up to another has P
+-- each leaf from `from` up to `to` has P
 abbrev pub EachLeaf : (from to : ℕ) → (ℕ → Type 0) → Type 0
 EachLeaf from to P = (leaf : ℕ) → from ≤ leaf → leaf < to → P leaf
 
--- all of them are quiet
+-- all these leaves are quiet
 abbrev pub AreQuiet : Image → ℕ → List ℕ → ℕ → ℕ → Type 0
 AreQuiet image size root from to = EachLeaf from to (IsQuiet image size root)

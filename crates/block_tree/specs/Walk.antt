@@ -5,7 +5,7 @@ use Rattle.block_tree.specs.declared.follow.Pointer.{Pointer}
 use Rattle.block_tree.specs.declared.walk.HeldLeaf.{HeldLeaf}
 use Rattle.block_tree.specs.Tree.{AreQuiet, HasNearPath, PastAbove, leaf_block, leaf_count}
 
--- the first leaf from one on that is held; nothing before it stops the walk
+-- the first held leaf from `from` on; nothing before it stops the walk
 pub record IsFirstHeld (image : Image) (size : ℕ) (root : List ℕ) (from : ℕ) (held : HeldLeaf) : Type 0 where
   pub on : from ≤ held.leaf
   pub inside : held.leaf < leaf_count root
@@ -14,12 +14,13 @@ pub record IsFirstHeld (image : Image) (size : ℕ) (root : List ℕ) (from : �
   pub before : AreQuiet image size root from held.leaf
   pub followed : HasNearPath image size root held.leaf
 
--- what is found from a leaf on: the first that is held, or that all are quiet
+-- what is found from a leaf on: the first held one, or that all are quiet
 abbrev pub IsFound : Image → ℕ → List ℕ → ℕ → Option HeldLeaf → Type 0
 IsFound image size root from (Some held) = IsFirstHeld image size root from held
 IsFound image size root from None = AreQuiet image size root from (leaf_count root)
 
--- the pointer at which the walk stops: past the end above a leaf, and nothing before that leaf stops the walk
+-- the pointer at which the walk stops: it is past the end and above a leaf, and nothing before that leaf stops the
+-- walk
 pub record IsFirstPast (image : Image) (size : ℕ) (root : List ℕ) (from : ℕ) (p : Pointer) : Type 0 where
   pub leaf : ℕ
   pub on : from ≤ leaf

@@ -1,4 +1,4 @@
-//! The nodes along one leaf's path, read from the root down, each once; and other blocks put along it.
+//! The nodes along one leaf's path, each read once from the root down, and other blocks put along it.
 ghost use Rattle.std.specs.Prelude.{◌≡◌, ◌<◌, ◌≤◌, ℕ};
 ghost use Rattle.block_tree.specs.Path as paths;
 ghost use Rattle.block_tree.specs.Path.{IsGoodWay};
@@ -13,10 +13,10 @@ use cfs_base::{BlockNo, Disk, Trouble};
 /// The places of a path: that of a pointer of the root, and then one in each node.
 pub const PLACES: usize = NODE_LEVELS as usize + 1;
 
-/// The nodes of a path.
+/// The number of nodes on a path.
 const INNER: usize = NODE_LEVELS as usize;
 
-/// The path of a leaf.
+/// Returns the path of a leaf.
 pub(crate) fn path_of(leaf: u32) -> [u32; PLACES]
     requires { leaf < leaf_limit }
     ensures path { result ≡ paths.path_of leaf }
@@ -33,7 +33,7 @@ pub(crate) fn path_of(leaf: u32) -> [u32; PLACES]
     path
 }
 
-/// How many places two paths share, of so many.
+/// Returns how many of the first `most` places two paths share.
 fn shared(one: &[u32; PLACES], other: &[u32; PLACES], most: usize) -> usize
     requires { most ≤ node_levels }
     ensures less { result ≤ most }
@@ -73,7 +73,7 @@ impl Way {
     ghost use Rattle.cfs_base.specs.Refusals.{trouble_had_tried};
     ghost use Rattle.cfs_base.specs.Run.{Tells};
 
-    /// No node was read yet.
+    /// Makes a way on which no node was read yet.
     pub fn new() -> Way
         ensures { result.read ≡ 0 }
     {
@@ -119,7 +119,9 @@ impl Way {
         self.turn(path_of(leaf));
     }
 
-    /// The pointer on the path at a depth below the root, above which the nodes were read.
+    /// Returns the pointer on the path at a depth below the root.
+    ///
+    /// The nodes above it were read.
     fn pointer(&self, root: &Root, depth: usize) -> u32
         requires { depth ≤ node_levels }
         ensures pointer { result ≡ spec.pointer_on root.now self.now depth }
@@ -132,7 +134,7 @@ impl Way {
         self.nodes[depth - 1].leaves[self.path[depth] as usize]
     }
 
-    /// The block with that pointer.
+    /// Returns the block that has that pointer.
     fn holder(&self, at: BlockNo, root: &Root, depth: usize) -> BlockNo
         requires { depth ≤ node_levels }
         ensures { result.0 ≡ spec.holder_on at.0 root.now self.now depth }
@@ -143,7 +145,9 @@ impl Way {
         BlockNo(self.pointer(root, depth - 1))
     }
 
-    /// Reads the next node along the path. `Damaged` as in `get`.
+    /// Reads the next node along the path.
+    ///
+    /// `Damaged` as in `get`.
     fn go_down<D: Disk>(&mut self, disk: &mut D, at: BlockNo, root: &Root) -> Result<(), Trouble>
         requires more { self.old.read < node_levels }
         requires some { 0 < D.blocks disk.old }
@@ -180,14 +184,16 @@ impl Way {
         Ok(())
     }
 
-    /// The block at the end of the path, all of whose nodes were read.
+    /// Returns the block at the end of the path.
+    ///
+    /// All of its nodes were read.
     pub fn end(&self, root: &Root) -> u32
         ensures { result ≡ spec.pointer_on root.now self.now node_levels }
     {
         self.pointer(root, INNER)
     }
 
-    /// The node at a depth below the root, if it was read.
+    /// Returns the node at a depth below the root, if it was read.
     pub fn node(&self, depth: usize) -> &Node
         requires { depth < node_levels }
         ensures { result.now ≡ get_or self.now.nodes depth no_node }
@@ -195,9 +201,10 @@ impl Way {
         &self.nodes[depth]
     }
 
-    /// The block of a leaf below the root in this block, 0 where the leaf is absent. Reads the nodes on its path, but
-    /// those that the way has. `Damaged` names the root block, with code 4, where a pointer to a node lies past the
-    /// disk, and a node where one of its own does.
+    /// Returns the block of a leaf below the root at `at`, or 0 if the leaf is absent.
+    ///
+    /// Reads the nodes on the leaf's path, except those that the way has read. `Damaged` names the root block, with
+    /// code 4, if a pointer to a node leads past the disk, and a node if one of its own pointers does.
     pub fn get<D: Disk>(
         &mut self,
         disk: &mut D,
@@ -237,8 +244,10 @@ impl Way {
         Ok(self.pointer(root, INNER))
     }
 
-    /// Leads to other blocks along the path, all of whose nodes were read: one for each place, the leaf's last. Each
-    /// node is a copy of the old one with the next of the blocks at its place. They are to be written: nothing is.
+    /// Puts other blocks along the path: one for each place, the leaf's last.
+    ///
+    /// All nodes of the path were read. Each node becomes a copy of the old one with the next of the blocks at its
+    /// place. The copies are still to be written: nothing is written here.
     pub fn put(&mut self, root: &mut Root, blocks: [u32; PLACES])
         requires { self.old.read ≡ node_levels }
         ensures root { root.new ≡ with_node root.old (get_or self.old.path 0 0) (get_or blocks 0 0) }
@@ -264,9 +273,10 @@ impl Way {
         };
     }
 
-    /// Drops what the path leads to from a place of its last node on, and what follows the path. Each node along it is
-    /// a copy of the old one without the pointers that follow, and but for the last with the next of the blocks at its
-    /// place. They are to be written: nothing is.
+    /// Drops what the path leads to from a place of its last node on, and what follows the path.
+    ///
+    /// Each node along it becomes a copy of the old one without the pointers that follow. Each but the last also has
+    /// the next of the blocks at its place. The copies are still to be written: nothing is written here.
     pub fn cut(&mut self, root: &mut Root, place: u32, blocks: [u32; INNER])
         requires { self.old.read ≡ node_levels }
         ensures root { spec.CutsRootPast root.old (get_or self.old.path 0 0) (get_or blocks 0 0) root.new }

@@ -11,17 +11,19 @@ use crate::fault::TreeFault;
 use crate::node::Node;
 use cfs_base::{Block, BlockNo, Disk};
 
-/// A pointer in a tree: the node that has it, which is none where the root has it, and the block to which it leads, 0
-/// where it leads nowhere.
+/// A pointer in a tree.
 #[derive(Clone, Copy, Debug, PartialEq, Eq)]
 pub struct Pointer {
+    /// The node that holds the pointer, or `None` if the root does.
     pub holder: Option<u32>,
+    /// The block to which the pointer leads, or 0 if it leads nowhere.
     pub block: u32,
 }
 
-/// Reads the block to which a pointer leads, by at most one device call. `BadPointer` where the pointer leads past the
-/// disk: it names that block, and the node that has the pointer, none where the root has it. `Disk` where the read
-/// fails. After an `Err` `into` is not told of, and may hold anything.
+/// Reads the block to which a pointer leads, by at most one device call.
+///
+/// `BadPointer` if the pointer leads past the disk: it names that block, and the node that has the pointer, or `None`
+/// if the root has it. `Disk` if the read fails. After an error nothing is known of `into`, which may hold anything.
 pub fn follow_pointer<D: Disk>(
     disk: &mut D,
     pointer: Pointer,
@@ -59,7 +61,9 @@ pub(crate) fn node_at<D: Disk>(disk: &mut D, pointer: Pointer) -> Result<Node, T
     Ok(Node::decode(&content))
 }
 
-/// The pointer at a place of the node to which one leads; of none it is 0.
+/// Returns the pointer at a place of the node to which a pointer leads.
+///
+/// It is 0 if the pointer leads nowhere.
 fn pointer_in<D: Disk>(disk: &mut D, pointer: Pointer, place: u32) -> Result<Pointer, TreeFault>
     requires { place < leaf_pointers.count }
     ensures next { Tells D.Disk disk.old
@@ -82,7 +86,7 @@ fn pointer_in<D: Disk>(disk: &mut D, pointer: Pointer, place: u32) -> Result<Poi
     })
 }
 
-/// The pointer at the end of a path that begins at a pointer. Reads the nodes between.
+/// Returns the pointer at the end of a path that begins at a pointer. Reads the nodes between.
 pub(crate) fn pointer_on<D: Disk>(
     disk: &mut D,
     pointer: Pointer,

@@ -19,7 +19,7 @@ fn kind_code(kind: Kind) -> u8
     }
 }
 
-/// The kind with this code, if there is one.
+/// Returns the kind with this code, if there is one.
 pub fn kind_of(code: u8) -> Option<Kind>
     ensures known { IfSome result (λ kind. code_of kind ≡ code) }
     ensures unknown { IfNone result ((kind : Kind) → code_of kind ≢ code) }
@@ -32,7 +32,7 @@ pub fn kind_of(code: u8) -> Option<Kind>
     }
 }
 
-/// The first place with a byte that isn't 0.
+/// Returns the first place with a byte that isn't 0.
 pub fn first_nonzero(bytes: &[u8]) -> Option<usize>
     ensures found { IfSome result (λ i. (i < length bytes.now) × (take i bytes.now ≡ replicate i 0)
         × (slice_index bytes.now i ≢ 0)) }
@@ -46,6 +46,7 @@ pub fn first_nonzero(bytes: &[u8]) -> Option<usize>
     None
 }
 
+/// Returns whether an object of this kind may have this fill byte.
 pub fn is_fill(kind: Kind, fill: u8) -> bool
     ensures { IsTrue result ↔ IsFill kind fill }
 {
@@ -65,7 +66,7 @@ fn is_size(kind: Kind, size: u64) -> bool
     size <= SIZE_LIMIT && in_slots
 }
 
-/// How many bytes of a size above the limit stand after the first with which it is seen to be above.
+/// Returns how many bytes of a size above the limit follow the first byte that shows that it is above.
 fn bytes_after(size: u64, limit: u64) -> u16
     requires { limit < size }
     ensures within { result ≤ 7 }
@@ -83,7 +84,7 @@ fn bytes_after(size: u64, limit: u64) -> u16
     after
 }
 
-/// The size, or the first of its bytes with which no size of this kind begins.
+/// Returns the size, or the place of the first byte with which no size of this kind begins.
 pub fn size_of(kind: Kind, size: u64) -> Result<u64, u16>
     ensures { MatchResult result (λ given. (given ≡ size) × IsSize kind given)
         (λ byte. (byte < 8) × IsFirstMisspelt (IsSize kind) (to_be_bytes w64) (to_be_bytes w64 size) byte) }
@@ -97,7 +98,7 @@ pub fn size_of(kind: Kind, size: u64) -> Result<u64, u16>
     Ok(size)
 }
 
-/// The block with these parts, and no pointers.
+/// Returns the block with these parts, and no pointers.
 pub fn head_block(kind: Kind, fill: u8, word: u32, size: u64) -> Block
     ensures spelled { result ≡ (code_of kind ∷ fill ∷ 0 ∷ 0 ∷ []) ++ to_be_bytes w32 word ++ to_be_bytes w64 size
         ++ replicate 496 0 }

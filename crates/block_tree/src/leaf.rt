@@ -15,24 +15,24 @@ use crate::node::LEAVES;
 use crate::root::{NODES, Root};
 use cfs_base::{Block, Disk};
 
-/// The leaves that a tree may have.
+/// How many leaves a tree may have.
 pub const LEAF_LIMIT: u32 = (NODES * LEAVES) as u32;
 
-/// The leaf in which the byte at this offset lies.
+/// Returns the leaf that has the byte at this offset.
 pub fn leaf_of(offset: u64) -> u64
     ensures { result ≡ offset / 512 }
 {
     offset / 512
 }
 
-/// The node that leads to this leaf.
+/// Returns the node that leads to this leaf.
 pub fn node_of(leaf: u32) -> u32
     ensures { result ≡ leaf / leaf_pointers.count }
 {
     leaf / LEAVES as u32
 }
 
-/// The pointer to a leaf. Reads the nodes on its path.
+/// Returns the pointer to a leaf. Reads the nodes on its path.
 fn pointer_to<D: Disk>(disk: &mut D, root: &Root, leaf: u32) -> Result<Pointer, TreeFault>
     requires { leaf < leaf_limit }
     ensures pointer { Tells D.Disk disk.old
@@ -52,9 +52,12 @@ fn pointer_to<D: Disk>(disk: &mut D, root: &Root, leaf: u32) -> Result<Pointer, 
     pointer_on(disk, top, &path[1..])
 }
 
-/// The block of a leaf, 0 where the leaf is absent. Makes at most one device call for each level of nodes. `BadPointer`
-/// where the pointer to a node on the leaf's path leads past the disk: it names that block, and the node that has the
-/// pointer, none where the root has it. The pointer to the leaf is not followed. `Disk` where a read fails.
+/// Returns the block of a leaf, or 0 if the leaf is absent.
+///
+/// Makes at most one device call for each level of nodes. The pointer to the leaf is not followed.
+///
+/// `BadPointer` if the pointer to a node on the leaf's path leads past the disk: it names that block, and the node
+/// that has the pointer, or `None` if the root has it. `Disk` if a read fails.
 pub fn leaf_at<D: Disk>(disk: &mut D, root: &Root, leaf: u32) -> Result<u32, TreeFault>
     requires { leaf < leaf_limit }
     ensures leaf { Tells D.Disk disk.old → IfOk result (λ n.
@@ -69,10 +72,13 @@ pub fn leaf_at<D: Disk>(disk: &mut D, root: &Root, leaf: u32) -> Result<u32, Tre
     Ok(pointer.block)
 }
 
-/// Reads a leaf, which is fill bytes where it is absent. Makes at most one device call for each level of nodes, and one
-/// for the leaf. `BadPointer` where a pointer on its path, to a node or to the leaf, leads past the disk: it names that
-/// block, and the node that has the pointer, none where the root has it. `Disk` where a read fails. After an `Err`
-/// `into` is not told of, and may hold anything.
+/// Reads a leaf. An absent leaf is all fill bytes.
+///
+/// Makes at most one device call for each level of nodes, and one for the leaf.
+///
+/// `BadPointer` if a pointer on its path, to a node or to the leaf, leads past the disk: it names that block, and the
+/// node that has the pointer, or `None` if the root has it. `Disk` if a read fails. After an error nothing is known
+/// of `into`, which may hold anything.
 pub fn read_leaf<D: Disk>(
     disk: &mut D,
     root: &Root,

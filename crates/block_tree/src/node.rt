@@ -6,17 +6,17 @@ ghost use Rattle.block_tree.specs.Pointers.{pointers_of, leaf_pointers};
 use crate::pointers::{put_pointers, read_pointers};
 use cfs_base::Block;
 
-/// The leaf pointers of a node.
+/// How many leaf pointers a node has.
 pub const LEAVES: usize = 128;
 
-/// A node, with the block of each of its leaves, or 0 where a leaf is absent.
+/// A node: the block of each of its leaves, or 0 for a leaf that is absent.
 #[derive(Clone, Copy, Debug, PartialEq, Eq)]
 pub struct Node {
     pub leaves: [u32; LEAVES],
 }
 
 impl Node {
-    /// A node without leaves.
+    /// Returns a node without leaves.
     pub fn empty() -> Node
         ensures { result.leaves ≡ replicate leaf_pointers.count 0 }
     {
@@ -25,7 +25,7 @@ impl Node {
         }
     }
 
-    /// The node that this block spells. Every block spells one.
+    /// Returns the node that this block spells. Every block spells one.
     pub fn decode(block: &Block) -> Node
         ensures good { IsNode result }
         ensures spelled { block.now ≡ node_spelling result }
@@ -37,7 +37,7 @@ impl Node {
         Node { leaves }
     }
 
-    /// The block that spells this node.
+    /// Returns the block that spells this node.
     pub fn encode(&self) -> Block
         ensures good { IsNode self.now }
         ensures spelled { result ≡ node_spelling self.now }

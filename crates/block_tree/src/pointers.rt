@@ -18,7 +18,7 @@ pub fn read_pointers(bytes: &[u8], into: &mut [u32])
     }
 }
 
-/// Puts pointers into the block, from the place of its pointer `from` on, and changes no other byte.
+/// Writes pointers into the block, beginning at its pointer number `from`, and changes no other byte.
 pub fn put_pointers(block: &mut Block, from: usize, pointers: &[u32])
     requires long { length block.old ≡ 512 }
     requires room { 4 * (from + length pointers.now) ≤ 512 }

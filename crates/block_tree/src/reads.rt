@@ -1,4 +1,4 @@
-//! The root, the nodes and the leaves of an object, read for calls that tell which block is damaged.
+//! The root, the nodes and the leaves of an object, read for calls that report which block is damaged.
 ghost use Rattle.std.specs.Prelude.{◌≡◌, ◌<◌, ◌≤◌, ℕ, false, get_or, length, replicate, IfErr, IfOk, IsFalse};
 ghost use Rattle.std.specs.Prelude.{IsTrue, OnOk};
 ghost use Rattle.std.specs.List.{All};
@@ -17,7 +17,9 @@ use crate::node::{LEAVES, Node};
 use crate::root::Root;
 use cfs_base::{Block, BlockNo, Damage, Disk, Trouble, code};
 
-/// Reads the root of an object. `Damaged` names the block, with code 3, which is none.
+/// Reads the root of an object.
+///
+/// `Damaged` names the block, with code 3, if it is no root block.
 pub fn read_root<D: Disk>(disk: &mut D, at: BlockNo) -> Result<Root, Trouble>
     requires { at.0 < D.blocks disk.old }
     ensures root { Tells D.Disk disk.old → IfOk result (IsRootBlock (block_at (D.content disk.old) at.0)) }
@@ -43,7 +45,9 @@ pub fn read_root<D: Disk>(disk: &mut D, at: BlockNo) -> Result<Root, Trouble>
     }
 }
 
-/// Whether a pointer of a node leads past a disk of so many blocks, told without a branch on them.
+/// Returns whether a pointer of a node leads past a disk of `blocks` blocks.
+///
+/// It is computed without a branch on the pointers.
 fn leads_past(node: &Node, blocks: u32) -> bool
     ensures past { IsTrue result → (k : ℕ) × (blocks ≤ get_or node.now.leaves k 0) }
     ensures near { IsFalse result → All (λ leaf. leaf < blocks) node.now.leaves }
@@ -55,8 +59,9 @@ fn leads_past(node: &Node, blocks: u32) -> bool
     past
 }
 
-/// Reads the node at a block to which this holder points. Where it is 0 the node is absent, and has no leaf. `Damaged`
-/// names the holder, with code 4, where the node lies past the disk, and the node where one of its leaves does.
+/// Reads the node in a block to which this holder points. If `block` is 0, the node is absent and has no leaf.
+///
+/// `Damaged` names the holder, with code 4, if the node lies past the disk, and the node if one of its leaves does.
 pub fn read_node<D: Disk>(disk: &mut D, block: u32, holder: BlockNo) -> Result<Node, Trouble>
     requires { 0 < D.blocks disk.old }
     ensures node { Tells D.Disk disk.old → IfOk result (λ node. node.leaves ≡ leaves_at (D.content disk.old) block) }
@@ -94,7 +99,7 @@ pub fn read_node<D: Disk>(disk: &mut D, block: u32, holder: BlockNo) -> Result<N
     Ok(node)
 }
 
-/// Reads the block of a leaf, which is fill bytes where that is 0.
+/// Reads the block of a leaf. It is all fill bytes if `block` is 0.
 pub fn read_block<D: Disk>(disk: &mut D, block: u32, fill: u8) -> Result<Block, Trouble>
     requires { block < D.blocks disk.old }
     ensures content { Tells D.Disk disk.old → IfOk result (λ content.

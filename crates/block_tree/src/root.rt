@@ -8,33 +8,39 @@ use crate::node::LEAVES;
 use crate::pointers::{put_pointers, read_pointers};
 use cfs_base::{Block, Kind};
 
-/// The node pointers of a root.
+/// How many node pointers a root has.
 pub const NODES: usize = 120;
 
-/// The levels of nodes below a root.
+/// How many levels of nodes are below a root.
 pub const NODE_LEVELS: u32 = 1;
 
 /// The greatest size of an object in bytes.
 pub const SIZE_LIMIT: u64 = 512 * (NODES * LEAVES) as u64;
 
-/// What a root block says of its object, with the block of each of its nodes, or 0 where a node is absent.
+/// What a root block says of its object, and the block of each of its nodes, or 0 for a node that is absent.
 #[derive(Clone, Copy, Debug, PartialEq, Eq)]
 pub struct Root {
+    /// The kind of the object.
     pub kind: Kind,
+    /// The fill byte of a file, or 0 for an index.
     pub fill: u8,
+    /// The random word of the object's identifier.
     pub word: u32,
+    /// The size in bytes. A slot of an index has 8 bytes.
     pub size: u64,
+    /// The blocks of the nodes.
     pub nodes: [u32; NODES],
 }
 
-/// The block is no root block: the least place such that no root block begins with the bytes up to and with it.
+/// The block is no root block: the least place such that no root block begins with the bytes up to it and with it.
 #[derive(Clone, Copy, Debug, PartialEq, Eq)]
 pub struct BadRoot {
+    /// The least such place.
     pub byte: u16,
 }
 
 impl Root {
-    /// The root that this block spells.
+    /// Returns the root that this block spells.
     pub fn decode(block: &Block) -> Result<Root, BadRoot>
         ensures accepted { IfOk result (IsRootBlock block.now) }
         ensures refused { IfErr result (λ e. IsFirstBadByte block.now e.byte) }
@@ -45,7 +51,7 @@ impl Root {
         read_root(block)
     }
 
-    /// The block that spells this root.
+    /// Returns the block that spells this root.
     pub fn encode(&self) -> Block
         ensures spelled { result ≡ root_spelling self.now }
         ensures accepted { IsRoot self.now → IsRootBlock result self.now }
@@ -57,7 +63,7 @@ impl Root {
     }
 }
 
-/// The root that this block spells, or the first byte at which it is none.
+/// Returns the root that this block spells, or the first byte at which it is invalid.
 fn read_root(block: &Block) -> Result<Root, BadRoot>
     ensures { MatchResult result (IsRootBlock block.now) (λ e. IsFirstBadByte block.now e.byte) }
 {

@@ -8,8 +8,8 @@ ghost use Rattle.block_tree.specs.Pointers.{leaf_limit, levels_below, node_level
 ghost use Rattle.block_tree.specs.Pointers.{width as width_of};
 ghost use Rattle.block_tree.specs.Reads.{IsFault};
 ghost use Rattle.block_tree.specs.Root.{root_spelling};
-ghost use Rattle.block_tree.specs.Step.{IsFirstSet, IsLaterBase, IsPastBelow, IsPlaced, IsStepBelow, IsStepped, IsSureStep};
-ghost use Rattle.block_tree.specs.Step.{IsStepWithin, NoneHeld, NoneSet, SomeHeld, SomeSet, step_at, upto};
+ghost use Rattle.block_tree.specs.Step.{IsFirstSet, IsLaterBase, IsPastBelow, IsPlaced, IsStepBelow, IsStepped};
+ghost use Rattle.block_tree.specs.Step.{IsStepWithin, IsSureStep, NoneHeld, NoneSet, SomeHeld, SomeSet, step_at, upto};
 ghost use Rattle.block_tree.specs.Tree.{EachLeaf, HasNoDeadEnd, HasNearPath, IsLeafPointer, leaf_count};
 ghost use Rattle.block_tree.specs.Walk.{IsFirstPast};
 
@@ -21,25 +21,28 @@ use crate::root::{NODE_LEVELS, NODES, Root};
 use crate::walk::HeldLeaf;
 use cfs_base::Disk;
 
-/// A held leaf, and the node that has the pointer to it, which is none where the root has it.
+/// A held leaf, and where the pointer to it is.
 #[derive(Clone, Copy, Debug, PartialEq, Eq)]
 pub struct HeldStep {
+    /// The leaf.
     pub held: HeldLeaf,
+    /// The node that has the pointer to the leaf, or `None` if the root has it.
     pub holder: Option<u32>,
 }
 
-/// What a step finds: a held leaf, if there is one, and the leaf from which on the next is to be sought, if there may be
-/// one.
+/// The result of a step.
 #[derive(Clone, Copy, Debug, PartialEq, Eq)]
 pub struct LeafStep {
+    /// The held leaf, if one was found.
     pub found: Option<HeldStep>,
+    /// The leaf from which the next is to be looked for, if there may be one.
     pub next: Option<u32>,
 }
 
 impl HeldStep {
     ghost use Rattle.std.specs.Prelude.{◌≡◌};
 
-    /// The pointer to the leaf.
+    /// Returns the pointer to the leaf.
     pub fn pointer(&self) -> Pointer
         ensures { result ≡ record { holder = self.now.holder; block = self.now.held.block } }
     {
@@ -50,7 +53,7 @@ impl HeldStep {
     }
 }
 
-/// The first place from one on with a pointer that isn't 0.
+/// Returns the first place, beginning at `from`, with a pointer that isn't 0.
 fn first_set(pointers: &[u32], from: usize) -> Option<usize>
     ensures { IsFirstSet pointers.now from result }
 {
@@ -62,7 +65,7 @@ fn first_set(pointers: &[u32], from: usize) -> Option<usize>
     None
 }
 
-/// Whether a pointer from a place on isn't 0, told without a branch on them.
+/// Returns whether a pointer from a place on isn't 0, computed without a branch on the pointers.
 fn has_set(pointers: &[u32], from: usize) -> bool
     ensures some { IsTrue result → SomeSet pointers.now from }
     ensures none { IsFalse result → NoneSet pointers.now from }
@@ -75,7 +78,7 @@ fn has_set(pointers: &[u32], from: usize) -> bool
     any
 }
 
-/// The first leaf below the next pointer after a place that is set.
+/// Returns the first leaf below the next set pointer after a place.
 fn later(pointers: &[u32], place: usize, width: u32) -> Option<u32>
     requires some { 0 < width }
     requires place { place < length pointers.now }
@@ -88,7 +91,9 @@ fn later(pointers: &[u32], place: usize, width: u32) -> Option<u32>
     }
 }
 
-/// A step among the leaves below one pointer, of which this is the first, as one among the leaves below all.
+/// Turns a step among the leaves below one pointer into one among the leaves below all.
+///
+/// `base` is the first of those leaves.
 fn above(base: u32, later: Option<u32>, below: LeafStep) -> LeafStep
     requires found { IfSome below.found (λ step. base + step.held.leaf < leaf_limit) }
     requires next { IfSome below.next (λ next. base + next < leaf_limit) }
@@ -111,8 +116,10 @@ fn above(base: u32, later: Option<u32>, below: LeafStep) -> LeafStep
     LeafStep { found, next }
 }
 
-/// The first held leaf not below the given one, of those below pointers, which stand so many levels of nodes above the
-/// leaves, each above so many of them; and where the next is to be sought.
+/// Looks for the first held leaf at or after the given one, among those below some pointers.
+///
+/// It also returns where the next is to be looked for. The pointers are `height` levels of nodes above the leaves,
+/// and each is above `width` of them.
 fn step_below<D: Disk>(
     disk: &mut D,
     pointers: &[u32],
@@ -162,12 +169,15 @@ fn step_below<D: Disk>(
     Ok(above(base, later, below))
 }
 
-/// The first held leaf not below the given one, if it is found, and where the next is to be sought: at that leaf where the
-/// same node leads to it, else at the first leaf of the next block that may hold one. Where none is found none is held
-/// before that. Makes one device call for each level of nodes at most. In a tree without a dead end a step that begins
-/// at 0, or where one before it said (`IsPlaced`), finds a leaf if there is one. `BadPointer` where the pointer to a node
-/// above a leaf from there on leads past the disk: it names that block, and the node that has the pointer, none where
-/// the root has it. `Disk` where a read fails.
+/// Looks for the first held leaf at or after the given one, and returns where the next is to be looked for.
+///
+/// That is the next leaf itself if the same node leads to it, else the first leaf of the next block that may hold
+/// one. If no leaf is found, none is held before that place. In a tree without a dead end a step that begins at 0, or
+/// where the step before it said (`IsPlaced`), finds a leaf if there is one.
+///
+/// Makes at most one device call for each level of nodes. `BadPointer` if the pointer to a node above a leaf from
+/// there on leads past the disk: it names that block, and the node that has the pointer, or `None` if the root has
+/// it. `Disk` if a read fails.
 pub fn step_held<D: Disk>(disk: &mut D, root: &Root, from: u32) -> Result<LeafStep, TreeFault>
     ensures step { Tells D.Disk disk.old → IfOk result (IsStepped (D.content disk.old) (root_spelling root.now) from) }
     ensures followed { Tells D.Disk disk.old → IfOk result (λ step. EachLeaf from
@@ -178,7 +188,7 @@ pub fn step_held<D: Disk>(disk: &mut D, root: &Root, from: u32) -> Result<LeafSt
     ensures sought { Tells D.Disk disk.old → HasNoDeadEnd (D.content disk.old) (root_spelling root.now)
         → IfOk result (λ step. IfSome step.next (λ n. IsPlaced (D.content disk.old) (root_spelling root.now) n
         × SomeHeld (D.content disk.old) (root_spelling root.now) n)) }
-    // Whatever nodes lead to no leaf, the leaf that is found is the tree's.
+    // Even if nodes lead to no leaf, the leaf that is found is the tree's.
     ensures there { Tells D.Disk disk.old → IfOk result (λ step. IfSome step.found (λ s.
         IsLeafPointer (D.content disk.old) (root_spelling root.now) s.held.leaf
         (record { holder = s.holder; block = s.held.block }))) }
@@ -191,7 +201,7 @@ pub fn step_held<D: Disk>(disk: &mut D, root: &Root, from: u32) -> Result<LeafSt
     step_below(disk, &root.nodes, None, NODE_LEVELS as usize, width, from)
 }
 
-/// Whether the tree of a root holds a leaf. Makes no device call.
+/// Returns whether the tree of a root holds a leaf. Makes no device call.
 pub fn holds_any(root: &Root) -> bool
     ensures some { (image : Image) → HasNoDeadEnd image (root_spelling root.now) → IsTrue result
         → SomeHeld image (root_spelling root.now) 0 }

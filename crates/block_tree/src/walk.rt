@@ -13,17 +13,20 @@ use crate::root::Root;
 use crate::step::step_held;
 use cfs_base::Disk;
 
-/// A leaf that is there, and its block.
+/// A leaf that is held, and its block.
 #[derive(Clone, Copy, Debug, PartialEq, Eq)]
 pub struct HeldLeaf {
     pub leaf: u32,
     pub block: u32,
 }
 
-/// The first held leaf not below the given one. Where each node that is there leads to a leaf it makes at most two device
-/// calls for each level of nodes, and else as many for each block of leaves. `BadPointer` where, before a held leaf is
-/// found, a pointer above a leaf from the given one on leads past the disk: it names that block, and the node that has
-/// the pointer, none where the root has it. `Disk` where a read fails.
+/// Finds the first held leaf at or after the given one.
+///
+/// If each node that is held leads to a leaf, it makes at most two device calls for each level of nodes, and else as
+/// many for each block of leaves.
+///
+/// `BadPointer` if, before a held leaf is found, a pointer above a leaf from the given one on leads past the disk: it
+/// names that block, and the node that has the pointer, or `None` if the root has it. `Disk` if a read fails.
 pub fn walk_held<D: Disk>(
     disk: &mut D,
     root: &Root,

@@ -1,4 +1,6 @@
-//! The blocks of one path of a tree, changed from its leaf up: each block is a copy with its child's number in it.
+//! The blocks of one path of a tree, changed from its leaf up.
+//!
+//! Each block becomes a copy with its child's number in it.
 ghost use Rattle.std.specs.Prelude.{◌≡◌, ◌<◌, ℕ, get_or, List};
 ghost use Rattle.cfs_base.specs.Disk.{Image};
 ghost use Rattle.block_tree.specs.Along.{CutsRootPast};
@@ -12,7 +14,7 @@ use crate::node::{LEAVES, Node};
 use crate::root::{NODES, Root};
 
 impl Root {
-    /// The same with another block as one of its nodes.
+    /// Returns a copy with another block as one of its nodes.
     pub fn with_node(&self, number: u32, block: u32) -> Root
         requires { number < node_pointers.count }
         ensures root { result ≡ spec.with_node self.now number block }
@@ -24,7 +26,7 @@ impl Root {
         root
     }
 
-    /// The same with another block as one of its nodes, and without its nodes past it.
+    /// Returns a copy with another block as one of its nodes, and without the nodes past it.
     pub fn cut_past(&self, number: u32, block: u32) -> Root
         requires { number < node_pointers.count }
         ensures past { CutsRootPast self.now number block result }
@@ -33,7 +35,7 @@ impl Root {
         self.cut(number + 1).with_node(number, block)
     }
 
-    /// The same without its nodes from one on.
+    /// Returns a copy without its nodes from `from` on.
     pub fn cut(&self, from: u32) -> Root
         ensures cut { spec.CutsRoot self.now from result }
         ensures fits { Fits self.now → Fits result }
@@ -47,7 +49,7 @@ impl Root {
 }
 
 impl Node {
-    /// The same with another block as one of its leaves.
+    /// Returns a copy with another block as one of its leaves.
     pub fn with_leaf(&self, place: u32, block: u32) -> Node
         requires { place < leaf_pointers.count }
         ensures node { result ≡ spec.with_leaf self.now place block }
@@ -60,7 +62,7 @@ impl Node {
         node
     }
 
-    /// The same without its leaves from a place on.
+    /// Returns a copy without its leaves from `from` on.
     pub fn cut(&self, from: u32) -> Node
         ensures cut { spec.CutsNode self.now from result }
         ensures good { IsNode self.now → IsNode result }
@@ -72,7 +74,7 @@ impl Node {
         kept
     }
 
-    /// The same with another block at a place, and without its leaves past it.
+    /// Returns a copy with another block at a place, and without the leaves past it.
     pub fn cut_past(&self, place: u32, block: u32) -> Node
         requires { place < leaf_pointers.count }
         ensures past { IsNode self.now → spec.CutsPast (λ j. get_or self.now.leaves j 0) place block
@@ -83,7 +85,7 @@ impl Node {
     }
 }
 
-/// What is proved of a tree in which the blocks of one path are other ones, as a contract. This call does nothing.
+/// A law of a tree in which the blocks of one path are replaced, as a contract. This call does nothing.
 pub fn one_path_changes()
     // A path that parts from it leads to what it led to.
     ensures beside { (a b : Image) (old new path blocks : List ℕ) → spec.IsPut a b old new path blocks
@@ -93,12 +95,12 @@ pub fn one_path_changes()
         → spec.IsLast blocks last → tree_of b new path ≡ last }
 {}
 
-/// What is proved of a tree in which a path is cut, as a contract. This call does nothing.
+/// A law of a tree in which a path is cut, as a contract. This call does nothing.
 pub fn one_path_cut()
-    // What stands before the path's end is led to as it was.
+    // What is before the path's end is led to as it was.
     ensures before { (a b : Image) (old new path blocks : List ℕ) → spec.IsCut a b old new path blocks
         → (q : List ℕ) → spec.IsBefore path q → tree_of b new q ≡ tree_of a old q }
-    // What stands at its end or past it is gone.
+    // What is at its end or past it is gone.
     ensures from { (a b : Image) (old new path blocks : List ℕ) → spec.IsCut a b old new path blocks
         → (q : List ℕ) → spec.IsFrom path q → tree_of b new q ≡ 0 }
 {}

@@ -12,7 +12,9 @@ enum Call {
     Barrier,
 }
 
-/// Makes a call that is done on a disk with this block. A read answers the number at the beginning, any other call 0.
+/// Makes a call on a disk with this block, and returns a number if it is done.
+///
+/// A read returns the number at the beginning, and any other call 0.
 fn made<D: Disk>(disk: &mut D, call: Call) -> Option<u64> {
     let mut block = Block::zero();
     match call {
@@ -33,7 +35,9 @@ fn made<D: Disk>(disk: &mut D, call: Call) -> Option<u64> {
     }
 }
 
-/// What a call answers, how many calls of the lower disk it makes, and whether blocks 0 and 64 are held after it.
+/// Makes a call.
+///
+/// Returns what it gives, how many calls of the lower disk it makes, and whether blocks 0 and 64 are held after it.
 fn step(cache: &mut MapCache<MemoryDisk>, call: Call) -> (Option<u64>, u64, [bool; 2]) {
     let before = cache.moment();
     let answer = made(cache, call);
@@ -45,8 +49,9 @@ fn step(cache: &mut MapCache<MemoryDisk>, call: Call) -> (Option<u64>, u64, [boo
     )
 }
 
-/// On a cache of one block block 64 takes the place of block 0. A disk in memory counts its calls by its clock: it was
-/// called for the barrier and three of the four reads.
+/// In a cache of one block, block 64 takes the place of block 0.
+///
+/// A disk in memory counts its calls by its clock: it was called for the barrier and three of the four reads.
 #[test]
 fn a_held_block_is_read_with_no_call_below(rt: HostRuntime) -> Result<(), Fail> {
     let alloc = rt.alloc();
@@ -65,8 +70,9 @@ fn a_held_block_is_read_with_no_call_below(rt: HostRuntime) -> Result<(), Fail> 
     Ok(())
 }
 
-/// Nothing is held before the first barrier that is done, and nothing from the one on that fails, which is the lower
-/// disk's call at moment 8. Between them a map block is held once it was read or written.
+/// Nothing is held before the first barrier that is done, nor from the first one on that fails.
+///
+/// That one is the lower disk's call at moment 8. Between them a map block is held once it was read or written.
 #[test]
 fn blocks_are_kept_between_a_barrier_and_a_failure(rt: HostRuntime) -> Result<(), Fail> {
     let alloc = rt.alloc();

@@ -1,4 +1,4 @@
-//! A cache of map blocks, tried on disks in memory. Nothing stands above this crate; its use is its tests.
+//! A cache of map blocks, tried on disks in memory. No crate is above this one: it is made for its tests.
 #![tactic(auto)]
 
 #[cfg(test)]

@@ -1,16 +1,16 @@
-//! Texts cut at the ends of their lines.
+//! How texts are cut at the ends of their lines.
 ghost use Rattle.std.specs.Prelude.{◌≡◌, ◌++◌, ◌∷◌, IfNone, IfSome, true};
 ghost use Rattle.ufs_model.specs.Script.{LF};
 ghost use Rattle.trail_text.specs.Trail.{has_no_end};
 
-/// A line without its end, and the text behind it.
+/// A line without its end, and the text after it.
 #[derive(Clone, Copy)]
 pub struct Cut<'a> {
     pub line: &'a [u8],
     pub rest: &'a [u8],
 }
 
-/// The first line of the text, where it has an end.
+/// Returns the first line of the text, if it has an end.
 #[tactic(auto, using(std::proofs::lemmas::List::Folds::list_all_more))]
 pub fn first_line(text: &[u8]) -> Option<Cut<'_>>
     ensures none { IfNone result (has_no_end text.now ≡ true) }

@@ -9,19 +9,22 @@ use std::alloc::Global;
 use trail_text::{Opening, TrailFault, read_event, read_opening, read_status};
 use ufs_model::{Follower, word_of};
 
-/// What is said of a text.
+/// The verdict on a text.
 #[derive(Clone, Copy, Debug, PartialEq, Eq)]
 pub enum Verdict {
-    /// It is a trail of so many events, each of which may happen in its turn.
+    /// It is a trail of `events` events, each of which may happen in its turn.
     Legal { events: u64 },
-    /// This event, counted from 1, may not happen; all before it may.
+    /// This event, counted from 1, may not happen. All before it may.
     Illegal { event: u64 },
-    /// This line, counted from 1, is none that a trail has there; the text breaks off before it where it is past the
-    /// last.
+    /// This line, counted from 1, is none that a trail has there.
+    ///
+    /// If it is past the last line, the text breaks off before it.
     BadLine { line: u64 },
 }
 
-/// The verdict on a text of at most 268,435,456 bytes. `NoMemory` comes only for want of memory.
+/// Returns the verdict on a text of at most 268,435,456 bytes.
+///
+/// `NoMemory` comes only for want of memory.
 pub fn audit(alloc: Global, bytes: &[u8]) -> Result<Verdict, NoMemory>
     requires { length bytes.now ≤ 268435456 }
     ensures { IfOk result (λ verdict. IsVerdict bytes.now verdict) }
@@ -36,7 +39,7 @@ pub fn audit(alloc: Global, bytes: &[u8]) -> Result<Verdict, NoMemory>
     }
 }
 
-/// The same of what stands behind a first line.
+/// Returns the verdict on a text that follows a first line.
 fn follow(alloc: Global, opening: Opening, text: &[u8]) -> Result<Verdict, NoMemory>
     requires opened { opening_fits opening ≡ true }
     requires few { length text.now ≤ 268435456 }
@@ -65,7 +68,7 @@ fn follow(alloc: Global, opening: Opening, text: &[u8]) -> Result<Verdict, NoMem
     Ok(Verdict::BadLine { line: events + 2 })
 }
 
-/// The verdict where so many events were followed and this line is none.
+/// Returns the verdict once `events` events were followed and this line is none.
 fn last(alloc: Global, line: &[u8], rest: &[u8], events: u64) -> Result<Verdict, NoMemory>
     requires { events ≤ 268435456 }
     ensures { IfOk result (λ verdict. IsLastLine line.now rest.now events verdict) }

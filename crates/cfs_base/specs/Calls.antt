@@ -5,7 +5,7 @@ use Rattle.cfs_base.specs.Outside.{Rose, count_after}
 use Rattle.cfs_base.specs.Run.{Leaves}
 use Rattle.cfs_base.specs.declared.disk.Disk.{Ghosts}
 
--- Nothing but reads were made, at most so many: content, images and tries are as they were.
+-- Only reads were made, at most `most` of them: content, images and tries are as they were.
 pub record OnlyReads {D : Type 0} (g : Ghosts D) (most : ℕ) (old new : D) : Type 0 where
   pub content : g.content new ≡ g.content old
   pub told : (n : ℕ) → IsTrue (g.told old n) → IsTrue (g.told new n)
@@ -16,7 +16,7 @@ pub record OnlyReads {D : Type 0} (g : Ghosts D) (most : ℕ) (old new : D) : Ty
   pub faults : g.faults old ≤ g.faults new
   pub calls : g.calls new ≤ g.calls old + most
 
--- The last device call failed, and none came after it: so the disk stood as that call was made.
+-- The last device call failed, and no call came after it. So the disk is as it was when that call was made.
 pub record FailedLast {D : Type 0} (g : Ghosts D) (old new : D) : Type 0 where
   pub mid : D
   pub later : g.moment old ≤ g.moment mid
@@ -25,7 +25,7 @@ pub record FailedLast {D : Type 0} (g : Ghosts D) (old new : D) : Type 0 where
   pub clock : Rose (g.moment mid) (g.moment new)
   pub cause : Rose (g.faults mid) (g.faults new)
 
--- A device call failed, and it was the last: the count of faults rose, and the clock.
+-- A device call failed, and it was the last: the count of faults and the clock rose.
 pub record HasFailed {D : Type 0} (g : Ghosts D) (old new : D) : Type 0 where
   pub cause : Rose (g.faults old) (g.faults new)
   pub clock : Rose (g.moment old) (g.moment new)
@@ -35,16 +35,16 @@ pub record HasFailed {D : Type 0} (g : Ghosts D) (old new : D) : Type 0 where
 abbrev pub HasTried : {D : Type 0} → Ghosts D → D → D → Type 0
 HasTried g old new = Rose (g.tries old) (g.tries new)
 
--- A device call failed and stopped a call of the store. Where a write or barrier had been tried in it the tries rose,
--- and else all is as it was.
+-- A device call failed and stopped a call of the store. If the store's call had tried a write or barrier the tries
+-- rose, else all is as it was.
 pub record HasStopped {D : Type 0} (g : Ghosts D) (tried : Bool) (old new : D) : Type 0 where
   pub failed : HasFailed g old new
   pub tries : tried ≡ true → HasTried g old new
   pub no_try : tried ≡ false → g.tries new ≡ g.tries old
   pub untouched : tried ≡ false → g.content new ≡ g.content old
 
--- at most so many device calls were made, so many of them writes and barriers; what a disk is doesn't change, and
--- nothing that a crash might have left is taken back
+-- At most `most` device calls were made, `most_tries` of them writes and barriers. What kind of disk it is doesn't
+-- change, and nothing that a crash might have left is taken back.
 pub record MakesAtMost {D : Type 0} (g : Ghosts D) (most most_tries : ℕ) (old new : D) : Type 0 where
   pub later : g.moment old ≤ g.moment new
   pub keeps : KeepsLeft g.moment g.left_since old new
@@ -52,5 +52,5 @@ pub record MakesAtMost {D : Type 0} (g : Ghosts D) (most most_tries : ℕ) (old 
   pub faults : g.faults old ≤ g.faults new
   pub calls : g.calls new ≤ g.calls old + most
   pub tries : g.tries new ≤ g.tries old + most_tries
-  -- up to the last number of a u64 the tries don't fall
+  -- the tries don't fall, up to the last number of a u64
   pub no_fewer : min (g.tries old) (2 ^ 64 - 1) ≤ g.tries new

@@ -1,4 +1,4 @@
--- What a refusal of the store tells.
+-- What a refusal of the store says.
 use Rattle.std.specs.Prelude.{Bool, true, false}
 use Rattle.cfs_base.specs.declared.refusal.Refused.{Refused}
 use Rattle.cfs_base.specs.declared.refusal.Refused.TheVariants as refused
@@ -17,14 +17,14 @@ had_tried (refused.Disk tried) = tried
 had_tried (refused.Damaged damage) = false
 had_tried refused.Memory = false
 
--- ---- one refusal told as another
+-- ---- one refusal reported as another
 
--- of a call that may take blocks or memory, of which only a call that takes none is refused
+-- the refusal of a call that may take blocks or memory, by a call in it that takes none
 abbrev pub refused_by : Trouble → Refused
 refused_by (trouble.Disk tried) = refused.Disk tried
 refused_by (trouble.Damaged damage) = refused.Damaged damage
 
--- of a call that had tried a write or a barrier before the one that is refused
+-- the refusal of a call that had tried a write or a barrier before the call in it that is refused
 abbrev pub trouble_after_try : Trouble → Trouble
 trouble_after_try (trouble.Disk tried) = trouble.Disk true
 trouble_after_try (trouble.Damaged damage) = trouble.Damaged damage

@@ -28,7 +28,7 @@ impl Model for Block {
     ghost inverse = { λ d. record { bytes = d } };
 }
 
-// puts a piece into the bytes from this place on
+// puts a piece into the bytes, beginning at `at`
 fn put(bytes: &mut [u8; 512], at: usize, piece: &[u8])
     requires { at + length piece.now ≤ 512 }
     ensures put { bytes.new ≡ take at bytes.old ++ piece.now ++ drop (at + length piece.now) bytes.old }
@@ -38,20 +38,21 @@ fn put(bytes: &mut [u8; 512], at: usize, piece: &[u8])
 }
 
 impl Block {
-    /// The block of 512 zero bytes.
+    /// Returns the block of 512 zero bytes.
     pub fn zero() -> Block
         ensures { result ≡ replicate 512 0 }
     {
         Block::of([0; 512])
     }
 
-    /// The block with these bytes.
+    /// Returns the block with these bytes.
     pub fn of(bytes: [u8; 512]) -> Block
         ensures { result ≡ bytes }
     {
         Block { bytes }
     }
 
+    /// Returns the 512 bytes of the block.
     pub fn bytes(&self) -> &[u8; 512]
         ensures bytes { result.now ≡ self.now }
         ensures long { length self.now ≡ 512 }
@@ -59,7 +60,7 @@ impl Block {
         &self.bytes
     }
 
-    /// The number in the 2 bytes from this place on.
+    /// Reads the number in the 2 bytes at `at`.
     pub fn u16_at(&self, at: usize) -> u16
         requires { at + 2 ≤ 512 }
         ensures value { result ≡ from_be_bytes w16 (slice_range self.now at (at + 2)) }
@@ -70,7 +71,7 @@ impl Block {
         u16::from_be_bytes([b[at], b[at + 1]])
     }
 
-    /// The number in the 4 bytes from this place on.
+    /// Reads the number in the 4 bytes at `at`.
     pub fn u32_at(&self, at: usize) -> u32
         requires { at + 4 ≤ 512 }
         ensures value { result ≡ from_be_bytes w32 (slice_range self.now at (at + 4)) }
@@ -81,7 +82,7 @@ impl Block {
         u32::from_be_bytes([b[at], b[at + 1], b[at + 2], b[at + 3]])
     }
 
-    /// The number in the 8 bytes from this place on.
+    /// Reads the number in the 8 bytes at `at`.
     pub fn u64_at(&self, at: usize) -> u64
         requires { at + 8 ≤ 512 }
         ensures value { result ≡ from_be_bytes w64 (slice_range self.now at (at + 8)) }
@@ -101,7 +102,7 @@ impl Block {
         ])
     }
 
-    /// Puts the number into the 2 bytes from this place on, and changes no other.
+    /// Writes a number into the 2 bytes at `at`, and changes no other byte.
     pub fn put_u16(&mut self, at: usize, value: u16)
         requires { at + 2 ≤ 512 }
         ensures put { self.new ≡ take at self.old ++ to_be_bytes w16 value ++ drop (at + 2) self.old }
@@ -110,7 +111,7 @@ impl Block {
         put(&mut self.bytes, at, &value.to_be_bytes());
     }
 
-    /// Puts the number into the 4 bytes from this place on, and changes no other.
+    /// Writes a number into the 4 bytes at `at`, and changes no other byte.
     pub fn put_u32(&mut self, at: usize, value: u32)
         requires { at + 4 ≤ 512 }
         ensures put { self.new ≡ take at self.old ++ to_be_bytes w32 value ++ drop (at + 4) self.old }
@@ -119,7 +120,7 @@ impl Block {
         put(&mut self.bytes, at, &value.to_be_bytes());
     }
 
-    /// Puts the number into the 8 bytes from this place on, and changes no other.
+    /// Writes a number into the 8 bytes at `at`, and changes no other byte.
     pub fn put_u64(&mut self, at: usize, value: u64)
         requires { at + 8 ≤ 512 }
         ensures put { self.new ≡ take at self.old ++ to_be_bytes w64 value ++ drop (at + 8) self.old }

@@ -8,23 +8,26 @@ pub struct BlockNo(pub u32);
 /// The number of a session.
 pub type Session = u32;
 
-/// The permanent identifier of an object: the number of its root block, which is never 0, and a random word.
-/// The order is that of `number`.
+/// The permanent identifier of an object.
+///
+/// Identifiers are ordered by `number`.
 #[derive(Clone, Copy, Debug, PartialEq, Eq, PartialOrd, Ord)]
 pub struct Puid {
+    /// The number of the object's root block, which is never 0.
     pub block: u32,
+    /// A random word.
     pub word: u32,
 }
 
 impl Puid {
-    /// The identifier as one number, `block * 2^32 + word`.
+    /// Returns the identifier as one number, `block * 2^32 + word`.
     pub fn number(&self) -> u64
         ensures { result ≡ self.now.block * 2 ^ 32 + self.now.word }
     {
         ((self.block as u64) << 32) | self.word as u64
     }
 
-    /// The identifier with this number.
+    /// Returns the identifier with this number.
     pub fn of(number: u64) -> Puid
         ensures block { result.block ≡ number / 2 ^ 32 }
         ensures word { result.word ≡ number % 2 ^ 32 }
@@ -36,22 +39,24 @@ impl Puid {
     }
 }
 
-/// The temporary identifier of a grant: the number of its draw, and the word drawn.
+/// The temporary identifier of a grant.
 #[derive(Clone, Copy, Debug, PartialEq, Eq, PartialOrd, Ord)]
 pub struct Tuid {
+    /// The number of the draw.
     pub draw: u32,
+    /// The word that was drawn.
     pub word: u32,
 }
 
 impl Tuid {
-    /// The identifier as one number, `draw * 2^32 + word`.
+    /// Returns the identifier as one number, `draw * 2^32 + word`.
     pub fn number(&self) -> u64
         ensures { result ≡ self.now.draw * 2 ^ 32 + self.now.word }
     {
         ((self.draw as u64) << 32) | self.word as u64
     }
 
-    /// The identifier with this number.
+    /// Returns the identifier with this number.
     pub fn of(number: u64) -> Tuid
         ensures draw { result.draw ≡ number / 2 ^ 32 }
         ensures word { result.word ≡ number % 2 ^ 32 }

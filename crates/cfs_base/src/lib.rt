@@ -1,7 +1,8 @@
-//! The types that every layer speaks of, and the traits of the outside: disk, source, sink and gate;
-//! and of work that is made in turns.
-//! The layers above use the meanings of these traits, and that a call answers `Failed` only where the count of
-//! faults of its own object rose.
+//! The types and traits that every layer uses.
+//!
+//! The traits are those of the outside, disk, source, sink and gate, and of work that is made in turns. The layers
+//! above use what these traits mean, and that a call returns `Failed` only if the count of faults of its own object
+//! rose.
 #![tactic(auto)]
 
 mod block;

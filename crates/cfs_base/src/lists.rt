@@ -1,10 +1,10 @@
-//! Lists of bytes and of identifiers, which contracts see as lists.
+//! Lists of bytes and of identifiers. Contracts see them as lists.
 ghost use Rattle.std.specs.Prelude.{◌≡◌};
 
 use crate::Puid;
 use std::marker::Model;
 
-/// Bytes.
+/// A list of bytes.
 #[derive(Debug, Drop)]
 pub struct Bytes {
     bytes: Vec<u8>,
@@ -19,20 +19,21 @@ impl Model for Bytes {
 }
 
 impl Bytes {
-    /// Takes no memory.
+    /// Wraps a vector of bytes. Takes no memory.
     pub fn new(bytes: Vec<u8>) -> Bytes
         ensures { result ≡ bytes.items }
     {
         Bytes { bytes }
     }
 
+    /// Returns the bytes as a slice.
     pub fn as_slice(&self) -> &[u8]
         ensures { result.now ≡ self.now }
     {
         self.bytes.as_slice()
     }
 
-    /// Takes no memory.
+    /// Returns the vector inside. Takes no memory.
     pub fn into_vec(self) -> Vec<u8>
         ensures { result.items ≡ self }
     {
@@ -41,7 +42,7 @@ impl Bytes {
     }
 }
 
-/// Permanent identifiers.
+/// A list of permanent identifiers.
 #[derive(Debug, Drop)]
 pub struct Ids {
     ids: Vec<Puid>,
@@ -57,20 +58,21 @@ impl Model for Ids {
 }
 
 impl Ids {
-    /// Takes no memory.
+    /// Wraps a vector of identifiers. Takes no memory.
     pub fn new(ids: Vec<Puid>) -> Ids
         ensures { result ≡ ids.items }
     {
         Ids { ids }
     }
 
+    /// Returns the identifiers as a slice.
     pub fn as_slice(&self) -> &[Puid]
         ensures { result.now ≡ self.now }
     {
         self.ids.as_slice()
     }
 
-    /// Takes no memory.
+    /// Returns the vector inside. Takes no memory.
     pub fn into_vec(self) -> Vec<Puid>
         ensures { result.items ≡ self }
     {

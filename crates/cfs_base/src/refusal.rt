@@ -9,7 +9,7 @@ use std::alloc::{AllocError, AllocFailed};
 #[derive(Clone, Copy, Debug, PartialEq, Eq)]
 pub struct Failed;
 
-/// Want of memory. What was handed in is as it was.
+/// There was no memory. What was handed in is as it was.
 #[derive(Clone, Copy, Debug, PartialEq, Eq)]
 pub struct NoMemory;
 
@@ -32,61 +32,64 @@ pub struct Need {
     pub need: u32,
 }
 
-/// A block that is none of its table, or doesn't fit what refers to it: its number, and the code of what is wrong.
+/// A block with a value that its table doesn't list, or one that doesn't fit what refers to it.
 #[derive(Clone, Copy, Debug, PartialEq, Eq)]
 pub struct Damage {
+    /// The number of the block.
     pub block: u32,
+    /// What is wrong with the block, one of the codes in `code`.
     pub code: u8,
 }
 
-/// What is wrong with a block, as `Damage` has it.
+/// The codes of what is wrong with a block, as `Damage` gives them.
 pub mod code {
-    /// The label's cylinders are not the disk's.
+    /// The label has another number of cylinders than the disk.
     pub const WRONG_SIZE: u8 = 1;
-    /// An entry of a map is none.
+    /// The bytes of a map's entry spell no entry.
     pub const NO_ENTRY: u8 = 2;
-    /// A root block, or a shadow root that stands for it, is none.
+    /// A root block, or a shadow root that stands in for it, is invalid.
     pub const NO_ROOT: u8 = 3;
-    /// A pointer leads past the disk.
+    /// A pointer leads past the end of the disk.
     pub const PAST_DISK: u8 = 4;
-    /// An entry is not that of the block's owner and place.
+    /// A block's map entry has another owner or place than the block.
     pub const NOT_OWNED: u8 = 5;
     /// An identifier names no object.
     pub const NAMES_NOTHING: u8 = 6;
-    /// Two shadow roots stand for one object.
+    /// Two shadow roots belong to one object.
     pub const TWO_SHADOWS: u8 = 7;
-    /// A leaf is held at or past the size.
+    /// A leaf has a block though it is at or past the size.
     pub const LATE_LEAF: u8 = 8;
-    /// A held leaf has a byte past the size that isn't the fill byte.
+    /// A leaf with a block has a byte past the size that isn't the fill byte.
     pub const LATE_BYTE: u8 = 9;
-    /// A held node leads to no leaf.
+    /// A node with a block leads to no leaf.
     pub const DEAD_END: u8 = 10;
-    /// Fewer than 4 blocks are left.
+    /// Fewer than 4 blocks are Free.
     pub const TOO_FULL: u8 = 11;
-    /// A map has another number of Free entries than it had when the volume was opened.
+    /// A map has another number of Free entries than when the volume was opened.
     pub const OTHER_COUNT: u8 = 12;
 }
 
 /// Why a call that takes no block and no memory is refused.
 #[derive(Clone, Copy, Debug, PartialEq, Eq)]
 pub enum Trouble {
-    /// A device call failed. `tried` tells whether a write or barrier was tried in the call; where none was, the disk
-    /// is as it was.
+    /// A device call failed.
+    ///
+    /// `tried` says whether the call tried a write or a barrier. If it tried none, the disk is as it was.
     Disk { tried: bool },
-    /// A block that was read is outside its table.
+    /// A block that was read is damaged.
     Damaged(Damage),
 }
 
-/// Why a call that takes blocks or memory is refused.
+/// Why a call that may take blocks or memory is refused.
 #[derive(Clone, Copy, Debug, PartialEq, Eq)]
 pub enum Refused {
     /// Too few blocks were Free. Nothing was written.
     Full(Need),
-    /// As in `Trouble`.
+    /// A device call failed, as in `Trouble`.
     Disk { tried: bool },
-    /// As in `Trouble`.
+    /// A block that was read is damaged, as in `Trouble`.
     Damaged(Damage),
-    /// Want of memory. Nothing was written.
+    /// There was no memory. Nothing was written.
     Memory,
 }
 
@@ -112,7 +115,7 @@ impl From<Trouble> for Refused {
 }
 
 impl Trouble {
-    /// The same trouble of a call that had tried a write or a barrier before.
+    /// Returns the same trouble, as of a call that had tried a write or a barrier before.
     pub fn after_try(self) -> Trouble
         ensures { result ≡ spec.trouble_after_try self }
     {
@@ -124,7 +127,7 @@ impl Trouble {
 }
 
 impl Refused {
-    /// The same refusal of a call that had tried a write or a barrier before.
+    /// Returns the same refusal, as of a call that had tried a write or a barrier before.
     pub fn after_try(self) -> Refused
         ensures { result ≡ spec.after_try self }
     {

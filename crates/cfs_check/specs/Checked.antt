@@ -1,4 +1,4 @@
--- What is found of a volume.
+-- The result of a check.
 use Rattle.std.specs.Prelude.{◌≡◌, ◌≢◌, ◌⊎◌, ℕ, true, [], length}
 use Rattle.cfs_base.specs.Codes as codes
 use Rattle.cfs_base.specs.Disk.{Image}
@@ -14,7 +14,7 @@ use Rattle.cfs_recover.specs.Grounds.{HasNoLabel, HasVersion, IsLabelled}
 use Rattle.cfs_check.specs.declared.checked.Checked.{Checked}
 use Rattle.cfs_check.specs.declared.checked.Checked.TheVariants as checks
 
--- the image is sound, has so many objects, and leaves so many blocks
+-- the image is sound, has `objects` objects, and leaves `left` blocks
 pub record IsSoundWith (image : Image) (objects left : ℕ) : Type 0 where
   pub graph : Graph
   pub sound : IsSoundAs image graph
@@ -42,14 +42,14 @@ pub record IsUsedTwice (image : Image) (n : ℕ) : Type 0 where
   pub used_too : IsUsed image other.block place_of_other n
   pub differs : ¬ ((id.block ≡ other.block) × (place ≡ place_of_other))
 
--- the fault is of another code than those of entries; or of the entry of a block that is used twice, or of a map block
--- or the label that is used
+-- the fault is not of an entry, or it is of the entry of a block that is used twice, or of a map block or the label
+-- that is used
 abbrev pub CantHeal : Image → Damage → Type 0
 CantHeal image d = ((d.code ≢ codes.no_entry) × (d.code ≢ codes.not_owned))
     ⊎ ((d.code ≡ codes.not_owned)
     × (IsUsedTwice image d.block ⊎ ((is_fixed d.block ≡ true) × IsKeptBlock image d.block)))
 
--- this is the first of them
+-- this is the first fault that maps don't heal
 pub record IsFirstUnhealed (image : Image) (d : Damage) : Type 0 where
   pub listed : IsListed image d
   pub cant : CantHeal image d

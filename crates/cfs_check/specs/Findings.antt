@@ -1,4 +1,4 @@
--- What may be wrong with a block of an object's tree, seen by itself.
+-- What may be wrong with a block of an object's tree, looked at by itself.
 use Rattle.std.specs.Prelude.{◌≡◌, ◌≢◌, ◌⊎◌, ℕ, ◌+◌, ◌*◌, ◌<◌, ◌≤◌, Bool, true, false, List, length, MatchBool, Some}
 use Rattle.std.specs.List.{Contains}
 use Rattle.cfs_base.specs.Codes as codes
@@ -41,7 +41,7 @@ pub record HasIdInSlot (extent : Extent) (leaf : ℕ) (content : List ℕ) (slot
   pub within : 512 * leaf + 8 * slot < extent.size
   pub is : slot_in content slot ≡ Some x
 
--- one of the first so many has an identifier that names nothing
+-- one of the first slots, below `below`, has an identifier that names nothing
 pub record HasBadSlot (image : Image) (extent : Extent) (leaf : ℕ) (content : List ℕ) (below : ℕ) : Type 0 where
   pub slot : ℕ
   pub id : Puid
@@ -49,7 +49,7 @@ pub record HasBadSlot (image : Image) (extent : Extent) (leaf : ℕ) (content : 
   pub has : HasIdInSlot extent leaf content slot id
   pub nothing : NamesNothing image id
 
--- each root that these name was found
+-- each root that these slots name was found
 abbrev pub NamesFound : Image → (found : List ℕ) → Extent → (leaf : ℕ) → List ℕ → (below : ℕ) → Type 0
 NamesFound image found extent leaf content below =
     (slot : ℕ) (x : Puid) → slot < below → HasIdInSlot extent leaf content slot x → NamesRoot image x
@@ -92,7 +92,7 @@ HasLateByte image t = (leaf : ℕ) × IsLeafTwig image t leaf
 abbrev pub IsDeadEnd : Image → Twig → Type 0
 IsDeadEnd image t = IsNodeTwig image t × ((j : ℕ) → pointer leaf_pointers (twig_content image t) j ≡ 0)
 
--- a fault of it, with its number and the block that it names
+-- a fault of the block, with its number and the block that it names
 pub data TwigFault (image : Image) (t : Twig) : ℕ → ℕ → Type 0 where
   PastDisk : IsPastDisk image t → TwigFault image t codes.past_disk t.spot.holder
   NotOwned : IsNotOwned image t → TwigFault image t codes.not_owned t.spot.block
@@ -101,19 +101,19 @@ pub data TwigFault (image : Image) (t : Twig) : ℕ → ℕ → Type 0 where
   LateByte : HasLateByte image t → TwigFault image t codes.late_byte t.spot.block
   DeadEnd : IsDeadEnd image t → TwigFault image t codes.dead_end t.spot.block
 
--- ---- what is told of it
+-- ---- what is found of it
 
--- whether P is so
+-- `told` says whether P holds
 abbrev pub Decides : Bool → Type 0 → Type 0
 Decides told P = MatchBool told P (¬ P)
 
--- of its content
+-- what is found of its content
 pub record IsLookAtContent (image : Image) (found : List ℕ) (t : Twig) (f : Findings) : Type 0 where
   pub names_nothing : Decides f.names_nothing (HasBadName image t)
   pub late_leaf : Decides f.late_leaf (IsLateLeaf image t)
   pub late_byte : Decides f.late_byte (HasLateByte image t)
   pub dead_end : Decides f.dead_end (IsDeadEnd image t)
-  -- where it names nothing new, all that it names was found
+  -- if it names nothing new, all that it names was found
   pub names_new : f.names_new ≡ false → (leaf : ℕ) → IsLeafTwig image t leaf → t.extent.kind ≡ kinds.Index
       → NamesFound image found t.extent leaf (twig_content image t) 64
 
@@ -121,7 +121,7 @@ pub record IsLookAt (image : Image) (found : List ℕ) (t : Twig) (f : Findings)
   pub not_owned : Decides f.not_owned (IsNotOwned image t)
   pub content : IsLookAtContent image found t f
 
--- ---- the same of a leaf with this number
+-- ---- the same for a leaf with this number
 
 pub record IsLookAtLeaf (image : Image) (found : List ℕ) (extent : Extent) (leaf : ℕ) (content : List ℕ)
     (f : Findings) : Type 0 where
@@ -132,13 +132,13 @@ pub record IsLookAtLeaf (image : Image) (found : List ℕ) (extent : Extent) (le
   pub names_new : f.names_new ≡ false → extent.kind ≡ kinds.Index → NamesFound image found extent leaf content 64
   pub dead_end : f.dead_end ≡ false
 
--- of its first so many slots
+-- what is found of its first slots
 pub record IsLookAtSlots (image : Image) (found : List ℕ) (extent : Extent) (leaf : ℕ) (content : List ℕ) (below : ℕ)
     (bad new : Bool) : Type 0 where
   pub names_nothing : Decides bad (HasBadSlot image extent leaf content below)
   pub names_new : new ≡ false → NamesFound image found extent leaf content below
 
--- of one
+-- what is found of one slot
 pub record IsLookAtSlot (image : Image) (found : List ℕ) (content : List ℕ) (slot : ℕ) (bad new : Bool) : Type 0 where
   pub names_nothing : Decides bad ((x : Puid) × (slot_in content slot ≡ Some x) × NamesNothing image x)
   pub names_new : new ≡ false → (x : Puid) → slot_in content slot ≡ Some x → NamesRoot image x
@@ -154,14 +154,14 @@ pub record IsNamedBy (image : Image) (extent : Extent) (leaf : ℕ) (content : L
   pub names : NamesRoot image id
   pub is : id.block ≡ n
 
--- the leaf of an index names it
+-- the block is a leaf of an index that names the root block
 pub record IsNamedByTwig (image : Image) (t : Twig) (n : ℕ) : Type 0 where
   pub leaf : ℕ
   pub is_leaf : IsLeafTwig image t leaf
   pub index : t.extent.kind ≡ kinds.Index
   pub named : IsNamedBy image t.extent leaf (twig_content image t) 64 n
 
--- a fault that is told of this block
+-- a fault that was found of this block
 pub data IsToldBy (f : Findings) (block : ℕ) : ℕ → ℕ → Type 0 where
   NotOwned : f.not_owned ≡ true → IsToldBy f block codes.not_owned block
   BadName : f.names_nothing ≡ true → IsToldBy f block codes.names_nothing block
@@ -169,14 +169,14 @@ pub data IsToldBy (f : Findings) (block : ℕ) : ℕ → ℕ → Type 0 where
   LateByte : f.late_byte ≡ true → IsToldBy f block codes.late_byte block
   DeadEnd : f.dead_end ≡ true → IsToldBy f block codes.dead_end block
 
--- the slot names it
+-- the slot names the root block
 pub record IsNamedInSlot (image : Image) (content : List ℕ) (slot n : ℕ) : Type 0 where
   pub id : Puid
   pub has : slot_in content slot ≡ Some id
   pub names : NamesRoot image id
   pub is : id.block ≡ n
 
--- where it isn't told that the block names new ones, all that it names were found
+-- if it isn't found that the block names new root blocks, all that it names were found
 abbrev pub NamesOnlyKnown : Image → (found : List ℕ) → Twig → (new : Bool) → Type 0
 NamesOnlyKnown image found t new = new ≡ false → (n : ℕ) → IsNamedByTwig image t n → has_number n found ≡ true
 

@@ -24,7 +24,7 @@ pub data Item : Type 0 where
 
 -- ---- what is wrong with one
 
--- a root block, but for its shadow roots
+-- what is wrong with a root block, except with its shadow roots
 pub data RootFault (image : Image) (r : ℕ) : ℕ → ℕ → Type 0 where
   NoRoot : HasNoRoot (block_at image r) → RootFault image r codes.no_root r
   NotOwned : ¬ BelongsTo r places.Root (part_at image r) → RootFault image r codes.not_owned r
@@ -59,7 +59,7 @@ pub record IsUsedIn (image : Image) (items : List Item) (n owner : ℕ) (place :
   pub its : Contains items item
   pub uses : ItemUses image item owner place n
 
--- two uses
+-- a block has two uses
 pub record IsUsedTwiceIn (image : Image) (items : List Item) (n : ℕ) : Type 0 where
   pub owner : ℕ
   pub other : ℕ
@@ -94,11 +94,11 @@ pub record HasFound (image : Image) (items : List Item) (of : List Use) (roots :
   pub found : (n : ℕ) → has_number n roots.blocks ≡ true → (n ≡ 2) ⊎ IsNamedIn image items n
   pub first : has_number 2 roots.blocks ≡ true
   pub named : (n : ℕ) → IsNamedIn image items n → has_number n roots.blocks ≡ true
-  -- of each root block that was looked at: by which root it is read, if by any
+  -- for each root block that was looked at, the root by which it is read, if there is one
   pub shown : (r : ℕ) → Contains items (AtRoot r)
       → ((root : Root) × IsShownRoot image r root) ⊎ ((root : Root) → ¬ IsShownRoot image r root)
 
--- Beside the faults that were marked before, exactly those of the items are.
+-- The marks have the faults that were marked before and exactly those of the items.
 pub record Knows (image : Image) (before : List Bool) (items : List Item) (s : Survey) : Type 0 where
   pub size : length s.marks ≡ 12 * length image
   pub kept : (code n : ℕ) → is_marked before code n ≡ true → is_marked s.marks code n ≡ true
@@ -109,13 +109,13 @@ pub record Knows (image : Image) (before : List Bool) (items : List Item) (s : S
 
 -- ---- all of an object
 
--- one of a rooted object
+-- an item of a rooted object
 pub data IsItemOf (image : Image) : Item → Type 0 where
   ItsRoot : (id : Puid) → IsReachedIn image id → IsItemOf image (AtRoot id.block)
   ItsTwig : (id : Puid) (root : Root) (t : Twig) → IsReachedIn image id → IsShownBy image id.block root
       → Contains (twigs_of image id.block root) t → IsItemOf image (AtTwig t)
 
--- all of the object with this root block are among them
+-- all items of the object with this root block are among them
 pub record HasAllOf (image : Image) (items : List Item) (r : ℕ) : Type 0 where
   pub root : Contains items (AtRoot r)
   pub twigs : (root : Root) (t : Twig) → IsShownBy image r root → Contains (twigs_of image r root) t

@@ -1,4 +1,4 @@
--- Marks of faults: of each block and each code below 12 whether the block was found with it.
+-- Marks of faults: for each block and each code below 12, whether the block was found with that fault.
 use Rattle.std.specs.Prelude.{◌≡◌, ◌⊎◌, ℕ, ◌+◌, ◌*◌, ◌/◌, ◌%◌, ◌<◌, ◌≤◌, Bool, true, false, List, length, get_or, map}
 use Rattle.std.specs.Prelude.{filter}
 use Rattle.std.specs.List.{range_with_len}
@@ -10,12 +10,12 @@ mark_place code block = 12 * block + code
 abbrev pub is_marked : List Bool → (code block : ℕ) → Bool
 is_marked marks code block = get_or marks (mark_place code block) false
 
--- they are of a volume, and none is set where it isn't told that one is
+-- the marks are those of a volume, and none is set unless `any` says so
 pub record AreMarks (marks : List Bool) (any : Bool) : Type 0 where
   pub few : length marks ≤ 12 * 4294967295
   pub told : (place : ℕ) → get_or marks place false ≡ true → any ≡ true
 
--- exactly these faults were marked beside those that were
+-- exactly these faults were marked beside those that were marked before
 pub record AddsMarks (P : ℕ → ℕ → Type 0) (old new : List Bool) : Type 0 where
   pub size : length new ≡ length old
   pub kept : (code block : ℕ) → is_marked old code block ≡ true → is_marked new code block ≡ true
@@ -23,7 +23,7 @@ pub record AddsMarks (P : ℕ → ℕ → Type 0) (old new : List Bool) : Type 0
   pub only : (code block : ℕ) → code < 12 → is_marked new code block ≡ true
       → (is_marked old code block ≡ true) ⊎ P code block
 
--- this one, where it was told
+-- this fault, if `told` is set
 pub record IsToldOf (told : Bool) (code block c n : ℕ) : Type 0 where
   pub is_told : told ≡ true
   pub code_is : c ≡ code

@@ -21,7 +21,7 @@ use Rattle.cfs_check.specs.declared.mended.MendFault.TheVariants as faults
 abbrev pub IsRootOf : Graph → ℕ → Type 0
 IsRootOf g n = (id : Puid) × (o : Object) × (object_at g id ≡ Some o) × (id.block ≡ n)
 
--- an object is read by one root at most, of the same kind and word as its own, which has this content
+-- an object is read by at most one root, which has the kind and word of its own root and this content
 pub record IsReadByOne (a : Image) (id : Puid) (content : List ℕ) : Type 0 where
   pub one : length (standing a id.block) ≤ 1
   pub own : Root
@@ -31,8 +31,8 @@ pub record IsReadByOne (a : Image) (id : Puid) (content : List ℕ) : Type 0 whe
   pub same : IsSameSort own root
   pub shown : shown_root a id.block ≡ content
 
--- Image b is sound, reads as this graph and has nothing else, in blocks of 512 bytes. It has what image a has, but that
--- each object's root block has the root by which it is read there, and for its maps.
+-- Image b is sound, reads as this graph and has nothing else, in blocks of 512 bytes. It is image a, except that each
+-- object's root block has the root by which the object is read there, and except for the maps.
 pub record MendsTo (a : Image) (g : Graph) (b : Image) : Type 0 where
   pub size : length b ≡ length a
   pub whole : AreSized b
@@ -41,13 +41,13 @@ pub record MendsTo (a : Image) (g : Graph) (b : Image) : Type 0 where
   pub roots : (id : Puid) (o : Object) → object_at g id ≡ Some o → IsReadByOne a id (block_at b id.block)
   pub others : (n : ℕ) → n % 64 ≢ 0 → ¬ IsRootOf g n → block_at b n ≡ block_at a n
 
--- it is made of what the disk held
+-- the disk holds what mending makes of what it held
 pub record IsMended {D : Type 0} (g : Ghosts D) (old new : D) : Type 0 where
   pub graph : Graph
   pub mends : MendsTo (g.content old) graph (g.content new)
   pub settled : IsSettled g new
 
--- Nothing was written; or what a crash leaves since the first barrier is mended to what the disk would be.
+-- Nothing was written, or what a crash leaves since the first barrier is mended to what the disk would be.
 abbrev pub LeavesMending : {D : Type 0} → Ghosts D → D → D → Type 0
 LeavesMending g old new = IsUntouched g old new
     ⊎ ((graph : Graph) × (b : Image) × MendsTo (g.content old) graph b

@@ -12,7 +12,7 @@ use Rattle.cfs_check.specs.Items.{AtRoot, HasAllOf, IsItemOf, Item, Knows}
 use Rattle.cfs_check.specs.Twigs.{IsShownBy, Twig, twigs_of}
 use Rattle.cfs_check.specs.declared.survey.Survey.{Survey}
 
--- the table of the shadow roots that stand
+-- the table of the shadow roots that stand for root blocks
 pub record IsStandingOf (image : Image) (standing : List Shadow) : Type 0 where
   pub size : length standing ≡ length image
   pub stand : AreStanding image (length image) standing
@@ -23,17 +23,17 @@ pub record IsHeadOf (image : Image) (r : ℕ) (head : Head) : Type 0 where
   pub on_disk : head.from < length image
   pub shown : IsShownBy image r head.root
 
--- it is read by this head, shown or not
+-- the object with this root block is read by this head, shown or not
 pub record IsReadFrom (image : Image) (r : ℕ) (head : Head) : Type 0 where
   pub from : head.from ≡ reader image r
   pub on_disk : head.from < length image
   pub root : IsShownRoot image r head.root
 
--- it is read by some root, or by none
+-- the object is read by some root, or by none
 abbrev pub IsShownOrNot : Image → ℕ → Type 0
 IsShownOrNot image r = ((root : Root) × IsShownRoot image r root) ⊎ ((root : Root) → ¬ IsShownRoot image r root)
 
--- the blocks of its tree were added to a list, where it is shown
+-- if the object is shown, the blocks of its tree were added to a list
 pub record ListsTree (image : Image) (r : ℕ) (old new : List Twig) : Type 0 where
   pub added : List Twig
   pub is : new ≡ old ++ added
@@ -43,21 +43,22 @@ pub record ListsTree (image : Image) (r : ℕ) (old new : List Twig) : Type 0 wh
 
 -- ---- some of the root blocks that were found are opened
 
--- this is one of them, from one place in the list on up to another
+-- this is one of them, from one place in the list up to another
 pub record IsFoundBetween (blocks : List ℕ) (from to r : ℕ) : Type 0 where
   pub place : ℕ
   pub low : from ≤ place
   pub high : place < to
   pub here : slice_get blocks place ≡ Some r
 
--- they were looked at, and the blocks of their trees are listed
-pub record OpensBatch (image : Image) (before : List Bool) (items : List Item) (blocks : List ℕ) (from to : ℕ) (s : Survey)
-    (ts : List Twig) : Type 0 where
+-- these were looked at, and the blocks of their trees are listed
+pub record OpensBatch (image : Image) (before : List Bool) (items : List Item) (blocks : List ℕ) (from to : ℕ)
+    (s : Survey) (ts : List Twig) : Type 0 where
   pub its : List Item
   pub knows : Knows image before its s
   pub kept : (i : Item) → Contains items i → Contains its i
   pub all : (r : ℕ) → IsFoundBetween blocks from to r → Contains its (AtRoot r)
-  pub only : (i : Item) → Contains its i → Contains items i ⊎ ((r : ℕ) × IsFoundBetween blocks from to r × (i ≡ AtRoot r))
+  pub only : (i : Item) → Contains its i
+      → Contains items i ⊎ ((r : ℕ) × IsFoundBetween blocks from to r × (i ≡ AtRoot r))
   pub listed : (r : ℕ) (root : Root) (t : Twig) → IsFoundBetween blocks from to r → IsShownBy image r root
       → Contains (twigs_of image r root) t → Contains ts t
   pub of_these : (t : Twig) → Contains ts t → (r : ℕ) × (root : Root) × IsFoundBetween blocks from to r
@@ -65,7 +66,7 @@ pub record OpensBatch (image : Image) (before : List Bool) (items : List Item) (
 
 -- ---- the walk
 
--- All of the first so many objects that were found was looked at, and nothing but what is of rooted objects.
+-- All items of the first `done` objects that were found were looked at, and only items of rooted objects.
 pub record IsWalkTo (image : Image) (before : List Bool) (done : ℕ) (s : Survey) : Type 0 where
   pub label : Label
   pub has : HasLabel image label

@@ -1,9 +1,9 @@
 -- The root blocks that were found, in their order.
-use Rattle.std.specs.Prelude.{◌≡◌, ◌⊎◌, ℕ, ◌+◌, ◌<◌, Bool, true, false, not, List, [], ◌∷◌, ◌++◌, length, get_or, count_by}
-use Rattle.std.specs.Prelude.{slice_get, Some}
+use Rattle.std.specs.Prelude.{◌≡◌, ◌⊎◌, ℕ, ◌+◌, ◌<◌, Bool, true, false, not, List, [], ◌∷◌, ◌++◌, length, get_or}
+use Rattle.std.specs.Prelude.{count_by, slice_get, Some}
 use Rattle.ufs_model.specs.Numbers.{has_number}
 
--- root blocks of a volume of so many blocks
+-- root blocks of a volume of `room` blocks
 pub record Found : Type 0 where
   pub blocks : List ℕ
   pub room : ℕ
@@ -16,7 +16,7 @@ pub record AreFoundRoots (found : List ℕ) (has : List Bool) : Type 0 where
   pub within : (n : ℕ) → has_number n found ≡ true → n < length has
   pub once : (j k n : ℕ) → slice_get found j ≡ Some n → slice_get found k ≡ Some n → j ≡ k
 
--- with one more, if it isn't there
+-- the list with one more block, if that isn't in it
 abbrev pub with_root_block : List ℕ → ℕ → Bool → List ℕ
 with_root_block found n true = found
 with_root_block found n false = found ++ n ∷ []

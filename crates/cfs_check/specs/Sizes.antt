@@ -1,4 +1,4 @@
--- The sizes of what is kept of a volume of so many blocks.
+-- The sizes of what is kept of a volume of this size.
 use Rattle.std.specs.Prelude.{◌≡◌, ℕ, ◌*◌, Bool, List, length}
 use Rattle.cfs_check.specs.declared.uses.Use.{Use}
 

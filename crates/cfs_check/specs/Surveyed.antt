@@ -1,5 +1,6 @@
 -- All that is found of a volume whose size is right.
-use Rattle.std.specs.Prelude.{◌≡◌, ◌≢◌, ℕ, ◌*◌, ◌<◌, Bool, true, false, List, [], ◌∷◌, length, replicate, Option, Some, None}
+use Rattle.std.specs.Prelude.{◌≡◌, ◌≢◌, ℕ, ◌*◌, ◌<◌, Bool, true, false, List, [], ◌∷◌, length, replicate, Option}
+use Rattle.std.specs.Prelude.{Some, None}
 use Rattle.std.specs.List.{Contains}
 use Rattle.cfs_base.specs.Codes as codes
 use Rattle.cfs_base.specs.Disk.{Image}
@@ -27,12 +28,12 @@ IsLabelFault image (labels.Version found) = HasVersion image found
 
 -- ---- entries
 
--- the entry of a block is none, or of a root whose owner is another block
+-- the bytes of a block's entry spell none, or the entry is of a root whose owner is another block
 abbrev pub IsNoEntry : ℕ → Option MapEntry → Type 0
 IsNoEntry n None = Unit {0}
 IsNoEntry n (Some e) = (e.place ≡ Some places.Root) × (e.owner ≢ n)
 
--- it isn't that of a map block or the label, and the block is one
+-- the block is a map block or the label, and its entry isn't that of one
 abbrev pub IsNotReserved : ℕ → Option MapEntry → Type 0
 IsNotReserved n e = (is_fixed n ≡ true) × (e ≢ Some reserved)
 
@@ -44,7 +45,7 @@ pub data WrongEntry (n : ℕ) (e : Option MapEntry) : ℕ → ℕ → Type 0 whe
 abbrev pub EntryFaultAt : Image → ℕ → ℕ → ℕ → Type 0
 EntryFaultAt image n = WrongEntry n (entry_in image n)
 
--- with the entry of one of the first so many
+-- what is wrong with the entry of one of the first blocks
 pub record IsEntryFault (image : Image) (below code n : ℕ) : Type 0 where
   pub block : ℕ
   pub before : block < below
@@ -52,7 +53,8 @@ pub record IsEntryFault (image : Image) (below code n : ℕ) : Type 0 where
 
 -- ---- shadow roots
 
--- The block is a shadow root that stands for an object that was found, but no root, or one of another kind or word.
+-- The block is a shadow root that stands for an object that was found, but is no root, or one of another kind or
+-- word.
 pub record IsBadShadow (image : Image) (found : List ℕ) (s : ℕ) : Type 0 where
   pub root : ℕ
   pub on_disk : root < length image
@@ -61,7 +63,7 @@ pub record IsBadShadow (image : Image) (found : List ℕ) (s : ℕ) : Type 0 whe
   pub stands : stands_for root (entry_in image s) ≡ true
   pub other : IsOtherShadow image root s
 
--- one of the first so many blocks is such a one
+-- one of the first blocks is such a shadow root
 pub record IsShadowFault (image : Image) (found : List ℕ) (below code n : ℕ) : Type 0 where
   pub before : n < below
   pub bad : IsBadShadow image found n
@@ -90,7 +92,7 @@ pub record IsSurveyed (image : Image) (s : Surveyed) : Type 0 where
   pub size : 64 * whole.label.cylinders ≡ length image
   pub faults : MarksFaults image s.survey.marks
 
--- ---- as a survey begins and ends
+-- ---- how a survey begins and ends
 
 -- nothing was looked at yet: only the root index is found
 pub record IsSurveyBegun (blocks : ℕ) (s : Survey) : Type 0 where
@@ -103,7 +105,7 @@ pub data GroundFault (image : Image) (label : Label) : ℕ → ℕ → Type 0 wh
   OfEntry : (code n : ℕ) → IsEntryFault image (length image) code n → GroundFault image label code n
   OfLabel : NamesNothing image label.root → GroundFault image label codes.names_nothing 1
 
--- that is marked, and no object was looked at
+-- these faults are marked, and no object was looked at
 pub record IsStarted (image : Image) (label : Label) (s : Surveyed) : Type 0 where
   pub table : IsStandingOf image s.standing
   pub marks : AddsMarks (GroundFault image label) (replicate (12 * length image) false) s.survey.marks

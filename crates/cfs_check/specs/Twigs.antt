@@ -13,14 +13,14 @@ pub use Rattle.cfs_check.specs.declared.twig.Twig.{Twig}
 abbrev pub extent_of : Root → Extent
 extent_of root = record { kind = root.kind; fill = root.fill; size = root.size }
 
--- what a pointer leads to, above these levels, the block with this number there
+-- the block to which a pointer leads, above these levels, with this number there
 abbrev pub twig : Stem → List Level → (holder number block : ℕ) → Twig
 twig stem levels holder number block = record {
   spot = record { holder = holder; block = block; owner = stem.owner; place = place_above levels number };
   extent = stem.extent;
 }
 
--- all to which pointers lead, each with all below it; they are numbered from `first` on
+-- all blocks to which pointers lead, each with all below it, numbered from `first` on
 abbrev pub rows : Image → Stem → List Level → (holder first : ℕ) → (pointers : List ℕ) → List Twig
 rows image stem levels holder first [] = []
 rows image stem levels holder first (zero ∷ ps) = rows image stem levels holder (first + 1) ps
@@ -31,11 +31,11 @@ rows image stem (l ∷ ls) holder first (suc p ∷ ps) =
     ∷ (rows image stem ls (suc p) (first * l.count) (pointers_of l (block_at image (suc p)))
     ++ rows image stem (l ∷ ls) holder (first + 1) ps)
 
--- what one pointer leads to
+-- all blocks to which one pointer leads
 abbrev pub one_row : Image → Stem → List Level → (holder number block : ℕ) → List Twig
 one_row image stem levels holder number block = rows image stem levels holder number (block ∷ [])
 
--- all below the root by which an object is read
+-- all blocks below the root by which an object is read
 abbrev pub twigs_of : Image → (r : ℕ) → Root → List Twig
 twigs_of image r root = rows image (record { owner = r; extent = extent_of root }) (levels_below node_levels)
     (reader image r) 0 (pointers_of node_pointers (shown_root image r))

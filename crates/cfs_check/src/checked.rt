@@ -1,16 +1,17 @@
-//! What is found of a volume.
+//! The result of a check.
 use crate::damages::Damages;
 
-/// What is found of a volume.
+/// The result of a check of a volume.
 #[derive(Debug, Drop)]
 pub enum Checked {
     /// The image holds no volume.
     NotVolume,
     /// It holds a volume of another version.
     Version { found: u32 },
-    /// These faults, each once, by block and then by code.
+    /// The volume has these faults, each once, by block and then by code.
     Faults(Damages),
-    /// None: the volume is sound, and has so many objects. It leaves so many blocks beside the maps, the label and the
-    /// objects.
+    /// The volume is sound, and has `objects` objects.
+    ///
+    /// It leaves `left` blocks beside the maps, the label and the objects.
     Sound { objects: u32, left: u32 },
 }

@@ -1,4 +1,4 @@
-//! Faults of a volume, as they are told.
+//! Faults of a volume, as they are reported.
 use cfs_base::Damage;
 use std::marker::Model;
 
@@ -22,20 +22,21 @@ impl Model for Damages {
 impl Damages {
     ghost use Rattle.std.specs.Prelude.{◌≡◌};
 
-    /// Takes no memory.
+    /// Wraps a vector of faults. Takes no memory.
     pub fn of(faults: Vec<Damage>) -> Damages
         ensures { result ≡ faults.items }
     {
         Damages { faults }
     }
 
+    /// Returns the faults as a slice.
     pub fn as_slice(&self) -> &[Damage]
         ensures { result.now ≡ self.now }
     {
         &self.faults
     }
 
-    /// Takes no memory.
+    /// Returns the vector inside. Takes no memory.
     pub fn into_vec(self) -> Vec<Damage>
         ensures { result.items ≡ self }
     {

@@ -1,4 +1,4 @@
-//! What is wrong with the entries of an image, and the shadow roots that stand by them.
+//! What is wrong with the entries of an image, and with the shadow roots by them.
 ghost use Rattle.std.specs.Prelude.{◌≡◌, ◌+◌, ◌*◌, ◌<◌, ◌≤◌, length, Some};
 ghost use Rattle.cyl_map.specs.Volume.{entry_in};
 ghost use Rattle.cyl_map.specs.declared.entry.MapEntry as entries;
@@ -17,7 +17,7 @@ use cfs_base::{Place, code};
 use cfs_recover::{RESERVED, Standing, is_fixed, note_standing, stands};
 use cyl_map::{Map, MapEntry};
 
-/// Whether the entry of a block is none, or of a root whose owner is another block.
+/// Returns whether the bytes of a block's entry spell none, or the entry is of a root whose owner is another block.
 fn is_no_entry(block: u32, entry: Option<MapEntry>) -> bool
     ensures { Decides result (spec.IsNoEntry block entry) }
 {
@@ -27,7 +27,7 @@ fn is_no_entry(block: u32, entry: Option<MapEntry>) -> bool
     }
 }
 
-/// Whether a block is a map block or the label, but not reserved.
+/// Returns whether a block is a map block or the label, but not reserved.
 fn is_not_reserved(block: u32, entry: Option<MapEntry>) -> bool
     ensures { Decides result (spec.IsNotReserved block entry) }
 {
@@ -46,7 +46,7 @@ fn mark_entry(marks: &mut Marks, block: u32, entry: Option<MapEntry>)
     marks.note_if(is_not_reserved(block, entry), code::NOT_OWNED, block);
 }
 
-/// Notes what the entry of a block says: marks what is wrong with it, and notes for which object it stands.
+/// Notes what the entry of a block says: marks what is wrong with it, and notes the object for which it stands.
 fn note_entry(image: &Image, standing: &mut Standing, marks: &mut Marks, block: u32)
     requires below { block < length image.now }
     requires standing { length standing.old ≡ length image.now }
@@ -76,7 +76,7 @@ pub(crate) fn note_entries(image: &Image, standing: &mut Standing, marks: &mut M
     }
 }
 
-/// Whether a shadow root of an object is no root, or of another kind or word than the object's own root.
+/// Returns whether a shadow root of an object is no root, or has another kind or word than the object's own root.
 fn is_other_shadow(image: &Image, root: u32, shadow: u32) -> bool
     requires root { root < length image.now }
     requires shadow { shadow < length image.now }
@@ -91,7 +91,7 @@ fn is_other_shadow(image: &Image, root: u32, shadow: u32) -> bool
     }
 }
 
-/// The place that a block's entry has, if its eight bytes are one. They aren't tested.
+/// Returns the place in a block's entry, if its eight bytes spell one. They aren't tested.
 fn said_place(image: &Image, block: u32) -> Option<Place>
     requires { block < length image.now }
     ensures { (e : entries.MapEntry) → entry_in image.now block ≡ Some e → e.place ≡ result }
@@ -99,7 +99,7 @@ fn said_place(image: &Image, block: u32) -> Option<Place>
     Map::entry_in(image.block(64 * (block / 64)), (block % 64) as u8).place
 }
 
-/// Whether a block is a shadow root that stands for an object that was found, and isn't like its root.
+/// Returns whether a block is a shadow root that stands for an object that was found, and isn't like its root.
 fn is_bad_shadow(image: &Image, roots: &Roots, block: u32) -> bool
     requires below { block < length image.now }
     requires room { roots.now.room ≡ length image.now }

@@ -8,7 +8,7 @@ use crate::image::Image;
 use cfs_recover::{Spot, belongs, is_committed};
 use cyl_map::{Map, MapEntry};
 
-/// The entry of a block, where its eight bytes are one.
+/// Returns the entry of a block, if its eight bytes spell one.
 pub(crate) fn entry_of(image: &Image, block: u32) -> Option<MapEntry>
     requires { block < length image.now }
     ensures { result ≡ entry_in image.now block }
@@ -16,7 +16,7 @@ pub(crate) fn entry_of(image: &Image, block: u32) -> Option<MapEntry>
     Map::read_in(image.block(64 * (block / 64)), (block % 64) as u8)
 }
 
-/// Whether a block is entered for its owner and place.
+/// Returns whether a block's entry has its owner and place.
 pub(crate) fn is_in_place(image: &Image, spot: Spot) -> bool
     requires { spot.block < length image.now }
     ensures { MatchBool result (BelongsTo spot.owner spot.place (part_at image.now spot.block))
@@ -28,7 +28,7 @@ pub(crate) fn is_in_place(image: &Image, spot: Spot) -> bool
     }
 }
 
-/// Whether the commit bit stands in a block's entry, and the entry is the block's own.
+/// Returns whether the commit bit is set in a block's entry, and the entry is the block's own.
 pub(crate) fn has_own_bit(image: &Image, block: u32) -> bool
     requires { block < length image.now }
     ensures { result ≡ spec.has_own_bit block (part_at image.now block) }

@@ -1,4 +1,4 @@
-//! What is found of a block of an object's tree, seen by itself.
+//! What is found of a block of an object's tree, looked at by itself.
 ghost use Rattle.std.specs.Prelude.{◌≡◌, ◌<◌, ℕ, length, MatchBool};
 ghost use Rattle.block_tree.specs.Pointers.{leaf_pointers};
 ghost use Rattle.block_tree.specs.Tree.{pointer};
@@ -15,20 +15,20 @@ use cfs_base::{Block, Kind, Place, Puid};
 use cfs_recover::{check_node, first_late_byte};
 use leaf_changes::slot_at;
 
-/// What is found of a block to which a pointer of an object leads, where it is on the disk.
+/// What is found of a block to which a pointer of an object leads, if it is on the disk.
 #[derive(Clone, Copy, Debug, PartialEq, Eq)]
 pub(crate) struct Findings {
     /// Its entry isn't that of its owner and place.
     pub not_owned: bool,
-    /// A leaf of an index: an identifier in a slot names nothing.
+    /// It is a leaf of an index, and an identifier in a slot names nothing.
     pub names_nothing: bool,
-    /// A leaf that begins at the size or past it.
+    /// It is a leaf that begins at the size or past it.
     pub late_leaf: bool,
-    /// A leaf that has a byte past the size which isn't the fill byte.
+    /// It is a leaf that has a byte past the size which isn't the fill byte.
     pub late_byte: bool,
-    /// A node that leads to nothing.
+    /// It is a node that leads to nothing.
     pub dead_end: bool,
-    /// A leaf of an index: an identifier in a slot names a root block that wasn't found yet.
+    /// It is a leaf of an index, and an identifier in a slot names a root block that wasn't found yet.
     pub names_new: bool,
 }
 
@@ -48,14 +48,16 @@ const NOTHING: Findings = Findings {
     names_new: false,
 };
 
-/// Whether a block is a root. It is a function of its own, so that room for a root is made only where one is decoded.
+/// Returns whether a block is a root.
+///
+/// It is a function of its own, so that room for a root is made only if one is decoded.
 fn is_root(content: &Block) -> bool
     ensures { MatchBool result (spec.IsSomeRoot content.now) (HasNoRoot content.now) }
 {
     Root::decode(content).is_ok()
 }
 
-/// Whether a block is a root of another word. It is decoded only where the word differs.
+/// Returns whether a block is a root of another word. It is decoded only if the word differs.
 fn is_other_root(image: &Image, block: u32, word: u32) -> bool
     requires { block < length image.now }
     ensures { MatchBool result (spec.IsOtherRoot (block_at image.now block) word)
@@ -67,7 +69,7 @@ fn is_other_root(image: &Image, block: u32, word: u32) -> bool
     is_root(image.block(block))
 }
 
-/// Whether an identifier names nothing.
+/// Returns whether an identifier names nothing.
 pub(crate) fn names_nothing(image: &Image, id: Puid) -> bool
     ensures { MatchBool result (NamesNothing image.now id) (NamesRoot image.now id) }
 {
@@ -77,7 +79,7 @@ pub(crate) fn names_nothing(image: &Image, id: Puid) -> bool
     is_other_root(image, id.block, id.word)
 }
 
-/// What is found of one slot of a leaf.
+/// Returns what is found of one slot of a leaf.
 fn look_at_slot(image: &Image, roots: &Roots, content: &Block, slot: usize) -> Slots
     requires small { slot < 64 }
     requires room { roots.now.room ≡ length image.now }
@@ -101,7 +103,7 @@ fn look_at_slot(image: &Image, roots: &Roots, content: &Block, slot: usize) -> S
     }
 }
 
-/// What is found of the slots of a leaf that are within the size.
+/// Returns what is found of the slots of a leaf that are within the size.
 fn look_at_slots(image: &Image, roots: &Roots, extent: Extent, leaf: u32, content: &Block) -> Slots
     requires { roots.now.room ≡ length image.now }
     ensures { spec.IsLookAtSlots image.now roots.now.blocks extent leaf content.now 64 result.bad result.new }
@@ -119,7 +121,7 @@ fn look_at_slots(image: &Image, roots: &Roots, extent: Extent, leaf: u32, conten
     Slots { bad, new }
 }
 
-/// What is found of a leaf, but for its entry.
+/// Returns what is found of a leaf, without its entry.
 fn look_at_leaf(
     image: &Image,
     roots: &Roots,
@@ -146,14 +148,14 @@ fn look_at_leaf(
     }
 }
 
-/// Whether a node leads to nothing.
+/// Returns whether a node leads to nothing.
 fn leads_nowhere(content: &Block) -> bool
     ensures { spec.Decides result ((j : ℕ) → pointer leaf_pointers content.now j ≡ 0) }
 {
     check_node(0, &Node::decode(content)).is_err()
 }
 
-/// What is found of a block that is on the disk, but for its entry.
+/// Returns what is found of a block that is on the disk, without its entry.
 fn look_at_content(image: &Image, roots: &Roots, twig: &Twig) -> Findings
     requires on_disk { twig.now.spot.block < length image.now }
     requires room { roots.now.room ≡ length image.now }
@@ -170,7 +172,7 @@ fn look_at_content(image: &Image, roots: &Roots, twig: &Twig) -> Findings
     }
 }
 
-/// What is found of a block to which a pointer leads, where these root blocks were found before.
+/// Returns what is found of a block to which a pointer leads, if these root blocks were found before.
 pub(crate) fn look_at(image: &Image, roots: &Roots, twig: &Twig) -> Findings
     requires { roots.now.room ≡ length image.now }
     ensures { spec.IsLookAt image.now roots.now.blocks twig.now result }

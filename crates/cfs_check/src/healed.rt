@@ -1,4 +1,4 @@
-//! Which faults maps heal.
+//! The faults that maps heal.
 ghost use Rattle.std.specs.Prelude.{◌≡◌, ◌≢◌, ◌<◌, length, IfErr, IfOk, MatchResult};
 ghost use Rattle.std.specs.List.{Contains};
 ghost use Rattle.cfs_base.specs.declared.refusal.Damage as damages;
@@ -16,7 +16,9 @@ use std::alloc::Global;
 use std::thread::Threads;
 use vol_label::LabelFault;
 
-/// Whether maps don't heal a fault: it isn't of an entry, or of that of a block that is used twice.
+/// Returns whether maps don't heal a fault.
+///
+/// It isn't of an entry then, or it is of the entry of a block that is used twice.
 fn is_unhealed(uses: &Uses, fault: Damage) -> bool
     requires { fault.block < length uses.now }
     ensures { Decides result (spec.IsUnhealed uses.now fault) }
@@ -27,7 +29,7 @@ fn is_unhealed(uses: &Uses, fault: Damage) -> bool
     fault.code != code::NO_ENTRY
 }
 
-/// Whether maps heal all of these faults. Refused with the first that they don't heal.
+/// Checks that maps heal all of these faults. Refused with the first that they don't heal.
 fn check_healed(uses: &Uses, faults: &[Damage]) -> Result<(), Damage>
     requires { (d : damages.Damage) → Contains faults.now d → d.block < length uses.now }
     ensures { MatchResult result (λ _. spec.AreHealed uses.now faults.now (length faults.now))
@@ -41,7 +43,7 @@ fn check_healed(uses: &Uses, faults: &[Damage]) -> Result<(), Damage>
     Ok(())
 }
 
-/// All that is found of a volume that maps can mend.
+/// Surveys a volume, and returns all that is found if maps can mend it.
 pub(crate) fn survey_mendable<R: Threads + Sync>(
     rt: &R,
     alloc: Global,

@@ -12,17 +12,17 @@ use cfs_base::{Block, BlockNo, Disk, Failed};
 use std::alloc::Global;
 use std::marker::Model;
 
-/// The blocks of the largest volume that is loaded.
+/// The number of blocks of the largest volume that is loaded.
 pub const MOST_BLOCKS: u32 = 524_288;
 
-/// Where a root block has its word.
+/// The place in a root block of its word.
 const WORD_AT: usize = 4;
 
 /// What each block of a disk holds. Contracts see the list of the blocks.
 #[derive(Debug, Drop)]
 pub struct Image {
     blocks: Vec<Block>,
-    /// Of each block the word that it has where it is a root.
+    /// For each block the word that it has if it is a root.
     words: Vec<u32>,
 }
 
@@ -38,7 +38,7 @@ impl Model for Image {
 }
 
 impl Image {
-    /// The number of blocks.
+    /// Returns the number of blocks.
     pub fn blocks(&self) -> u32
         ensures is { result ≡ length self.now }
         ensures most { length self.now ≤ 524288 }
@@ -47,7 +47,7 @@ impl Image {
         self.blocks.len() as u32
     }
 
-    /// A block.
+    /// Returns a block.
     pub fn block(&self, at: u32) -> &Block
         requires { at < length self.now }
         ensures { result.now ≡ block_at self.now at }
@@ -55,7 +55,9 @@ impl Image {
         &self.blocks[at as usize]
     }
 
-    /// The word that a block has where it is a root. It is kept beside the blocks, where words stand close together.
+    /// Returns the word that a block has if it is a root.
+    ///
+    /// The words are kept beside the blocks, close together.
     pub(crate) fn word(&self, at: u32) -> u32
         requires { at < length self.now }
         ensures { result ≡ word_in (block_at self.now at) }
@@ -98,8 +100,10 @@ fn read_all<D: Disk>(alloc: Global, disk: &mut D) -> Result<Image, LoadFault>
     Ok(Image { blocks, words })
 }
 
-/// Loads the image of a volume: makes a barrier, and reads each block once. Refused for more than 524,288 blocks before
-/// any call, for a call that failed, or for want of memory. Nothing is written.
+/// Loads the image of a volume: makes a barrier, and reads each block once.
+///
+/// Nothing is written. Refused for more than 524,288 blocks before any call, for a call that failed, or for want of
+/// memory.
 pub fn load<D: Disk>(alloc: Global, disk: &mut D) -> Result<Image, LoadFault>
     ensures content { IsTrue (D.honest disk.old) → IfOk result (λ image. image ≡ D.content disk.new) }
     ensures size { IfOk result (λ image. length image ≡ D.blocks disk.old) }

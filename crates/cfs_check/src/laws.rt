@@ -1,4 +1,4 @@
-//! What is proved of what mending makes, as contracts. None of these calls does anything.
+//! What is proved of what mending makes, as contracts of functions that do nothing.
 ghost use Rattle.std.specs.Prelude.{◌≡◌};
 ghost use Rattle.cfs_base.specs.Disk.{Image};
 ghost use Rattle.cfs_base.specs.declared.refusal.Damage as damages;
@@ -16,14 +16,14 @@ pub fn mended_as_shown()
     ensures { (a b : Image) (g : Graph) → MendsTo a g b → IsShownGraph a g }
 {}
 
-/// Mended again, a volume comes out the same, byte for byte; and it isn't refused.
+/// If a volume is mended again it comes out the same, byte for byte, and it isn't refused.
 pub fn mended_again()
     ensures same { (a b c : Image) (g h : Graph) → MendsTo a g b → MendsTo a h c → (g ≡ h) × (b ≡ c) }
     ensures not_refused { (a b : Image) (g : Graph) (d : damages.Damage) → MendsTo a g b → IsListed a d
         → ¬ CantHeal a d }
 {}
 
-/// A sound volume that has nothing but its objects is mended to itself.
+/// A sound volume that has only its objects is mended to itself.
 pub fn mends_itself()
     ensures { (b : Image) (g : Graph) → AreSized b → IsSoundAs b g → IsClean b g → MendsTo b g b }
 {}

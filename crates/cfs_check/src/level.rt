@@ -12,10 +12,12 @@ use rayon::prelude::*;
 use std::alloc::{AllocError, Global};
 use std::thread::Threads;
 
-/// How many blocks of indices are worth more threads than one.
+/// How many blocks of indices are worth more than one thread.
 const MANY: usize = 4_096;
 
-/// How many blocks are worth a thread: all of these, where few are an index's, since other blocks have no slots.
+/// Returns how many blocks make the share of a thread.
+///
+/// It is all of these if few are an index's, since other blocks have no slots.
 fn share_of(twigs: &[Twig]) -> usize {
     let of_indices = twigs.iter().filter(|twig| twig.extent.kind == Kind::Index);
     if of_indices.count() < MANY {
@@ -25,8 +27,9 @@ fn share_of(twigs: &[Twig]) -> usize {
     }
 }
 
-/// What is found of each of these blocks, in their order: where many are of indices, in as many threads as there are
-/// processors.
+/// Returns what is found of each of these blocks, in their order.
+///
+/// If many are of indices, it uses as many threads as there are processors.
 pub(crate) fn look_at_all<R: Threads + Sync>(
     rt: &R,
     alloc: Global,

@@ -1,6 +1,8 @@
 //! A volume that is checked in memory, and mended.
-//! The layer above uses that `report` names each fault of a volume once, in order, or says that it is sound; and that `mend`
-//! is refused for the first fault that maps don't heal, and else leaves a sound volume that reads as was shown.
+//!
+//! The layer above uses that `report` names each fault of a volume once, in order, or says that it is sound. It also
+//! uses that `mend` is refused for the first fault that maps don't heal, and else leaves a sound volume that reads as
+//! was shown.
 #![tactic(auto)]
 
 mod checked;

@@ -1,4 +1,4 @@
-//! Which faults were found.
+//! The faults that were found.
 ghost use Rattle.std.specs.Prelude.{◌≡◌, ◌+◌, ◌*◌, ◌<◌, ◌≤◌, true, false, length, replicate, IfOk};
 ghost use Rattle.cfs_check.specs.Marks as spec;
 
@@ -10,11 +10,11 @@ use std::marker::Model;
 /// How many codes there are, with 0, which is none.
 const CODES: usize = 12;
 
-/// Of each block of a volume, and of each code, whether the block was found with that fault.
+/// For each block of a volume and each code, whether the block was found with that fault.
 #[derive(Debug, Drop)]
 pub(crate) struct Marks {
     marks: Vec<bool>,
-    /// Whether one was found.
+    /// Whether any fault was found.
     any: bool,
 }
 
@@ -30,7 +30,7 @@ impl Model for Marks {
 }
 
 impl Marks {
-    /// No fault of a volume of so many blocks.
+    /// Makes marks of no fault, for a volume of `blocks` blocks.
     pub fn none(alloc: Global, blocks: u32) -> Result<Marks, NoMemory>
         ensures { IfOk result (λ marks. marks ≡ replicate (12 * blocks) false) }
     {
@@ -38,7 +38,7 @@ impl Marks {
         Ok(Marks { marks, any: false })
     }
 
-    /// Marks a fault, if it is told.
+    /// Marks a fault of a block if `told` is set.
     pub fn note_if(&mut self, told: bool, code: u8, block: u32)
         requires code { code < 12 }
         requires block { told ≡ true → 12 * block + 12 ≤ length self.old }
@@ -50,7 +50,7 @@ impl Marks {
         }
     }
 
-    /// The faults that are marked, by block and then by code.
+    /// Returns the faults that are marked, by block and then by code.
     pub fn list(&self, alloc: Global) -> Result<Damages, NoMemory>
         ensures { IfOk result (λ faults. faults ≡ spec.damages_in self.now) }
     {

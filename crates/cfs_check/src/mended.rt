@@ -14,13 +14,13 @@ pub enum MendFault {
     /// The image holds no volume. Nothing was written.
     #[error("not a volume")]
     NotVolume,
-    /// A volume of another version. Nothing was written.
+    /// The volume has another version. Nothing was written.
     #[error("a volume of version {found}")]
     Version { found: u32 },
-    /// The first fault that maps don't heal. Nothing was written.
+    /// This is the first fault that maps don't heal. Nothing was written.
     #[error("a damaged volume")]
     Damaged(Damage),
-    /// Want of memory. Nothing was written.
+    /// There was no memory. Nothing was written.
     #[error("out of memory")]
     Memory,
 }

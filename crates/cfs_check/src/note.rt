@@ -1,4 +1,4 @@
-//! What was found of blocks of objects' trees, noted.
+//! How the findings of blocks of objects' trees are noted.
 ghost use Rattle.std.specs.Prelude.{◌≡◌, ◌+◌, ◌*◌, ◌<◌, ◌≤◌, ◌∷◌, [], ◌++◌, ℕ, true, Bool, List, length, map, OnOk};
 ghost use Rattle.std.specs.List.{AllZip};
 ghost use Rattle.cfs_check.specs.Findings as spec;
@@ -47,7 +47,7 @@ fn note_slot(image: &Image, roots: &mut Roots, content: &Block, slot: usize) -> 
     Ok(())
 }
 
-/// Notes the root blocks that the slots of a leaf name which are within the size.
+/// Notes the root blocks that those slots of a leaf name which are within the size.
 fn note_slots(
     image: &Image,
     roots: &mut Roots,
@@ -69,7 +69,7 @@ fn note_slots(
     Ok(())
 }
 
-/// Notes the root blocks that a block names, where it was found that it names new ones.
+/// Notes the root blocks that a block names, if it was found to name new ones.
 fn note_names(
     image: &Image,
     roots: &mut Roots,
@@ -98,7 +98,9 @@ fn note_names(
     Ok(())
 }
 
-/// Notes what was found of a block, where these root blocks had been found, and more since.
+/// Notes what was found of a block.
+///
+/// The findings were made with the root blocks that were known then. More may have been found since.
 fn note_twig(
     image: &Image,
     survey: &mut Survey,

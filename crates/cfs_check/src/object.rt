@@ -22,7 +22,9 @@ use cfs_recover::{Head, Shadow, Spot, Standing, check_root_index, check_shadow};
 /// The root block of the root index.
 pub(crate) const ROOT_BLOCK: u32 = 2;
 
-/// The block from which an object is read: its one shadow root, where its commit bit stands, and else its root block.
+/// Returns the block from which an object is read.
+///
+/// It is its one shadow root, if its commit bit is set, and else its root block.
 pub(crate) fn reader_of(image: &Image, standing: &Standing, block: u32) -> u32
     requires table { spec.IsStandingOf image.now standing.now }
     requires below { block < length image.now }
@@ -39,7 +41,7 @@ pub(crate) fn reader_of(image: &Image, standing: &Standing, block: u32) -> u32
     }
 }
 
-/// Whether two shadow roots stand for an object.
+/// Returns whether two shadow roots stand for an object.
 fn has_two_shadows(image: &Image, standing: &Standing, block: u32) -> bool
     requires table { spec.IsStandingOf image.now standing.now }
     requires below { block < length image.now }
@@ -55,7 +57,7 @@ fn has_two_shadows(image: &Image, standing: &Standing, block: u32) -> bool
     }
 }
 
-/// The root by which an object is read whose own root is this one, with the block in which it stands.
+/// Returns the root by which an object is read whose own root is this one, with the block that holds it.
 fn shown_root(image: &Image, standing: &Standing, block: u32, own: &Root) -> Option<Head>
     requires table { spec.IsStandingOf image.now standing.now }
     requires below { block < length image.now }
@@ -73,15 +75,16 @@ fn shown_root(image: &Image, standing: &Standing, block: u32, own: &Root) -> Opt
     }
 }
 
-/// Whether the root index, where this is its root block, isn't an index of 64 slots.
+/// Returns whether the root index, if this is its root block, is anything but an index of 64 slots.
 fn is_other_index(block: u32, root: &Root) -> bool
     ensures { Decides result ((block ≡ 2) × ¬ fault.HasRootSlots root.now) }
 {
     block == ROOT_BLOCK && check_root_index(root).is_err()
 }
 
-/// Marks what is wrong with a root block, but for its shadow roots. Gives the root by which the object is read, where it
-/// is shown.
+/// Marks what is wrong with a root block, except with its shadow roots.
+///
+/// Returns the root by which the object is read, if it is shown.
 fn note_root(image: &Image, standing: &Standing, marks: &mut Marks, block: u32) -> Option<Head>
     requires table { spec.IsStandingOf image.now standing.now }
     requires below { block < length image.now }
@@ -115,7 +118,7 @@ fn note_root(image: &Image, standing: &Standing, marks: &mut Marks, block: u32) 
     Some(head)
 }
 
-/// OpensBatch an object: marks what is wrong with its root block, and lists its blocks where it is shown.
+/// Opens an object: marks what is wrong with its root block, and lists its blocks if it is shown.
 pub(crate) fn open_root(
     image: &Image,
     standing: &Standing,

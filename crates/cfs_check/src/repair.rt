@@ -1,4 +1,4 @@
-//! A volume mended: its roots are written, and then its maps, made anew of what objects use.
+//! A volume mended: its roots are written, and then its maps, made anew from what objects use.
 ghost use Rattle.std.specs.Prelude.{◌≡◌, ◌≢◌, ◌⊎◌, ◌+◌, ◌*◌, ◌/◌, ◌<◌, ◌≤◌, ℕ, List, length, set, IfErr, IsTrue, OnErr};
 ghost use Rattle.std.specs.Prelude.{OnOk};
 ghost use Rattle.cfs_base.specs.Calls.{HasFailed, MakesAtMost};
@@ -23,7 +23,7 @@ use cyl_map::{BlockState, Map, MapEntry};
 use std::alloc::Global;
 use std::thread::Threads;
 
-/// The entry of a block that nobody has.
+/// The entry of a block that nothing owns.
 const FREE: MapEntry = MapEntry {
     state: BlockState::Free,
     committed: false,
@@ -31,7 +31,7 @@ const FREE: MapEntry = MapEntry {
     owner: 0,
 };
 
-/// The entry of a block that is used so.
+/// Returns the entry of a block with this use.
 fn mended_entry(used: Use) -> MapEntry
     ensures { result ≡ spec.mended_entry used }
 {
@@ -47,7 +47,7 @@ fn mended_entry(used: Use) -> MapEntry
     }
 }
 
-/// The map of a cylinder whose blocks are used so.
+/// Returns the map of a cylinder whose blocks have these uses.
 fn mended_map(uses: &Uses, cylinder: u32) -> Block
     requires inside { 64 * cylinder + 64 ≤ length uses.now }
     requires few { cylinder < 65536 }
@@ -80,7 +80,7 @@ fn write_root<D: Disk>(disk: &mut D, image: &Image, from: u32, block: u32) -> Re
     Ok(())
 }
 
-/// Writes each root that stands elsewhere than in its root block.
+/// Writes each root that is elsewhere than in its root block.
 fn write_roots<D: Disk>(disk: &mut D, image: &Image, surveyed: &Surveyed) -> Result<(), Failed>
     requires size { length image.now ≡ D.blocks disk.old }
     requires mendable { spec.IsMendable image.now surveyed.now }
@@ -107,7 +107,7 @@ fn write_roots<D: Disk>(disk: &mut D, image: &Image, surveyed: &Surveyed) -> Res
     Ok(())
 }
 
-/// Writes the map of a cylinder, where it differs.
+/// Writes the map of a cylinder, if it differs.
 fn write_map<D: Disk>(disk: &mut D, image: &Image, uses: &Uses, cylinder: u32) -> Result<(), Failed>
     requires size { length image.now ≡ D.blocks disk.old }
     requires uses { length uses.now ≡ length image.now }
@@ -157,7 +157,7 @@ fn write_maps<D: Disk>(disk: &mut D, image: &Image, uses: &Uses) -> Result<(), F
     Ok(())
 }
 
-/// Writes each root that stands elsewhere than in its root block, and makes them outlast a crash.
+/// Writes each root that is elsewhere than in its root block, and makes them survive a crash.
 fn mend_roots<D: Disk>(disk: &mut D, image: &Image, surveyed: &Surveyed) -> Result<(), Failed>
     requires size { length image.now ≡ D.blocks disk.old }
     requires mendable { spec.IsMendable image.now surveyed.now }
@@ -176,7 +176,7 @@ fn mend_roots<D: Disk>(disk: &mut D, image: &Image, surveyed: &Surveyed) -> Resu
     Ok(())
 }
 
-/// Writes each map that differs from the one made of the uses, and makes them outlast a crash.
+/// Writes each map that differs from the one made of the uses, and makes them survive a crash.
 fn mend_maps<D: Disk>(disk: &mut D, image: &Image, uses: &Uses) -> Result<(), Failed>
     requires size { length image.now ≡ D.blocks disk.old }
     requires uses { length uses.now ≡ length image.now }
@@ -196,7 +196,7 @@ fn mend_maps<D: Disk>(disk: &mut D, image: &Image, uses: &Uses) -> Result<(), Fa
     Ok(())
 }
 
-/// Writes the roots and then the maps, each behind a barrier.
+/// Writes the roots and then the maps, each followed by a barrier.
 fn mend_volume<D: Disk>(disk: &mut D, image: &Image, surveyed: &Surveyed) -> Result<(), Failed>
     requires size { length image.now ≡ D.blocks disk.old }
     requires mendable { spec.IsMendable image.now surveyed.now }
@@ -214,11 +214,14 @@ fn mend_volume<D: Disk>(disk: &mut D, image: &Image, surveyed: &Surveyed) -> Res
     Ok(())
 }
 
-/// Mends a volume of which this is the content, as `load` gave it. All memory is taken first. Then it makes a barrier,
-/// writes each root that stands elsewhere to its root block, makes a barrier, writes each map that differs from the one
-/// made of what objects use, and makes a barrier. It may be stopped anywhere and begun again, once the volume is loaded
-/// anew. Refused where there is no label of this version, for the first fault that maps don't heal, and for want of
-/// memory: then nothing was called; and for a device call that failed.
+/// Mends the volume of which `image` is the content, as `load` gave it.
+///
+/// All memory is taken first. Then it makes a barrier, writes each root that is elsewhere to its root block, makes a
+/// barrier, writes each map that differs from the one made from what objects use, and makes a barrier. It may be
+/// stopped anywhere and begun again, once the volume is loaded anew.
+///
+/// Refused if there is no label of this version, for the first fault that maps don't heal, and for want of memory:
+/// then no device call was made. Refused also for a device call that failed.
 pub fn mend<R: Threads + Sync, D: Disk>(
     rt: &R,
     alloc: Global,

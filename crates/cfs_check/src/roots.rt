@@ -11,7 +11,7 @@ use std::marker::Model;
 #[derive(Debug, Drop)]
 pub(crate) struct Roots {
     found: Vec<u32>,
-    /// Of each block whether it is among them.
+    /// For each block, whether it is among them.
     has: Vec<bool>,
 }
 
@@ -27,7 +27,7 @@ impl Model for Roots {
 }
 
 impl Roots {
-    /// None of a volume of so many blocks. Takes all memory.
+    /// Makes a list of no root blocks, for a volume of `blocks` blocks. Takes all memory.
     pub fn none(alloc: Global, blocks: u32) -> Result<Roots, NoMemory>
         ensures { IfOk result (λ roots. roots ≡ record { blocks = []; room = blocks }) }
     {
@@ -36,7 +36,7 @@ impl Roots {
         Ok(Roots { found, has })
     }
 
-    /// How many were found.
+    /// Returns how many were found.
     pub fn count(&self) -> u32
         ensures count { result ≡ length self.now.blocks }
         ensures few { length self.now.blocks ≤ self.now.room }
@@ -46,7 +46,7 @@ impl Roots {
         self.found.len() as u32
     }
 
-    /// One of them, by its place in the list.
+    /// Returns one of them, by its place in the list.
     pub fn at(&self, place: u32) -> u32
         requires { place < length self.now.blocks }
         ensures at { slice_get self.now.blocks place ≡ Some result }
@@ -55,7 +55,7 @@ impl Roots {
         self.found[place as usize]
     }
 
-    /// Whether a block is among them.
+    /// Returns whether a block is among them.
     pub fn has(&self, block: u32) -> bool
         requires { block < self.now.room }
         ensures { result ≡ has_number block self.now.blocks }
@@ -63,7 +63,7 @@ impl Roots {
         self.has[block as usize]
     }
 
-    /// AddsMarks a block, if it isn't among them.
+    /// Adds a block, if it isn't among them.
     pub fn add(&mut self, block: u32) -> Result<(), NoMemory>
         requires { block < self.old.room }
         ensures added { OnOk result (self.new ≡ record self.old {

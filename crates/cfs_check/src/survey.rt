@@ -15,7 +15,7 @@ pub(crate) struct Survey {
     ghost sized: { IsSurveyOf marks uses roots.room },
 }
 
-/// All that is found of a volume whose size is right, with the shadow roots that stand.
+/// All that is found of a volume whose size is right, with the shadow roots that stand for objects.
 #[derive(Debug, Drop)]
 pub(crate) struct Surveyed {
     pub survey: Survey,

@@ -20,7 +20,7 @@ use std::alloc::Global;
 use std::thread::Threads;
 use vol_label::{Label, LabelFault};
 
-/// The label of an image.
+/// Returns the label of an image.
 pub(crate) fn label_of(image: &Image) -> Result<Label, LabelFault>
     ensures told { MatchResult result (HasLabel image.now) (spec.IsLabelFault image.now) }
     ensures long { IfOk result (λ _. 3 ≤ length image.now) }
@@ -31,7 +31,7 @@ pub(crate) fn label_of(image: &Image) -> Result<Label, LabelFault>
     Label::decode(image.block(1))
 }
 
-/// The survey of a volume of so many blocks, of which only the root index is found. Takes all memory.
+/// Begins the survey of a volume of `blocks` blocks, of which only the root index is found. Takes all memory.
 fn begin_survey(alloc: Global, blocks: u32) -> Result<Survey, NoMemory>
     requires { 2 < blocks }
     ensures { IfOk result (spec.IsSurveyBegun blocks) }
@@ -43,8 +43,9 @@ fn begin_survey(alloc: Global, blocks: u32) -> Result<Survey, NoMemory>
     Ok(Survey { marks, uses, roots })
 }
 
-/// Begins the survey of a volume with this label: marks what is wrong with its entries and its label, and notes which
-/// shadow roots stand.
+/// Starts the survey of a volume with this label.
+///
+/// It marks what is wrong with the entries and the label, and notes the shadow roots that stand for objects.
 fn start_survey(alloc: Global, image: &Image, label: Label) -> Result<Surveyed, NoMemory>
     requires label { HasLabel image.now label }
     requires size { 64 * label.cylinders ≡ length image.now }
@@ -59,8 +60,10 @@ fn start_survey(alloc: Global, image: &Image, label: Label) -> Result<Surveyed, 
     Ok(Surveyed { survey, standing })
 }
 
-/// Ends the survey of a volume: marks what is wrong with the shadow roots of the objects that were found, and whether
-/// fewer than 4 blocks are left.
+/// Ends the survey of a volume.
+///
+/// It marks what is wrong with the shadow roots of the objects that were found, and marks if fewer than 4 blocks are
+/// left.
 fn end_survey(image: &Image, survey: &mut Survey)
     requires some { 0 < length image.now }
     requires room { survey.old.roots.room ≡ length image.now }

@@ -1,4 +1,4 @@
-//! What is found of a volume, told.
+//! What is found of a volume, reported.
 ghost use Rattle.std.specs.Prelude.{◌≡◌, ◌∷◌, [], IfOk};
 ghost use Rattle.cfs_base.specs.Codes as codes;
 ghost use Rattle.cfs_base.specs.Disk.{Image as Content};
@@ -18,7 +18,7 @@ use std::alloc::Global;
 use std::thread::Threads;
 use vol_label::LabelFault;
 
-/// Tells that the size which the label names isn't the disk's: then nothing else is looked at.
+/// Reports that the size which the label names isn't the disk's. Nothing else is looked at then.
 fn tell_size(alloc: Global) -> Result<Damages, NoMemory>
     ensures { IfOk result (λ faults. faults ≡ damage 1 codes.wrong_size ∷ []) }
 {
@@ -30,7 +30,7 @@ fn tell_size(alloc: Global) -> Result<Damages, NoMemory>
     Ok(Damages::of(faults))
 }
 
-/// Tells what was found: the faults, or that there is none.
+/// Reports what was found: the faults, or that there is none.
 fn tell(alloc: Global, surveyed: &Surveyed) -> Result<Checked, NoMemory>
     ensures { (image : Content) → IsLabelled image → IsSurveyed image surveyed.now → AreSized image
         → IfOk result (IsChecked image) }
@@ -46,8 +46,10 @@ fn tell(alloc: Global, surveyed: &Surveyed) -> Result<Checked, NoMemory>
     })
 }
 
-/// What is found of a volume: that the image holds none, or one of another version, or all faults, or that it is sound.
-/// The blocks of many objects are looked at side by side, in as many threads as there are processors; the answer is the
+/// Reports what is found of a volume.
+///
+/// The image holds no volume, or one of another version, or it has these faults, all of them, or it is sound. The
+/// blocks of many objects are looked at side by side, in as many threads as there are processors. The answer is the
 /// same for any number. Refused for want of memory.
 pub fn report<R: Threads + Sync>(rt: &R, alloc: Global, image: &Image) -> Result<Checked, NoMemory>
     ensures { IfOk result (IsChecked image.now) }

@@ -25,7 +25,9 @@ pub(crate) struct Stem {
     pub extent: Extent,
 }
 
-/// A block to which a pointer of an object leads: where it should be, and what the object's root says.
+/// A block to which a pointer of an object leads.
+///
+/// It has the owner and place that the block should have, and what the object's root says.
 #[derive(Clone, Copy, Debug, PartialEq, Eq)]
 pub(crate) struct Twig {
     pub spot: Spot,
@@ -60,7 +62,7 @@ fn list_twig(image: &Image, stem: Stem, at: Pointed, twigs: &mut Vec<Twig>) -> R
     Ok(())
 }
 
-/// Lists all to which pointers lead, and all below them.
+/// Lists all blocks to which pointers lead, and all below them.
 #[cycle(listing)]
 fn list_below(
     image: &Image,

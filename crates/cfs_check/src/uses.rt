@@ -14,13 +14,13 @@ pub(crate) enum Use {
     Free,
     /// A map block, or the label.
     Fixed,
-    /// An object uses it, at a place of it.
+    /// An object uses it, at this place.
     By { owner: u32, place: Place },
-    /// Two uses: two objects use it, or one at two places, or one a map block or the label.
+    /// It has two uses: by two objects, by one at two places, or by one though it is a map block or the label.
     Twice,
 }
 
-/// Of each block what it is used for. Contracts see the list.
+/// What each block of a volume is used for. Contracts see the list.
 #[derive(Debug, Drop)]
 pub(crate) struct Uses {
     of: Vec<Use>,
@@ -37,7 +37,7 @@ impl Model for Uses {
     ghost invariant = { λ a. length a.of.items < 4294967296 };
 }
 
-/// What a block is used for at first.
+/// Returns what a block is used for at first.
 fn first_use(block: u32) -> Use
     ensures { result ≡ spec.first_use block }
 {
@@ -49,7 +49,7 @@ fn first_use(block: u32) -> Use
 }
 
 impl Use {
-    /// With one more use.
+    /// Returns the use with one more.
     fn with(self, owner: u32, place: Place) -> Use
         ensures { spec.IsUseWith self owner place result }
     {
@@ -65,7 +65,7 @@ impl Use {
 }
 
 impl Uses {
-    /// No object uses any of so many blocks.
+    /// Makes a table of `blocks` blocks, none of which an object uses.
     pub fn none(alloc: Global, blocks: u32) -> Result<Uses, NoMemory>
         ensures { IfOk result (λ of. of ≡ spec.first_uses blocks) }
     {
@@ -76,7 +76,7 @@ impl Uses {
         Ok(Uses { of })
     }
 
-    /// What a block is used for.
+    /// Returns what a block is used for.
     pub fn of(&self, block: u32) -> Use
         requires { block < length self.now }
         ensures { result ≡ get_or self.now block uses.Free }
@@ -84,7 +84,7 @@ impl Uses {
         self.of[block as usize]
     }
 
-    /// One more use of a block.
+    /// Notes one more use of a block.
     pub fn take(&mut self, block: u32, owner: u32, place: Place)
         requires { block < length self.old }
         ensures { spec.TakesUse self.old self.new block owner place }
@@ -93,7 +93,7 @@ impl Uses {
         *used = used.with(owner, place);
     }
 
-    /// How many blocks nothing uses.
+    /// Returns how many blocks nothing uses.
     pub fn left(&self) -> u32
         ensures { result ≡ spec.unused_in self.now }
     {

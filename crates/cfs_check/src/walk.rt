@@ -20,10 +20,10 @@ use std::thread::Threads;
 /// How many blocks of trees are kept in memory at most.
 const MOST_TWIGS: usize = 65_536;
 
-/// One more object is opened where fewer are listed than this: then the blocks of its tree have room.
+/// One more object is opened if fewer blocks than this are listed: then there is room for the blocks of its tree.
 const FEW_TWIGS: usize = MOST_TWIGS - NODES * (LEAVES + 1);
 
-/// OpensBatch objects of the list from a place on, as long as few blocks are listed. Gives the place after the last.
+/// Opens objects of the list from a place on, as long as few blocks are listed. Returns the place after the last.
 fn open_batch(
     image: &Image,
     standing: &Standing,
@@ -36,7 +36,8 @@ fn open_batch(
     requires done { done < length survey.old.roots.blocks }
     requires none { twigs.old.items ≡ [] }
     ensures opens { (before : List Bool) (items : List Item) → Knows image.now before items survey.old
-        → IfOk result (λ next. OpensBatch image.now before items survey.old.roots.blocks done next survey.new twigs.new.items) }
+        → IfOk result (λ next. OpensBatch image.now before items survey.old.roots.blocks done next survey.new
+        twigs.new.items) }
     ensures holders { OnOk result (HoldersAreOn image.now twigs.new.items) }
     ensures next { IfOk result (λ next. (done < next) × (next ≤ length survey.old.roots.blocks)) }
     ensures roots { survey.new.roots ≡ survey.old.roots }
@@ -52,8 +53,9 @@ fn open_batch(
     Ok(count)
 }
 
-/// Looks at objects of the list from a place on, with the blocks of their trees, and finds what they name: all that were
-/// found, or some of them where they have many blocks. Gives the place after the last.
+/// Looks at objects of the list from a place on, with the blocks of their trees, and notes what they name.
+///
+/// It takes all objects that were found, or some of them if they have many blocks. Returns the place after the last.
 fn take_level<R: Threads + Sync>(
     rt: &R,
     alloc: Global,
@@ -79,7 +81,7 @@ fn take_level<R: Threads + Sync>(
     Ok(next)
 }
 
-/// Looks at all rooted objects, where the root index alone was found.
+/// Looks at all rooted objects. Only the root index was found before.
 pub(crate) fn walk_all<R: Threads + Sync>(
     rt: &R,
     alloc: Global,

@@ -23,7 +23,7 @@ use Rattle.cfs_core.specs.StandsFor.{CoreServes, drafts_of_handles}
 use Rattle.cfs_core.proofs.Collected.{as_before}
 use Rattle.cfs_core.proofs.Lefts.{events_swept, goes_within}
 use Rattle.cfs_core.proofs.Serving.{running}
-use Rattle.cfs_core.proofs.Swept.{frees_strays}
+use Rattle.cfs_core.proofs.Swept.{clean_goes, frees_strays}
 use Rattle.cfs_core.proofs.StepMoves.{condemned, condemns, gone, in_sweep, read_on, served, stayed, sweeps_still, swept_one}
 
 -- ---- any step, on any disk
@@ -193,6 +193,7 @@ module _ {D : Type 0} (g : Ghosts D) (old : D) (space : Kept) (directory : Listi
         sweeps = λ s serves. (
           frees_strays directory.named s.graph serves.front.directory pass k.phase phase (g.content old) (g.content new) (rw at at (is.sweep.swept serves.store.carries.tells)),
           (rw at at is.phase) ∙ ap (λ (n : ℕ). next_phase (n / 64) k.phase) (sym blocks),
+          λ clean. is.sweep.spares serves.store.carries.tells (clean_goes directory.named s.graph serves.front.directory pass k.phase phase (g.content old) clean),
         );
         over = λ s serves. tt;
         goes = λ kept. goes_within (g.blocks old) (record core.collections { collector = Some k }) (record core.collections { collector = Some l }) steps.Swept None refl refl (sweeps_on k.phase phase)

@@ -5,7 +5,8 @@ use Rattle.std.specs.Cmp as cmp
 use Rattle.std.proofs.lemmas.Bool.{cases_eq}
 use Rattle.collector_steps.specs.declared.phase.Phase.TheVariants as phases
 use Rattle.collector_steps.specs.declared.sweep.Pass.TheVariants as passes
-use Rattle.cfs_core.specs.Sweeping.{FreesStrays, is_swept_now}
+use Rattle.cfs_core.specs.Sweeping.{FreesStrays, IsCleanCylinder, is_swept_now}
+use Rattle.collector_steps.specs.Sweep.{NoneGoes}
 
 module _ (directory : List (Puid × Kind)) (g : Graph) (are : directory ≡ kinds_of g) where
   roots : (r : ℕ) → has_root_in directory r ≡ has_block g.objects r
@@ -28,6 +29,9 @@ module _ (directory : List (Puid × Kind)) (g : Graph) (are : directory ≡ kind
       and_from _ _ (goes_stray directory g roots passes.Roots e h) (and_parts (is_root is_taken (Some e)) (not (is_made (Some e))) of).0)
       (λ h. let two = and_parts (is_stray g (Some e)) _ h in stray_goes directory g roots passes.Roots e two.0 two.1)
   goes_is pass phases.Swept is e = absurd is
+
+  pub clean_goes : (pass : Pass) (p : Phase) → IsPhaseOf pass p → (a : Image) → IsCleanCylinder g p a → NoneGoes directory pass (cylinder_of p) a
+  clean_goes pass p is a clean n e here was = goes_is pass p is e ∙ ap (is_swept_now g p) (sym was) ∙ clean n here
 
   module _ (pass : Pass) (p : Phase) (is : IsPhaseOf pass p) (a b : Image) (sweep : IsSweptOf directory pass (cylinder_of p) a b) where
     freed_one : (e : MapEntry) (t : Bool) → Some (cond t unheld_entry e) ≡ cond t (Some unheld_entry) (Some e)

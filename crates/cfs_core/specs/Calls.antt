@@ -48,12 +48,13 @@ use Rattle.cfs_core.specs.Writes.{changes_disk}
 
 -- ---- replies
 
--- the request takes blocks, isn't a delete that goes through no grant, and more than may be taken
+-- the request takes blocks, isn't a delete that goes through no grant, and takes more than may be taken
 pub record IsShortOfBlocks (s : State) (who : ℕ) (request : Request) (free : ℕ) : Type 0 where
   pub delete : is_direct_delete request ≡ false
   pub few : free < need_of s who request + reserve
 
--- the outcome of the definitions, with the least Free block as a new object's root; so many as it takes were Free
+-- the reply is that of the outcome of the definitions, with the least Free block as a new object's root, and as many
+-- blocks as it takes were Free
 pub record IsDone (seed : ℕ) (s : State) (who : ℕ) (request : Request) (image : Image) (free : ℕ)
     (reply : Reply) : Type 0 where
   pub block : ℕ
@@ -61,7 +62,7 @@ pub record IsDone (seed : ℕ) (s : State) (who : ℕ) (request : Request) (imag
   pub reply_is : reply ≡ (outcome_of seed s who request block).0
   pub room : ¬ IsShortOfBlocks s who request free
 
--- The reply that is owed where no device call failed and memory is there.
+-- The reply that is owed if no device call failed and there is memory.
 pub data IsOwed (seed : ℕ) (s : State) (who : ℕ) (request : Request) (image : Image) (free : ℕ)
     (reply : Reply) : Type 0 where
   ByRefusal : refusal_of s who request ≡ Some reply → IsOwed seed s who request image free reply
@@ -71,7 +72,7 @@ pub data IsOwed (seed : ℕ) (s : State) (who : ℕ) (request : Request) (image 
   ByOutcome : refusal_of s who request ≡ None → IsDone seed s who request image free reply
       → IsOwed seed s who request image free reply
 
--- nothing is owed by want of memory or where a device call failed
+-- nothing is owed for want of memory or if a device call failed
 abbrev pub Owes : ℕ → State → ℕ → Request → Image → ℕ → Reply → Type 0
 Owes seed s who request image free replies.Memory = Unit {0}
 Owes seed s who request image free (replies.Disk doubt) = Unit {0}
@@ -87,8 +88,8 @@ AddsNoStray a b g h =
     (n : ℕ) → is_stray h (entry_in b n) ≡ true → (entry_in b n ≡ entry_in a n) × (is_stray g (entry_in a n) ≡ true)
 
 -- The event may come in the state, the store has the state after it, and what a crash leaves survives. The collector
--- isn't told of it yet. This was left of a commit before; what is said of blocks is said of the image that was to come
--- and of the one that is.
+-- doesn't know of it yet. `commit` was left of a commit before. What is said of blocks is said of the image that was
+-- to come and of the one that is to come now.
 pub record MakesEvent {D : Type 0} (g : Ghosts D) (commit : Option LeftCommit) (old new : Kernel D) (s : State)
     (e : Event) : Type 0 where
   pub after : State
@@ -113,13 +114,13 @@ pub record IsAsItWas {D : Type 0} (g : Ghosts D) (old new : Kernel D) : Type 0 w
   pub most : ℕ
   pub reads : OnlyReads g most old.disk new.disk
 
--- nothing was written, and what is left of a commit is left still
+-- nothing was written, and what is left of a commit is still left
 pub record KeepsDisk {D : Type 0} (g : Ghosts D) (old new : Kernel D) : Type 0 where
   pub space : new.space ≡ old.space
   pub most : ℕ
   pub reads : OnlyReads g most old.disk new.disk
 
--- What was left of a commit is carried out, and nothing else changed; where nothing was left nothing was written.
+-- What was left of a commit is carried out, and nothing else changed. If nothing was left, nothing was written.
 pub record IsFinished {D : Type 0} (g : Ghosts D) (commit : Option LeftCommit) (old new : Kernel D) : Type 0 where
   pub same : new ≡ record old { disk = new.disk; space = new.space }
   pub none : new.space.left ≡ None
@@ -130,7 +131,7 @@ abbrev pub is_full_reply : Reply → Bool
 is_full_reply (replies.Full need) = true
 is_full_reply reply = false
 
--- The call answered so.
+-- The call gave this answer.
 pub record Answers {D : Type 0} (g : Ghosts D) (commit : Option LeftCommit) (old new : Kernel D) (s : State) (who : ℕ)
     (request : Request) (reply : Reply) : Type 0 where
   pub event : MakesEvent g commit old new s (events.Ask who request reply)
@@ -141,7 +142,7 @@ pub record Answers {D : Type 0} (g : Ghosts D) (commit : Option LeftCommit) (old
       → TakesForRequest old.handles s who request reply (coming (g.content old.disk) commit) (end_in g new)
   pub noted : is_carried_out reply ≡ true → commits s who request ≡ true → IsSome new.space.left
 
--- the objects that may be read of a request which isn't refused: those of before, those of after, or those with a
+-- the objects that may be read during a request which isn't refused: those of before, those of after, or those with a
 -- normal file whose change was cut short
 pub data MayBeRead (seed : ℕ) (s : State) (who : ℕ) (request : Request) : Graph → Type 0 where
   Undone : MayBeRead seed s who request s.graph
@@ -149,7 +150,7 @@ pub data MayBeRead (seed : ℕ) (s : State) (who : ℕ) (request : Request) : Gr
   CutShort : (id : Puid) (old new f : File) → ChangesInPlace s who request id old new → IsBetween old new f
       → MayBeRead seed s who request (with_object s.graph id (objects.File f))
 
--- The call failed after its first write: what it would have done may have been done, or a part of it.
+-- The call failed after its first write: what it would have done may have been done, wholly or in part.
 pub record IsInDoubt {D : Type 0} (g : Ghosts D) (old new : Kernel D) (s : State) (who : ℕ)
     (request : Request) : Type 0 where
   pub allowed : refusal_of s who request ≡ None
@@ -158,7 +159,7 @@ pub record IsInDoubt {D : Type 0} (g : Ghosts D) (old new : Kernel D) (s : State
   pub grants : grants_in new.handles ≡ grants_in old.handles
   pub leaves : Leaves g old.disk new.disk (HoldsSome (g.blocks new.disk) (MayBeRead old.words.seed s who request))
 
--- how a call ends that tries to answer
+-- how a call that tries to answer ends
 abbrev pub EndsSo : {D : Type 0} → Ghosts D → Option LeftCommit → Kernel D → Kernel D → State → ℕ → Request
     → Result Reply Refused → Type 0
 EndsSo g commit old new s who request (Ok reply) = Answers g commit old new s who request reply
@@ -170,29 +171,29 @@ EndsSo g commit old new s who request (Err (refusals.Disk true)) = IsInDoubt g o
 EndsSo g commit old new s who request (Err (refusals.Damaged damage)) = ⊥
 EndsSo g commit old new s who request (Err refusals.Memory) = Answers g commit old new s who request replies.Memory
 
--- a request that isn't a delete which goes through no grant finds so many blocks counted Free as it tells, too few
+-- a request that isn't a delete which goes through no grant finds as many blocks counted Free as it says, too few
 -- beside the last four
 abbrev pub IsWant : Option Request → (free : ℕ) → Need → Type 0
 IsWant None free need = ⊥
 IsWant (Some request) free need =
     (is_direct_delete request ≡ false) × (need.free ≡ free) × (need.free < need.need + reserve)
 
--- a device call failed in this call, of a request or of none; a block that was read is outside its table; or too few
--- blocks are counted Free
+-- a device call failed in this call, for a request or for none; a block that was read is outside its table; or too
+-- few blocks are counted Free
 abbrev pub IsCause : {D : Type 0} → Ghosts D → (old new : Kernel D) → Option Request → Refused → Type 0
 IsCause g old new request (refusals.Full need) = IsWant request (sum old.space.free) need
 IsCause g old new request (refusals.Disk tried) = HasStopped g tried old.disk new.disk
 IsCause g old new request (refusals.Damaged damage) = IsDamageTold g old new request damage
 IsCause g old new request refusals.Memory = Unit {0}
 
--- and of a request that may have carried out first what was left of a commit
+-- the same for a request that may first have carried out what was left of a commit
 abbrev pub IsCauseOf : {D : Type 0} → Ghosts D → (old new : Kernel D) → Request → Refused → Type 0
 IsCauseOf g old new request (refusals.Full need) = IsMet g old (λ k. IsWant (Some request) (sum k.space.free) need)
 IsCauseOf g old new request (refusals.Disk tried) = HasStopped g tried old.disk new.disk
 IsCauseOf g old new request (refusals.Damaged damage) = IsDamageMet g old new request damage
 IsCauseOf g old new request refusals.Memory = Unit {0}
 
--- What a call did, however it ended, on any disk: a refusal has its cause, and only so many words were drawn as the
+-- What a call did, however it ended, on any disk: a refusal has its cause, and only as many words were drawn as the
 -- request draws.
 pub record RequestWent {D : Type 0} (g : Ghosts D) (old new : Kernel D) (request : Request)
     (result : Result Reply Refused) : Type 0 where
@@ -217,7 +218,7 @@ pub record TriesWith {D : Type 0} (g : Ghosts D) (commit : Option LeftCommit) (o
 abbrev pub Tries : {D : Type 0} → Ghosts D → Kernel D → Kernel D → ℕ → Request → Result Reply Refused → Type 0
 Tries g old new who request result = TriesWith g old.space.left old new who request result
 
--- The same of a request on a slot that an index has, which has a name, and no draft.
+-- The same for a request on a slot of an index that has a name and no draft.
 pub record TriesOnWith {D : Type 0} (g : Ghosts D) (commit : Option LeftCommit) (old new : Kernel D) (index : Puid)
     (slot : ℕ) (request : Request) (result : Result Reply Refused) : Type 0 where
   pub ends : (s : State) (who : ℕ) (i : Index) → ServesWith g old s commit → old.stop ≡ None
@@ -233,12 +234,12 @@ TriesOn g old new index slot request result = TriesOnWith g old.space.left old n
 abbrev pub looked : Index → ℕ → Reply
 looked i slot = if nat_le (length i.slots) slot then replies.Slot else slot_reply (slot_of i slot)
 
--- what must stay Free beside a delete: nothing where it goes through no grant, and else the last four blocks
+-- what must stay Free beside a delete: no block if it goes through no grant, and else the last four
 abbrev pub delete_floor : Ref → ℕ
 delete_floor (Direct id) = 0
 delete_floor (Through t) = reserve
 
--- how a call ends that has nothing else to say
+-- how a call ends that has nothing else to report
 abbrev pub done_or : Result (Unit {0}) Refused → Result Reply Refused
 done_or (Ok u) = Ok replies.Done
 done_or (Err e) = Err e

@@ -1,4 +1,4 @@
--- Which blocks a request takes that is done, and in what order.
+-- The blocks that a request takes if it is done, and in what order.
 use Rattle.std.specs.Prelude.{◌≡◌, ◌≢◌, ◌⊎◌, ℕ, ◌+◌, ◌/◌, Bool, true, false, not, ◌&&◌, if◌then◌else◌, List, [], ◌∷◌}
 use Rattle.std.specs.Prelude.{length, Option, None, Some, is_none}
 use Rattle.std.specs.Option.{option_map_or}
@@ -38,25 +38,25 @@ use Rattle.cfs_core.specs.Handles.{drafting_at}
 -- ---- in order
 
 -- From image a on a block is claimed for each of these entries, one after another, each the least-numbered Free one.
--- After that no entry changes but of Free blocks and of blocks of these owners.
+-- After that only the entries of Free blocks and of blocks of these owners change.
 pub record ClaimsInOrder (claims : List MapEntry) (owners : List ℕ) (a b : Image) : Type 0 where
   pub mid : Image
   pub in_order : AreClaimed claims a mid
   pub rest : (n : ℕ) → (entry_in b n ≡ entry_in mid n)
       ⊎ (IsOpenTo (of_owners owners) (entry_in mid n) × IsOpenTo (of_owners owners) (entry_in b n))
 
--- each block that was claimed up to this image in the middle has the entry still for which it was
+-- each block that was claimed up to the image in the middle still has the entry for which it was claimed
 abbrev pub KeepsClaims : (a mid b : Image) → Type 0
 KeepsClaims a mid b = (n : ℕ) → entry_in mid n ≢ entry_in a n → entry_in b n ≡ entry_in mid n
 
--- the same, where nothing is dropped again
+-- the same, if nothing is dropped again
 pub record ClaimsStay (drops : Bool) (claims : List MapEntry) (owners : List ℕ) (a b : Image) : Type 0 where
   pub order : ClaimsInOrder claims owners a b
   pub kept : drops ≡ false → KeepsClaims a order.mid b
 
 -- ---- a file that is changed
 
--- a normal one takes the leaves and nodes that it doesn't hold yet, a special one all that is written anew
+-- a normal file takes the leaves and nodes that it doesn't hold yet, a special file all that is written anew
 abbrev pub claims_in_place : (at : ℕ) → Change → File → List MapEntry
 claims_in_place at (Overwrite offset bytes) f = plain.claims_of at f offset (length bytes)
 claims_in_place at (SetSize size) f = []
@@ -68,7 +68,7 @@ claims_in_file at change f = elim f.kind [
   | kinds.Special ↦ claims_beside at change f
 ]
 
--- a draft what isn't fresh of that
+-- a draft takes those of these that aren't fresh
 abbrev pub claims_in_draft : Change → Draft → Drafting → List MapEntry
 claims_in_draft (Overwrite offset bytes) d was = claims_between was (offset / 512) (leaves_in (offset + length bytes))
 claims_in_draft (SetSize size) d was = claims_anew was.at (written_anew (SetSize size) d.object d.fresh) d.fresh
@@ -82,21 +82,21 @@ drafting_of handles (Through t) = drafting_at handles t.draw
 abbrev pub root_reached : State → ℕ → Ref → ℕ
 root_reached s who ref = option_map_or (λ (id : Puid). id.block) (named s who ref) 0
 
--- what is seen through a reference
+-- what a change takes of what is seen through a reference
 abbrev pub claims_through : List Handle → State → ℕ → Ref → Change → List MapEntry
 claims_through handles s who ref change = elim (draft_of s who ref) [
   | None ↦ claims_in_file (root_reached s who ref) change (file_seen s who ref)
   | Some d ↦ option_map_or (claims_in_draft change d) (drafting_of handles ref) []
 ]
 
--- a slot of an index: its leaf and its node, or in a draft what isn't fresh of these
+-- what a slot of an index takes: its leaf and its node, or in a draft those of these that aren't fresh
 abbrev pub claims_for_slot : List Handle → State → ℕ → Ref → (slot : ℕ) → List MapEntry
 claims_for_slot handles s who ref slot = elim (draft_of s who ref) [
   | None ↦ leaf_and_node (slot / 64) (root_reached s who ref)
   | Some d ↦ option_map_or (claims_in_draft (Fill slot None) d) (drafting_of handles ref) []
 ]
 
--- the root of a new object: where it is made in a draft it is Allocated at once
+-- the entry of the root of a new object: if it is made in a draft it is Allocated at once
 abbrev pub made_entry : State → ℕ → Ref → Reply → MapEntry
 made_entry s who ref reply =
     if is_none (draft_of s who ref) then intended places.Root (block_named reply)
@@ -104,8 +104,8 @@ made_entry s who ref reply =
 
 -- ---- a request
 
--- The entries for which it claims blocks, in their order: a new object's root, then leaves, each with its node; and the
--- shadow root of a draft that is begun.
+-- The entries for which a request claims blocks, in their order: a new object's root, then leaves, each with its
+-- node, and the shadow root of a draft that begins.
 abbrev pub claims_for : List Handle → State → ℕ → Request → Reply → List MapEntry
 claims_for handles s who (asks.CreateFile kind fill index slot) reply =
     made_entry s who index reply ∷ claims_for_slot handles s who index slot
@@ -129,11 +129,11 @@ abbrev pub is_set_size : Request → Bool
 is_set_size (asks.Resize file size) = true
 is_set_size request = false
 
--- no normal file, and no draft
+-- what is seen is no normal file, and no draft
 abbrev pub is_beside : State → ℕ → Ref → Bool
 is_beside s who ref = is_none (draft_of s who ref) && not (is_normal (seen s who ref).object)
 
--- Whether it is a commit of its own: that takes a shadow root last, and gives it back.
+-- Whether the request is a commit of its own: that takes a shadow root last, and gives it back.
 abbrev pub commits_alone : State → ℕ → Request → Bool
 commits_alone s who (asks.CreateFile kind fill index slot) = is_beside s who index
 commits_alone s who (asks.CreateIndex slots index slot) = is_beside s who index
@@ -148,5 +148,5 @@ pub record TakesForRequest (handles : List Handle) (s : State) (who : ℕ) (requ
     (a b : Image) : Type 0 where
   pub order : ClaimsInOrder (claims_for handles s who request reply) (owners_of s who request reply) a b
   pub shadow : commits_alone s who request ≡ true → TakesShadow (root_reached s who (target request)) order.mid b
-  -- where it is no commit of its own, and no resize, the blocks that were claimed have their entries in image b
+  -- if the request is no commit of its own, and no resize, the blocks that were claimed have their entries in image b
   pub kept : commits_alone s who request ≡ false → is_set_size request ≡ false → KeepsClaims a order.mid b

@@ -1,4 +1,4 @@
--- A step of the collector: which is due, what it is as an event, and how it ends.
+-- A step of the collector: which step is due, what it is as an event, and how it ends.
 use Rattle.std.specs.Prelude.{◌≡◌, ◌⊎◌, ◌↔◌, ℕ, ◌+◌, ◌-◌, ◌*◌, ◌/◌, ◌^◌, ◌<◌, ◌≤◌, Bool, true, false}
 use Rattle.std.specs.Prelude.{List, [], length, Result, Ok, Err, IfErr, IfOk, Option, Some, None}
 use Rattle.cfs_base.specs.Calls.{HasStopped, MakesAtMost, OnlyReads}
@@ -50,7 +50,7 @@ use Rattle.cfs_core.specs.Left.{LeavesFewer}
 use Rattle.cfs_core.specs.Rescues.{AreRescued}
 use Rattle.cfs_core.specs.Room.{MayLoseBy, lost_blocks}
 use Rattle.cfs_core.specs.StandsFor.{IsFront, CoreServes, StandsFor, end_in}
-use Rattle.cfs_core.specs.Sweeping.{FreesStrays}
+use Rattle.cfs_core.specs.Sweeping.{FreesStrays, IsCleanCylinder}
 
 -- ---- which step is due: the first that fits
 
@@ -61,7 +61,7 @@ sweeps_blocks (phases.Inner cylinder) = true
 sweeps_blocks (phases.Roots cylinder) = true
 sweeps_blocks phases.Swept = false
 
--- of a collection that runs
+-- the step that is due in a collection that runs
 abbrev pub IsNextStep : Collecting → Step → Type 0
 IsNextStep k steps.Idle = ⊥
 IsNextStep k steps.Began = ⊥
@@ -80,7 +80,7 @@ IsDueStep c steps.Idle = (collection_runs c.collector ≡ false) × (c.finished 
 IsDueStep c steps.Began = (collection_runs c.collector ≡ false) × (c.finished < c.called)
 IsDueStep c step = IsNextOf c.collector step
 
--- ---- what it is as an event
+-- ---- what a step is as an event
 
 abbrev pub event_of : Step → Option Event
 event_of steps.Idle = None
@@ -95,19 +95,19 @@ abbrev pub ComesBy : State → Option Event → State → Type 0
 ComesBy s None t = t ≡ s
 ComesBy s (Some e) t = (seed : ℕ) → next seed s e ≡ Some t
 
--- it is told as want of memory
+-- the refusal is reported as want of memory
 abbrev pub is_starved : Refused → Bool
 is_starved (refusals.Full need) = true
 is_starved (refusals.Disk tried) = false
 is_starved (refusals.Damaged damage) = false
 is_starved refusals.Memory = true
 
--- the end of a sweep, as a step's
+-- the end of a sweep, as that of a step
 abbrev pub told_as : Result (Unit {0}) Trouble → Result Step Refused
 told_as (Ok u) = Ok steps.Swept
 told_as (Err t) = Err (refused_by t)
 
--- A collection has begun: whatever the state, if these are its starts and its identifiers.
+-- A collection has begun, whatever the state, if these are its starts and its identifiers.
 pub record HasBegunCollection (roots : List Puid) (named : List (Puid × Kind)) (l : Collecting) : Type 0 where
   pub phase : l.phase ≡ phases.Marking
   pub steps : l.steps ≡ 1
@@ -120,7 +120,7 @@ pub record HasBegunCollection (roots : List Puid) (named : List (Puid × Kind)) 
 
 -- ---- a step of a core
 
--- where it leaves the state
+-- how it leaves the state
 pub record MovesTo {D : Type 0} (g : Ghosts D) (old new : Kernel D) (s : State) (e : Option Event) : Type 0 where
   pub after : State
   pub comes : ComesBy s e after
@@ -129,7 +129,7 @@ pub record MovesTo {D : Type 0} (g : Ghosts D) (old new : Kernel D) (s : State) 
   pub lost : MayLoseBy e s.graph after.graph (lost_blocks (g.content old.disk) s.graph)
       (lost_blocks (g.content new.disk) after.graph)
 
--- how one ends that wasn't made: all is as it was, but where a write had been tried
+-- how a step ends that wasn't made: all is as it was, unless a write had been tried
 abbrev pub EndsUnmade : {D : Type 0} → Ghosts D → Kernel D → Kernel D → State → Refused → Type 0
 EndsUnmade g old new s (refusals.Full need) = ⊥
 EndsUnmade g old new s (refusals.Disk false) = MovesTo g old new s None
@@ -137,7 +137,7 @@ EndsUnmade g old new s (refusals.Disk true) = Leaves g old.disk new.disk (λ c. 
 EndsUnmade g old new s (refusals.Damaged damage) = ⊥
 EndsUnmade g old new s refusals.Memory = MovesTo g old new s None
 
--- the steps of the collection that runs
+-- how many steps the collection that runs has made
 abbrev pub steps_in : Option Collecting → ℕ
 steps_in None = 0
 steps_in (Some k) = k.steps
@@ -150,7 +150,7 @@ abbrev pub phase_of : Option Collecting → Phase
 phase_of None = phases.Idle
 phase_of (Some k) = k.phase
 
--- a step that was made is counted, the first as one
+-- a step that was made is counted, the first one as one
 abbrev pub AreCounted : Collections → Collections → Step → Type 0
 AreCounted c d steps.Idle = d ≡ c
 AreCounted c d steps.Began = (steps_in d.collector ≡ 1) × (added_in d.collector ≡ 0) × (d.finished ≡ c.finished)
@@ -161,12 +161,14 @@ AreCounted c d step = (steps_in d.collector ≡ count_after (steps_in c.collecto
 
 -- ---- a sweep
 
--- One that swept did so in the cylinder that was next, and the one after it is next now.
+-- A step that swept did so in the cylinder that was next, and the one after it is next now.
 abbrev pub SweepsNext : {D : Type 0} → Ghosts D → Kernel D → Kernel D → State → Step → Type 0
 SweepsNext g old new s steps.Swept =
     FreesStrays s.graph (phase_of old.collections.collector) (g.content old.disk) (g.content new.disk)
     × (phase_of new.collections.collector
     ≡ next_phase (g.blocks old.disk / 64) (phase_of old.collections.collector))
+    × (IsCleanCylinder s.graph (phase_of old.collections.collector) (g.content old.disk)
+    → OnlyReads g 1 old.disk new.disk)
 SweepsNext g old new s step = Unit {0}
 
 -- ---- once a collection is over
@@ -176,13 +178,13 @@ abbrev pub IsTidyVolume : Image → Graph → Type 0
 IsTidyVolume image graph =
     (n : ℕ) → n < length image → (is_free_in image n ≡ false) ↔ ((is_fixed n ≡ true) ⊎ IsHeldBy image graph n)
 
--- It took no more steps than two for each block, each rescue and each cylinder, and three; as long as rescues were
+-- It took at most two steps for each block, each rescue and each cylinder, and three more, as long as rescues were
 -- counted.
 abbrev pub IsBounded : ℕ → Collections → Type 0
 IsBounded blocks c = added_in c.collector < 2 ^ 64 - 1
     → steps_in c.collector ≤ 2 * blocks + 2 * added_in c.collector + 2 * (blocks / 64) + 3
 
--- and where nothing is open the volume is tidy
+-- the same, and if nothing is open the volume is tidy
 abbrev pub IsOver : {D : Type 0} → Ghosts D → Kernel D → Kernel D → State → Step → Type 0
 IsOver g old new s steps.Finished =
     IsBounded (g.blocks new.disk) new.collections × (new.handles ≡ [] → IsTidyVolume (g.content new.disk) s.graph)
@@ -190,7 +192,7 @@ IsOver g old new s step = Unit {0}
 
 -- ---- a refusal with nothing tried
 
--- all but room is as it was
+-- all except the room is as it was
 pub record IsUnchanged {D : Type 0} (g : Ghosts D) (old new : Kernel D) : Type 0 where
   pub reads : OnlyReads g 4 old.disk new.disk
   pub directory : new.directory ≡ old.directory
@@ -200,7 +202,7 @@ pub record IsUnchanged {D : Type 0} (g : Ghosts D) (old new : Kernel D) : Type 0
 
 -- ---- a call that tries to make a step of a core, on any disk
 
--- the first that is due was made
+-- the first step that is due was made
 pub record IsStepMade {D : Type 0} (g : Ghosts D) (old new : Kernel D) (step : Step) : Type 0 where
   pub moves : (s : State) → CoreServes g old s → old.stop ≡ None → MovesTo g old new s (event_of step)
   pub due : IsDueStep old.collections step
@@ -210,12 +212,12 @@ pub record IsStepMade {D : Type 0} (g : Ghosts D) (old new : Kernel D) (step : S
   pub goes : AreCollections (g.blocks old.disk) old.collections
       → LeavesFewer (g.blocks old.disk) old.collections new.collections step (event_of step)
 
--- The collector is as it was, but for room, and no collection is finished.
+-- The collector is as it was, except for the room, and no more collections are finished.
 pub record AreKept (c d : Collections) : Type 0 where
   pub collector : AreRescued c.collector d.collector [] []
   pub finished : d.finished ≡ c.finished
 
--- none was
+-- no step was made
 pub record IsUnmade {D : Type 0} (g : Ghosts D) (old new : Kernel D) (e : Refused) : Type 0 where
   pub ends : (s : State) → CoreServes g old s → old.stop ≡ None → EndsUnmade g old new s e
   pub still : had_tried e ≡ false → IsUnchanged g old new
@@ -227,7 +229,7 @@ abbrev pub IsMadeOrNot : {D : Type 0} → Ghosts D → Kernel D → Kernel D →
 IsMadeOrNot g old new (Ok step) = IsStepMade g old new step
 IsMadeOrNot g old new (Err e) = IsUnmade g old new e
 
--- only the collector moves, and what it moves
+-- only the collector changes, and what it changes
 abbrev pub moved_to : {D : Type 0} → Kernel D → D → Kept → Listing → Collections → Kernel D
 moved_to k disk space directory c =
     record k {
@@ -253,7 +255,7 @@ with_parts k disk space directory l =
       collections = record k.collections { collector = Some l };
     }
 
--- The same of these parts of any core with these handles, with a collection that runs, and runs on.
+-- The same for these parts of any core with these handles, with a collection that runs before and after.
 pub record StepsSo {D : Type 0} (g : Ghosts D) (old new : D) (before after : Kept) (directory left : Listing)
     (handles : List Handle) (k l : Collecting) (result : Result Step Refused) : Type 0 where
   pub tries : (core : Kernel D) → core.handles ≡ handles
@@ -265,7 +267,7 @@ pub record StepsSo {D : Type 0} (g : Ghosts D) (old new : D) (before after : Kep
   pub some : has_root_in directory.named 0 ≡ false → has_root_in left.named 0 ≡ false
   pub cylinders : length after.free ≡ length before.free
 
--- ---- what is told of it
+-- ---- what is reported of a step
 
 abbrev pub fault_for : Refused → ℕ → CollectFault
 fault_for (refusals.Full need) moment = faults.Memory
@@ -273,7 +275,7 @@ fault_for (refusals.Disk tried) moment = faults.Disk (doubt_of tried moment)
 fault_for (refusals.Damaged damage) moment = faults.Damaged damage moment
 fault_for refusals.Memory moment = faults.Memory
 
--- and whether the core stops
+-- how the core has stopped after such a fault
 abbrev pub stop_by : CollectFault → Option Stop → Option Stop
 stop_by faults.Memory before = before
 stop_by (faults.Disk None) before = before
@@ -281,8 +283,8 @@ stop_by (faults.Disk (Some moment)) before = Some (record { moment = moment; dam
 stop_by (faults.Damaged damage moment) before = Some (record { moment = moment; damage = Some damage })
 stop_by (faults.Stopped moment) before = before
 
--- No event: the core stands for the state on, and a crash leaves it. In the image to come no more blocks are left
--- behind than were.
+-- No event: the core still stands for the state, and a crash leaves it. In the image to come no more blocks are left
+-- behind than before.
 pub record Rests {D : Type 0} (g : Ghosts D) (old new : Kernel D) (s : State) : Type 0 where
   pub stands : StandsFor g new s
   pub keeps : CallKeeps g s old.disk new.disk
@@ -292,7 +294,7 @@ abbrev pub HappensOrRests : {D : Type 0} → Ghosts D → Kernel D → Kernel D 
 HappensOrRests g old new s None = Rests g old new s
 HappensOrRests g old new s (Some e) = Happens g old new s e
 
--- A step is one event or none, and one at which the core stops is told as such.
+-- A step is one event or none, and a step at which the core stops is reported as such.
 abbrev pub IsCollectStep : {D : Type 0} → Ghosts D → Kernel D → Kernel D → State → Result Step CollectFault → Type 0
 IsCollectStep g old new s (Ok step) = HappensOrRests g old new s (event_of step)
 IsCollectStep g old new s (Err faults.Memory) = Rests g old new s
@@ -301,8 +303,8 @@ IsCollectStep g old new s (Err (faults.Disk (Some moment))) = Happens g old new 
 IsCollectStep g old new s (Err (faults.Damaged damage moment)) = Happens g old new s (events.Halted moment)
 IsCollectStep g old new s (Err (faults.Stopped moment)) = new ≡ old
 
--- A device call failed; with a doubt the moment is the one before that which the disk has now. At a damage a
--- block is outside its table, and the moment is the disk's now.
+-- A device call failed. With a doubt the moment is the one before the disk's present one. At a damage a block is
+-- outside its table, and the moment is the disk's present one.
 abbrev pub IsFaultCause : {D : Type 0} → Ghosts D → Kernel D → Kernel D → CollectFault → Type 0
 IsFaultCause g old new faults.Memory = Unit {0}
 IsFaultCause g old new (faults.Disk None) = HasStopped g false old.disk new.disk
@@ -312,7 +314,7 @@ IsFaultCause g old new (faults.Damaged damage moment) =
     IsDamageTold g old new None damage × (moment ≡ g.moment new.disk)
 IsFaultCause g old new (faults.Stopped moment) = Unit {0}
 
--- want of memory, and a device call that failed without a doubt, leave all as it was; and so does a core that had
+-- want of memory, and a device call that failed without a doubt, leave all as it was, and so does a core that had
 -- stopped at that moment
 abbrev pub LeavesAll : {D : Type 0} → Ghosts D → Kernel D → Kernel D → CollectFault → Type 0
 LeavesAll g old new faults.Memory = IsUnchanged g old new
@@ -328,21 +330,21 @@ IsNoDamage (faults.Disk doubt) = Unit {0}
 IsNoDamage (faults.Damaged damage moment) = ⊥
 IsNoDamage (faults.Stopped moment) = ⊥
 
--- A step that was asked for where nothing is unfinished.
+-- A step that was asked for while nothing is unfinished.
 pub record CollectsStep {D : Type 0} (g : Ghosts D) (old new : Kernel D)
     (result : Result Step CollectFault) : Type 0 where
   pub event : (s : State) → StandsFor g old s → IsCollectStep g old new s result
-  -- one that stopped makes no call of the disk
+  -- a core that had stopped makes no call of the disk
   pub stopped : (stop : Stop) → old.stop ≡ Some stop → (new ≡ old) × (result ≡ Err (faults.Stopped stop.moment))
-  -- the first that fits
+  -- it was the first step that fits
   pub due : IfOk result (IsDueStep old.collections)
   pub counted : IfOk result (AreCounted old.collections new.collections)
-  -- one that swept freed exactly the strays of its pass in one cylinder, the next, and changed no other block
+  -- a step that swept freed exactly the strays of its pass in one cylinder, the next one, and changed no other block
   pub sweeps : IfOk result (λ step. (s : State) → StandsFor g old s → SweepsNext g old new s step)
-  -- a whole collection takes so many steps at most, and leaves a tidy volume
+  -- a whole collection takes at most this many steps, and leaves a tidy volume
   pub over : IfOk result (λ step. (s : State) → StandsFor g old s → IsOver g old new s step)
   pub still : IfErr result (LeavesAll g old new)
-  -- one that wasn't made moves no collection on, also after a doubt and at a damage
+  -- a step that wasn't made moves no collection on, even after a doubt and at a damage
   pub kept : IfErr result (λ fault. AreKept old.collections new.collections)
   pub called : new.collections.called ≡ old.collections.called
   -- no damage is met on a disk that serves
@@ -350,13 +352,13 @@ pub record CollectsStep {D : Type 0} (g : Ghosts D) (old new : Kernel D)
   pub stops : IfErr result (λ fault. new.stop ≡ stop_by fault old.stop)
   pub goes_on : IfOk result (λ step. new.stop ≡ old.stop)
   pub cause : IfErr result (IsFaultCause g old new)
-  -- memory is wanted where a collection would begin, and nowhere else: one that began comes to its end
+  -- memory is wanted only if a collection would begin: a collection that began comes to its end
   pub wants : result ≡ Err faults.Memory → IsDueStep old.collections steps.Began
   pub calls : MakesAtMost g 4 1 old.disk new.disk
   pub left : new.space.left ≡ old.space.left
   pub root : new.root ≡ old.root
   pub words : new.words ≡ old.words
   pub handles : new.handles ≡ old.handles
-  -- whatever disk it is, less is left to do
+  -- on any disk less is left to do
   pub goes : IfOk result (λ step.
       LeavesFewer (g.blocks old.disk) old.collections new.collections step (event_of step))

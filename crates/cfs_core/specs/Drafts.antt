@@ -57,7 +57,7 @@ use Rattle.file_ops.specs.Changes.{is_resize}
 use Rattle.cfs_core.specs.Commits.{commits}
 use Rattle.cfs_core.specs.StandsFor.{ServesWith, sweeps_now}
 
--- the session has the grant, and it has a draft, of an object that is wanted
+-- the session has the grant, and it has a draft of an object of the kind that is wanted
 pub record IsDrafted {D : Type 0} (k : Kernel D) (wants : Wanted) (who : ℕ) (t : Tuid) : Type 0 where
   pub grant : OpenGrant
   pub found : session_grant (grants_in k.handles) who t ≡ Some grant
@@ -65,26 +65,26 @@ pub record IsDrafted {D : Type 0} (k : Kernel D) (wants : Wanted) (who : ℕ) (t
   pub has : drafting_at k.handles t.draw ≡ Some drafting
   pub fit : unfit_of wants (directory_kind k.directory.named grant.id) ≡ None
 
--- there is no draft, or one of an object that isn't wanted
+-- there is no draft, or one of an object of a kind that isn't wanted
 abbrev pub HasNoneOf : Wanted → Option Draft → Type 0
 HasNoneOf wants None = Unit {0}
 HasNoneOf wants (Some d) = ¬ (unfit_of wants (Some (object_kind d.object)) ≡ None)
 
--- A change of a file; or of a slot of an index, which isn't emptied where it is empty.
+-- A change of a file, or of a slot of an index that isn't an empty slot to be emptied.
 abbrev pub IsChangeOf : Change → Object → Type 0
 IsChangeOf (Fill slot what) o = (i : Index) × (o ≡ objects.Index i) × (is_empty_already i slot what ≡ false)
 IsChangeOf (Overwrite offset bytes) o = (f : File) × (o ≡ objects.File f)
 IsChangeOf (SetSize size) o = (f : File) × (o ≡ objects.File f)
 
--- the store has this draft, which has its shadow root, and of which this is a change
+-- the store has this draft, which has its shadow root, and this is a change of it
 pub record KnowsDraft {D : Type 0} (g : Ghosts D) (change : Change) (disk : D) (space : Kept)
     (was : Drafting) : Type 0 where
   pub view : DraftView g disk space was
   pub shadow : (n : ℕ) × (was.shadow ≡ Some n)
   pub of_it : IsChangeOf change view.draft.object
 
--- It is the model's with this change. Its blocks were taken in their order, and as many as it needs were Free beside
--- the last four.
+-- The draft is the model's with this change. Its blocks were taken in their order, and as many as it needs were Free
+-- beside the last four.
 pub record IsAltered {D : Type 0} {g : Ghosts D} {old : D} {before : Kept} {was : Drafting}
     (v : DraftView g old before was) (change : Change) (new : D) (after : Kept) (now : Drafting) : Type 0 where
   pub becomes : DraftBecomes g v.graph v.ds v.id (changed_draft change v.draft) old new after now
@@ -92,7 +92,7 @@ pub record IsAltered {D : Type 0} {g : Ghosts D} {old : D} {before : Kept} {was 
       (g.content new)
   pub room : need_beside change v.draft was + reserve ≤ sum before.free
 
--- so a change of it ends, which is Full where fewer are Free
+-- how such a change of it ends, which is Full if fewer are Free
 pub record AltersDraft {D : Type 0} {g : Ghosts D} {old : D} {before : Kept} {was : Drafting}
     (v : DraftView g old before was) (change : Change) (new : D) (after : Kept) (now : Drafting)
     (result : Result (Unit {0}) Refused) : Type 0 where
@@ -101,13 +101,13 @@ pub record AltersDraft {D : Type 0} {g : Ghosts D} {old : D} {before : Kept} {wa
       → (e ≡ refusals.Full (record { free = sum before.free; need = need_beside change v.draft was }))
       × (sum before.free < need_beside change v.draft was + reserve))
 
--- it is of its object still, with its shadow root, and makes the same
+-- it is still its object's draft, with its shadow root, and makes the same object
 pub record StaysOf (was now : Drafting) : Type 0 where
   pub at : now.at ≡ was.at
   pub shadow : now.shadow ≡ was.shadow
   pub created : now.created ≡ was.created
 
--- And of any draft, on any disk: where it is Full, or a call failed before anything was tried, all is as it was.
+-- For any draft, on any disk: if it is Full, or a call failed before anything was tried, all is as it was.
 pub record ChangesDraft {D : Type 0} (g : Ghosts D) (change : Change) (old new : D) (before after : Kept)
     (was now : Drafting)
     (result : Result (Unit {0}) Refused) : Type 0 where
@@ -122,9 +122,10 @@ pub record ChangesDraft {D : Type 0} (g : Ghosts D) (change : Change) (old new :
   pub left : after.left ≡ before.left
   pub calls : MakesAtMost g resize_calls resize_tries old new
 
--- ---- a request through it
+-- ---- a request through a grant with a draft
 
--- The request changes the draft of this grant so, and what the collection remembers, but for nothing that is swept.
+-- The request changes the draft of this grant so. It may change what the collection remembers, but not whether a
+-- sweep goes on.
 pub record IsAltering (s : State) (who : ℕ) (t : Tuid) (request : Request) (change : Change) : Type 0 where
   pub memory : Collection
   pub sweeps : sweeps_now memory ≡ sweeps_now s.collection
@@ -151,13 +152,13 @@ pub record IsAltering (s : State) (who : ℕ) (t : Tuid) (request : Request) (ch
       → next seed s (events.Ask who request (replies.Full n)) ≡ Some s
   pub speaks : IsSpeakable (events.Ask who request replies.Done)
 
--- it is such a request, of what the draft is of, and isn't refused
+-- it is such a request, of the kind of object that the draft is of, and isn't refused
 pub record AltersSo (s : State) (who : ℕ) (t : Tuid) (change : Change) (request : Request) : Type 0 where
   pub alters : IsAltering s who t request change
   pub of_it : (d : Draft) → draft_of s who (Through t) ≡ Some d → IsChangeOf change d.object
   pub goes : refusal_of s who request ≡ None
 
--- a call that tries to do what is asked, where it may be in the state
+-- a call that tries to do what is asked, if it may be done in the state
 pub record TriesWhere {D : Type 0} (g : Ghosts D) (commit : Option LeftCommit) (old new : Kernel D) (who : ℕ)
     (request : Request) (may : State → Type 0) (result : Result Reply Refused) : Type 0 where
   pub ends : (s : State) → ServesWith g old s commit → old.stop ≡ None → may s
@@ -188,19 +189,19 @@ pub record LooksInDraft {D : Type 0} (g : Ghosts D) (slot : ℕ) (was : Drafting
   pub cause : IfErr result (IsDraftCause g (top_of was) old new)
   pub reads : OnlyReads g 2 old new
 
--- it makes an object in a draft of an index, and isn't refused
+-- the request makes an object in a draft of an index, and isn't refused
 pub record MakesSo (s : State) (who : ℕ) (t : Tuid) (request : Request) : Type 0 where
   pub to : target request ≡ Through t
   pub index : (d : Draft) → draft_of s who (Through t) ≡ Some d → (i : Index) × (d.object ≡ objects.Index i)
   pub goes : refusal_of s who request ≡ None
 
--- a call that tries to make one
+-- a call that tries to make such an object
 abbrev pub TriesMakingWith : {D : Type 0} → Ghosts D → Option LeftCommit → (old new : Kernel D) → ℕ → Tuid → Request
     → Result Reply Refused → Type 0
 TriesMakingWith g commit old new who t request result =
     TriesWhere g commit old new who request (λ s. MakesSo s who t request) result
 
--- ---- a draft ended
+-- ---- how a draft ends
 
 -- it becomes its object, or is given up
 abbrev pub DraftEnds : {D : Type 0} {g : Ghosts D} {old : D} {before : Kept} {was : Drafting}
@@ -217,10 +218,10 @@ LeavesDraftCommit false at left = left ≡ None
 pub record EndsDraft {D : Type 0} (g : Ghosts D) (commit : Bool) (was : Drafting) (old new : D) (before after : Kept)
     (result : Result (Unit {0}) Trouble) : Type 0 where
   pub ends : (v : DraftView g old before was) → DraftEnds v commit new after result
-  -- one that fails had tried something
+  -- a call that fails had tried something
   pub tried : IfErr result (λ t. t ≢ troubles.Disk false)
   pub refused : IfErr result (IsDraftTrouble g (draft_top was) old new after)
   pub cylinders : length after.free ≡ length before.free
-  -- what is left of the commit is unfinished then; an abort leaves nothing
+  -- what is left of the commit is unfinished then, and an abort leaves nothing
   pub left : OnOk result (LeavesDraftCommit commit was.at after.left)
   pub calls : MakesAtMost g commit_calls commit_tries old new

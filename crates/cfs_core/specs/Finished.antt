@@ -7,14 +7,14 @@ use Rattle.cfs_base.specs.declared.refusal.Trouble.{Trouble}
 use Rattle.cyl_alloc.specs.Space.{Kept}
 use Rattle.finisher.specs.Going.{Ends, Goes, calls_left, tries_left, unit_of}
 
--- It is carried out, and nothing is left then. It is told whether something was.
+-- It is carried out, and nothing is left then. The result says whether anything was left.
 pub record FinishesLeft {D : Type 0} (g : Ghosts D) (old new : D) (before after : Kept)
     (result : Result Bool Trouble) : Type 0 where
   pub goes : Goes g old new before after (unit_of result)
   pub ends : Ends g (calls_left before.left) (tries_left before.left) old new before after (unit_of result)
   pub done : OnOk result (after.left ≡ None)
   pub told : IfOk result (λ some. some ≡ is_some before.left)
-  -- where nothing was left nothing is done
+  -- if nothing was left nothing is done
   pub none : before.left ≡ None → (new ≡ old) × (after ≡ before)
 
 -- ---- a change after it

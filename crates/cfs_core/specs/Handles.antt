@@ -9,7 +9,7 @@ use Rattle.special_files.specs.Drafting.{Drafting}
 use Rattle.ufs_model.specs.Identifier.{same_puid}
 use Rattle.cfs_core.specs.Kernel.{Handle}
 
--- the handles in the order of acquiring, and whether there is room for one more, with a draft
+-- the handles in the order in which they were acquired, and whether there is room for one more, with a draft
 pub record Handleing : Type 0 where
   pub handles : List Handle
   pub has_room : Bool
@@ -30,13 +30,13 @@ is_drawn draw handle = draw == handle.grant.tuid.draw
 abbrev pub drafting_at : List Handle → ℕ → Option Drafting
 drafting_at handles draw = option_and_then (λ handle. handle.drafting) (find (is_drawn draw) handles)
 
--- there is a draft of this draw, and so many bytes lie within its size
+-- there is a draft of this draw, and this many bytes are within its size
 pub record HoldsDraft (handles : List Handle) (draw bytes : ℕ) : Type 0 where
   pub drafting : Drafting
   pub has : drafting_at handles draw ≡ Some drafting
   pub within : bytes ≤ drafting.root.size
 
--- its object's root is on a disk of so many blocks
+-- its object's root is on a disk of this size
 abbrev pub IsOnDisk : List Handle → (draw blocks : ℕ) → Type 0
 IsOnDisk handles draw blocks = (d : Drafting) → drafting_at handles draw ≡ Some d → d.at < blocks
 
@@ -46,7 +46,7 @@ with_drafting draw drafting handles =
     map (λ handle. if is_drawn draw handle then record { grant = handle.grant; drafting = drafting } else handle)
     handles
 
--- The draft of this draw has become another, so; the other handles are as they were.
+-- The draft of this draw has become another, as `So` says. The other handles are as they were.
 pub record ChangesHeld (draw : ℕ) (old new : List Handle) (So : Drafting → Drafting → Type 0) : Type 0 where
   pub was : Drafting
   pub has : drafting_at old draw ≡ Some was
@@ -54,7 +54,7 @@ pub record ChangesHeld (draw : ℕ) (old new : List Handle) (So : Drafting → D
   pub with_it : new ≡ with_drafting draw (Some now) old
   pub so : So was now
 
--- the root that this object is to get by a draft, where it has one
+-- the root that this object is to get by a draft, if it has one
 abbrev pub root_at : List Handle → Puid → Option Root
 root_at [] id = None
 root_at (handle ∷ handles) id =

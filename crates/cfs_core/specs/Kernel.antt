@@ -23,11 +23,11 @@ pub record Handle : Type 0 where
 abbrev pub grants_in : List Handle → List OpenGrant
 grants_in handles = map (λ handle. handle.grant) handles
 
--- drawn no later than this
+-- the grant was drawn no later than this
 abbrev pub is_drawn_by : ℕ → Handle → Bool
 is_drawn_by drawn handle = nat_le handle.grant.tuid.draw drawn
 
--- a draft as it stands between two calls: its object's root is below this block, it has a shadow root, and it makes
+-- a draft as it is between two calls: its object's root is below this block, it has a shadow root, and it makes
 -- nothing
 abbrev pub is_ready_for : ℕ → Drafting → Bool
 is_ready_for blocks d = nat_lt d.at blocks && is_some d.shadow && is_none d.created
@@ -77,8 +77,8 @@ pub record AreCollections (room : ℕ) (c : Collections) : Type 0 where
 
 -- ---- on any disk
 
--- On any disk: it has 64 blocks a cylinder, there is room for the identifier of each, and none has block 0. Each grant
--- was drawn.
+-- On any disk: it has 64 blocks a cylinder, there is room for the identifier of each block, and no identifier has
+-- block 0. Each grant was drawn.
 pub record IsSizedKernel {D : Type 0} (blocks : D → ℕ) (disk : D) (directory : Listing) (space : Kept)
     (handles : List Handle)
     (drawn : ℕ) (collections : Collections) : Type 0 where

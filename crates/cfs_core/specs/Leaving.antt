@@ -1,4 +1,4 @@
--- A session leaves: its grants are dropped one after the other, and their drafts are given up, once what was left of a
+-- A session leaves: its grants are dropped one after another, and their drafts are given up, once what was left of a
 -- commit is carried out.
 use Rattle.std.specs.Prelude.{◌≡◌, ◌⊎◌, ℕ, ◌-◌, ◌≤◌, not, ◌==◌, ◌++◌, List, [], filter, map}
 use Rattle.std.specs.Prelude.{Option, Some, None, Result, Ok, Err}
@@ -29,11 +29,11 @@ use Rattle.cfs_core.specs.Kernel.{Kernel, grants_in}
 use Rattle.cfs_core.specs.Rescues.{AreRescued}
 use Rattle.cfs_core.specs.StandsFor.{ServesIs, end_in}
 
--- the grants of all others
+-- the grants of all other sessions
 abbrev pub of_others : ℕ → List Grant → List Grant
 of_others who grants = filter (λ g. not (g.session == who)) grants
 
--- the objects of a session's grants, in the order of acquiring
+-- the objects of a session's grants, in the order in which they were acquired
 abbrev pub objects_of : List OpenGrant → ℕ → List Puid
 objects_of grants who = map (λ g. g.id) (grants_of grants who)
 
@@ -43,7 +43,7 @@ pub record ServesFewer {D : Type 0} (g : Ghosts D) (k : Kernel D) (s : State) (w
   pub serves : ServesIs g k (record s { grants = grants })
   pub others : of_others who grants ≡ of_others who s.grants
 
--- A block was damaged when a draft was given up, of the core as it was then. The draft is one that stood before.
+-- A block was damaged when a draft was given up, in the core as it was then. The draft is one of those of before.
 pub record MetDamage {D : Type 0} (g : Ghosts D) (old new : Kernel D) (damage : Damage) : Type 0 where
   pub draw : ℕ
   pub was : Drafting
@@ -53,43 +53,43 @@ pub record MetDamage {D : Type 0} (g : Ghosts D) (old new : Kernel D) (damage : 
   pub is : IsDraftDamage g (draft_top was) mid.disk new.disk new.space damage
   pub told : IsDamageTold g mid new None damage
 
--- It stopped in this call: at the moment before the one that the disk has now where a device call failed; or at the
--- disk's moment now, where a block is damaged.
+-- It stopped in this call: at the moment before the disk's present one if a device call failed, or at the disk's
+-- present moment if a block is damaged.
 pub record StopsSo {D : Type 0} (g : Ghosts D) (old new : Kernel D) (stop : Stop) : Type 0 where
   pub failed : stop.damage ≡ None → HasFailed g old.disk new.disk × (stop.moment ≡ g.moment new.disk - 1)
   pub damaged : (damage : Damage) → stop.damage ≡ Some damage
       → MetDamage g old new damage × (stop.moment ≡ g.moment new.disk)
 
--- Some grants of the session are gone, with their drafts. All else is as it was, but that a core that ran may have
+-- Some grants of the session are gone, with their drafts. All else is as it was, except that a core that ran may have
 -- stopped.
 pub record Sheds {D : Type 0} (g : Ghosts D) (who : ℕ) (old new : Kernel D) : Type 0 where
   pub words : new.words ≡ old.words
   pub directory : new.directory ≡ old.directory
-  -- of the objects of these grants, the first of the session, the drafts are read no more
+  -- the drafts of the objects of these grants, the first of the session, are no longer read
   pub over : List Puid
   pub dropped : objects_of (grants_in old.handles) who ≡ over ++ objects_of (grants_in new.handles) who
   pub ended : AreRescued old.collections.collector new.collections.collector [] over
   pub called : new.collections.called ≡ old.collections.called
   pub finished : new.collections.finished ≡ old.collections.finished
-  -- each draft that is left stood before
+  -- each draft that is left was there before
   pub stood : (draw : ℕ) (was : Drafting) → drafting_at new.handles draw ≡ Some was
       → drafting_at old.handles draw ≡ Some was
   pub others : without_session (grants_in new.handles) who ≡ without_session (grants_in old.handles) who
   pub size : g.blocks new.disk ≡ g.blocks old.disk
   pub faults : g.faults old.disk ≤ g.faults new.disk
   pub later : g.moment old.disk ≤ g.moment new.disk
-  -- one that had stopped makes no call of the disk
+  -- a core that had stopped makes no call of the disk
   pub idle : (stop : Stop) → old.stop ≡ Some stop
       → (new.stop ≡ Some stop) × (new.disk ≡ old.disk) × (new.space ≡ old.space)
-  -- one that ran gives up the drafts, and each image that a crash leaves has the objects
+  -- a core that ran gives up the drafts, and each image that a crash leaves has the objects
   pub leaves : (s : State) → ServesIs g old s → old.stop ≡ None → Leaves g old.disk new.disk (λ c. Holds c s.graph)
   pub serves : (s : State) → ServesIs g old s → old.stop ≡ None → new.stop ≡ None → ServesFewer g new s who
   -- no block is left behind
   pub strays : (s : State) → ServesIs g old s → old.stop ≡ None → new.stop ≡ None
       → AddsNoStray (end_in g old) (end_in g new) s.graph s.graph
-  -- it stops where a device call failed, or at a damage
+  -- it stops if a device call failed, or at a damage
   pub halts : (stop : Stop) → old.stop ≡ None → new.stop ≡ Some stop → StopsSo g old new stop
-  -- and at no damage where it served a state
+  -- it stops at no damage if it served a state
   pub sound : (s : State) → ServesIs g old s → old.stop ≡ None → (stop : Stop) → new.stop ≡ Some stop
       → stop.damage ≡ None
   -- a commit that was left is carried out before a draft is given up, and none is begun
@@ -97,7 +97,7 @@ pub record Sheds {D : Type 0} (g : Ghosts D) (who : ℕ) (old new : Kernel D) : 
 
 -- ---- one draft
 
--- what the store has of it then; it is given up on the disk as it is once nothing is unfinished
+-- the draft as the store has it then; it is given up on the disk as it is once nothing is unfinished
 pub record IsGivenUp {D : Type 0} {g : Ghosts D} {disk : D} {was : Drafting} (v : DraftSeen g disk was)
     (old new : Kernel D) : Type 0 where
   pub mid : D
@@ -119,8 +119,8 @@ pub record MeetsDamage {D : Type 0} (g : Ghosts D) (at : Top) (old new : Kernel 
   pub calls : MakesAtMost g (calls_left old.space.left) (tries_left old.space.left) old.disk mid
   pub is : IsDraftDamage g at mid new.disk new.space damage
 
--- A draft is given up, unless the core had stopped, and before it what is left of a commit is carried out. Where that
--- fails the core stops, also if nothing was tried: the draft is gone.
+-- A draft is given up, unless the core had stopped. Before that what is left of a commit is carried out. If this
+-- fails the core stops, even if nothing was tried: the draft is gone.
 pub record GivesUp {D : Type 0} (g : Ghosts D) (was : Drafting) (old new : Kernel D) : Type 0 where
   pub same : new ≡ record old { disk = new.disk; space = new.space; stop = new.stop }
   pub size : g.blocks new.disk ≡ g.blocks old.disk
@@ -134,7 +134,7 @@ pub record GivesUp {D : Type 0} (g : Ghosts D) (was : Drafting) (old new : Kerne
   pub damaged : (stop : Stop) (damage : Damage) → old.stop ≡ None → new.stop ≡ Some stop → stop.damage ≡ Some damage
       → MeetsDamage g (draft_top was) old new damage × (stop.moment ≡ g.moment new.disk)
 
--- ---- what is told
+-- ---- what is reported
 
 abbrev pub halt_of : (before now : Option Stop) → Result (Unit {0}) Halt
 halt_of None None = Ok tt

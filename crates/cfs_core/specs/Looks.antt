@@ -29,12 +29,12 @@ use Rattle.cfs_core.specs.Ways.{Reaches}
 
 -- ---- an object that is reached
 
--- Whatever the core stands for, the request reaches such an object, of which there is no draft.
+-- Whatever state the core stands for, the request reaches such an object, which has no draft.
 abbrev pub ReachesIn : {D A : Type 0} → Ghosts D → (A → Object) → Kernel D → ℕ → Request → Puid → Type 0
 ReachesIn {A = A} g sort k who request id = (s : State) → ServesIs g k s → (a : A) × Reaches s who request id (sort a)
     × ((drafts_of_handles k.handles s.grants) id ≡ None)
 
--- and it has a name, whatever disk it is
+-- the same, and it has a name, on any disk
 abbrev pub ReachesAll : {D A : Type 0} → Ghosts D → (A → Object) → Kernel D → ℕ → Request → Puid → Type 0
 ReachesAll g sort k who request id = ReachesIn g sort k who request id × (has_root_in k.directory.named id.block ≡ true)
 
@@ -45,29 +45,29 @@ pub record KnowsObject {D : Type 0} (g : Ghosts D) (d : D) (at : ℕ) (o : Objec
 
 -- ---- calls that only read
 
--- At most n reads were made since the disk was so, and this root was read of the block.
+-- At most n reads were made since the disk was `old`, and this root was read from the block.
 pub record WasRead {D : Type 0} (g : Ghosts D) (n at : ℕ) (root : Root) (old now : D) : Type 0 where
   pub reads : OnlyReads g n old now
   pub rooted : Tells g old → IsRootAt (g.content old) at root
 
--- a device call failed, and nothing had been tried; a block is damaged so; or memory is wanted
+-- a device call failed, and nothing had been tried; a block is damaged so; or there was no memory
 abbrev pub IsReadCause : {D : Type 0} → Ghosts D → (Damage → Type 0) → D → D → Refused → Type 0
 IsReadCause g So old new (refusals.Full need) = ⊥
 IsReadCause g So old new (refusals.Disk tried) = (tried ≡ false) × HasStopped g false old new
 IsReadCause g So old new (refusals.Damaged damage) = So damage
 IsReadCause g So old new refusals.Memory = Unit {0}
 
--- of the object with this root a block is outside its table
+-- a block of the object with this root is outside its table
 abbrev pub IsCalmCause : {D : Type 0} → Ghosts D → (at : ℕ) → D → D → Refused → Type 0
 IsCalmCause g at old new e =
     IsReadCause g (IsOutside (Tells g old) (g.content old) (g.blocks old) (λ n. n ≡ at) 0) old new e
 
--- of a draft of the object with this root, of which nothing is written
+-- the same for a draft of the object with this root, of which nothing is written
 abbrev pub IsDraftCause : {D : Type 0} → Ghosts D → Top → D → D → Refused → Type 0
 IsDraftCause g at old new e =
     IsReadCause g (λ damage. (kept : Kept) → IsDraftDamage g at old new kept damage) old new e
 
--- a call that only reads, and meets no damage where such an object is
+-- a call that only reads, and meets no damage if there is such an object
 pub record IsCalm {D A B : Type 0} (g : Ghosts D) (sort : A → Object) (n at : ℕ) (old new : D)
     (result : Result B Refused) : Type 0 where
   pub reads : OnlyReads g n old new

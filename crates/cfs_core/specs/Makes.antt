@@ -37,7 +37,7 @@ abbrev pub made_kind : FileKind → Kind
 made_kind file_kinds.Normal = kinds.Normal
 made_kind file_kinds.Special = kinds.Special
 
--- the request makes this object, and puts its identifier into a slot of the index that it goes to
+-- the request makes this object, and puts its identifier into a slot of the index to which it goes
 pub record IsMaking (request : Request) (slot : ℕ) (o : Object) : Type 0 where
   pub outcome : (seed : ℕ) (s : State) (who b : ℕ)
       → outcome_of seed s who request b ≡ created seed s who (target request) slot o b
@@ -55,12 +55,12 @@ pub record IsMaking (request : Request) (slot : ℕ) (o : Object) : Type 0 where
       → next seed s (events.Ask who request (replies.Full n)) ≡ Some s
   pub speaks : (who : ℕ) (reply : Reply) → IsSpeakable (events.Ask who request reply)
 
--- it isn't given its name: its block is 0, none of the disk's, or the root of an object already
+-- it isn't given its name: its block is 0, no block of the disk, or the root of an object already
 pub record IsAstray (directory : Listing) (id : Puid) (e : Refused) : Type 0 where
   pub is : e ≡ refusals.Damaged (record { block = id.block; code = not_owned })
   pub why : (id.block ≡ 0) ⊎ ((directory.room ≤ id.block) ⊎ (has_root_in directory.named id.block ≡ true))
 
--- An object that was made has its name, with the word that is drawn for it; or, on a disk that lies, none.
+-- An object that was made has its name, with the word that is drawn for it; or, on a disk that lies, no name.
 pub record NamesMade {D : Type 0} (old new : Kernel D) (id : Puid) (kind : Kind)
     (result : Result Reply Refused) : Type 0 where
   pub named : id.block ≢ 0 → id.block < old.directory.room → has_root_in old.directory.named id.block ≡ false

@@ -1,4 +1,4 @@
--- A volume opened.
+-- How a volume is opened.
 use Rattle.std.specs.Prelude.{◌≡◌, ℕ, Result, Ok, Err}
 use Rattle.cfs_base.specs.declared.disk.Disk.{Ghosts}
 use Rattle.ufs_model.specs.Graph.{Graph}
@@ -7,7 +7,7 @@ use Rattle.cfs_core.specs.declared.opening.OpenFault.{OpenFault}
 use Rattle.cfs_core.specs.Kernel.{Kernel}
 use Rattle.cfs_core.specs.StandsFor.{StandsFor}
 
--- the core stands for these objects, with nothing open, and no word of the seed was drawn
+-- the core stands for these objects, nothing is open, and no word of the seed was drawn
 pub record IsOpenedCore {D : Type 0} (g : Ghosts D) (graph : Graph) (seed : ℕ) (k : Kernel D) : Type 0 where
   pub stands : StandsFor g k (opening graph)
   pub words : k.words ≡ record { seed = seed; drawn = 0 }

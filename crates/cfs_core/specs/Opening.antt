@@ -1,4 +1,4 @@
--- An object is opened.
+-- How an object is opened.
 use Rattle.std.specs.Prelude.{◌≡◌, ℕ, ◌+◌, ◌<◌, ◌≤◌, Bool, true, false, sum}
 use Rattle.std.specs.Prelude.{Option, Some, None, Result, Ok, Err, IfErr, IfOk, IfSome}
 use Rattle.cfs_base.specs.Calls.{HasStopped, MakesAtMost, OnlyReads}
@@ -23,7 +23,7 @@ use Rattle.ufs_model.specs.declared.asked.Reply.TheVariants as replies
 use Rattle.ufs_model.specs.Limits.{reserve}
 use Rattle.vol_image.specs.Sound.{Holds}
 
--- an object of this kind gets a draft where it is opened so
+-- an object of this kind gets a draft when it is opened in this mode
 abbrev pub gets_draft : Kind → Mode → Bool
 gets_draft kinds.Special modes.Writing = true
 gets_draft kinds.Special modes.Reading = false
@@ -35,7 +35,7 @@ abbrev pub reply_to_fault : AcquireFault → Reply
 reply_to_fault (faults.Locked mode) = replies.Locked
 reply_to_fault faults.Grants = replies.Grants
 
--- ---- a draft begun
+-- ---- how a draft begins
 
 -- The store has the draft, and each image that a crash leaves has the objects. A block was Free for it beside the last
 -- four.
@@ -47,7 +47,7 @@ pub record IsBegun {D : Type 0} {g : Ghosts D} {old : D} {before : Kept} {at : �
   pub leaves : Leaves g old new (λ c. Holds c v.graph)
   pub free : 1 + reserve ≤ sum before.free
 
--- how it ends where the store has the object, of which there is no draft, by whether it is to have one
+-- how it ends if the store has the object, which has no draft, by whether it is to have one
 abbrev pub BeginsSo : {D : Type 0} {g : Ghosts D} {old : D} {before : Kept} {at : ℕ} → ObjectView g old before at
     → (wanted : Bool) → D → Kept → Result (Option Drafting) Refused → Type 0
 BeginsSo {old = old} {before = before} v wanted new after (Ok None) =
@@ -63,8 +63,8 @@ BeginsSo v wanted new after (Err (refusals.Damaged damage)) = ⊥
 BeginsSo {g = g} {old = old} {before = before} v wanted new after (Err refusals.Memory) =
     OnlyReads g 2 old new × (after ≡ before)
 
--- why it isn't begun: as many blocks as it tells were counted Free, too few beside the floor; a device call failed; a
--- block that was read is damaged; or memory is wanted
+-- why no draft begins: as many blocks were counted Free as it says, which is too few beside the floor; a device call
+-- failed; a block that was read is damaged; or there was no memory
 abbrev pub IsRefusalOrMemory : {D : Type 0} → Ghosts D → Top → ℕ → D → D → (before after : Kept) → Refused → Type 0
 IsRefusalOrMemory g at floor old new before after (refusals.Full need) =
     (need.free ≡ sum before.free) × (need.free < need.need + floor)

@@ -14,7 +14,7 @@ use Rattle.ufs_model.specs.declared.object.Object.TheVariants as objects
 use Rattle.cfs_core.specs.Damage.{IsOutside}
 use Rattle.cfs_core.specs.Looks.{IsReadCause, KnowsObject}
 
--- Where parts were made, the root is the one that the block has now, and else that which was read. It has the slot.
+-- If parts were made, the root is the one that the block has now, and else that which was read. It has the slot.
 pub record RereadsIndex {D : Type 0} (g : Ghosts D) (at : ℕ) (tried : Bool) (read : Root) (slot : ℕ) (old new : D)
     (result : Result Root Refused) : Type 0 where
   pub anew : tried ≡ true → Tells g old → IfOk result (IsRootAt (g.content old) at)
@@ -22,7 +22,7 @@ pub record RereadsIndex {D : Type 0} (g : Ghosts D) (at : ℕ) (tried : Bool) (r
   pub within : IfOk result (λ root. 8 * slot + 8 ≤ root.size)
   pub limit : IfOk result (λ root. root.size ≤ size_limit)
   pub reads : OnlyReads g 1 old new
-  -- it is refused for the block, and no damage is met where the index has the slot
+  -- it is refused for the block, and no damage is met if the index has the slot
   pub cause : IfErr result
       (IsReadCause g (IsOutside (Tells g old) (g.content old) (g.blocks old) (λ n. n ≡ at) (8 * slot + 8)) old new)
   pub sound : (i : Index) → KnowsObject g old at (objects.Index i) → slot < length i.slots

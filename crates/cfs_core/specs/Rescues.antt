@@ -1,5 +1,5 @@
--- What a collection is told while it marks: an object that was put into an index, or opened, is a rescue; and where a
--- grant ends its draft is read no more.
+-- What a collection gets to know while it marks: an object that was put into an index, or opened, is a rescue, and
+-- the draft of a grant that ends is no longer read.
 use Rattle.std.specs.Prelude.{◌≡◌, ℕ, ◌<◌, Bool, true, false, if◌then◌else◌, List}
 use Rattle.std.specs.Prelude.{[], ◌∷◌, ◌++◌, Option, Some, None, option_map, option_to_list}
 use Rattle.cfs_base.specs.declared.identifier.Puid.{Puid}
@@ -28,7 +28,7 @@ abbrev pub replied_id : Reply → Option Puid
 replied_id (replies.Id id) = Some id
 replied_id reply = None
 
--- what a request puts into this index, or opens, where it was done
+-- what a request puts into this index, or opens, if it was done
 abbrev pub rescue_put : Option Puid → Request → Reply → Option Rescue
 rescue_put index (asks.CreateFile kind fill to slot) reply =
     option_map (λ id. record { index = index; id = id }) (replied_id reply)
@@ -41,7 +41,7 @@ rescue_put index request reply = None
 abbrev pub rescue_of : Option Puid → Request → Reply → Option Rescue
 rescue_of index request reply = if is_carried_out reply then rescue_put index request reply else None
 
--- there is room for a rescue, where the request may add one
+-- there is room for a rescue, if the request may add one
 abbrev pub HasRoomFor : Request → Option Collecting → Type 0
 HasRoomFor request None = Unit {0}
 HasRoomFor request (Some k) = marks_in k.phase ≡ true → may_rescue request ≡ true → 0 < k.rescues.room
@@ -49,9 +49,9 @@ HasRoomFor request (Some k) = marks_in k.phase ≡ true → may_rescue request �
 abbrev pub while_marking : Collecting → List Rescue → List Rescue
 while_marking k more = if marks_in k.phase then more else []
 
--- ---- where a grant ends
+-- ---- when a grant ends
 
--- the object whose grant a request ends, where it was done
+-- the object whose grant a request ends, if it was done
 abbrev pub ended_of : Option Puid → Reply → List Puid
 ended_of id replies.Done = option_to_list id
 ended_of id reply = []
@@ -60,15 +60,15 @@ abbrev pub ended_by : State → ℕ → Request → Reply → List Puid
 ended_by s who (asks.Close grant commit) reply = ended_of (named s who (Through grant)) reply
 ended_by s who request reply = []
 
--- the drafts of these objects, where they had any, are read no more
+-- the drafts of these objects, if they had any, are no longer read
 abbrev pub all_ended : List Puid → Colours → Colours
 all_ended [] c = c
 all_ended (id ∷ ids) c = all_ended ids (draft_over id c)
 
--- ---- what the collector is told
+-- ---- what the collector gets to know
 
--- Where it marks these rescues wait as well, and are counted; of these objects the drafts are read no more. Nothing but
--- room is otherwise changed.
+-- If it marks these rescues also wait, and are counted, and the drafts of these objects are no longer read. Otherwise
+-- only the room has changed.
 pub record HasRescued (k l : Collecting) (more : List Rescue) (over : List Puid) : Type 0 where
   pub volume : volume_of l ≡ volume_of k
   pub colours : colours_in l ≡ all_ended over (colours_in k)

@@ -32,13 +32,13 @@ use Rattle.cfs_core.specs.Kernel.{Kernel, Handle, grants_in, marks_in, sweeps_in
 abbrev pub bare : Grant → handles.OpenGrant
 bare g = record { tuid = g.tuid; session = g.session; id = g.id; mode = g.mode }
 
--- the draft that a grant has, as the store accounts for it
+-- the draft of a grant, as the store accounts for it
 abbrev pub opened_if : Option Drafting → Option Draft → Option Opened
 opened_if (Some drafting) (Some d) = Some (opened_as drafting d)
 opened_if (Some drafting) None = None
 opened_if None draft = None
 
--- with the draft of one grant more, if it has one
+-- these drafts and that of one more grant, if it has one
 abbrev pub with_opened_if : Puid → Option Opened → Drafts → Drafts
 with_opened_if id None ds = ds
 with_opened_if id (Some d) ds = with_opened id d ds
@@ -56,7 +56,7 @@ pub record IsDraftOf (ds : Drafts) (grant : handles.OpenGrant) (drafting : Draft
   pub special : is_normal d.object ≡ false
   pub writes : is_reading grant.mode ≡ false
 
--- the core has a draft exactly where the grant has one, and that is this one
+-- the core has a draft exactly if the grant has one, and they are the same
 abbrev pub HasDraftOf : Drafts → Handle → Option Drafting → Option Draft → Type 0
 HasDraftOf ds handle None None = Unit {0}
 HasDraftOf ds handle (Some drafting) (Some d) = IsDraftOf ds handle.grant drafting d
@@ -81,7 +81,7 @@ sweeps_now collections.Sweeping = true
 abbrev pub is_collecting : Collection → Bool
 is_collecting c = is_marking c || sweeps_now c
 
--- The collector is as far as the state's collection, and keeps what holds of one between any two calls.
+-- The collector is as far as the state's collection, and keeps what holds of a collection between any two calls.
 pub record HasCollector (image : Image) (s : State) (k : Collecting) : Type 0 where
   pub marking : is_marking s.collection ≡ marks_in k.phase
   pub sweeping : sweeps_now s.collection ≡ sweeps_in k.phase
@@ -94,7 +94,7 @@ HasCollection image s (Some k) = HasCollector image s k
 
 -- ---- standing for
 
--- what a core that stopped says too
+-- what also holds of a core that stopped
 pub record IsFront {D : Type 0} (k : Kernel D) (s : State) : Type 0 where
   pub drawn : s.drawn ≡ k.words.drawn
   pub directory : k.directory.named ≡ kinds_of s.graph
@@ -105,7 +105,7 @@ pub record IsFront {D : Type 0} (k : Kernel D) (s : State) : Type 0 where
 abbrev pub free_of : Image → ℕ
 free_of image = free_from image 0 (length image)
 
--- And of the image that is to come. Where no commit is left they are those that the core counts.
+-- How many blocks of the image that is to come are Free. If no commit is left they are those that the core counts.
 abbrev pub free_with : {D : Type 0} → Ghosts D → Kernel D → Option LeftCommit → ℕ
 free_with g k None = sum k.space.free
 free_with g k (Some l) = free_of (coming (g.content k.disk) (Some l))
@@ -117,9 +117,9 @@ free_to_come g k = free_with g k k.space.left
 abbrev pub end_in : {D : Type 0} → Ghosts D → Kernel D → Image
 end_in g k = final_image g k.disk k.space
 
--- The store has the graph and the drafts, whatever writes wait for a barrier, and this is left of one commit past its
--- bit, or nothing. In the image that is to come the blocks of vanished objects are gone but in a sweep, four blocks are
--- Free, and the collection is there.
+-- The store has the graph and the drafts, whatever writes wait for a barrier, and `commit` is what is left of one
+-- commit past its bit, or nothing. In the image that is to come the blocks of vanished objects are gone unless a
+-- sweep goes on, four blocks are Free, and the collection is there.
 pub record ServesWith {D : Type 0} (g : Ghosts D) (k : Kernel D) (s : State) (commit : Option LeftCommit) : Type 0 where
   pub front : IsFront k s
   pub state : IsState s
@@ -135,7 +135,7 @@ pub record ServesWith {D : Type 0} (g : Ghosts D) (k : Kernel D) (s : State) (co
 abbrev pub CoreServes : {D : Type 0} → Ghosts D → Kernel D → State → Type 0
 CoreServes g k s = ServesWith g k s None
 
--- one is, or none
+-- one commit is left, or none
 abbrev pub ServesIs : {D : Type 0} → Ghosts D → Kernel D → State → Type 0
 ServesIs g k s = ServesWith g k s k.space.left
 
@@ -151,7 +151,7 @@ Stands g k s (Some stop) = IsFront k s
 abbrev pub StandsFor : {D : Type 0} → Ghosts D → Kernel D → State → Type 0
 StandsFor g k s = Stands g k s k.stop
 
--- what it says of any core, stopped or not
+-- what holds of any core, stopped or not
 pub front_of : {D : Type 0} (g : Ghosts D) (k : Kernel D) (s : State) → StandsFor g k s → IsFront k s
 front_of g k s stands = at k.stop stands
   where
@@ -159,7 +159,7 @@ front_of g k s stands = at k.stop stands
     at None serves = serves.front
     at (Some stop) front = front
 
--- the state of one that runs is well-formed, and has its root index
+-- the state of a core that runs is well-formed, and has the core's root index
 pub core_formed : {D : Type 0} (g : Ghosts D) (k : Kernel D) (s : State) → StandsFor g k s → is_running s ≡ true
     → IsState s × (s.graph.root ≡ k.root)
 core_formed g k s stands runs = at k.stop refl stands

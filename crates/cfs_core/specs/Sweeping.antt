@@ -19,14 +19,19 @@ is_in_pass (phases.Inner cylinder) entry = not (is_root is_taken entry)
 is_in_pass (phases.Roots cylinder) entry = is_root is_taken entry
 is_in_pass phases.Swept entry = false
 
--- a block of the pass whose owner is the root block of no object in the graph; but no root that is being made
+-- a block of the pass whose owner is the root block of no object in the graph, except a root that is being made
 abbrev pub is_swept_now : Graph → Phase → Option MapEntry → Bool
 is_swept_now g phase entry = is_stray g entry && is_in_pass phase entry
+
+-- no block of the cylinder at which the sweep is goes
+abbrev pub IsCleanCylinder : Graph → Phase → Image → Type 0
+IsCleanCylinder g phase image = (n : ℕ) → n / 64 ≡ cylinder_of phase
+    → is_swept_now g phase (entry_in image n) ≡ false
 
 -- Image b is a, but that in the cylinder at which the sweep is exactly these blocks are Free now.
 pub record FreesStrays (g : Graph) (phase : Phase) (a b : Image) : Type 0 where
   pub size : length b ≡ length a
-  -- no block is another but the cylinder's map
+  -- no block differs except the cylinder's map
   pub contents : (n : ℕ) → n ≢ 64 * cylinder_of phase → block_at b n ≡ block_at a n
   pub entries : (n : ℕ) → entry_in b n
       ≡ (if (n / 64 == cylinder_of phase) && is_swept_now g phase (entry_in a n) then Some unheld_entry

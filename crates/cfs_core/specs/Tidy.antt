@@ -18,13 +18,13 @@ use Rattle.cfs_core.specs.Damage.{IsDamageTold}
 use Rattle.cfs_core.specs.Kernel.{Kernel}
 use Rattle.cfs_core.specs.StandsFor.{StandsFor}
 
--- ---- what is told of trouble, at this moment of the disk
+-- ---- what is reported of trouble, at this moment of the disk
 
 abbrev pub tidy_fault_by : Trouble → ℕ → TidyFault
 tidy_fault_by (troubles.Disk tried) moment = faults.Disk (doubt_of tried moment)
 tidy_fault_by (troubles.Damaged damage) moment = faults.Damaged damage moment
 
--- and whether the core stops
+-- how the core has stopped after such a fault
 abbrev pub halt_by : TidyFault → Option Stop → Option Stop
 halt_by (faults.Disk None) before = before
 halt_by (faults.Disk (Some moment)) before = Some (record { moment = moment; damage = None })
@@ -33,7 +33,7 @@ halt_by (faults.Stopped moment) before = before
 
 -- ---- a call
 
--- It is no event, but where the core stops.
+-- It is no event, unless the core stops.
 abbrev pub IsTidyResult : {D : Type 0} → Ghosts D → Kernel D → Kernel D → State → Result Tidy TidyFault → Type 0
 IsTidyResult g old new s (Ok tidy) = Rests g old new s
 IsTidyResult g old new s (Err (faults.Disk None)) = Rests g old new s
@@ -41,13 +41,13 @@ IsTidyResult g old new s (Err (faults.Disk (Some moment))) = Happens g old new s
 IsTidyResult g old new s (Err (faults.Damaged damage moment)) = Happens g old new s (events.Halted moment)
 IsTidyResult g old new s (Err (faults.Stopped moment)) = new ≡ old
 
--- One part is made of the commit that is left; or none is left, and nothing is done.
+-- One part is made of the commit that is left, or none is left and nothing is done.
 abbrev pub IsTidyStep : {D : Type 0} → Kernel D → Kernel D → Tidy → Type 0
 IsTidyStep old new tidies.Idle = (old.space.left ≡ None) × (new ≡ old)
 IsTidyStep old new tidies.Step = IsSome old.space.left × (new.space.left ≡ after_next old.space.left)
 
--- A device call failed; with a doubt the moment is the one before that which the disk has now. At a damage a block is
--- outside its table, and the moment is the disk's now.
+-- A device call failed. With a doubt the moment is the one before the disk's present one. At a damage a block is
+-- outside its table, and the moment is the disk's present one.
 abbrev pub IsTidyCause : {D : Type 0} → Ghosts D → Kernel D → Kernel D → TidyFault → Type 0
 IsTidyCause g old new (faults.Disk None) = HasStopped g false old.disk new.disk
 IsTidyCause g old new (faults.Disk (Some moment)) =
@@ -71,9 +71,9 @@ IsNoDamage (faults.Stopped moment) = ⊥
 
 pub record TidiesVolume {D : Type 0} (g : Ghosts D) (old new : Kernel D) (result : Result Tidy TidyFault) : Type 0 where
   pub event : (s : State) → StandsFor g old s → IsTidyResult g old new s result
-  -- one that stopped makes no call of the disk
+  -- a core that had stopped makes no call of the disk
   pub stopped : (stop : Stop) → old.stop ≡ Some stop → (new ≡ old) × (result ≡ Err (faults.Stopped stop.moment))
-  -- of one that runs nothing is unfinished exactly where it is idle
+  -- in a core that runs nothing is unfinished exactly if the turn is idle
   pub part : IfOk result (IsTidyStep old new)
   pub idle : old.stop ≡ None → old.space.left ≡ None → result ≡ Ok tidies.Idle
   pub still : IfErr result (LeavesAll g old new)

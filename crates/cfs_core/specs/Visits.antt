@@ -1,4 +1,4 @@
--- A request comes to what it names, unless it is refused on the way: to a draft, or to an object, whose root is read.
+-- A request reaches what it names, unless it is refused on the way: a draft, or an object, whose root is read.
 use Rattle.std.specs.Prelude.{◌≡◌, ◌≢◌, ℕ, ◌<◌, ◌≤◌, true, Some, None, Result, Ok, Err}
 use Rattle.block_tree.specs.Pointers.{size_limit}
 use Rattle.block_tree.specs.declared.root.Root.{Root}
@@ -45,7 +45,7 @@ as_object AnIndex = objects.Index
 as_object AFile = objects.File
 as_object Either = λ o. o
 
--- how a request goes that changes what is there, and names nothing besides
+-- how a request goes that changes what is there, and names nothing else
 abbrev pub changing_way : Ref → Way
 changing_way to = record { to = to; also = None; changes = true }
 
@@ -56,7 +56,7 @@ pub record ReachesDraft {D : Type 0} (wants : Wanted) (way : Way) (who : ℕ) (k
   pub holds : HoldsDraft k.handles grant.draw 0
 
 -- The request reaches an object of this kind, which is wanted there and has no draft. Its root block is one of the
--- disk's, and not block 0; nor is that of the object that is named besides.
+-- disk's, and not block 0. The object that is also named doesn't have block 0 either.
 pub record ReachesObject {D : Type 0} (g : Ghosts D) (wants : Wanted) (way : Way) (who : ℕ) (k : Kernel D) (id : Puid)
     (kind : Kind) : Type 0 where
   pub reached : (request : Request) → GoesBy request wants way → ReachesAll g (as_object wants) k who request id
@@ -72,7 +72,7 @@ ReachesSo g wants way who k (reached.Object id kind) = ReachesObject g wants way
 
 -- ---- and the root is read
 
--- Since the core was so, at most n reads were made, of this root of an object among others, where it is shown.
+-- Since the core was `k`, at most n reads were made, one of them of this root of an object, where it is shown.
 pub record CameTo {D : Type 0} (g : Ghosts D) (n : ℕ) (k now : Kernel D) (id : Puid) (root : Root) : Type 0 where
   pub same : now ≡ record k { disk = now.disk }
   pub read : WasRead g n (block_shown k.space.left id.block) root k.disk now.disk

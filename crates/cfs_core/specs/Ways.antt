@@ -17,7 +17,7 @@ use Rattle.ufs_model.specs.Refusal.{is_unwanted_file, is_unwanted_index, meets_a
 use Rattle.ufs_model.specs.State.{State, draft_of, named, object_of}
 use Rattle.cfs_core.specs.declared.way.Way.{Way}
 
--- the object that is named besides isn't there
+-- the object that is also named doesn't exist
 abbrev pub is_gone : State → Option Puid → Bool
 is_gone s None = false
 is_gone s (Some id) = not (is_there s.graph id)
@@ -27,7 +27,7 @@ abbrev pub reads_by : Option OpenGrant → Bool
 reads_by None = false
 reads_by (Some grant) = is_reading grant.mode
 
--- those conditions of a refusal that are of the way, in their order
+-- those conditions of a refusal that concern the way, in their order
 abbrev pub on_the_way : State → ℕ → Wanted → Way → List (Bool × Reply)
 on_the_way s who wants way =
     (has_no_such_grant s who way.to, replies.NoGrant)
@@ -38,7 +38,7 @@ on_the_way s who wants way =
     ∷ (meets_a_grant s way.changes way.to, replies.Locked)
     ∷ []
 
--- and those of what is there
+-- those that concern what is there
 abbrev pub once_there : State → ℕ → Request → List (Bool × Reply)
 once_there s who request =
     (has_no_slot s who request, replies.Slot)
@@ -52,7 +52,7 @@ pub record GoesBy (request : Request) (wants : Wanted) (way : Way) : Type 0 wher
   pub to : target request ≡ way.to
   pub each : (s : State) (who : ℕ) → conditions s who request ≡ on_the_way s who wants way ++ once_there s who request
 
--- the refusal of a request that wants something else than an object of this kind, or none, if it is one
+-- the refusal of a request that wants anything but an object of this kind, or None if it wants one
 abbrev pub unfit_of : Wanted → Option Kind → Option Reply
 unfit_of wants None = Some replies.NoObject
 unfit_of AnIndex (Some kinds.Index) = None
@@ -63,7 +63,7 @@ unfit_of AFile (Some kinds.Normal) = None
 unfit_of AFile (Some kinds.Special) = None
 unfit_of Either (Some kind) = None
 
--- It comes to this object: it is refused for nothing but what is there.
+-- It arrives at this object: it is refused only for what is there.
 pub record Arrives (s : State) (who : ℕ) (request : Request) (id : Puid) (o : Object) : Type 0 where
   pub there : object_at s.graph id ≡ Some o
   pub name : named s who (target request) ≡ Some id

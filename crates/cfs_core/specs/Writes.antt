@@ -1,4 +1,4 @@
--- Which requests write to the disk.
+-- The requests that write to the disk.
 use Rattle.std.specs.Prelude.{Bool, true, false, is_some}
 use Rattle.std.specs.Option.{option_map_or}
 use Rattle.puid_space.specs.Directory.{directory_kind}
@@ -8,7 +8,7 @@ use Rattle.cfs_core.specs.Handles.{drafting_at}
 use Rattle.cfs_core.specs.Kernel.{Kernel}
 use Rattle.cfs_core.specs.Opening.{gets_draft}
 
--- no read, and no opening or close of a grant without a draft
+-- all but reads, and openings and closes of a grant without a draft
 abbrev pub changes_disk : {D : Type 0} → Kernel D → Request → Bool
 changes_disk k (asks.Retrieve index slot) = false
 changes_disk k (asks.Slots index) = false

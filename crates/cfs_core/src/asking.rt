@@ -1,4 +1,4 @@
-//! A request, answered.
+//! How a request is answered.
 ghost use Rattle.std.specs.Prelude.{◌≡◌, ◌<◌, option_to_list};
 ghost use Rattle.cfs_core.specs.Asked.{Asks, stopped_by, reply_to};
 ghost use Rattle.cfs_core.specs.Calls.{Tries};
@@ -10,11 +10,14 @@ use std::alloc::Global;
 use ufs_model::{Reply, Request};
 
 impl<D: Disk> Core<D> {
-    /// Answers a request of a session, as one event of the definitions. Memory is taken before anything is written. One
-    /// that changes something first carries out what was left of a commit; a commit is done at its bit, and is carried
-    /// out later. After `Disk` without a doubt and `Memory` all is as it was, and after `Full` but for what was left.
-    /// After `Disk` with one, and after `Damaged`, the core has stopped, and answers `Stopped` from then on, with no
-    /// call of the disk.
+    /// Answers a request of a session, as one event of the definitions.
+    ///
+    /// Memory is taken before anything is written. A request that changes something first carries out what was left
+    /// of a commit. A commit is done at its bit, and is carried out later.
+    ///
+    /// After `Disk` without a doubt and after `Memory` all is as it was, and after `Full` all except what was left of
+    /// a commit. After `Disk` with a doubt, and after `Damaged`, the core has stopped: it answers `Stopped` from then
+    /// on, and makes no call of the disk.
     pub fn ask(&mut self, alloc: Global, who: Session, request: &Request) -> Reply
         requires words { self.old.words.drawn < 4294967295 }
         ensures { Asks D.Disk self.old self.new who request.now result }
@@ -71,7 +74,7 @@ impl<D: Disk> Core<D> {
         }
     }
 
-    /// Tells the collector what was put into this index, or opened; or that a grant on this object ended.
+    /// Lets the collector know what was put into this index, or opened, or that a grant on this object ended.
     fn tell(
         &mut self,
         index: Option<Puid>,
@@ -94,8 +97,9 @@ impl<D: Disk> Core<D> {
         reply
     }
 
-    /// The reply to a request that was refused by what lies below. The core stops where what was asked may have been
-    /// done, and at a damage.
+    /// Returns the reply to a request that was refused by a layer below.
+    ///
+    /// The core stops if what was asked may have been done, and at a damage.
     pub(crate) fn refuse(&mut self, refused: Refused) -> Reply
         ensures told { result ≡ reply_to refused (D.moment self.old.disk) }
         ensures stop { self.new

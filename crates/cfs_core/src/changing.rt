@@ -21,7 +21,9 @@ use special_files::ObjectDraft;
 use std::alloc::Global;
 use ufs_model::{RESERVE, Ref, Reply, Wanted};
 
-/// How many blocks must stay Free beside those that a delete takes: none where it goes through no grant.
+/// Returns how many blocks must stay Free beside those that a delete takes.
+///
+/// It is none if the delete goes through no grant.
 fn floor_for(to: Ref) -> u32
     ensures { result ≡ delete_floor to }
 {
@@ -31,7 +33,7 @@ fn floor_for(to: Ref) -> u32
     }
 }
 
-/// Whether this reply tells that a slot holds an identifier.
+/// Returns whether this reply says that a slot holds an identifier.
 pub(crate) fn holds_something(reply: &Reply) -> bool
     ensures { result ≡ is_id reply.now }
 {
@@ -41,7 +43,7 @@ pub(crate) fn holds_something(reply: &Reply) -> bool
     }
 }
 
-/// The reply to a request that was done, of which nothing else is told.
+/// Returns the reply to a request that was done, of which nothing else is reported.
 pub(crate) fn done(ended: Result<(), Refused>) -> Result<Reply, Refused>
     ensures { result ≡ done_or ended }
 {
@@ -49,8 +51,9 @@ pub(crate) fn done(ended: Result<(), Refused>) -> Result<Reply, Refused>
     Ok(Reply::Done)
 }
 
-/// The root of the index at a block, which has the slot: that which was read, or, where parts of a commit were made
-/// since, that which is there now.
+/// Returns the root of the index at a block, which has the slot.
+///
+/// It is the root that was read, or the present one if parts of a commit were made since.
 pub(crate) fn index_since<D: Disk>(
     disk: &mut D,
     at: BlockNo,
@@ -134,7 +137,7 @@ impl<D: Disk> Core<D> {
         }
     }
 
-    /// Puts an identifier into a slot that the index has, whose root was read before.
+    /// Puts an identifier into a slot that the index has. The index's root was read before.
     fn put(&mut self, alloc: Global, there: &There, slot: u64, id: Puid) -> Result<Reply, Refused>
         requires on_disk { there.now.id.block < D.blocks self.old.disk }
         requires some { there.now.id.block ≢ 0 }
@@ -156,8 +159,9 @@ impl<D: Disk> Core<D> {
         since(tried, done(ended))
     }
 
-    /// Empties a slot that holds something, where so many blocks stay Free beside it. On a disk that lies too few
-    /// blocks may be Free for it.
+    /// Empties a slot that holds something. `floor` blocks stay Free beside it.
+    ///
+    /// On a disk that lies too few blocks may be Free for it.
     fn empty(
         &mut self,
         alloc: Global,

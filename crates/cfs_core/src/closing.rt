@@ -1,6 +1,6 @@
 //! The ends of grants: a request that closes one, and a session that leaves.
-ghost use Rattle.std.specs.Prelude.{Bool, ◌≡◌, ◌≢◌, ◌≤◌, ◌*◌, List, [], length, false, true, IfErr, IfOk, OnOk, IsSome, None};
-ghost use Rattle.std.specs.Prelude.{Some, Ok};
+ghost use Rattle.std.specs.Prelude.{Bool, ◌≡◌, ◌≢◌, ◌≤◌, ◌*◌, List, [], length, false, true, IfErr, IfOk, OnOk, IsSome};
+ghost use Rattle.std.specs.Prelude.{None, Some, Ok};
 ghost use Rattle.cfs_base.specs.declared.refusal.Refused.TheVariants as refusals;
 ghost use Rattle.cfs_core.specs.Asked.{Happens, halted};
 ghost use Rattle.cfs_core.specs.Calls.{Tries, TriesWith, leaves_all};
@@ -26,7 +26,9 @@ use open_table::OpenGrant;
 use special_files::ObjectDraft;
 use ufs_model::Reply;
 
-/// Ends a draft, which becomes its object or is given up. What is left of a commit then is unfinished.
+/// Ends a draft, which becomes its object or is given up.
+///
+/// What is left of a commit then is unfinished.
 fn end_draft<D: Disk>(
     draft: ObjectDraft,
     disk: &mut D,
@@ -45,8 +47,10 @@ fn end_draft<D: Disk>(
 }
 
 impl<D: Disk> Core<D> {
-    /// Ends a grant. Its draft, if it has one, becomes the object or is given up, once what was left of an earlier
-    /// commit is carried out.
+    /// Ends a grant.
+    ///
+    /// Its draft, if it has one, becomes the object or is given up, once what was left of an earlier commit is
+    /// carried out.
     pub(crate) fn close(
         &mut self,
         who: Session,
@@ -60,7 +64,7 @@ impl<D: Disk> Core<D> {
             return Ok(Reply::NoGrant);
         }
         if self.handles.draft(grant.draw).is_none() {
-            // There is none to take out, so no grant with this draw has one.
+            // There is none to take out, so no grant with this draw has a draft.
             let _ = self.handles.take(grant.draw);
             return Ok(self.close_bare(who, grant));
         }
@@ -108,8 +112,10 @@ impl<D: Disk> Core<D> {
         Ok(Reply::Done)
     }
 
-    /// A session leaves: its grants are dropped, and their drafts are given up, once what was left of a commit is
-    /// carried out. A core that stopped is left as well, with no call of the disk. `Halt` where the core stops in it.
+    /// Ends a session: its grants are dropped, and their drafts are given up.
+    ///
+    /// What was left of a commit is carried out before. A session may also leave a core that has stopped, which makes
+    /// no call of the disk. `Halt` if the core stops in this call.
     pub fn leave(&mut self, who: Session) -> Result<(), Halt>
         ensures event { (s : State) → StandsFor D.Disk self.old s
             → Happens D.Disk self.old self.new s (events.Leave who (halted result)) }
@@ -117,21 +123,21 @@ impl<D: Disk> Core<D> {
         ensures size { D.blocks self.new.disk ≡ D.blocks self.old.disk }
         ensures faults { D.faults self.old.disk ≤ D.faults self.new.disk }
         ensures later { D.moment self.old.disk ≤ D.moment self.new.disk }
-        // A collection reads no draft of the objects of its grants any more, and makes no step.
+        // A collection no longer reads a draft of the objects of its grants, and makes no step.
         ensures ended { AreRescued self.old.collections.collector self.new.collections.collector []
             (objects_of (grants_in self.old.handles) who) }
         ensures called { self.new.collections.called ≡ self.old.collections.called }
         ensures finished { self.new.collections.finished ≡ self.old.collections.finished }
         ensures waits { AddsNone (D.blocks self.old.disk) self.old.collections self.new.collections }
         ensures goes_on { OnOk result (self.new.stop ≡ self.old.stop) }
-        // The core stopped at this moment: the one before the disk's now where a device call failed, and the disk's now
-        // at a damage.
+        // The core stopped at this moment: the one before the disk's present one if a device call failed, and the
+        // disk's present one at a damage.
         ensures halts { IfErr result (λ halt. (stop : Stop) × (self.old.stop ≡ None) × (self.new.stop ≡ Some stop)
             × (stop.moment ≡ halt.moment) × StopsSo D.Disk self.old self.new stop) }
-        // One that served a state stops at no damage.
+        // A core that served a state stops at no damage.
         ensures sound { (s : State) → ServesIs D.Disk self.old s → self.old.stop ≡ None
             → (stop : Stop) → self.new.stop ≡ Some stop → stop.damage ≡ None }
-        // One that had stopped makes no call of the disk.
+        // A core that had stopped makes no call of the disk.
         ensures idle { IsSome self.old.stop → self.new.disk ≡ self.old.disk }
     {
         let before = self.stop;
@@ -141,8 +147,9 @@ impl<D: Disk> Core<D> {
         halt_of(before, self.stop)
     }
 
-    /// Drops the first grant of a session. Its draft is given up, unless the core has stopped; where that fails, the core
-    /// stops.
+    /// Drops the first grant of a session.
+    ///
+    /// Its draft is given up, unless the core has stopped. If that fails, the core stops.
     fn drop_grant(&mut self, who: Session, grant: OpenGrant)
         requires first { first_grant (grants_in self.old.handles) who ≡ Some grant }
         ensures sheds { Sheds D.Disk who self.old self.new }
@@ -159,8 +166,9 @@ impl<D: Disk> Core<D> {
         }
     }
 
-    /// Carries out what was left of a commit and gives up a draft, unless the core has stopped; where that fails, the
-    /// core stops.
+    /// Carries out what was left of a commit and gives up a draft, unless the core has stopped.
+    ///
+    /// If that fails, the core stops.
     fn give_up(&mut self, draft: ObjectDraft)
         requires ready { is_ready_for (D.blocks self.old.disk) draft ≡ true }
         ensures { GivesUp D.Disk draft self.old self.new }
@@ -171,7 +179,7 @@ impl<D: Disk> Core<D> {
         let _tried = match finish(&mut self.disk, &mut self.space) {
             Ok(tried) => tried,
             Err(trouble) => {
-                // The draft is gone, so the core stops where nothing was tried as well.
+                // The draft is gone, so the core also stops if nothing was tried.
                 self.refuse(Refused::from(trouble.after_try()));
                 return;
             }
@@ -182,7 +190,7 @@ impl<D: Disk> Core<D> {
     }
 }
 
-/// What a leave tells where the core had stopped so before, and has stopped so now.
+/// Returns what a leave reports, given how the core had stopped before, and how it has now.
 fn halt_of(before: Option<Stop>, now: Option<Stop>) -> Result<(), Halt>
     ensures { result ≡ spec.halt_of before now }
 {

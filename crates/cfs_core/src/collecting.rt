@@ -23,32 +23,34 @@ use std::alloc::Global;
 pub enum Step {
     /// Nothing: no collection runs, and as many are finished as were called for.
     Idle,
+    /// A collection began.
     Began,
     /// The oldest rescue was taken.
     Took,
     /// A leaf of a grey index was read.
     Scanned,
-    /// These objects are gone, all at one stroke.
+    /// These objects are gone, all at once.
     Condemned { ids: Ids },
     /// A cylinder was swept.
     Swept,
+    /// A collection ended.
     Finished,
 }
 
 /// Why a step wasn't made.
 #[derive(Clone, Copy, Debug, PartialEq, Eq)]
 pub enum CollectFault {
-    /// Want of memory. All is as it was.
+    /// There was no memory. All is as it was.
     Memory,
-    /// A device call failed. Without a doubt all is as it was; with one the core stopped, and that is the moment.
+    /// A device call failed. Without a doubt all is as it was. With one the core stopped, and that is the moment.
     Disk { doubt: Option<u64> },
-    /// A block that was read is outside its table. The core stopped at this moment.
+    /// A block that was read is damaged. The core stopped at this moment.
     Damaged { damage: Damage, moment: u64 },
     /// The core had stopped at this moment.
     Stopped { moment: u64 },
 }
 
-/// How many collections were called for and how many are finished; and the collector, once one has begun.
+/// How many collections were called for, how many are finished, and the collector, once one has begun.
 #[derive(Drop)]
 pub struct Collections {
     pub(crate) collector: Option<Collector>,
@@ -57,7 +59,7 @@ pub struct Collections {
 }
 
 impl Collections {
-    /// None was called for.
+    /// Makes the state in which no collection was called for.
     pub(crate) fn new() -> Collections
         ensures { result ≡ record { collector = None; called = 0; finished = 0 } }
     {
@@ -68,7 +70,7 @@ impl Collections {
         }
     }
 
-    /// Whether a collection runs.
+    /// Returns whether a collection runs.
     pub(crate) fn is_running(&self) -> bool
         ensures { result ≡ collection_runs self.now.collector }
     {
@@ -78,7 +80,7 @@ impl Collections {
         }
     }
 
-    /// Where the collection is.
+    /// Returns the phase of the collection.
     fn phase(&self) -> Phase
         ensures { result ≡ phase_of self.now.collector }
     {
@@ -89,7 +91,7 @@ impl Collections {
     }
 }
 
-/// Whether a collection runs in this phase.
+/// Returns whether a collection runs in this phase.
 fn is_going(phase: Phase) -> bool
     ensures { result ≡ (marks_in phase || sweeps_in phase) }
 {
@@ -99,7 +101,7 @@ fn is_going(phase: Phase) -> bool
     }
 }
 
-/// A step of a collection that marks.
+/// Makes a step of a collection that marks.
 fn mark<D: Disk>(
     collector: &mut Collector,
     disk: &mut D,
@@ -125,7 +127,7 @@ fn mark<D: Disk>(
     Ok(Step::Condemned { ids })
 }
 
-/// A step of a collection that sweeps.
+/// Makes a step of a collection that sweeps.
 fn sweep<D: Disk>(
     collector: &mut Collector,
     disk: &mut D,
@@ -147,7 +149,7 @@ fn sweep<D: Disk>(
     }
 }
 
-/// The end of a sweep, as a step's.
+/// Returns the end of a sweep, as that of a step.
 fn told(swept: Result<(), Trouble>) -> Result<Step, Refused>
     ensures { result ≡ told_as swept }
 {
@@ -155,7 +157,7 @@ fn told(swept: Result<(), Trouble>) -> Result<Step, Refused>
     Ok(Step::Swept)
 }
 
-/// A collector of so many blocks, with a collection that has begun.
+/// Makes a collector for `blocks` blocks, with a collection that has begun.
 fn begun(
     alloc: Global,
     blocks: u32,
@@ -172,7 +174,7 @@ fn begun(
     Ok(collector)
 }
 
-/// Adds each object that is open.
+/// Appends each object that is open.
 fn push_open(roots: &mut Vec<Puid>, grants: &Grants) -> Result<(), NoMemory>
     ensures { OnOk result (roots.new.items ≡ roots.old.items ++ map (λ (g : grant.OpenGrant). g.id) grants.now.grants) }
 {
@@ -183,7 +185,7 @@ fn push_open(roots: &mut Vec<Puid>, grants: &Grants) -> Result<(), NoMemory>
 }
 
 impl<D: Disk> Core<D> {
-    /// Calls for so many collections more. Takes no memory.
+    /// Calls for `more` collections. Takes no memory.
     pub fn call_for(&mut self, more: u32)
         requires few { self.old.collections.called + more < 4294967296 }
         ensures { self.new ≡ record self.old {
@@ -195,7 +197,7 @@ impl<D: Disk> Core<D> {
         self.collections.called += more;
     }
 
-    /// How many steps a collection takes on this disk at most, whatever lies there, and one for each rescue.
+    /// Returns how many steps a collection takes at most on this disk, whatever it holds, beside one for each rescue.
     pub fn most_steps(&self) -> u64
         ensures steps { result ≡ most_steps (D.blocks self.now.disk) }
         ensures small { result < 140737488355328 }
@@ -204,8 +206,10 @@ impl<D: Disk> Core<D> {
         30_721 * blocks + 2 * (blocks / 64) + 5
     }
 
-    /// Makes one step of the collector, the first that is due. At most 4 device calls, at most one of them a write.
-    /// Memory is taken where a collection begins, before anything changes, and nowhere else. No commit is unfinished.
+    /// Makes one step of the collector, the first that is due.
+    ///
+    /// Makes at most 4 device calls, at most one of them a write. Memory is taken only as a collection begins, before
+    /// anything changes. No commit is unfinished.
     pub fn collect(&mut self, alloc: Global) -> Result<Step, CollectFault>
         requires left { self.old.space.left ≡ None }
         ensures { CollectsStep D.Disk self.old self.new result }
@@ -239,7 +243,7 @@ impl<D: Disk> Core<D> {
         }
     }
 
-    /// A step of the collection that marks.
+    /// Makes a step of the collection that marks.
     fn mark(&mut self) -> Result<Step, Refused>
         requires { phase_of self.old.collections.collector ≡ Phase.Marking }
         ensures { TriesStep D.Disk self.old self.new result }
@@ -255,7 +259,7 @@ impl<D: Disk> Core<D> {
         }
     }
 
-    /// A step of the collection that sweeps.
+    /// Makes a step of the collection that sweeps.
     fn sweep(&mut self) -> Result<Step, Refused>
         requires { sweeps_blocks (phase_of self.old.collections.collector) ≡ true }
         ensures { TriesStep D.Disk self.old self.new result }
@@ -266,7 +270,7 @@ impl<D: Disk> Core<D> {
         }
     }
 
-    /// The collection ends.
+    /// Ends the collection.
     fn finish(&mut self) -> Step
         requires { phase_of self.old.collections.collector ≡ Phase.Swept }
         ensures { TriesStep D.Disk self.old self.new (Ok result) }
@@ -280,7 +284,7 @@ impl<D: Disk> Core<D> {
         Step::Finished
     }
 
-    /// The root, and each object that is open.
+    /// Returns the root, and each object that is open.
     fn roots(&self, alloc: Global) -> Result<Vec<Puid>, NoMemory>
         ensures { IfOk result (λ roots.
             roots.items ≡ self.now.root ∷ map (λ (handle : Handle). handle.grant.id) self.now.handles) }
@@ -291,7 +295,7 @@ impl<D: Disk> Core<D> {
         Ok(roots)
     }
 
-    /// A collection begins.
+    /// Begins a collection.
     fn begin(&mut self, alloc: Global) -> Result<Step, Refused>
         requires idle { phase_of self.old.collections.collector ≡ Phase.Idle }
         requires more { self.old.collections.finished < self.old.collections.called }
@@ -308,7 +312,9 @@ impl<D: Disk> Core<D> {
         Ok(Step::Began)
     }
 
-    /// Why a step wasn't made. The core stops where a write had been tried, and at a damage.
+    /// Returns why a step wasn't made.
+    ///
+    /// The core stops if a write had been tried, and at a damage.
     fn fail(&mut self, refused: Refused) -> CollectFault
         ensures told { result ≡ fault_for refused (D.moment self.old.disk) }
         ensures stop { self.new

@@ -23,7 +23,7 @@ use special_files::{ObjectDraft, bare_root};
 use std::alloc::Global;
 use ufs_model::{MOST_SLOTS, Ref, Reply, Wanted};
 
-/// The kind of an object that is such a file.
+/// Returns the kind of an object that is such a file.
 pub(crate) fn kind_of(kind: FileKind) -> Kind
     ensures { result ≡ made_kind kind }
 {
@@ -96,7 +96,7 @@ impl<D: Disk> Core<D> {
         }
     }
 
-    /// Makes an object whose identifier is put into a slot that the index has, whose root was read before.
+    /// Makes an object, and puts its identifier into a slot that the index has. The index's root was read before.
     fn make(
         &mut self,
         alloc: Global,
@@ -130,8 +130,9 @@ impl<D: Disk> Core<D> {
         since(tried, self.name(id, kind))
     }
 
-    /// Names an object that was made, with the word that is drawn for it. On a disk that lies its root block may be
-    /// another object's, or past the disk's end.
+    /// Names an object that was made, with the word that is drawn for it.
+    ///
+    /// On a disk that lies its root block may be another object's, or past the disk's end.
     pub(crate) fn name(&mut self, id: Puid, kind: Kind) -> Result<Reply, Refused>
         requires words { self.old.words.drawn < 4294967295 }
         ensures { NamesMade self.old self.new id kind result }

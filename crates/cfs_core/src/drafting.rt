@@ -29,14 +29,16 @@ use special_files::ObjectDraft;
 use std::alloc::Global;
 use ufs_model::{MOST_BYTES, RESERVE, Ref, Reply, Wanted};
 
-/// So many bytes.
+/// Makes `count` zero bytes.
 fn zeros(alloc: Global, count: usize) -> Result<Vec<u8>, NoMemory>
     ensures { IfOk result (λ bytes. length bytes.items ≡ count) }
 {
     Ok(vec![in alloc; 0u8; count]?)
 }
 
-/// So many bytes of a draft, from an offset on, as a reply: `Range` where they aren't 1 to 4,096 within its size.
+/// Returns `count` bytes of a draft, beginning at an offset, as a reply.
+///
+/// It is `Range` if they aren't 1 to 4,096 within its size.
 fn content<D: Disk>(
     alloc: Global,
     disk: &mut D,
@@ -94,7 +96,7 @@ pub(crate) fn set_size<D: Disk>(
 }
 
 impl<D: Disk> Core<D> {
-    /// The session's grant that a reference goes through, where it has a draft of what is wanted.
+    /// Returns the session's grant that a reference goes through, if it has a draft of what is wanted.
     pub(crate) fn drafted(&self, who: Session, to: Ref, wants: Wanted) -> Option<Tuid>
         ensures through { IfSome result (λ grant. to ≡ refs.Through grant) }
         ensures has { IfSome result (IsDrafted self.now wants who) }
@@ -113,7 +115,7 @@ impl<D: Disk> Core<D> {
         }
     }
 
-    /// So many bytes of a draft, from an offset on.
+    /// Reads `count` bytes of a draft, beginning at an offset.
     pub(crate) fn read_draft(
         &mut self,
         alloc: Global,
@@ -132,7 +134,7 @@ impl<D: Disk> Core<D> {
         }
     }
 
-    /// The size of a draft in bytes.
+    /// Returns the size of a draft in bytes.
     pub(crate) fn size_of_draft(&self, grant: Tuid) -> Reply
         requires { HoldsDraft self.now.handles grant.draw 0 }
         ensures { (who : ℕ) → IsDrafted self.now AFile who grant
@@ -145,7 +147,7 @@ impl<D: Disk> Core<D> {
         }
     }
 
-    /// Writes bytes into a draft, from an offset on.
+    /// Writes bytes into a draft, beginning at an offset.
     pub(crate) fn write_draft(
         &mut self,
         grant: Tuid,

@@ -29,14 +29,16 @@ use index_drafts::{create_in, put_in};
 use special_files::{ObjectDraft, bare_root};
 use ufs_model::{MOST_SLOTS, RESERVE, Reply};
 
-/// How many slots the index has of which this is a draft.
+/// Returns how many slots the index has of which this is a draft.
 fn count(draft: &ObjectDraft) -> u64
     ensures { result ≡ draft.now.root.size / 8 }
 {
     draft.size() / 8
 }
 
-/// What a slot of a draft holds, as a reply: `Slot` where it has no such slot, `Empty` where it holds nothing.
+/// Returns what a slot of a draft holds, as a reply.
+///
+/// It is `Slot` if the draft has no such slot, and `Empty` if the slot holds nothing.
 fn look_in<D: Disk>(disk: &mut D, draft: &ObjectDraft, slot: u64) -> Result<Reply, Refused>
     requires { draft.now.at < D.blocks disk.old }
     ensures { LooksInDraft D.Disk slot draft.now disk.old disk.new result }
@@ -50,7 +52,7 @@ fn look_in<D: Disk>(disk: &mut D, draft: &ObjectDraft, slot: u64) -> Result<Repl
     }
 }
 
-/// Makes a slot of a draft hold this, or nothing.
+/// Makes a slot of a draft hold `what`, or nothing.
 pub(crate) fn put_slot<D: Disk>(
     draft: &mut ObjectDraft,
     disk: &mut D,
@@ -86,7 +88,7 @@ pub(crate) fn make_in<D: Disk>(
 }
 
 impl<D: Disk> Core<D> {
-    /// Whether a draft has such a slot.
+    /// Returns whether a draft has such a slot.
     fn has_drafted(&self, grant: Tuid, slot: u64) -> bool
         requires { IsSome (drafting_at self.now.handles grant.draw) }
         ensures { (was : Drafting) → drafting_at self.now.handles grant.draw ≡ Some was
@@ -98,7 +100,7 @@ impl<D: Disk> Core<D> {
         }
     }
 
-    /// What a slot of a draft holds, as a reply.
+    /// Returns what a slot of a draft holds, as a reply.
     fn look_drafted(&mut self, grant: Tuid, slot: u64) -> Result<Reply, Refused>
         requires { IsSome (drafting_at self.old.handles grant.draw) }
         ensures looks { (was : Drafting) → drafting_at self.old.handles grant.draw ≡ Some was
@@ -111,7 +113,7 @@ impl<D: Disk> Core<D> {
         }
     }
 
-    /// The identifier in a slot of a draft.
+    /// Returns the identifier in a slot of a draft.
     pub(crate) fn retrieve_draft(&mut self, grant: Tuid, slot: u64) -> Result<Reply, Refused>
         requires { HoldsDraft self.old.handles grant.draw 0 }
         ensures { (who : ℕ) → IsDrafted self.old AnIndex who grant
@@ -121,7 +123,7 @@ impl<D: Disk> Core<D> {
         self.look_drafted(grant, slot)
     }
 
-    /// The number of slots of a draft.
+    /// Returns the number of slots of a draft.
     pub(crate) fn slots_of_draft(&self, grant: Tuid) -> Reply
         requires { HoldsDraft self.now.handles grant.draw 0 }
         ensures { (who : ℕ) → IsDrafted self.now AnIndex who grant
@@ -170,7 +172,7 @@ impl<D: Disk> Core<D> {
         }
     }
 
-    /// Makes a slot of a draft hold this, or nothing.
+    /// Makes a slot of a draft hold `what`, or nothing.
     fn put_drafted(&mut self, grant: Tuid, slot: u64, what: Option<Puid>) -> Result<Reply, Refused>
         requires has { HoldsDraft self.old.handles grant.draw (8 * slot + 8) }
         requires slot { IsSlot what }
@@ -226,7 +228,7 @@ impl<D: Disk> Core<D> {
         self.make_drafted(grant, slot, Kind::Index, 0, 8 * slots)
     }
 
-    /// Makes an object whose identifier is put into a slot that a draft has.
+    /// Makes an object, and puts its identifier into a slot that a draft has.
     fn make_drafted(
         &mut self,
         grant: Tuid,

@@ -10,14 +10,16 @@ use finisher::finish_all;
 use special_files::Room;
 use std::alloc::Global;
 
-/// All memory that a change takes, which is taken before anything is carried out.
+/// Takes all memory that a change needs, before anything is carried out.
 pub(crate) fn take_room(alloc: Global) -> Result<Room, Refused>
     ensures { IfErr result (λ e. e ≡ refusals.Memory) }
 {
     Ok(Room::new(alloc)?)
 }
 
-/// The same for a change of a file of this kind. A normal one is changed in place, and takes none.
+/// Takes the memory for a change of a file of this kind.
+///
+/// A normal file is changed in place, and needs none.
 pub(crate) fn room_for(alloc: Global, kind: FileKind) -> Result<Option<Room>, Refused>
     ensures room { IfOk result (λ room. kind ≡ kinds.Special → is_some room ≡ true) }
     ensures wants { IfErr result (λ e. e ≡ refusals.Memory) }
@@ -28,8 +30,9 @@ pub(crate) fn room_for(alloc: Global, kind: FileKind) -> Result<Option<Room>, Re
     }
 }
 
-/// Carries out what was left of a commit, and tells whether something was: a change that comes after it comes after its
-/// tries.
+/// Carries out what was left of a commit, and returns whether anything was.
+///
+/// A change that comes after it comes after its tries.
 pub(crate) fn finish<D: Disk>(disk: &mut D, space: &mut Space) -> Result<bool, Trouble>
     requires { D.blocks disk.old ≡ 64 * length space.old.free }
     ensures { spec.FinishesLeft D.Disk disk.old disk.new space.old space.new result }
@@ -39,14 +42,14 @@ pub(crate) fn finish<D: Disk>(disk: &mut D, space: &mut Space) -> Result<bool, T
     Ok(tried)
 }
 
-/// The refusal of a change that came after tries, or after none.
+/// Returns the refusal of a change that came after tries, or after none.
 fn refused_since(tried: bool, refused: Refused) -> Refused
     ensures { result ≡ spec.refused_since tried refused }
 {
     if tried { refused.after_try() } else { refused }
 }
 
-/// The end of a change that came after tries, or after none.
+/// Returns the end of a change that came after tries, or after none.
 pub(crate) fn since<T>(tried: bool, ended: Result<T, Refused>) -> Result<T, Refused>
     ensures { result ≡ spec.since tried ended }
 {

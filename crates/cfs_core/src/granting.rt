@@ -15,7 +15,7 @@ use special_files::{ObjectDraft, Room};
 use std::alloc::Global;
 use ufs_model::{RESERVE, Reply};
 
-/// Whether an object of this kind gets a draft where it is opened so.
+/// Returns whether an object of this kind gets a draft when it is opened in this mode.
 fn gets_draft(kind: Kind, mode: Mode) -> bool
     ensures { result ≡ spec.gets_draft kind mode }
 {
@@ -25,7 +25,7 @@ fn gets_draft(kind: Kind, mode: Mode) -> bool
     }
 }
 
-/// What an opening is told that a grant stands against.
+/// Returns the reply to an opening that a grant is in the way of.
 fn reply_to_fault(fault: AcquireFault) -> Reply
     ensures { result ≡ spec.reply_to_fault fault }
 {
@@ -35,7 +35,7 @@ fn reply_to_fault(fault: AcquireFault) -> Reply
     }
 }
 
-/// All memory that a draft takes, if one is to be begun.
+/// Takes all memory that a draft needs, if one is to begin.
 fn room_if(alloc: Global, wanted: bool) -> Result<Option<Room>, Refused>
     ensures room { IfOk result (λ room. is_some room ≡ wanted) }
     ensures wants { IfErr result (λ e. e ≡ refusals.Memory) }
@@ -46,7 +46,7 @@ fn room_if(alloc: Global, wanted: bool) -> Result<Option<Room>, Refused>
     Ok(Some(take_room(alloc)?))
 }
 
-/// Carries out what was left of a commit, if a draft is to be begun.
+/// Carries out what was left of a commit, if a draft is to begin.
 fn finish_if<D: Disk>(disk: &mut D, space: &mut Space, wanted: bool) -> Result<bool, Trouble>
     requires { D.blocks disk.old ≡ 64 * length space.old.free }
     ensures finished { wanted ≡ true → FinishesLeft D.Disk disk.old disk.new space.old space.new result }
@@ -61,7 +61,7 @@ fn finish_if<D: Disk>(disk: &mut D, space: &mut Space, wanted: bool) -> Result<b
     }
 }
 
-/// The draft of the object at a block, if it is to have one.
+/// Begins the draft of the object at a block, if it is to have one.
 fn first_draft<D: Disk>(
     room: Option<Room>,
     disk: &mut D,
@@ -83,8 +83,10 @@ fn first_draft<D: Disk>(
 }
 
 impl<D: Disk> Core<D> {
-    /// Opens an object: a special file or an index for writing with a draft, of which all memory is taken before what
-    /// was left of a commit is carried out, and its shadow root is taken.
+    /// Opens an object. A special file or an index that is opened for writing gets a draft.
+    ///
+    /// All memory for the draft is taken before what was left of a commit is carried out, and its shadow root is
+    /// taken.
     pub(crate) fn open_for(
         &mut self,
         alloc: Global,

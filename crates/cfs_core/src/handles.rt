@@ -28,12 +28,13 @@ use std::alloc::Global;
 use std::collections::HashMap;
 use std::marker::Model;
 
-/// The grants of all sessions in the order of acquiring, each with its draft if it has one. Only `reserve` takes
-/// memory.
+/// The grants of all sessions in the order in which they were acquired, each with its draft if it has one.
+///
+/// Only `reserve` takes memory.
 #[derive(Drop)]
 pub(crate) struct Handles {
     grants: Grants,
-    /// By the number of words that were drawn with the grant's.
+    /// The drafts, by the number of the draw of their grant's word.
     drafts: HashMap<u32, ObjectDraft>,
 }
 
@@ -53,7 +54,7 @@ impl Model for Handles {
 }
 
 impl Handles {
-    /// No grants. Takes no memory.
+    /// Makes a table of no grants. Takes no memory.
     pub fn new(alloc: Global) -> Handles
         ensures { result.handles ≡ [] }
     {
@@ -63,7 +64,7 @@ impl Handles {
         }
     }
 
-    /// Makes room for one more, with a draft. Where memory is wanting all stay as they were.
+    /// Makes room for one more grant, with a draft. On an error nothing is changed.
     pub fn reserve(&mut self) -> Result<(), NoMemory>
         ensures handles { self.new.handles ≡ self.old.handles }
         ensures room { OnOk result (self.new.has_room ≡ true) }
@@ -73,15 +74,16 @@ impl Handles {
         Ok(())
     }
 
-    /// Why a grant can't be acquired, if it can't.
+    /// Returns why a grant can't be acquired, or `None` if it can.
     pub fn fault(&self, grant: OpenGrant) -> Option<AcquireFault>
         ensures { result ≡ fault_of (grants_in self.now.handles) grant }
     {
         self.grants.fault(grant)
     }
 
-    /// Adds a grant that may be acquired, of which no other has the draw, with its draft if it has one. Takes no
-    /// memory.
+    /// Adds a grant that may be acquired, with its draft if it has one.
+    ///
+    /// No other grant has its draw. Takes no memory.
     pub fn open(&mut self, grant: OpenGrant, draft: Option<ObjectDraft>)
         requires room { self.old.has_room ≡ true }
         requires new { list_any (is_drawn grant.tuid.draw) self.old.handles ≡ false }
@@ -96,28 +98,28 @@ impl Handles {
         }
     }
 
-    /// The session's grant with this temporary identifier.
+    /// Returns the session's grant with this temporary identifier.
     pub fn find(&self, who: Session, tuid: Tuid) -> Option<OpenGrant>
         ensures { result ≡ session_grant (grants_in self.now.handles) who tuid }
     {
         self.grants.find(who, tuid)
     }
 
-    /// How an object is open.
+    /// Returns how an object is open.
     pub fn mode_on(&self, id: Puid) -> Option<Mode>
         ensures { result ≡ open_mode (grants_in self.now.handles) id }
     {
         self.grants.mode_on(id)
     }
 
-    /// The first of the session's grants.
+    /// Returns the first of the session's grants.
     pub fn next_of(&self, who: Session) -> Option<OpenGrant>
         ensures { result ≡ first_grant (grants_in self.now.handles) who }
     {
         self.grants.next_of(who)
     }
 
-    /// The number of grants.
+    /// Returns the number of grants.
     pub fn len(&self) -> u32
         ensures len { result ≡ length self.now.handles }
         ensures held { IsTrue (is_grant_table (grants_in self.now.handles)) }
@@ -125,21 +127,21 @@ impl Handles {
         self.grants.len()
     }
 
-    /// The grants, without drafts.
+    /// Returns the grants, without their drafts.
     pub fn grants(&self) -> &Grants
         ensures { result.now.grants ≡ grants_in self.now.handles }
     {
         &self.grants
     }
 
-    /// The draft of one draw, if there is one.
+    /// Returns the draft of a draw, if there is one.
     pub fn draft(&self, draw: u32) -> Option<&ObjectDraft>
         ensures { option_copied result ≡ drafting_at self.now.handles draw }
     {
         self.drafts.get(&draw)
     }
 
-    /// The root that this object is to get by a draft, where it has one. Goes over the grants.
+    /// Returns the root that this object is to get by a draft, if it has one. Goes through the grants.
     pub fn root_on(&self, id: Puid) -> Option<&Root>
         ensures { option_copied result ≡ root_at self.now.handles id }
     {
@@ -154,7 +156,7 @@ impl Handles {
         None
     }
 
-    /// Writes bytes into the draft of one draw, within its size.
+    /// Writes bytes into the draft of a draw, within its size.
     pub fn write<D: Disk>(
         &mut self,
         draw: u32,
@@ -177,7 +179,7 @@ impl Handles {
         }
     }
 
-    /// Sets the size of the draft of one draw.
+    /// Sets the size of the draft of a draw.
     pub fn resize<D: Disk>(
         &mut self,
         draw: u32,
@@ -198,7 +200,7 @@ impl Handles {
         }
     }
 
-    /// Makes a slot of the draft of one draw hold this, or nothing.
+    /// Makes a slot of the draft of a draw hold `what`, or nothing.
     pub fn put<D: Disk>(
         &mut self,
         draw: u32,
@@ -220,7 +222,7 @@ impl Handles {
         }
     }
 
-    /// Makes the object with this root in the draft of one draw, and puts its identifier into a slot.
+    /// Makes the object with this root in the draft of a draw, and puts its identifier into a slot.
     pub fn create<D: Disk>(
         &mut self,
         draw: u32,
@@ -243,7 +245,7 @@ impl Handles {
         }
     }
 
-    /// Takes out the draft of one draw, if there is one. Takes no memory.
+    /// Removes the draft of a draw, if there is one, and returns it. Takes no memory.
     pub fn take(&mut self, draw: u32) -> Option<ObjectDraft>
         ensures draft { result ≡ drafting_at self.old.handles draw }
         ensures kept { result ≡ None → self.new.handles ≡ self.old.handles }
@@ -253,8 +255,9 @@ impl Handles {
         self.drafts.remove(&draw)
     }
 
-    /// Takes the session's grant with this temporary identifier out, which has no draft. Where there is none all stays
-    /// as it was. Takes no memory.
+    /// Removes the session's grant with this temporary identifier, which has no draft, and returns it.
+    ///
+    /// If there is no such grant nothing is changed. Takes no memory.
     pub fn close(&mut self, who: Session, tuid: Tuid) -> Result<OpenGrant, NoGrant>
         requires undrafted { have_draft (is_at tuid.draw) self.old.handles ≡ false }
         ensures found { IfOk result (λ grant. session_grant (grants_in self.old.handles) who tuid ≡ Some grant) }

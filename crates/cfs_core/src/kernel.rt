@@ -1,4 +1,4 @@
-//! A core, and what it tells of itself.
+//! A core, and what it reports of itself.
 ghost use Rattle.std.specs.Prelude.{◌≡◌, ◌≢◌, ◌+◌, ◌*◌, ◌<◌, ◌≤◌, length, false};
 ghost use Rattle.std.specs.Prelude.{IsSome, if◌then◌else◌, is_some, option_map, option_and_then, sum};
 ghost use Rattle.cfs_core.specs.Room.{IsRoom, lost_blocks, to_be_freed};
@@ -19,33 +19,44 @@ use std::alloc::Global;
 use std::marker::Model;
 use ufs_model::{Asker, Reply, Request};
 
-/// Why a core stopped: at which moment of the disk, and the damage if one was the cause.
+/// When and why a core stopped.
 #[derive(Clone, Copy, Debug, PartialEq, Eq)]
 pub struct Stop {
+    /// The moment of the disk at which the core stopped.
     pub moment: u64,
+    /// The damage, if that was the cause. Else a call of the disk failed.
     pub damage: Option<Damage>,
 }
 
-/// A session left, and the core stopped at this moment of the disk, since a call of the disk failed or a block was
-/// damaged.
+/// A session left, and the core stopped at this moment of the disk.
+///
+/// A call of the disk failed, or a block was damaged.
 #[derive(Clone, Copy, Debug, PartialEq, Eq)]
 pub struct Halt {
+    /// The moment of the disk at which the core stopped.
     pub moment: u64,
 }
 
-/// What a core tells of itself: how many objects, grants and Free blocks there are; whether a collection runs, how many
-/// were called for and how many are finished; the moment at which it stopped, with the damage if one was the cause; and
-/// how many commits are unfinished, 1 or 0.
+/// What a core reports of itself.
 #[derive(Clone, Copy, Debug, PartialEq, Eq)]
 pub struct Status {
+    /// How many objects there are.
     pub objects: u32,
+    /// How many grants all sessions have.
     pub grants: u32,
+    /// How many blocks are Free.
     pub free: u32,
+    /// Whether a collection runs.
     pub running: bool,
+    /// How many collections were called for.
     pub called: u32,
+    /// How many collections are finished.
     pub finished: u32,
+    /// The moment of the disk at which the core stopped, if it did.
     pub stopped: Option<u64>,
+    /// The damage at which it stopped, if that was the cause.
     pub damage: Option<Damage>,
+    /// The number of unfinished commits: 1 or 0.
     pub unfinished: u32,
 }
 
@@ -83,17 +94,19 @@ impl<D: Disk> Model for Core<D> {
 }
 
 impl<D: Disk> Core<D> {
-    /// What it tells of itself. `free` is the number of Free blocks of the maps.
+    /// Returns what the core reports of itself.
+    ///
+    /// `free` is the number of Free blocks by the maps.
     pub fn status(&self) -> Status
         ensures objects { result.objects ≡ length self.now.directory.named }
         ensures counted { (s : State) → ServesIs D.Disk self.now s
             → result.free ≡ free_of (D.content self.now.disk) }
         ensures free { result.free ≡ sum self.now.space.free }
-        // No block is lost: of the image that is to come.
+        // No block is lost in the image that is to come.
         ensures room { (s : State) → ServesIs D.Disk self.now s → sweeps_now s.collection ≡ false
             → free_to_come D.Disk self.now + blocks_taken s.graph (drafts_of_handles self.now.handles s.grants) + 1
             ≡ 63 * length self.now.space.free }
-        // At least four are Free together with those that are still to be freed.
+        // At least four blocks are Free, counting those that are still to be freed.
         ensures together { (s : State) → ServesIs D.Disk self.now s
             → result.free + to_be_freed (D.content self.now.disk) (end_in D.Disk self.now)
             ≡ free_to_come D.Disk self.now }
@@ -106,7 +119,7 @@ impl<D: Disk> Core<D> {
         ensures collects { (s : State) → ServesIs D.Disk self.now s → result.running ≡ is_collecting s.collection }
         ensures called { result.called ≡ self.now.collections.called }
         ensures finished { result.finished ≡ self.now.collections.finished }
-        // Never more are finished than were called for.
+        // No more are finished than were called for.
         ensures few { result.finished ≤ result.called }
     {
         Status {
@@ -122,8 +135,9 @@ impl<D: Disk> Core<D> {
         }
     }
 
-    /// The Free blocks of the image that is to come are the room, as long as nothing sweeps, and else the room less the
-    /// blocks of objects that are gone. This does nothing: it is a law.
+    /// The number of Free blocks of the image that is to come is the room, unless a sweep goes on.
+    ///
+    /// Then it is the room less the blocks of objects that are gone. This is a law: the call does nothing.
     pub fn has_room(&self)
         ensures size { D.blocks self.now.disk ≡ 64 * length self.now.space.free }
         ensures room { (s : State) → ServesIs D.Disk self.now s → sweeps_now s.collection ≡ false
@@ -135,35 +149,37 @@ impl<D: Disk> Core<D> {
         let _disk = &self.disk;
     }
 
-    /// The disk's clock.
+    /// Returns the disk's clock.
     pub fn moment(&self) -> u64
         ensures { result ≡ D.moment self.now.disk }
     {
         self.disk.moment()
     }
 
-    /// How many words were drawn.
+    /// Returns how many words were drawn.
     pub fn drawn(&self) -> u32
         ensures { result ≡ self.now.words.drawn }
     {
         self.words.drawn()
     }
 
-    /// The identifier of the root index.
+    /// Returns the identifier of the root index.
     pub fn root(&self) -> Puid
         ensures { result ≡ self.now.root }
     {
         self.root
     }
 
-    /// The disk.
+    /// Returns the disk.
     pub fn into_disk(self) -> D
         ensures { result ≡ self.disk }
     {
         self.disk
     }
 
-    /// The kind of an object. Its root block is one of the disk's, and not block 0.
+    /// Returns the kind of an object.
+    ///
+    /// Its root block is one of the disk's, and not block 0.
     pub(crate) fn kind(&self, id: Puid) -> Option<Kind>
         ensures kind { result ≡ directory_kind self.now.directory.named id }
         ensures on_disk { IsSome result → id.block < D.blocks self.now.disk }

@@ -1,4 +1,4 @@
-//! What holds of the parts of a core, as contracts. None of these calls does anything.
+//! What holds of the parts of a core, as contracts of functions that do nothing.
 ghost use Rattle.std.specs.Prelude.{◌<◌, IsTrue};
 ghost use Rattle.cfs_core.specs.Kernel.{grants_in};
 ghost use Rattle.cyl_alloc.specs.Counts.{AreFreeCounts};
@@ -15,14 +15,14 @@ pub(crate) fn grants_are_a_table(handles: &Handles)
     handles.len();
 }
 
-/// There is a cylinder, and each has its count.
+/// There is at least one cylinder, and each has its count.
 pub(crate) fn cylinders_are_counted(space: &Space)
     ensures { AreFreeCounts space.now.free }
 {
     space.free();
 }
 
-/// The collections that were called for are as many as a `u32` counts at most.
+/// The number of collections that were called for fits a `u32`.
 pub(crate) fn calls_are_counted(collections: &Collections)
     ensures { collections.now.called < 4294967296 }
 {

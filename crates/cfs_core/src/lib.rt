@@ -1,4 +1,5 @@
 //! The core: the universal file server on one disk.
+//!
 //! The layer above uses that each call is one event of the definitions, and that what a crash leaves of it survives.
 #![tactic(auto)]
 

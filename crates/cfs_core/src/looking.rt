@@ -16,7 +16,7 @@ use cfs_base::{BlockNo, Disk, Refused, Session};
 use index_ops::retrieve;
 use ufs_model::{Ref, Reply, Wanted};
 
-/// Whether the index with this root has such a slot.
+/// Returns whether the index with this root has such a slot.
 pub(crate) fn has_slot(root: &Root, slot: u64) -> bool
     requires { root.now.size ≤ size_limit }
     ensures has { result ≡ true → 8 * slot + 8 ≤ root.now.size }
@@ -25,8 +25,9 @@ pub(crate) fn has_slot(root: &Root, slot: u64) -> bool
     slot < root.size / 8
 }
 
-/// What a slot of the index with this root holds, which is shown at a block, as a reply: `Slot` where it has no such
-/// slot, `Empty` where it holds nothing.
+/// Returns what a slot of the index with this root holds, as a reply. The index is shown at a block.
+///
+/// It is `Slot` if the index has no such slot, and `Empty` if the slot holds nothing.
 pub(crate) fn look<D: Disk>(
     disk: &mut D,
     index: BlockNo,
@@ -51,7 +52,7 @@ pub(crate) fn look<D: Disk>(
 }
 
 impl<D: Disk> Core<D> {
-    /// The identifier in a slot.
+    /// Returns the identifier in a slot.
     pub(crate) fn retrieve(&mut self, who: Session, to: Ref, slot: u64) -> Result<Reply, Refused>
         ensures { Tries D.Disk self.old self.new who (asks.Retrieve to slot) result }
     {
@@ -70,7 +71,7 @@ impl<D: Disk> Core<D> {
         }
     }
 
-    /// The number of slots.
+    /// Returns the number of slots.
     pub(crate) fn slots(&mut self, who: Session, to: Ref) -> Result<Reply, Refused>
         ensures { Tries D.Disk self.old self.new who (asks.Slots to) result }
     {

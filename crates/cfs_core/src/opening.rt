@@ -1,4 +1,4 @@
-//! A volume opened.
+//! How a volume is opened.
 ghost use Rattle.std.specs.Prelude.{◌≡◌, ◌≢◌, ◌⊎◌, ◌+◌, ◌*◌, ◌/◌, ◌%◌, ◌≤◌, false};
 ghost use Rattle.std.specs.Prelude.{IfErr, IfOk, IsErr, IsTrue, None, OnOk, length};
 ghost use Rattle.cfs_base.specs.Calls.{HasFailed, MakesAtMost};
@@ -30,7 +30,7 @@ pub struct OpenFault<D: Disk> {
     pub disk: D,
 }
 
-/// What only a disk that lies can give: identifiers past its end, or of block 0.
+/// Returns whether an identifier is past the disk's end, or of block 0. Only a disk that lies can give one.
 fn is_astray(recovered: &Recovered, blocks: u32) -> bool
     ensures not { result ≡ false → (recovered.now.directory.room ≡ blocks)
         × (has_root_in recovered.now.directory.named 0 ≡ false) }
@@ -41,8 +41,10 @@ fn is_astray(recovered: &Recovered, blocks: u32) -> bool
 }
 
 impl<D: Disk> Core<D> {
-    /// Makes a fresh volume of a disk with 64 blocks a cylinder, whose root index is named by the seed's first word, as
-    /// `format_volume` does. Takes no memory. `Failed` where a call of the disk failed: what it held may then be lost.
+    /// Makes a fresh volume of a disk, with 64 blocks a cylinder, as `format_volume` does.
+    ///
+    /// The seed's first word names its root index. Takes no memory. `Failed` if a call of the disk failed: what the
+    /// disk held may then be lost.
     pub fn format(disk: &mut D, seed: u64) -> Result<(), Failed>
         requires whole { D.blocks disk.old % 64 ≡ 0 }
         requires some { 1 ≤ D.blocks disk.old }
@@ -56,25 +58,26 @@ impl<D: Disk> Core<D> {
         format_volume(disk, root_word(seed))
     }
 
-    /// Opens the volume on a disk that a crash left, as `recover` does. Nothing is open on it, and no word of the seed
-    /// is drawn.
+    /// Opens the volume on a disk that a crash left, as `recover` does.
+    ///
+    /// No object is open then, and no word of the seed is drawn.
     pub fn open(alloc: Global, disk: D, seed: u64) -> Result<Core<D>, OpenFault<D>>
         ensures opened { IsTrue (D.honest disk) → (graph : Graph) → IsSoundAs (D.content disk) graph
             → IfOk result (IsOpenedCore D.Disk graph seed) }
-        // Whatever disk it is, no word is drawn, the core hasn't stopped, and no collection was called for.
+        // On any disk no word is drawn, the core hasn't stopped, and no collection was called for.
         ensures begins { IfOk result (λ core. (core.words ≡ record { seed = seed; drawn = 0 }) × (core.stop ≡ None)) }
         ensures idle { IfOk result (λ core. core.collections ≡ record { collector = None; called = 0; finished = 0 }) }
-        // A volume that isn't sound is refused for what is wrong with it, and a sound one for nothing of the kind.
+        // A volume that isn't sound is refused for what is wrong with it, and a sound one is never refused so.
         ensures sound { IsTrue (D.honest disk) → IfOk result (λ core. IsSound (D.content disk)) }
         ensures refused { IsTrue (D.honest disk) → IfErr result (λ e. IsOpenFault (D.content disk) e.why) }
         ensures free { IsTrue (D.honest disk) → IsSound (D.content disk)
             → IfErr result (λ e. (e.why ≡ RecoverFault.Disk) ⊎ (e.why ≡ RecoverFault.Memory)) }
-        // Nothing was written where it is refused for another reason than a device call, or the volume isn't sound.
+        // If it is refused for another reason than a device call, or the volume isn't sound, nothing was written.
         ensures untouched { IsTrue (D.honest disk)
             → IfErr result (λ e. e.why ≢ RecoverFault.Disk → IsUntouched D.Disk disk e.disk) }
         ensures unsound { IsTrue (D.honest disk) → ¬ IsSound (D.content disk)
             → IsUntouched D.Disk disk (disk_of result) }
-        // A sound one reads as it did in each image since the first barrier, Ok or not.
+        // A sound volume reads as it did in each image since the first barrier, `Ok` or not.
         ensures images { IsTrue (D.honest disk) → (graph : Graph) → IsSoundAs (D.content disk) graph
             → LeavesSinceBarrier D.Disk disk (disk_of result) (λ c. IsSoundAs c graph) }
         ensures cause { IfErr result (λ e. IsCaused D.Disk disk e.disk e.why) }

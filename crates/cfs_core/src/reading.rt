@@ -18,15 +18,16 @@ use cfs_base::{BlockNo, Disk, Refused, Session};
 use std::alloc::Global;
 use ufs_model::{MOST_AT_ONCE, Ref, Reply, Wanted};
 
-/// Whether 1 to 4,096 bytes lie within the size.
+/// Returns whether `count` is 1 to 4,096 and the bytes are within the size.
 pub(crate) fn is_range(size: u64, offset: u64, count: u64) -> bool
     ensures { result ≡ refusal.is_range size offset count }
 {
     0 < count && count <= MOST_AT_ONCE && offset <= size && count <= size - offset
 }
 
-/// So many bytes of the file with this root, which is shown at a block, from an offset on, as a reply: `Range` where
-/// they aren't 1 to 4,096 within its size.
+/// Returns `count` bytes of the file with this root, beginning at an offset, as a reply.
+///
+/// The file is shown at a block. The reply is `Range` if they aren't 1 to 4,096 within its size.
 fn content<D: Disk>(
     alloc: Global,
     disk: &mut D,
@@ -52,7 +53,7 @@ fn content<D: Disk>(
 }
 
 impl<D: Disk> Core<D> {
-    /// So many bytes of a file, from an offset on.
+    /// Reads `count` bytes of a file, beginning at an offset.
     pub(crate) fn read(
         &mut self,
         alloc: Global,
@@ -78,7 +79,7 @@ impl<D: Disk> Core<D> {
         }
     }
 
-    /// The size of a file in bytes.
+    /// Returns the size of a file in bytes.
     pub(crate) fn size(&mut self, who: Session, to: Ref) -> Result<Reply, Refused>
         ensures { Tries D.Disk self.old self.new who (asks.Size to) result }
     {

@@ -15,7 +15,7 @@ use collector_steps::{Collector, Phase};
 use marking::Rescue;
 use ufs_model::{Ref, Reply, Request};
 
-/// Whether a request puts an object into an index, or opens one.
+/// Returns whether a request puts an object into an index, or opens one.
 fn may_rescue(request: &Request) -> bool
     ensures { result ≡ spec.may_rescue request.now }
 {
@@ -28,7 +28,7 @@ fn may_rescue(request: &Request) -> bool
     }
 }
 
-/// Whether a reply tells that all was done that was asked.
+/// Returns whether a reply says that all was done that was asked.
 fn is_done(reply: &Reply) -> bool
     ensures { result ≡ meanwhile.is_carried_out reply.now }
 {
@@ -38,7 +38,7 @@ fn is_done(reply: &Reply) -> bool
     }
 }
 
-/// The identifier that a reply names, if it names one.
+/// Returns the identifier that a reply names, if it names one.
 fn id_in(reply: &Reply) -> Option<Puid>
     ensures { result ≡ spec.replied_id reply.now }
 {
@@ -48,7 +48,7 @@ fn id_in(reply: &Reply) -> Option<Puid>
     }
 }
 
-/// What was put into this index, or opened, if anything was.
+/// Returns what was put into this index, or opened, if anything was.
 fn rescue_of(index: Option<Puid>, request: &Request, reply: &Reply) -> Option<Rescue>
     ensures { result ≡ spec.rescue_of index request.now reply.now }
 {
@@ -69,7 +69,7 @@ fn rescue_of(index: Option<Puid>, request: &Request, reply: &Reply) -> Option<Re
     }
 }
 
-/// Whether a collection marks.
+/// Returns whether a collection marks.
 fn is_marking(collector: &Collector) -> bool
     ensures { result ≡ marks_in collector.now.phase }
 {
@@ -80,7 +80,7 @@ fn is_marking(collector: &Collector) -> bool
 }
 
 impl Collections {
-    /// Makes room for the rescue that a request may add, where a collection marks.
+    /// Makes room for the rescue that a request may add, if a collection marks.
     pub(crate) fn make_room(&mut self, request: &Request) -> Result<(), NoMemory>
         ensures room { OnOk result (HasRoomFor request.now self.new.collector) }
         ensures same { AreRescued self.old.collector self.new.collector [] [] }
@@ -99,7 +99,7 @@ impl Collections {
         }
     }
 
-    /// What a request that was answered put into this index, or opened, is a rescue where a collection marks.
+    /// Adds what an answered request put into this index, or opened, as a rescue, if a collection marks.
     pub(crate) fn rescue(&mut self, index: Option<Puid>, request: &Request, reply: &Reply)
         requires room { HasRoomFor request.now self.old.collector }
         ensures rescued { AreRescued self.old.collector self.new.collector
@@ -116,7 +116,9 @@ impl Collections {
         }
     }
 
-    /// A grant on this object ended: where a draft of it was being read, the reading goes on at its own first leaf.
+    /// Records that a grant on this object ended.
+    ///
+    /// If a draft of it was being read, the reading goes on at its own first leaf.
     pub(crate) fn draft_ended(&mut self, id: Puid)
         ensures ended { AreRescued self.old.collector self.new.collector [] (id ∷ []) }
         ensures called { self.new.called ≡ self.old.called }
@@ -129,7 +131,7 @@ impl Collections {
 }
 
 impl<D: Disk> Core<D> {
-    /// The index that a request of a session would put an object into, if it goes to any.
+    /// Returns the index into which a request of a session would put an object, if there is one.
     pub(crate) fn aim(&self, who: Session, request: &Request) -> Option<Puid>
         ensures { (s : State) → ServesIs D.Disk self.now s → (reply : asked.Reply)
             → option_to_list (spec.rescue_of result request.now reply) ≡ meanwhile.rescues_of s who request.now reply }
@@ -142,7 +144,7 @@ impl<D: Disk> Core<D> {
         }
     }
 
-    /// The object whose grant a request of a session ends, if it ends one.
+    /// Returns the object whose grant a request of a session ends, if it ends one.
     pub(crate) fn closes(&self, who: Session, request: &Request) -> Option<Puid>
         ensures { (s : State) → ServesIs D.Disk self.now s → (reply : asked.Reply)
             → spec.ended_of result reply ≡ spec.ended_by s who request.now reply }

@@ -7,7 +7,9 @@ use crate::kernel::{Core, Stop};
 use cfs_base::{Damage, Disk};
 
 impl<D: Disk> Core<D> {
-    /// A call of the disk failed. The core stops where a write had been tried, and answers the moment before the disk's.
+    /// Handles a call of the disk that failed.
+    ///
+    /// The core stops if a write had been tried, and then the moment before the disk's is returned.
     pub(crate) fn stop_in_doubt(&mut self, tried: bool) -> Option<u64>
         ensures told { result ≡ doubt_of tried (D.moment self.old.disk) }
         ensures stop { self.new ≡ record self.old { stop = stopped_by (replies.Disk result) self.old.stop } }
@@ -23,7 +25,7 @@ impl<D: Disk> Core<D> {
         Some(moment)
     }
 
-    /// A block is damaged. The core stops, and answers the disk's moment.
+    /// Handles a block that is damaged: the core stops, and the disk's moment is returned.
     pub(crate) fn stop_at(&mut self, damage: Damage) -> u64
         ensures told { result ≡ D.moment self.old.disk }
         ensures stop { self.new ≡ record self.old { stop = Some (record { moment = result; damage = Some damage }) } }

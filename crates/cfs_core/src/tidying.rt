@@ -18,16 +18,16 @@ pub enum Tidy {
 /// Why a part wasn't made.
 #[derive(Clone, Copy, Debug, PartialEq, Eq)]
 pub enum TidyFault {
-    /// A device call failed. Without a doubt all is as it was; with one the core stopped, and that is the moment.
+    /// A device call failed. Without a doubt all is as it was. With one the core stopped, and that is the moment.
     Disk { doubt: Option<u64> },
-    /// A map block that was read is none. The core stopped at this moment.
+    /// A map block that was read is no map. The core stopped at this moment.
     Damaged { damage: Damage, moment: u64 },
     /// The core had stopped at this moment.
     Stopped { moment: u64 },
 }
 
 impl<D: Disk> Core<D> {
-    /// How many parts are left of the commit that is unfinished.
+    /// Returns how many parts are left of the commit that is unfinished.
     pub fn parts_left(&self) -> u64
         ensures is { result ≡ parts_left self.now.space.left }
         ensures small { result < 4611686018427387904 }
@@ -53,7 +53,9 @@ impl<D: Disk> Core<D> {
         }
     }
 
-    /// Why a part wasn't made. The core stops where a write had been tried, and at a damage.
+    /// Returns why a part wasn't made.
+    ///
+    /// The core stops if a write had been tried, and at a damage.
     fn halt(&mut self, trouble: Trouble) -> TidyFault
         ensures told { result ≡ spec.tidy_fault_by trouble (D.moment self.old.disk) }
         ensures stop { self.new

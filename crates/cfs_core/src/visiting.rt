@@ -17,7 +17,7 @@ use block_tree::{Root, read_root};
 use cfs_base::{BlockNo, Disk, FileKind, Kind, Puid, Refused, Session, Tuid};
 use ufs_model::{Reply, Wanted};
 
-/// What a request goes to, where it isn't refused on the way.
+/// What a request goes to, if it isn't refused on the way.
 #[derive(Clone, Copy, Debug, PartialEq, Eq)]
 pub enum Reached {
     /// The draft of this grant.
@@ -26,18 +26,21 @@ pub enum Reached {
     Object { id: Puid, kind: Kind },
 }
 
-/// An object that a request came to, with its root as it is shown.
+/// An object that a request reached, with its root as it is shown.
 #[derive(Clone, Copy, Debug, PartialEq, Eq)]
 pub struct There {
+    /// The identifier of the object.
     pub id: Puid,
+    /// Its kind.
     pub kind: Kind,
+    /// Its root as it is shown.
     pub root: Root,
 }
 
-/// What a request came to.
+/// What a request reached.
 #[derive(Debug, Drop)]
 pub enum Visited {
-    /// It is refused on the way.
+    /// The request is refused on the way.
     Refused(Reply),
     /// The draft of this grant.
     Draft(Tuid),
@@ -45,7 +48,7 @@ pub enum Visited {
     Object(There),
 }
 
-/// The kind of an object that is a file.
+/// Returns the kind of file of a kind of object that is a file.
 pub(crate) fn file_kind(kind: Kind) -> FileKind
     requires { unfit_of AFile (Some kind) ≡ None }
     ensures { made_kind result ≡ kind }
@@ -57,7 +60,7 @@ pub(crate) fn file_kind(kind: Kind) -> FileKind
     }
 }
 
-/// The root of the object that is shown at a block.
+/// Reads the root of the object that is shown at a block.
 pub(crate) fn root_in<D: Disk>(disk: &mut D, at: BlockNo) -> Result<Root, Refused>
     requires { at.0 < D.blocks disk.old }
     ensures read { IfOk result (λ root. WasRead D.Disk 1 at.0 root disk.old disk.new) }
@@ -69,7 +72,7 @@ pub(crate) fn root_in<D: Disk>(disk: &mut D, at: BlockNo) -> Result<Root, Refuse
 }
 
 impl<D: Disk> Core<D> {
-    /// What a request of a session goes to, or its refusal on the way there.
+    /// Returns what a request of a session goes to, or its refusal on the way there.
     pub(crate) fn reach(&self, who: Session, way: Way, wants: Wanted) -> Result<Reached, Reply>
         ensures refused { IfErr result (λ reply. (request : Request) → GoesBy request wants way
             → Tries D.Disk self.now self.now who request (Ok reply)) }
@@ -84,7 +87,7 @@ impl<D: Disk> Core<D> {
         }
     }
 
-    /// What a request of a session comes to. Of an object the root is read.
+    /// Returns what a request of a session reaches. The root of an object is read.
     pub(crate) fn visit(
         &mut self,
         who: Session,

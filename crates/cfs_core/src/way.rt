@@ -17,17 +17,21 @@ use cfs_base::{Disk, Kind, Mode, Puid, Session};
 use open_table::OpenGrant;
 use ufs_model::{Ref, Reply, Wanted};
 
-/// What a request goes to, an object that it names besides, and whether it changes what is there.
+/// How a request goes to what it names.
 #[derive(Clone, Copy, Debug, PartialEq, Eq)]
 pub struct Way {
+    /// What the request goes to.
     pub to: Ref,
+    /// An object that the request also names.
     pub also: Option<Puid>,
+    /// Whether the request changes what is there.
     pub changes: bool,
 }
 
 impl<D: Disk> Core<D> {
-    /// The object that a request of a session goes to, and its kind, which is wanted there, or its refusal on the way
-    /// there.
+    /// Returns the object that a request of a session goes to, and its kind, which is one that is wanted.
+    ///
+    /// The error is the refusal on the way there.
     pub(crate) fn object_at(
         &self,
         who: Session,
@@ -60,7 +64,7 @@ impl<D: Disk> Core<D> {
         Ok((id, kind))
     }
 
-    /// What a reference of a session goes to, if it goes anywhere.
+    /// Returns the object to which a reference of a session goes, if it goes anywhere.
     pub(crate) fn goes_to(&self, who: Session, to: Ref) -> Option<Puid>
         ensures { (s : State) → ServesIs D.Disk self.now s → result ≡ named s who to }
     {
@@ -71,7 +75,7 @@ impl<D: Disk> Core<D> {
         }
     }
 
-    /// Whether an object that is named besides isn't there.
+    /// Returns whether an object that is also named doesn't exist.
     pub(crate) fn lacks(&self, also: Option<Puid>) -> bool
         ensures gone { (s : State) → ServesIs D.Disk self.now s → result ≡ is_gone s also }
         ensures some { result ≡ false → (id : Puid) → also ≡ Some id → id.block ≢ 0 }
@@ -82,7 +86,7 @@ impl<D: Disk> Core<D> {
         }
     }
 
-    /// Whether a change is asked through a grant for reading.
+    /// Returns whether a change is asked through a grant for reading.
     fn may_only_read(&self, who: Session, way: Way) -> bool
         ensures { (s : State) → ServesIs D.Disk self.now s
             → result ≡ (way.changes && goes_through_reading s who way.to) }
@@ -93,7 +97,7 @@ impl<D: Disk> Core<D> {
         self.is_for_reading(who, way.to)
     }
 
-    /// Whether a reference of a session is a grant for reading.
+    /// Returns whether a reference of a session is a grant for reading.
     fn is_for_reading(&self, who: Session, to: Ref) -> bool
         ensures { (s : State) → ServesIs D.Disk self.now s → result ≡ goes_through_reading s who to }
     {
@@ -104,8 +108,9 @@ impl<D: Disk> Core<D> {
         }
     }
 
-    /// Whether one that goes straight to an object meets a grant: any grant where it wants the object alone, else one
-    /// for writing.
+    /// Returns whether a request that goes straight to an object meets a grant.
+    ///
+    /// If it wants the object alone any grant counts, else one for writing.
     fn is_met(&self, alone: bool, to: Ref) -> bool
         ensures { (s : State) → ServesIs D.Disk self.now s → result ≡ meets_a_grant s alone to }
     {
@@ -118,14 +123,14 @@ impl<D: Disk> Core<D> {
     }
 }
 
-/// Whether what is there is wanted.
+/// Returns whether what is there is wanted.
 pub(crate) fn is_fit(wants: Wanted, kind: Option<Kind>) -> bool
     ensures { result ≡ is_none (unfit_of wants kind) }
 {
     wanted_kind(wants, kind).is_ok()
 }
 
-/// The kind of what is there, or the refusal of a request that wants something else.
+/// Returns the kind of what is there, or the refusal of a request that wants something else.
 fn wanted_kind(wants: Wanted, kind: Option<Kind>) -> Result<Kind, Reply>
     ensures fit { IfOk result (λ there. (kind ≡ Some there) × (unfit_of wants kind ≡ None)) }
     ensures unfit { IfErr result (λ reply. unfit_of wants kind ≡ Some reply) }
@@ -138,7 +143,7 @@ fn wanted_kind(wants: Wanted, kind: Option<Kind>) -> Result<Kind, Reply>
     }
 }
 
-/// Whether there is a grant, and it is for reading.
+/// Returns whether there is a grant, and it is for reading.
 fn reads(grant: Option<OpenGrant>) -> bool
     ensures { result ≡ reads_by grant }
 {
@@ -151,7 +156,7 @@ fn reads(grant: Option<OpenGrant>) -> bool
     }
 }
 
-/// Whether an object that is open in this mode, if it is open, can't be had, alone or for reading.
+/// Returns whether an object that is open in this mode, if it is open, can't be had, alone or for reading.
 fn bars(alone: bool, mode: Option<Mode>) -> bool
     ensures { result ≡ (if alone then is_some mode else is_writing mode) }
 {

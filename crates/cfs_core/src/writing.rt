@@ -25,8 +25,9 @@ use cfs_base::{BlockNo, Disk, Kind, Puid, Refused, Session};
 use std::alloc::Global;
 use ufs_model::{MOST_BYTES, RESERVE, Ref, Reply, Wanted};
 
-/// The root of the file at a block: that which was read, or, where parts of a commit were made since, that which is
-/// there now.
+/// Returns the root of the file at a block.
+///
+/// It is the root that was read, or the present one if parts of a commit were made since.
 fn root_since<D: Disk>(
     disk: &mut D,
     file: BlockNo,
@@ -43,8 +44,10 @@ fn root_since<D: Disk>(
 }
 
 impl<D: Disk> Core<D> {
-    /// Writes bytes into a file, from an offset on. Of a normal file each leaf may be changed without the others where
-    /// the call fails; a special file is changed as a whole.
+    /// Writes bytes into a file, beginning at an offset.
+    ///
+    /// If the call fails, each leaf of a normal file may be changed without the others. A special file is changed as
+    /// a whole.
     pub(crate) fn write(
         &mut self,
         alloc: Global,
@@ -67,7 +70,7 @@ impl<D: Disk> Core<D> {
         }
     }
 
-    /// Writes bytes into a file that has no draft, whose root was read before.
+    /// Writes bytes into a file that has no draft. The file's root was read before.
     fn write_object(
         &mut self,
         alloc: Global,

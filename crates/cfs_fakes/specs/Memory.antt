@@ -26,7 +26,7 @@ tries_of d = d.tries
 abbrev pub faults_of : MemoryDisk → ℕ
 faults_of d = d.faults
 
--- a crash at some moment since t may leave it
+-- an image that a crash at some moment since t may leave
 abbrev pub left_of : MemoryDisk → ℕ → Image → Type 0
 left_of d t c = left_of_recorder d.recorder t c
 
@@ -34,15 +34,15 @@ left_of d t c = left_of_recorder d.recorder t c
 abbrev pub listed_calls : MemoryDisk → List ℕ
 listed_calls d = d.listed.calls.items
 
--- what the calls before moment t have made of a recording disk, which began with zeros
+-- the state of a recording disk, which began with zeros, after the calls before moment t
 abbrev pub disk_state_at : MemoryDisk → ℕ → DiskState
 disk_state_at d t = state_at d.recorder t
 
--- what all calls have made of it
+-- its state after all calls
 abbrev pub now_of : MemoryDisk → DiskState
 now_of d = disk_state_at d (moment_of d)
 
--- The next call fails: it is listed, or the disk records and its clock has come to its end.
+-- The next call fails: it is listed, or the disk records and its clock has reached its end.
 abbrev pub IsDue : MemoryDisk → Type 0
 IsDue d = Contains (listed_calls d) (moment_of d) ⊎ (IsTrue (is_recording d) × (moment_of d ≡ 2 ^ 64 - 1))
 
@@ -57,12 +57,12 @@ pub record IsUncalled (d : MemoryDisk) (blocks : Image) (calls : List ℕ) (reco
   pub faults : faults_of d ≡ 0
   pub starved : starved_of d ≡ 0
 
--- the same calls fail, and it still records or doesn't
+-- the same calls fail, and it records as before
 pub record IsSamePlan (old new : MemoryDisk) : Type 0 where
   pub listed : new.listed ≡ old.listed
   pub recording : is_recording new ≡ is_recording old
 
--- what was made of it by each moment up to the call stays so
+-- its state at each moment up to the call stays
 abbrev pub KeepsStates : MemoryDisk → MemoryDisk → Type 0
 KeepsStates old new = (t : ℕ) → t ≤ moment_of old → disk_state_at new t ≡ disk_state_at old t
 
@@ -72,14 +72,14 @@ pub record Succeeds (old new : MemoryDisk) : Type 0 where
   pub faults : faults_of new ≡ faults_of old
   pub starved : starved_of new ≡ starved_of old
 
--- a read or a barrier that fails as it must: it is counted, and is nothing to a crash
+-- a read or a barrier that fails as it must: it is counted, and a crash sees nothing of it
 pub record Fails (old new : MemoryDisk) : Type 0 where
   pub due : IsDue old
   pub faults : faults_of new ≡ count_after (faults_of old)
   pub starved : starved_of new ≡ starved_of old
   pub state : now_of new ≡ now_of old
 
--- a write that fails as it must: unless the clock has come to its end, a crash may leave it
+-- a write that fails as it must: a crash may leave it, unless the clock has reached its end
 pub record MissesWrite (old new : MemoryDisk) (at : ℕ) (block : List ℕ) : Type 0 where
   pub due : IsDue old
   pub faults : faults_of new ≡ count_after (faults_of old)
@@ -87,8 +87,8 @@ pub record MissesWrite (old new : MemoryDisk) (at : ℕ) (block : List ℕ) : Ty
   pub state : IsTrue (is_recording old) → moment_of old < 2 ^ 64 - 1 →
       now_of new ≡ after (Write at block false) (now_of old)
 
--- a call that a recording disk can't keep for want of memory: it is counted as a fault and apart, and is nothing to a
--- crash
+-- a call that a recording disk can't keep for want of memory: it is counted as a fault and apart, and a crash sees
+-- nothing of it
 pub record Starves (old new : MemoryDisk) : Type 0 where
   pub recording : IsTrue (is_recording old)
   pub faults : faults_of new ≡ count_after (faults_of old)

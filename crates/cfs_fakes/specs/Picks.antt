@@ -1,8 +1,8 @@
--- Which write a crash leaves of each block.
+-- The write that a crash leaves of each block.
 use Rattle.std.specs.Prelude.{◌≡◌, ℕ, ◌<◌, get_or, nat_eq, if◌then◌else◌, List, [], ◌∷◌}
 use Rattle.cfs_fakes.specs.declared.kept.Pick.{Pick}
 
--- the choice of the first pick of this block, 0 where there is none
+-- the choice of the first pick of this block, or 0 if there is none
 abbrev pub choice_of : List Pick → ℕ → ℕ
 choice_of [] n = 0
 choice_of (pick ∷ later) n = if nat_eq pick.block n then pick.choice else choice_of later n

@@ -15,7 +15,7 @@ state_at r t = replayed_calls (zeros r.blocks) t r.kept.items
 abbrev pub state_now : Recorder → DiskState
 state_now r = state_at r r.moment
 
--- a crash at some moment since t may leave it, where calls are kept
+-- an image that a crash at some moment since t may leave, if calls are kept
 abbrev pub left_of : Recorder → ℕ → Image → Type 0
 left_of r t c = IsTrue r.keeps × Left IsImage (state_at r) r.moment t c
 

@@ -7,7 +7,7 @@ use Rattle.cfs_fakes.specs.declared.kept.Call.{Call}
 use Rattle.cfs_fakes.specs.declared.kept.Call.TheVariants.{Write, Barrier}
 use Rattle.cfs_fakes.specs.declared.kept.KeptCall.{KeptCall}
 
--- the content, the content at the last barrier, and the writes since then, the newest first, with their blocks
+-- the content, the content at the last barrier, and the writes since then, the newest first, each with its block
 pub record DiskState : Type 0 where
   pub content : Image
   pub base : Image
@@ -21,7 +21,8 @@ zeros blocks = record {
   pending = [];
 }
 
--- What a kept call does. A write that failed changes no content, and waits for the next barrier like one that is done.
+-- What a kept call does. A write that failed changes no content, and waits for the next barrier as one that is done
+-- does.
 abbrev pub after : Call → DiskState → DiskState
 after (Write at block done) s = record {
   content = if done then set s.content at block else s.content;
@@ -45,22 +46,22 @@ abbrev pub writes_to : ℕ → List (ℕ × List ℕ) → List (List ℕ)
 writes_to n [] = []
 writes_to n (w ∷ older) = if nat_eq w.0 n then w.1 ∷ writes_to n older else writes_to n older
 
--- the writes to one block that wait for a barrier, those that failed too, the newest first
+-- the writes to one block that wait for a barrier, even those that failed, the newest first
 abbrev pub waiting : DiskState → ℕ → List (List ℕ)
 waiting s n = writes_to n s.pending
 
--- how many there are, as far as a choice can number them
+-- how many such writes there are, as far as a choice can number them
 abbrev pub choices_of : DiskState → ℕ → ℕ
 choices_of s n = min (length (waiting s n)) (2 ^ 32 - 1)
 
--- What a block holds by a choice: 0 is its content at the last barrier, k the k-th write since then, or the last where
--- there are fewer. The newest write stands first.
+-- What a block holds by a choice: 0 is its content at the last barrier, and k the k-th write since then, or the last
+-- if there are fewer. The newest write is the first of the list.
 abbrev pub chosen : ℕ → List ℕ → List (List ℕ) → List ℕ
 chosen k base [] = base
 chosen k base (block ∷ older) = if nat_lt (length older) k then block else chosen k base older
 
--- A choice k of such writes, the newest first: 0 is the content at the last barrier, 1 to their number the k-th of
--- them, and any above the last.
+-- What a choice k of such writes, the newest first, means: 0 is the content at the last barrier, 1 up to their number
+-- the k-th write, and any number above it the last.
 pub record AreChoices (writes : List (List ℕ)) : Type 0 where
   pub none : (base : List ℕ) → chosen 0 base writes ≡ base
   pub one : (k : ℕ) (base : List ℕ) → 0 < k → k ≤ length writes
@@ -72,6 +73,6 @@ pub record IsChoice (s : DiskState) (choice : ℕ → ℕ) (c : Image) : Type 0 
   pub size : length c ≡ length s.base
   pub each : (n : ℕ) → n < length c → block_at c n ≡ chosen (choice n) (block_at s.base n) (writes_to n s.pending)
 
--- a crash may leave it: each block holds some choice
+-- an image that a crash may leave: each block holds some choice
 abbrev pub IsImage : DiskState → Image → Type 0
 IsImage s c = (choice : ℕ → ℕ) × IsChoice s choice c

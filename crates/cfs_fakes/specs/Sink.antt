@@ -1,4 +1,4 @@
--- A sink in memory: the bytes that it has taken, and which of its calls fail.
+-- A sink in memory: the bytes that were taken, and which of its calls fail.
 use Rattle.std.specs.Prelude.{◌≡◌, ◌↔◌, ℕ, List, [], Contains, Some}
 use Rattle.cfs_base.specs.Outside.{Intake, count_after}
 use Rattle.cfs_fakes.specs.declared.memory_sink.MemorySink.{MemorySink}
@@ -29,7 +29,7 @@ pub record IsUncalled (s : MemorySink) (calls : List ℕ) : Type 0 where
   pub faults : s.faults ≡ 0
   pub starved : starved_of s ≡ 0
 
--- one call more, and the same calls fail
+-- one more call, and the same calls fail
 pub record IsNext (old new : MemorySink) : Type 0 where
   pub one_call : calls_of new ≡ count_after (calls_of old)
   pub listed : new.listed ≡ old.listed

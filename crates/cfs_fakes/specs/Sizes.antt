@@ -1,4 +1,4 @@
--- What a crash leaves of a disk whose calls were kept is as long as the disk.
+-- What a crash leaves of a disk whose calls were kept has as many blocks as the disk.
 use Rattle.std.proofs.Common.{◌≡◌, ℕ, true, false, List, length, replicate, ◌∙◌, length-set}
 use Rattle.std.proofs.lemmas.List.{length-replicate}
 use Rattle.cfs_base.specs.Disk.{Image}

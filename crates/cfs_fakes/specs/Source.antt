@@ -1,4 +1,4 @@
--- A source in memory: the bytes that it has left, and which of its calls fail.
+-- A source in memory: the bytes that are left, and which of its calls fail.
 use Rattle.std.specs.Prelude.{◌≡◌, ◌↔◌, ℕ, List, drop, Contains, Some}
 use Rattle.cfs_base.specs.Outside.{Supply, count_after}
 use Rattle.cfs_fakes.specs.declared.memory_source.MemorySource.{MemorySource}
@@ -24,7 +24,7 @@ pub record IsUncalled (s : MemorySource) (bytes calls : List ℕ) : Type 0 where
   pub none : calls_of s ≡ 0
   pub faults : s.faults ≡ 0
 
--- one call more, and the same calls fail
+-- one more call, and the same calls fail
 pub record IsNext (old new : MemorySource) : Type 0 where
   pub one_call : calls_of new ≡ count_after (calls_of old)
   pub listed : new.listed ≡ old.listed

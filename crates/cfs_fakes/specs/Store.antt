@@ -1,4 +1,4 @@
--- The bytes of so many blocks.
+-- The bytes of a number of blocks.
 use Rattle.std.specs.Prelude.{◌≡◌, ℕ, ◌*◌, ◌<◌, List, length, get_or}
 
 pub record AreBytes (count : ℕ) (bytes : List ℕ) : Type 0 where

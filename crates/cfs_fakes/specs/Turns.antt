@@ -3,7 +3,7 @@ use Rattle.std.specs.Prelude.{◌≡◌, ℕ, zero, suc, ◌≤◌, ◌==◌, tr
 use Rattle.std.proofs.Math.Nat.{not-suc-le-zero, le_of_suc-le-suc}
 use Rattle.cfs_fakes.specs.declared.turns.Turns.{Turns}
 
--- those that a worker has left; there are no others
+-- how many turns a worker has left; there are no other workers
 abbrev pub left_of : Turns → ℕ → ℕ
 left_of turns zero = turns.first
 left_of turns (suc zero) = turns.second

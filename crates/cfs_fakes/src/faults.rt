@@ -4,7 +4,7 @@ ghost use Rattle.cfs_base.specs.Outside.{Rose, count_after};
 
 use cfs_base::Failed;
 
-/// Counts a call that fails.
+/// Counts a call that fails, and returns its error.
 pub fn failed(faults: &mut u64) -> Failed
     ensures one_more { faults.new ≡ count_after faults.old }
     ensures rose { Rose faults.old faults.new }
@@ -14,7 +14,7 @@ pub fn failed(faults: &mut u64) -> Failed
     Failed
 }
 
-/// Counts a call that fails for want of memory: as a fault, and apart.
+/// Counts a call that fails for want of memory, both as a fault and apart, and returns its error.
 pub fn starve(starved: &mut u64, faults: &mut u64) -> Failed
     ensures starved { starved.new ≡ count_after starved.old }
     ensures one_more { faults.new ≡ count_after faults.old }

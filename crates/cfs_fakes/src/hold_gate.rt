@@ -1,22 +1,30 @@
-//! A gate that holds workers back, so that a test can say in which order turns are made.
+//! A gate that holds workers back, so that a test can fix the order of turns.
 use cfs_base::{Gate, NoMemory};
 use std::alloc::Global;
 use std::sync::atomic::{AtomicU64, Ordering};
 use std::thread;
 
-/// The workers that are counted: those of 64 sessions, and the collector.
+/// The number of workers that are counted: those of 64 sessions, and the collector.
 const WORKERS: usize = 65;
 
-/// Before this turn the worker waits until the other worker has finished that turn. Turns are counted from 0.
+/// A hold: before this turn the worker waits until the other worker has finished that turn.
+///
+/// Turns are counted from 0.
 #[derive(Clone, Copy, Debug)]
 pub struct Hold {
+    /// The worker that waits.
     pub worker: u32,
+    /// The turn before which it waits.
     pub turn: u64,
+    /// The worker that it waits for.
     pub until_worker: u32,
+    /// The turn that this worker must finish first.
     pub until_turn: u64,
 }
 
-/// Holds workers back. A worker has finished a turn once it comes to pass for the next one, even if it is held there.
+/// A gate that holds workers back.
+///
+/// A worker has finished a turn once it comes to pass for the next one, even if it is held there.
 #[derive(Drop)]
 pub struct HoldGate {
     holds: Vec<Hold>,
@@ -26,7 +34,9 @@ pub struct HoldGate {
 }
 
 impl HoldGate {
-    /// A gate with these holds, each of which looks so often at most.
+    /// Makes a gate with these holds.
+    ///
+    /// Each hold looks at most `limit` times whether it is over.
     pub fn new(alloc: Global, holds: Vec<Hold>, limit: u64) -> Result<HoldGate, NoMemory> {
         let mut passed = Vec::new(alloc);
         for _ in 0..WORKERS {
@@ -40,12 +50,14 @@ impl HoldGate {
         })
     }
 
-    /// Whether a hold looked in vain as often as it may.
+    /// Returns whether a hold looked `limit` times in vain.
     pub fn gave_up(&self) -> bool {
         self.given_up.load(Ordering::SeqCst) > 0
     }
 
-    /// How often a worker came to pass. 0 for one that isn't counted.
+    /// Returns how many times a worker came to pass.
+    ///
+    /// It is 0 for a worker that isn't counted.
     pub fn passed(&self, worker: u32) -> u64 {
         match self.passed.get(worker as usize) {
             Some(count) => count.load(Ordering::SeqCst),

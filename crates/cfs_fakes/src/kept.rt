@@ -1,10 +1,10 @@
-//! The calls that a recording disk keeps, and which of them a crash leaves.
+//! The calls that a recording disk keeps, and the choice of those that a crash leaves.
 use cfs_base::Block;
 
 /// A call that changed the disk or tried to.
 #[derive(Debug, Drop)]
 pub enum Call {
-    /// A write to this block, and whether it was done.
+    /// A write of this block with this content, and whether it was done.
     Write(u32, Block, bool),
     /// A barrier that was done.
     Barrier,
@@ -17,10 +17,14 @@ pub struct KeptCall {
     pub call: Call,
 }
 
-/// Of this block a crash leaves the content at the last barrier, where `choice` is 0, or that of the `choice`-th write
-/// since then, failed ones too, or of the last where there are fewer. The first pick of a block counts.
+/// What a crash leaves of a block.
+///
+/// If `choice` is 0, it is the content at the last barrier. Else it is that of the `choice`-th write since then,
+/// failed ones counted too, or of the last write if there are fewer. The first pick of a block counts.
 #[derive(Clone, Copy, Debug, PartialEq, Eq)]
 pub struct Pick {
+    /// The number of the block.
     pub block: u32,
+    /// Which of the block's contents the crash leaves.
     pub choice: u32,
 }

@@ -1,6 +1,7 @@
-//! Disks, sources and sinks in memory, and gates that hold nobody up, or workers back. Each keeps the meaning of its
-//! trait, and a recording disk gives exactly the images that a crash may leave, so that what the layers above promise
-//! can be tried.
+//! Disks, sources and sinks in memory, and gates that hold nobody up, or hold workers back.
+//!
+//! Each keeps the meaning of its trait. A recording disk gives exactly the images that a crash may leave, so that
+//! what the layers above promise can be tried.
 #![tactic(auto)]
 
 mod faults;

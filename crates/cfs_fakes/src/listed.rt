@@ -2,7 +2,9 @@
 ghost use Rattle.std.specs.Prelude.{◌↔◌, ℕ, IsTrue, Contains, IsSorted};
 ghost use Rattle.std.specs.Ordering.{nat_cmp};
 
-/// Numbers of calls, which are counted from 0. To look one up takes no longer for later calls.
+/// Numbers of calls, which are counted from 0.
+///
+/// Looking one up takes no longer for later calls.
 #[derive(Debug, Drop)]
 pub struct Listed {
     calls: Vec<u64>,
@@ -10,7 +12,7 @@ pub struct Listed {
 }
 
 impl Listed {
-    /// Takes no memory.
+    /// Makes the list of these calls. Takes no memory.
     pub fn new(calls: Vec<u64>) -> Listed
         ensures { (n : ℕ) → Contains result.calls.items n ↔ Contains calls.items n }
     {
@@ -19,6 +21,7 @@ impl Listed {
         Listed { calls }
     }
 
+    /// Returns whether this call is on the list.
     pub fn contains(&self, call: u64) -> bool
         ensures { IsTrue result ↔ Contains self.now.calls.items call }
     {

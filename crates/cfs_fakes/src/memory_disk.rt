@@ -19,9 +19,10 @@ use crate::store::Store;
 use cfs_base::{Block, BlockNo, Disk, Failed, NoMemory};
 use std::alloc::Global;
 
-/// A disk in memory. It tells its content, and a recording one its crash images. It fails at the calls that are
-/// listed, by their moments, and writes nothing then. A recording one also fails at a write or barrier that it can't
-/// keep for want of memory, and at each call once its clock has come to its end.
+/// A disk in memory. It tells its content, and a recording one also its crash images.
+///
+/// The calls at the listed moments fail, and write nothing. A recording disk also fails at a write or barrier that it
+/// can't keep for want of memory, and at each call once its clock has reached its end.
 #[derive(Debug, Drop)]
 pub struct MemoryDisk {
     store: Store,
@@ -164,14 +165,14 @@ impl MemoryDisk {
     ghost use Rattle.cfs_fakes.specs.Memory.{contents, is_recording, moment_of, starved_of, disk_state_at, IsDue};
     ghost use Rattle.cfs_fakes.specs.Memory.{IsUncalled};
 
-    /// Zero blocks. No call fails.
+    /// Makes a disk of zero blocks. No call fails.
     pub fn new(alloc: Global, blocks: u32) -> Result<MemoryDisk, NoMemory>
         ensures { IfOk result (λ d. IsUncalled d (replicate blocks (replicate 512 0)) [] false) }
     {
         MemoryDisk::failing(alloc, blocks, Vec::new(alloc))
     }
 
-    /// The blocks in these bytes. No call fails. Takes no memory.
+    /// Makes a disk of the blocks in these bytes. No call fails. Takes no memory.
     pub fn of(alloc: Global, bytes: Vec<u8>) -> MemoryDisk
         requires whole { length bytes.items % 512 ≡ 0 }
         requires room { length bytes.items < 2 ^ 41 }
@@ -180,7 +181,7 @@ impl MemoryDisk {
         MemoryDisk::made(alloc, Store::of(bytes), Vec::new(alloc), false)
     }
 
-    /// Zero blocks. The call at each of these moments fails.
+    /// Makes a disk of zero blocks. The call at each of these moments fails.
     pub fn failing(alloc: Global, blocks: u32, calls: Vec<u64>) -> Result<MemoryDisk, NoMemory>
         ensures { IfOk result (λ d. IsUncalled d (replicate blocks (replicate 512 0)) calls.items false) }
     {
@@ -188,7 +189,9 @@ impl MemoryDisk {
         Ok(MemoryDisk::made(alloc, store, calls, false))
     }
 
-    /// Zero blocks. The call at each of these moments fails. It keeps its calls and tells its crash images.
+    /// Makes a recording disk of zero blocks: it keeps its calls and tells its crash images.
+    ///
+    /// The call at each of these moments fails.
     pub fn recording(alloc: Global, blocks: u32, calls: Vec<u64>) -> Result<MemoryDisk, NoMemory>
         ensures { IfOk result (λ d. IsUncalled d (replicate blocks (replicate 512 0)) calls.items true) }
     {
@@ -196,7 +199,9 @@ impl MemoryDisk {
         Ok(MemoryDisk::made(alloc, store, calls, true))
     }
 
-    /// The disk after a crash at this moment, which leaves of each block what was picked. Its calls don't fail.
+    /// Returns the disk after a crash at this moment, which leaves of each block what was picked.
+    ///
+    /// The calls of the new disk don't fail.
     pub fn image(&self, alloc: Global, at: u64, picks: &[Pick]) -> Result<MemoryDisk, NoMemory>
         requires recorded { IsTrue (is_recording self.now) }
         requires in_time { at ≤ moment_of self.now }
@@ -209,8 +214,10 @@ impl MemoryDisk {
         Ok(MemoryDisk::made(alloc, store, Vec::new(alloc), false))
     }
 
-    /// How many writes to the block, failed ones too, were made before this moment and since the last good barrier
-    /// before it: a pick has so many choices beside 0. Takes no memory.
+    /// Returns how many writes a pick may choose from for the block, at a crash at this moment.
+    ///
+    /// They are the writes, failed ones too, that were made since the last good barrier before it. A pick has so many
+    /// choices beside 0. Takes no memory.
     pub fn choices(&self, at: u64, block: u32) -> u32
         requires recorded { IsTrue (is_recording self.now) }
         ensures counted { result ≡ choices_of (disk_state_at self.now at) block }
@@ -219,21 +226,21 @@ impl MemoryDisk {
         self.recorder.choices(at, block)
     }
 
-    /// Whether it keeps its calls.
+    /// Returns whether the disk keeps its calls.
     pub fn is_recording(&self) -> bool
         ensures { result ≡ is_recording self.now }
     {
         self.recorder.keeps()
     }
 
-    /// How many calls failed for want of memory.
+    /// Returns how many calls failed for want of memory.
     pub fn starved(&self) -> u64
         ensures { result ≡ starved_of self.now }
     {
         self.starved
     }
 
-    // no call was made on it
+    // the disk on which no call was made yet
     fn made(alloc: Global, store: Store, calls: Vec<u64>, recording: bool) -> MemoryDisk
         requires { IsTrue recording → store ≡ replicate (length store) (replicate 512 0) }
         ensures { IsUncalled result store calls.items recording }
@@ -249,7 +256,7 @@ impl MemoryDisk {
         }
     }
 
-    // the next call fails
+    // whether the next call fails
     fn is_due(&self) -> bool
         ensures due { IsTrue result ↔ IsDue self.now }
         ensures room { OnFalse result (IsTrue (is_recording self.now) → moment_of self.now < 2 ^ 64 - 1) }

@@ -7,8 +7,9 @@ use crate::listed::Listed;
 use cfs_base::{Failed, Sink};
 use std::alloc::Global;
 
-/// Takes all bytes that it is offered. Its calls are counted from 0, and those that are listed fail; another fails only
-/// for want of memory.
+/// A sink in memory, which takes all bytes that it is offered.
+///
+/// Its calls are counted from 0, and those that are listed fail. Any other call fails only for want of memory.
 #[derive(Debug, Drop)]
 pub struct MemorySink {
     bytes: Vec<u8>,
@@ -21,7 +22,7 @@ pub struct MemorySink {
 impl MemorySink {
     ghost use Rattle.cfs_fakes.specs.Sink.{taken_of, starved_of, IsUncalled};
 
-    /// It has taken no bytes.
+    /// Makes a sink that has taken no bytes. The calls of these numbers fail.
     pub fn new(alloc: Global, calls: Vec<u64>) -> MemorySink
         ensures { IsUncalled result calls.items }
     {
@@ -34,14 +35,14 @@ impl MemorySink {
         }
     }
 
-    /// The bytes that it has taken.
+    /// Returns the bytes that were taken.
     pub fn bytes(&self) -> &[u8]
         ensures { result.now ≡ taken_of self.now }
     {
         &self.bytes
     }
 
-    /// How many calls failed for want of memory.
+    /// Returns how many calls failed for want of memory.
     pub fn starved(&self) -> u64
         ensures { result ≡ starved_of self.now }
     {

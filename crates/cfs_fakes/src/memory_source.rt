@@ -6,12 +6,13 @@ use crate::faults::failed;
 use crate::listed::Listed;
 use cfs_base::{Failed, Source};
 
-/// Gives its bytes, as many at a call as there is room for. Its calls are counted from 0, and those that are listed
-/// fail.
+/// A source in memory, which gives as many of its bytes at a call as there is room for.
+///
+/// Its calls are counted from 0, and those that are listed fail.
 #[derive(Debug, Drop)]
 pub struct MemorySource {
     bytes: Vec<u8>,
-    /// How many bytes it has given.
+    /// How many bytes were given.
     given: usize,
     listed: Listed,
     calls: u64,
@@ -22,7 +23,7 @@ pub struct MemorySource {
 impl MemorySource {
     ghost use Rattle.cfs_fakes.specs.Source.{IsUncalled};
 
-    /// Takes no memory.
+    /// Makes a source of these bytes. The calls of these numbers fail. Takes no memory.
     pub fn new(bytes: Vec<u8>, calls: Vec<u64>) -> MemorySource
         ensures { IsUncalled result bytes.items calls.items }
     {

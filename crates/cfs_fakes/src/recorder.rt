@@ -1,4 +1,4 @@
-//! The clock of a disk in memory, and the calls that it keeps where it records.
+//! The clock of a disk in memory, and the calls that it keeps if it records.
 ghost use Rattle.std.specs.Prelude.{◌≡◌, ◌<◌, ◌≤◌, ◌-◌, ◌^◌, ◌↔◌, IsTrue, OnOk, OnErr, [], IfOk};
 ghost use Rattle.std.specs.Bool.{OnFalse};
 ghost use Rattle.cfs_base.specs.Outside.{Rose, count_after};
@@ -11,7 +11,9 @@ use crate::rerun::{choices_at, image_at};
 use crate::store::Store;
 use std::alloc::{AllocError, Global};
 
-/// Counts the calls of a disk that was made of zeros. One that keeps calls tells which images a crash may leave.
+/// Counts the calls of a disk that was made of zeros.
+///
+/// A recorder that keeps calls tells which images a crash may leave.
 #[derive(Debug, Drop)]
 pub struct Recorder {
     blocks: u32,
@@ -26,7 +28,7 @@ impl Recorder {
     ghost use Rattle.cfs_base.specs.Disk.{Image, Nothing, LeavesOnly, KeepsLeft};
     ghost use Rattle.cfs_fakes.specs.Recorder.{clock, state_at, state_now, left_of, IsSameRecorder};
 
-    /// Nothing was called yet. Takes no memory.
+    /// Makes a recorder for a disk on which nothing was called yet. Takes no memory.
     pub fn new(alloc: Global, blocks: u32, keeps: bool) -> Recorder
         ensures blocks { result.blocks ≡ blocks }
         ensures keeps { result.keeps ≡ keeps }
@@ -41,19 +43,21 @@ impl Recorder {
         }
     }
 
+    /// Returns the clock.
     pub fn moment(&self) -> u64
         ensures { result ≡ clock self.now }
     {
         self.moment
     }
 
+    /// Returns whether calls are kept.
     pub fn keeps(&self) -> bool
         ensures { result ≡ self.now.keeps }
     {
         self.keeps
     }
 
-    /// Whether it keeps calls and the clock has come to its end, so that no further call can be kept.
+    /// Returns whether calls are kept and the clock has reached its end, so that no further call can be kept.
     pub fn is_over(&self) -> bool
         ensures over { IsTrue result ↔ (IsTrue self.now.keeps × (clock self.now ≡ 2 ^ 64 - 1)) }
         ensures room { OnFalse result (IsTrue self.now.keeps → clock self.now < 2 ^ 64 - 1) }
@@ -61,7 +65,7 @@ impl Recorder {
         self.keeps && self.moment == u64::MAX
     }
 
-    /// A call that changes nothing is made.
+    /// Counts a call that changes nothing.
     pub fn pass(&mut self)
         ensures clock { clock self.new ≡ count_after (clock self.old) }
         ensures rose { Rose (clock self.old) (clock self.new) }
@@ -74,7 +78,9 @@ impl Recorder {
         self.moment = self.moment.saturating_add(1);
     }
 
-    /// A call is made that changes the disk or tried to. For want of memory it isn't kept.
+    /// Counts and keeps a call that changes the disk or tries to.
+    ///
+    /// For want of memory it isn't kept.
     pub fn keep(&mut self, call: Call) -> Result<(), AllocError>
         requires { IsTrue self.old.keeps → clock self.old < 2 ^ 64 - 1 }
         ensures clock { clock self.new ≡ count_after (clock self.old) }
@@ -105,14 +111,14 @@ impl Recorder {
         Ok(())
     }
 
-    /// The image that a crash at this moment leaves by these picks.
+    /// Returns the image that a crash at this moment leaves by these picks.
     pub fn image(&self, alloc: Global, at: u64, picks: &[Pick]) -> Result<Store, AllocError>
         ensures { IfOk result (λ image. IsChoice (state_at self.now at) (choice_of picks.now) image) }
     {
         image_at(alloc, self.blocks, &self.kept, at, picks)
     }
 
-    /// How many choices a crash at this moment has for a block, beside 0.
+    /// Returns how many choices a crash at this moment has for a block, beside 0.
     pub fn choices(&self, at: u64, block: u32) -> u32
         ensures { result ≡ choices_of (state_at self.now at) block }
     {

@@ -9,14 +9,14 @@ use crate::store::Store;
 use cfs_base::Block;
 use std::alloc::{AllocError, Global};
 
-/// A disk of which the calls are made again, and the image that a crash then leaves.
+/// A disk on which the calls are made again, and the image that a crash then leaves.
 #[derive(Drop)]
 struct Rerun {
     content: Store,
     image: Store,
-    /// For each block, which write a crash leaves.
+    /// Which write a crash leaves, for each block.
     wanted: Vec<u32>,
-    /// For each block, how many of its writes until then are still to come.
+    /// How many writes are to come until that one, for each block.
     left: Vec<u32>,
     ghost image_size: { length image ≡ length content },
     ghost wanted_size: { length wanted.items ≡ length content },
@@ -27,7 +27,7 @@ impl Rerun {
     ghost use Rattle.std.specs.Prelude.{[], replicate, List};
     ghost use Rattle.cfs_fakes.specs.Rerun.{Follows};
 
-    /// Disk and image are of zeros.
+    /// Begins with a disk and an image of zeros.
     fn new(alloc: Global, blocks: u32, picks: &[Pick]) -> Result<Rerun, AllocError>
         ensures zeros { IfOk result (λ r. Follows r (zeros blocks)) }
         ensures wanted { IfOk result (λ r. IsWanted r.wanted.items picks.now blocks) }
@@ -45,7 +45,7 @@ impl Rerun {
         })
     }
 
-    /// Makes the call again, if it was made before this moment.
+    /// Makes the call again if it was made before this moment.
     fn make_before(&mut self, at: u64, kept: &KeptCall)
         ensures follows { (s : DiskState) → Follows self.old s
             → Follows self.new (after_before made_at made at kept.now s) }
@@ -86,7 +86,7 @@ impl Rerun {
     }
 }
 
-// the choice of each block
+// the choice for each block
 fn choices(alloc: Global, blocks: u32, picks: &[Pick]) -> Result<Vec<u32>, AllocError>
     ensures wanted { IfOk result (λ v. IsWanted v.items picks.now blocks) }
     ensures size { IfOk result (λ v. length v.items ≡ blocks) }
@@ -101,7 +101,7 @@ fn choices(alloc: Global, blocks: u32, picks: &[Pick]) -> Result<Vec<u32>, Alloc
     Ok(wanted)
 }
 
-// how many writes to the block wait, after one call more if it was made before this moment
+// how many writes to the block wait, after one more call if that was made before this moment
 fn waiting_after(count: u32, kept: &KeptCall, at: u64, block: u32) -> u32
     ensures { (s : DiskState) → count ≡ choices_of s block
         → result ≡ choices_of (after_before made_at made at kept.now s) block }
@@ -121,8 +121,9 @@ fn waiting_after(count: u32, kept: &KeptCall, at: u64, block: u32) -> u32
     }
 }
 
-/// How many choices a crash at this moment has for a block, beside 0, on a disk of zeros on which these calls were
-/// made.
+/// Returns how many choices a crash at this moment has for a block, beside 0.
+///
+/// The disk was one of zeros, on which these calls were made.
 pub fn choices_at(blocks: u32, calls: &[KeptCall], at: u64, block: u32) -> u32
     ensures { result ≡ choices_of (replayed_calls (zeros blocks) at calls.now) block }
 {
@@ -133,7 +134,7 @@ pub fn choices_at(blocks: u32, calls: &[KeptCall], at: u64, block: u32) -> u32
     count
 }
 
-/// The image that a crash at this moment leaves of a disk of zeros on which these calls were made.
+/// Returns the image that a crash at this moment leaves of a disk of zeros on which these calls were made.
 pub fn image_at(
     alloc: Global,
     blocks: u32,

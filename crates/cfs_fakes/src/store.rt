@@ -8,7 +8,7 @@ use cfs_base::Block;
 use std::alloc::{AllocError, Global};
 use std::marker::Model;
 
-/// Blocks, seen as the list of them, each the list of its 512 bytes.
+/// Blocks in memory. Contracts see them as the list of the blocks, each the list of its 512 bytes.
 #[derive(Debug, Drop)]
 pub struct Store {
     bytes: Vec<u8>,
@@ -49,7 +49,7 @@ fn put_block(bytes: &mut Vec<u8>, at: usize, block: &[u8; 512])
 
 #[tactic(auto, using(crate::proofs::Chunks::chunk_laws))]
 impl Store {
-    /// Blocks of zeros.
+    /// Makes blocks of zeros.
     pub fn zeros(alloc: Global, count: u32) -> Result<Store, AllocError>
         ensures { IfOk result (λ s. s ≡ replicate count (replicate 512 0)) }
     {
@@ -57,7 +57,7 @@ impl Store {
         Ok(Store { bytes, count })
     }
 
-    /// The blocks in these bytes. Takes no memory.
+    /// Makes the blocks in these bytes. Takes no memory.
     pub fn of(bytes: Vec<u8>) -> Store
         requires whole { length bytes.items % 512 ≡ 0 }
         requires room { length bytes.items < 2 ^ 41 }
@@ -67,6 +67,7 @@ impl Store {
         Store { bytes, count }
     }
 
+    /// Returns the number of blocks.
     pub fn count(&self) -> u32
         ensures count { result ≡ length self.now }
         ensures blocks { AreBlocks self.now }
@@ -74,6 +75,7 @@ impl Store {
         self.count
     }
 
+    /// Copies block `n` into `into`.
     pub fn read(&self, n: u32, into: &mut Block)
         requires { n < length self.now }
         ensures { into.new ≡ block_at self.now n }
@@ -81,6 +83,7 @@ impl Store {
         *into = Block::of(block_from(&self.bytes, n as usize * 512));
     }
 
+    /// Copies `from` into block `n`.
     pub fn write(&mut self, n: u32, from: &Block)
         requires { n < length self.old }
         ensures written { self.new ≡ set self.old n from.now }
@@ -89,7 +92,7 @@ impl Store {
         put_block(&mut self.bytes, n as usize * 512, from.bytes());
     }
 
-    /// Takes over the blocks of another store of the same size.
+    /// Copies the blocks of another store of the same size.
     pub fn copy_from(&mut self, other: &Store)
         requires { length self.old ≡ length other.now }
         ensures { self.new ≡ other.now }

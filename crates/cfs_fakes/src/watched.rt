@@ -1,19 +1,22 @@
-//! A disk whose calls are seen, and that tells nothing.
+//! A disk that counts its calls by their sort, and tells nothing.
 ghost use Rattle.std.specs.Prelude.{◌≡◌, ◌<◌};
 
 use cfs_base::{Block, BlockNo, Disk, Failed};
 
-/// What was called since the last look. It knows 128 blocks apart.
+/// The calls since the last look.
+///
+/// It tells 128 blocks apart.
 #[derive(Clone, Copy, Debug)]
 pub struct Seen {
     /// Reads of maps, and of other blocks.
     pub reads: [u32; 2],
     /// Writes of maps, and of other blocks.
     pub writes: [u32; 2],
+    /// Barriers.
     pub barriers: u32,
-    /// How many reads came before each write and barrier.
+    /// How many reads came before the first write or barrier.
     pub untried: u32,
-    /// Whether a block that is no map was read twice.
+    /// Whether a block other than a map was read twice.
     pub is_twice: bool,
     was_read: [bool; 128],
 }
@@ -26,6 +29,7 @@ fn sort_of(at: BlockNo) -> usize
 }
 
 impl Seen {
+    /// Returns the record of no calls.
     pub fn nothing() -> Seen {
         Seen {
             reads: [0; 2],
@@ -54,7 +58,7 @@ impl Seen {
     }
 }
 
-/// A disk that hides another: it counts as that one does, and tells neither content nor crash images.
+/// A disk over another one. It counts as that one does, and tells neither content nor crash images.
 #[derive(Debug, Drop)]
 pub struct Watched<D> {
     pub lower: D,
@@ -109,6 +113,7 @@ impl<D: Disk> Disk for Watched<D> {
 }
 
 impl<D> Watched<D> {
+    /// Makes a disk over this one. No call was made on it yet.
     pub fn new(lower: D) -> Watched<D>
         ensures { result.lower ≡ lower }
     {

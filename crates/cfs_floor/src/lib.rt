@@ -1,6 +1,7 @@
-//! A machine under one lock, and threads that make its turns. The layer above uses that the machine which is taken out
-//! is one of the type that was put in, whose invariant held at each turn, and that the turns which are left then bring
-//! all to an end.
+//! A machine under one lock, and threads that make its turns.
+//!
+//! The layer above uses that the machine which is taken out has the type of the one that was put in, whose invariant
+//! held at each turn, and that the turns which are left then bring all to an end.
 #![tactic(auto)]
 
 mod floor;

@@ -8,7 +8,7 @@ use std::alloc::Global;
 use std::sync::Wait;
 use std::thread::Threads;
 
-/// Makes all turns that are left, worker after worker: afterwards each is done.
+/// Makes all turns that are left, one worker after another. Each worker is done afterwards.
 pub fn make_turns_left<M: Machine>(machine: &mut M)
     ensures done { (w : ℕ) → M.done machine.new w ≡ true }
     ensures workers { M.worker_count machine.new ≡ M.worker_count machine.old }
@@ -18,9 +18,10 @@ pub fn make_turns_left<M: Machine>(machine: &mut M)
     }
 }
 
-/// Makes all turns of a machine, each worker's in a thread, behind the gate; what is left then, worker after worker.
-/// Where memory is wanting for the shares, there are no threads. No more is known of the machine than its type, and
-/// that each worker is done.
+/// Makes all turns of a machine, each worker's in a thread, behind the gate.
+///
+/// Those that are left then are made one worker after another. If there is no memory for the shares, there are no
+/// threads. Nothing is known of the returned machine but its type, and that each worker is done.
 pub fn make_all_turns<M: Machine + Send, G: Gate + Sync, R: Threads + Wait + Sync>(
     rt: &R,
     alloc: Global,

@@ -17,7 +17,7 @@ pub struct Share {
     pub left: u64,
 }
 
-/// A share for each worker of a machine, of the turns that it has left.
+/// Makes a share for each worker of a machine, of the turns that it has left.
 pub fn shares_of<M: Machine>(alloc: Global, machine: &M) -> Result<Vec<Share>, NoMemory>
     ensures { IfOk result (λ shares. shares.items ≡ shares_from (M.left machine.now) (M.worker_count machine.now)) }
 {
@@ -31,9 +31,10 @@ pub fn shares_of<M: Machine>(alloc: Global, machine: &M) -> Result<Vec<Share>, N
     Ok(shares)
 }
 
-/// Makes the turns of each share beside those of the others, one thread a share; where no thread can be started the
-/// caller does its work. Before each turn its worker passes the gate. A share ends when its worker is done, or it has
-/// no turn left.
+/// Makes the turns of each share beside those of the others, with a thread for each share.
+///
+/// If no thread can be started the caller does its work. Before each turn its worker passes the gate. A share ends
+/// when its worker is done, or has no turn left.
 pub fn run_workers<M: Machine + Send, G: Gate + Sync, R: Threads + Wait + Sync>(
     rt: &R,
     floor: &Floor<M>,

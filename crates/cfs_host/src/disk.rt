@@ -14,18 +14,19 @@ use std::rt::Files;
 /// The bytes of a block.
 const BLOCK: u64 = 512;
 
-/// The blocks at the beginning of a device that are to be zero for a volume to be made on it.
+/// How many blocks at the beginning of a device must be zero for a volume to be made on it.
 const BLANK: u64 = 64;
 
-/// A volume in a file of the system: block n is its bytes from 512 n on. Each read and write is one of the system at
-/// its place, nothing is kept back, and a barrier is a data sync. A call that a signal interrupts is tried again. It
-/// tells nothing of its content; a call of the system that fails is a fault. It is a disk of whole blocks, and one
-/// whose blocks may tear.
+/// A volume in a file of the system: block `n` is the 512 bytes from `512 * n` on.
+///
+/// Each read and write is one call of the system at its place. Nothing is kept back, and a barrier is a data sync. A
+/// call that a signal interrupts is tried again. The disk tells nothing of its content, and a call of the system that
+/// fails is a fault. It is a disk of whole blocks, and one whose blocks may tear.
 #[derive(Drop)]
 pub struct FileDisk {
     file: File,
     blocks: u32,
-    /// This run made the file.
+    /// Whether this run made the file.
     made: bool,
     /// The clock, and the number of calls.
     calls: u64,
@@ -34,9 +35,11 @@ pub struct FileDisk {
 }
 
 impl FileDisk {
-    /// Opens the volume in the file or on the block device of this name, which is read and written, and locks it until
-    /// the disk is dropped. `WouldBlock` where another has it locked, `InvalidInput` where it is neither a file nor a
-    /// block device, `InvalidData` where its length is no multiple of 512 or it has more blocks than block numbers.
+    /// Opens the volume in the file or on the block device of this name for reading and writing.
+    ///
+    /// It is locked until the disk is dropped. Fails with `WouldBlock` if another has it locked, with `InvalidInput`
+    /// if it is neither a file nor a block device, and with `InvalidData` if its length is no multiple of 512 or it
+    /// has more blocks than there are block numbers.
     pub fn existing<R: Files<File = File>>(rt: &R, path: &str) -> io::Result<FileDisk> {
         let file = fs::OpenOptions::new()
             .read(true)
@@ -46,9 +49,10 @@ impl FileDisk {
         FileDisk::sized(file)
     }
 
-    /// Opens the volume in the file or on the block device of this name, which is read and not written, and locks it
-    /// until the disk is dropped against all but those that read it too. Refused as `existing` is, and where another has
-    /// it locked to write it. A write fails.
+    /// Opens the volume in the file or on the block device of this name for reading only.
+    ///
+    /// Until the disk is dropped it is locked against all but other readers. A write fails. It is refused as by
+    /// `existing`, and also if another has it locked for writing.
     pub fn read_only<R: Files<File = File>>(rt: &R, path: &str) -> io::Result<FileDisk> {
         expect_volume(rt, path)?;
         let file = fs::open(rt, path)?;
@@ -56,7 +60,7 @@ impl FileDisk {
         FileDisk::sized(file)
     }
 
-    /// The volume in a file, or on a block device, which was opened.
+    /// Makes the disk of a file, or of a block device, that was opened.
     fn sized(mut file: File) -> io::Result<FileDisk> {
         let length = length_of(&mut file)?;
         if length % BLOCK != 0 {
@@ -74,10 +78,11 @@ impl FileDisk {
         Ok(FileDisk::of(file, blocks))
     }
 
-    /// Makes a file of so many zero blocks, or takes a block device of just so many whose first 64 are zero, and locks
-    /// it until the disk is dropped. `AlreadyExists` where something else has this name, or the device holds something.
-    /// When it is back, the file's length and its name in its folder outlast a crash; where it can't be made so, it is
-    /// taken away again.
+    /// Makes a file of `blocks` zero blocks, or takes a block device of just so many whose first 64 are zero.
+    ///
+    /// It is locked until the disk is dropped. Fails with `AlreadyExists` if something else has this name or the
+    /// device holds something. On return the file's length and its name in its folder survive a crash. A file that
+    /// can't be made so is removed again.
     pub fn fresh<R: Files<File = File>>(rt: &R, path: &str, blocks: u32) -> io::Result<FileDisk>
         ensures { IfOk result (λ disk. disk.blocks ≡ blocks) }
     {
@@ -126,12 +131,12 @@ impl FileDisk {
         }
     }
 
-    /// Whether its file wasn't there before.
+    /// Returns whether this run made the file.
     pub fn is_made(&self) -> bool {
         self.made
     }
 
-    /// Which file or block device it is.
+    /// Returns which file or block device it is.
     pub fn identity(&self) -> io::Result<Option<Identity>> {
         Identity::of(&self.file)
     }
@@ -142,7 +147,7 @@ fn lock(file: &File) -> io::Result<()> {
     told_lock(file.try_lock())
 }
 
-/// How a lock went, told as other calls are.
+/// Reports how a lock went, as other calls of the system are reported.
 fn told_lock(locked: Result<(), TryLockError>) -> io::Result<()> {
     locked.map_err(|error| match error {
         TryLockError::WouldBlock => io::Error::new(ErrorKind::WouldBlock, "it is in use"),
@@ -150,7 +155,7 @@ fn told_lock(locked: Result<(), TryLockError>) -> io::Result<()> {
     })
 }
 
-/// What has this name must be a file or a block device: opening another to read it may wait.
+/// Fails unless this names a file or a block device, since to open anything else for reading may wait.
 fn expect_volume<R: Files>(rt: &R, path: &str) -> io::Result<()> {
     let kind = fs::metadata(rt, path)?.file_type();
     if kind.is_file() || kind.is_block_device() {
@@ -159,7 +164,7 @@ fn expect_volume<R: Files>(rt: &R, path: &str) -> io::Result<()> {
     Err(no_volume())
 }
 
-/// That what was opened can be no volume.
+/// The error of what was opened and can be no volume.
 fn no_volume() -> io::Error {
     io::Error::new(
         ErrorKind::InvalidInput,
@@ -167,7 +172,7 @@ fn no_volume() -> io::Error {
     )
 }
 
-/// The bytes of a file or of a block device.
+/// Returns the number of bytes of a file or of a block device.
 fn length_of(file: &mut File) -> io::Result<u64> {
     let found = file.metadata()?;
     if found.is_file() {
@@ -179,7 +184,7 @@ fn length_of(file: &mut File) -> io::Result<u64> {
     Err(no_volume())
 }
 
-/// Whether a block device has this name.
+/// Returns whether a block device has this name.
 fn is_block_device<R: Files>(rt: &R, path: &str) -> bool {
     match fs::metadata(rt, path) {
         Ok(found) => found.file_type().is_block_device(),
@@ -187,7 +192,7 @@ fn is_block_device<R: Files>(rt: &R, path: &str) -> bool {
     }
 }
 
-/// Whether each of its first blocks is zero.
+/// Returns whether each of its first 64 blocks is zero.
 fn is_blank(file: &File) -> io::Result<bool> {
     let mut bytes = [0; BLOCK as usize];
     for at in 0..BLANK {
@@ -199,7 +204,9 @@ fn is_blank(file: &File) -> io::Result<bool> {
     Ok(true)
 }
 
-/// Locks a file that was made, and gives it so many zero blocks, which outlast a crash, as its name does.
+/// Locks a file that was made, and gives it `blocks` zero blocks.
+///
+/// On return its length and its name survive a crash.
 fn lengthen<R: Files<File = File>>(rt: &R, file: &File, path: &str, blocks: u32) -> io::Result<()> {
     lock(file)?;
     file.set_len(BLOCK * blocks as u64)?;
@@ -207,7 +214,7 @@ fn lengthen<R: Files<File = File>>(rt: &R, file: &File, path: &str, blocks: u32)
     fs::open(rt, folder_of(path))?.sync_all()
 }
 
-/// The folder in which a file of this name stands.
+/// Returns the folder in which a file of this name is.
 fn folder_of(path: &str) -> &str {
     match path.rfind('/') {
         Some(0) => "/",
@@ -216,7 +223,7 @@ fn folder_of(path: &str) -> &str {
     }
 }
 
-/// What the calls of either sort of disk do.
+/// What the calls of either kind of disk do.
 impl FileDisk {
     fn read_block(&mut self, at: BlockNo, into: &mut Block) -> Result<(), Failed>
         ensures counts { CountsRead (λ d. d.calls) (λ d. d.calls) (λ d. d.tries) (λ d. d.faults) self.old self.new

@@ -3,7 +3,9 @@ use std::fs::File;
 use std::io;
 use std::os::unix::fs::{FileTypeExt, MetadataExt};
 
-/// A file or a block device of the system. Two names that lead to the same one, as links do, give the same identity.
+/// A file or a block device of the system.
+///
+/// Two names of the same one, as links are, give the same identity.
 #[derive(Clone, Copy, Debug, PartialEq, Eq)]
 pub enum Identity {
     /// A file: the device that holds it, and its number there.
@@ -13,7 +15,9 @@ pub enum Identity {
 }
 
 impl Identity {
-    /// Nothing for what keeps no bytes: a folder, a terminal, a FIFO and the like.
+    /// Returns the identity of a file.
+    ///
+    /// It is `None` for what keeps no bytes: a folder, a terminal, a FIFO and the like.
     pub(crate) fn of(file: &File) -> io::Result<Option<Identity>> {
         let found = file.metadata()?;
         if found.is_file() {

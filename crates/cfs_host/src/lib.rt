@@ -1,6 +1,7 @@
-//! The files and standard streams of the system as the service's sources and sinks. The layers above use that these
-//! are a `Source` and a `Sink`: they tell what the reader or writer inside tells, and of the system's files that is
-//! nothing.
+//! The files and standard streams of the system as the service's sources and sinks.
+//!
+//! The layers above use that these are a `Source` and a `Sink`. They tell what the reader or writer inside tells,
+//! which for the system's files is nothing.
 #![tactic(auto)]
 
 mod disk;

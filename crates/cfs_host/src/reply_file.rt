@@ -4,7 +4,9 @@ use std::fs::{self, File};
 use std::io::{self, Write};
 use std::rt::Files;
 
-/// A file that replies are written to. It keeps what it held until its first byte is written, or it is emptied.
+/// A file to which replies are written.
+///
+/// It keeps what it held until its first byte is written, or until it is emptied.
 #[derive(Drop)]
 pub struct ReplyFile {
     file: File,
@@ -28,7 +30,9 @@ impl ReplyFile {
         Identity::of(&self.file)
     }
 
-    /// Empties it, once. A device or a FIFO is left as it is.
+    /// Empties the file, once.
+    ///
+    /// A device or a FIFO is left as it is.
     pub(crate) fn empty(&mut self) -> io::Result<()> {
         if !self.emptied && self.file.metadata()?.is_file() {
             self.file.set_len(0)?;

@@ -10,9 +10,10 @@ use std::fs::File;
 use std::io::{self, Write};
 use std::rt::Files;
 
-/// A file that is written, or standard output. It tells of its bytes what its writer does: nothing, of the system's
-/// files. It keeps none back: each call is one of the system. One that fails, or takes nothing of some bytes, is a
-/// fault.
+/// A file that is written, or standard output.
+///
+/// It tells of its bytes what its writer tells, which for the system's files is nothing. It keeps no bytes back: each
+/// call is one of the system. A call that fails, or that takes nothing of some bytes, is a fault.
 #[derive(Drop)]
 pub struct FileSink<W> {
     writer: W,
@@ -20,8 +21,9 @@ pub struct FileSink<W> {
 }
 
 impl<S: Write + Drop> FileSink<Stream<ReplyFile, S>> {
-    /// Opens the file of this name, or makes it. One that is there keeps what it holds until the first byte. `-` names
-    /// standard output, which is handed in.
+    /// Opens the file of this name, or makes it. `-` names standard output, which is handed in.
+    ///
+    /// A file that exists keeps what it holds until the first byte is written.
     pub fn named<R: Files<File = File>>(
         rt: &R,
         path: &str,
@@ -37,7 +39,9 @@ impl<S: Write + Drop> FileSink<Stream<ReplyFile, S>> {
         Ok(FileSink { writer, faults: 0 })
     }
 
-    /// Which file it is; nothing for standard output, and for what keeps no bytes.
+    /// Returns which file it is.
+    ///
+    /// It is `None` for standard output, and for what keeps no bytes.
     pub fn identity(&self) -> io::Result<Option<Identity>> {
         match &self.writer {
             Stream::File(file) => file.identity(),

@@ -1,4 +1,4 @@
-//! Request files.
+//! Where request lines come from.
 ghost use Rattle.std.specs.Prelude.{◌≡◌, IsOk, codes};
 
 use crate::faults::failed;
@@ -9,8 +9,10 @@ use std::fs::{self, File};
 use std::io::{self, Read};
 use std::rt::Files;
 
-/// A file that is read, or standard input. It tells of its bytes what its reader does: nothing, of the system's files.
-/// A call of the system that fails is a fault.
+/// A file that is read, or standard input.
+///
+/// It tells of its bytes what its reader tells, which for the system's files is nothing. A call of the system that
+/// fails is a fault.
 #[derive(Drop)]
 pub struct FileSource<R> {
     reader: R,
@@ -18,8 +20,9 @@ pub struct FileSource<R> {
 }
 
 impl<S: Read + Drop> FileSource<Stream<File, S>> {
-    /// Opens the file of this name. `-` names standard input, which is handed in. A folder may be opened, and its first
-    /// read fails.
+    /// Opens the file of this name. `-` names standard input, which is handed in.
+    ///
+    /// A folder may be opened, and its first read fails.
     pub fn named<R: Files<File = File>>(
         rt: &R,
         path: &str,
@@ -35,7 +38,9 @@ impl<S: Read + Drop> FileSource<Stream<File, S>> {
         Ok(FileSource { reader, faults: 0 })
     }
 
-    /// Which file it is; nothing for standard input, and for what keeps no bytes.
+    /// Returns which file it is.
+    ///
+    /// It is `None` for standard input, and for what keeps no bytes.
     pub fn identity(&self) -> io::Result<Option<Identity>> {
         match &self.reader {
             Stream::File(file) => Identity::of(file),

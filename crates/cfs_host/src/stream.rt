@@ -11,7 +11,7 @@ pub enum Stream<F, S> {
     Standard(S),
 }
 
-/// Whether the path names a standard stream.
+/// Returns whether the path names a standard stream.
 pub(crate) fn is_standard(path: &str) -> bool
     ensures { IsTrue result ↔ (path.now ≡ codes "-") }
 {

@@ -8,10 +8,10 @@ use crate::service::{Event, status_text};
 use cfs_script::number_of;
 use std::alloc::Global;
 
-/// A line that a session says has so many letters at most, as a word `HH*N` stands for them.
+/// How many letters a line that a session says may have, once each word `HH*N` is written out.
 const MOST_SPREAD: u64 = 16_384;
 
-/// The first word of a line, and what follows it.
+/// Returns the first word of a line, and what follows it.
 fn split(line: &str) -> (&str, &str) {
     match line.split_once(' ') {
         Some((word, rest)) => (word, rest),
@@ -33,7 +33,8 @@ fn small(word: &str) -> Result<u32, Fault> {
     }
 }
 
-/// The line with each word `HH*N` as N times these digits, and with this number in place of each word `#`.
+/// Returns the line with each word `HH*N` as N times these digits, and with this number in the place of each word
+/// `#`.
 fn spread(alloc: Global, line: &str, place: u64) -> Result<String, Fault> {
     let mut out = String::new(alloc);
     for (at, word) in line.split(' ').enumerate() {
@@ -66,7 +67,7 @@ fn format(probe: &mut Probe, alloc: Global, line: &str) -> Result<String, Fault>
     owned(alloc, "ok")
 }
 
-/// A session says a line.
+/// Lets a session say a line.
 fn ask(probe: &mut Probe, alloc: Global, line: &str, place: u64) -> Result<String, Fault> {
     let (who, asked) = split(line);
     let who = small(who)?;
@@ -74,7 +75,7 @@ fn ask(probe: &mut Probe, alloc: Global, line: &str, place: u64) -> Result<Strin
     probe.does(alloc, Event::Ask { who, line })
 }
 
-/// The same, and of what both answer alike only that.
+/// Does the same, and returns only `same` for what both answer alike.
 fn both(probe: &mut Probe, alloc: Global, line: &str, place: u64) -> Result<String, Fault> {
     let told = ask(probe, alloc, line, place)?;
     match told.as_str().contains(" BESIDE ") {
@@ -83,7 +84,7 @@ fn both(probe: &mut Probe, alloc: Global, line: &str, place: u64) -> Result<Stri
     }
 }
 
-/// The same for each of some numbers.
+/// Does the same for each of some numbers.
 fn many(probe: &mut Probe, alloc: Global, line: &str) -> Result<String, Fault> {
     let (from, rest) = split(line);
     let (to, asked) = split(rest);
@@ -96,7 +97,7 @@ fn many(probe: &mut Probe, alloc: Global, line: &str) -> Result<String, Fault> {
     owned(alloc, "same")
 }
 
-/// What is left of a commit is carried out. Answers `Idle`, or why that was refused.
+/// Carries out what is left of a commit. Returns `Idle`, or why that was refused.
 fn settle(probe: &mut Probe, alloc: Global) -> Result<String, Fault> {
     for _ in 0..u64::MAX {
         let told = probe.does(alloc, Event::Tidy)?;
@@ -107,13 +108,13 @@ fn settle(probe: &mut Probe, alloc: Global) -> Result<String, Fault> {
     Err(Fault::Spent)
 }
 
-/// The Free blocks, once what is left of a commit is carried out.
+/// Returns the number of Free blocks, once what is left of a commit is carried out.
 fn free(probe: &mut Probe, alloc: Global) -> Result<String, Fault> {
     settle(probe, alloc)?;
     Ok(format!(in alloc; "{}", probe.status()?.free)?)
 }
 
-/// So many steps of the collector.
+/// Makes steps of the collector.
 fn collect(probe: &mut Probe, alloc: Global, line: &str) -> Result<String, Fault> {
     let mut out = String::new(alloc);
     for step in 0..number(line)? {
@@ -125,7 +126,7 @@ fn collect(probe: &mut Probe, alloc: Global, line: &str) -> Result<String, Fault
     Ok(out)
 }
 
-/// One step of the collector, told only where it is refused.
+/// Makes one step of the collector, of which only a refusal is reported.
 fn step(probe: &mut Probe, alloc: Global) -> Result<String, Fault> {
     let told = probe.does(alloc, Event::Step)?;
     match told.as_str().starts_with("no ") {
@@ -134,7 +135,7 @@ fn step(probe: &mut Probe, alloc: Global) -> Result<String, Fault> {
     }
 }
 
-/// A block's number, a place in it, and the bytes that are put there.
+/// Puts bytes into a block, by its number, a place in it, and the bytes.
 fn poke(probe: &mut Probe, alloc: Global, line: &str) -> Result<String, Fault> {
     let (at, rest) = split(line);
     let (place, digits) = split(rest);
@@ -155,7 +156,7 @@ fn compare(probe: &mut Probe, alloc: Global) -> Result<String, Fault> {
     }
 }
 
-/// A line each.
+/// Returns the readings, with a line for each.
 fn readings(probe: &mut Probe, alloc: Global) -> Result<String, Fault> {
     let mut out = String::new(alloc);
     for (place, reading) in probe.readings(alloc)?.iter().enumerate() {
@@ -167,7 +168,7 @@ fn readings(probe: &mut Probe, alloc: Global) -> Result<String, Fault> {
     Ok(out)
 }
 
-/// What is done and answers nothing.
+/// Does what is done with no answer.
 fn act(probe: &mut Probe, alloc: Global, word: &str, rest: &str) -> Result<String, Fault> {
     match word {
         "fail" => probe.fail(number(rest)?),
@@ -179,7 +180,7 @@ fn act(probe: &mut Probe, alloc: Global, word: &str, rest: &str) -> Result<Strin
     owned(alloc, "ok")
 }
 
-/// Does what a line asks, and answers its lines.
+/// Does what a line asks, and returns its lines.
 pub fn answer(probe: &mut Probe, alloc: Global, line: &str) -> Result<String, Fault> {
     let (word, rest) = split(line);
     match word {

@@ -5,7 +5,7 @@ use crate::twin::Past;
 use cfs_fakes::MemoryDisk;
 use std::alloc::Global;
 
-/// Which images of a moment are opened.
+/// The images of a moment that are opened.
 #[derive(Clone, Copy)]
 pub enum Opened {
     All,
@@ -18,13 +18,13 @@ pub enum Opened {
 /// How these images of a moment read.
 #[derive(Clone, Copy, PartialEq, Eq)]
 enum Phase {
-    /// As before what is under way, each.
+    /// Each reads as before what is under way.
     Before,
-    /// As before it or as after it.
+    /// Each reads as before it or as after it.
     Either,
-    /// As after it, each.
+    /// Each reads as after it.
     After,
-    /// One reads otherwise.
+    /// One reads as neither.
     Neither,
 }
 
@@ -64,7 +64,7 @@ struct Span<'a> {
     after: &'a str,
 }
 
-/// How the images of the moments of a span read, a word where that changes.
+/// Returns how the images of the moments of a span read, with a word where that changes.
 fn course(alloc: Global, disk: &MemoryDisk, span: Span, opened: Opened) -> Result<String, Fault> {
     let mut words = String::new(alloc);
     let mut last = None;
@@ -103,8 +103,9 @@ fn phase_at(
     Ok(Phase::of(found.as_slice(), span.before, span.after))
 }
 
-/// The same of each event from this one on, which begins at this moment: a line for each of which some image reads
-/// otherwise than before.
+/// Returns the same for each event from this one on, which begins at this moment.
+///
+/// There is a line for each event of which some image reads otherwise than before.
 pub fn crashes(
     alloc: Global,
     disk: &MemoryDisk,

@@ -1,4 +1,4 @@
-//! A server whose sessions speak to it in lines.
+//! A server to which sessions speak in lines.
 use crate::fault::Fault;
 use crate::printed::{Said, replied, unread};
 use cfs_base::{Puid, Session};
@@ -9,7 +9,7 @@ use ufs_model::{Asker, Bound, Reply, Request, Unread};
 /// Sessions have the numbers below this.
 pub const MOST_SESSIONS: Session = 64;
 
-/// A server, and what the names of its sessions stand for.
+/// A server, and what the names of its sessions are bound to.
 #[derive(Drop)]
 pub struct Desk<A: Asker + Drop> {
     pub server: A,
@@ -17,7 +17,7 @@ pub struct Desk<A: Asker + Drop> {
     names: Vec<Names>,
 }
 
-/// The names of a session.
+/// Returns the names of a session.
 fn names_of(
     names: &mut Vec<Names>,
     alloc: Global,
@@ -36,7 +36,7 @@ fn names_of(
     }
 }
 
-/// Lets the name of a request that was answered so stand for what is in the answer.
+/// Binds the name of a request to what is in this answer.
 fn bind(names: &mut Names, name: Option<Name>, reply: &Reply) -> Result<(), Fault> {
     let Some(name) = name else {
         return Ok(());
@@ -50,7 +50,7 @@ fn bind(names: &mut Names, name: Option<Name>, reply: &Reply) -> Result<(), Faul
     Ok(())
 }
 
-/// The answer of a server, which needs a word that is not drawn.
+/// Returns the answer of a server. A word that is not drawn yet must be left.
 pub fn ask<A: Asker>(
     server: &mut A,
     alloc: Global,
@@ -64,6 +64,7 @@ pub fn ask<A: Asker>(
 }
 
 impl<A: Asker + Drop> Desk<A> {
+    /// Makes a desk at which no session has spoken.
     pub fn new(alloc: Global, server: A, root: Puid) -> Desk<A> {
         Desk {
             server,
@@ -72,7 +73,7 @@ impl<A: Asker + Drop> Desk<A> {
         }
     }
 
-    /// A session says a line.
+    /// Lets a session say a line, and returns the answer.
     pub fn say(&mut self, alloc: Global, who: Session, line: &str) -> Result<Said, Fault> {
         let names = names_of(&mut self.names, alloc, self.root, who)?;
         match read_line(alloc, &all_verbs(), line.as_bytes(), names) {

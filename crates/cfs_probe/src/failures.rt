@@ -16,7 +16,7 @@ pub struct Plan {
     pub seed: u64,
 }
 
-/// A fresh volume on a disk that records, and fails at this call.
+/// Makes a fresh volume on a disk that records, and fails at this call.
 pub fn formatted(alloc: Global, plan: Plan, fails: Option<u64>) -> Result<MemoryDisk, Fault> {
     if plan.cylinders == 0 || plan.cylinders > 1024 {
         return Err(Fault::Words);
@@ -30,7 +30,7 @@ pub fn formatted(alloc: Global, plan: Plan, fails: Option<u64>) -> Result<Memory
     Ok(disk)
 }
 
-/// A core on a volume, with nobody's names.
+/// Opens a core on a volume, with no names.
 pub fn open(alloc: Global, disk: MemoryDisk, seed: u64) -> Result<Service, (Fault, MemoryDisk)> {
     match Core::open(alloc, disk, seed) {
         Ok(core) => {
@@ -48,8 +48,9 @@ struct Redone {
     is_right: bool,
 }
 
-/// All is done again while the call at this moment fails. An event that was refused for it is done a second time,
-/// and answers as before; the core stops within one else.
+/// Does all again while the call at this moment fails.
+///
+/// An event that was refused for it is done a second time, and answers as before. Else the core stops within one.
 fn redo(service: &mut Service, alloc: Global, past: &[Past], call: u64) -> Result<Redone, Fault> {
     let mut refused = 0u32;
     let mut is_same = true;
@@ -72,7 +73,7 @@ fn redo(service: &mut Service, alloc: Global, past: &[Past], call: u64) -> Resul
     })
 }
 
-/// Whether a core stopped at this call, and makes no further one.
+/// Returns whether a core stopped at this call, and makes no further one.
 fn is_still(core: &mut Core<MemoryDisk>, call: u64) -> bool {
     let now = core.moment();
     let is_refused = core.tidy().is_err();
@@ -80,7 +81,9 @@ fn is_still(core: &mut Core<MemoryDisk>, call: u64) -> bool {
     is_refused && is_left && core.moment() == now && core.status().stopped == Some(call)
 }
 
-/// The same on a volume of its own. What is wrong, if anything is; None where all was done before that call.
+/// Does the same on a volume of its own, and returns whether all was right.
+///
+/// It is `None` if all was done before that call.
 fn fail_at(
     alloc: Global,
     plan: Plan,
@@ -101,7 +104,7 @@ fn fail_at(
     Ok(Some(redone.is_right && may_read(found.as_slice(), states, redone.events)))
 }
 
-/// Whether each is the state after so many events, or after the next.
+/// Returns whether each is the state after `events` events, or after the next one.
 fn may_read(found: &[String], states: &[String], events: usize) -> bool {
     found.iter().all(|text| states
         .iter()
@@ -110,7 +113,7 @@ fn may_read(found: &[String], states: &[String], events: usize) -> bool {
         .any(|state| state == text))
 }
 
-/// What the disk reads as, and what a crash leaves of it now by three sets of picks.
+/// Returns what the disk reads as, and what a crash leaves of it now by three sets of picks.
 fn left(alloc: Global, disk: MemoryDisk, now: u64) -> Result<Vec<String>, Fault> {
     let waits = waiting(alloc, &disk, now)?;
     let mut found = three_at(alloc, &disk, now, waits.as_slice())?;
@@ -118,7 +121,9 @@ fn left(alloc: Global, disk: MemoryDisk, now: u64) -> Result<Vec<String>, Fault>
     Ok(found)
 }
 
-/// Each call since the opening, which ended at this moment, fails: `right`, or the first for which something is not.
+/// Lets each call fail since the opening, which ended at this moment.
+///
+/// Returns `right`, or the first call for which something is not.
 pub fn failures(
     alloc: Global,
     plan: Plan,

@@ -4,7 +4,9 @@ use cfs_recover::RecoverFault;
 use std::alloc::{AllocError, AllocFailed};
 use std::fmt;
 
-/// Why a command is not done. All is as it was, unless the volume was to be made or opened.
+/// Why a command is not done.
+///
+/// All is as it was, unless the volume was to be made or opened.
 #[derive(Clone, Copy)]
 pub enum Fault {
     Memory,
@@ -12,7 +14,7 @@ pub enum Fault {
     Words,
     /// No core serves a volume.
     Closed,
-    /// There is no disk that no core serves.
+    /// There is no disk without a core that serves it.
     NoDisk,
     /// There is no such block, session or moment.
     Place,
@@ -22,7 +24,7 @@ pub enum Fault {
     Alone,
     /// A crash at one moment leaves more images than are opened.
     Many,
-    /// A call of the disk failed in the making of a volume.
+    /// A call of the disk failed while a volume was made.
     Disk,
     Volume(RecoverFault),
 }

@@ -6,9 +6,10 @@ use cfs_core::Core;
 use cfs_fakes::{MemoryDisk, Pick};
 use std::alloc::Global;
 
-/// So many images of a moment are opened at most.
+/// How many images of a moment are opened at most.
 const MANY: u64 = 4096;
 
+/// Returns the content of a block.
 pub fn block_of(disk: &mut MemoryDisk, at: u32) -> Result<Block, Fault> {
     if at >= disk.blocks() {
         return Err(Fault::Place);
@@ -18,7 +19,7 @@ pub fn block_of(disk: &mut MemoryDisk, at: u32) -> Result<Block, Fault> {
     Ok(block)
 }
 
-/// Writes a block, and makes it last.
+/// Writes a block, and makes it survive a crash.
 pub fn put_block(disk: &mut MemoryDisk, at: u32, block: &Block) -> Result<(), Fault> {
     if at >= disk.blocks() {
         return Err(Fault::Place);
@@ -36,7 +37,7 @@ fn blocks_of(alloc: Global, disk: &mut MemoryDisk) -> Result<Vec<Block>, Fault> 
     Ok(blocks)
 }
 
-/// The disk that a crash at this moment leaves by these picks.
+/// Returns the disk that a crash at this moment leaves by these picks.
 fn image(alloc: Global, disk: &MemoryDisk, at: u64, picks: &[Pick]) -> Result<MemoryDisk, Fault> {
     if !disk.is_recording() || at > disk.moment() {
         return Err(Fault::Place);
@@ -44,7 +45,7 @@ fn image(alloc: Global, disk: &MemoryDisk, at: u64, picks: &[Pick]) -> Result<Me
     Ok(disk.image(alloc, at, picks)?)
 }
 
-/// Of each block, how many writes wait for a barrier at this moment.
+/// Returns how many writes of each block wait for a barrier at this moment.
 pub fn waiting(alloc: Global, disk: &MemoryDisk, at: u64) -> Result<Vec<u32>, Fault> {
     if !disk.is_recording() {
         return Err(Fault::Place);
@@ -56,7 +57,7 @@ pub fn waiting(alloc: Global, disk: &MemoryDisk, at: u64) -> Result<Vec<u32>, Fa
     Ok(waits)
 }
 
-/// How many images there are, of which each block's choice is one of its own.
+/// Returns how many images there are, if each block's choice is one of its own.
 fn count_of(waits: &[u32]) -> Result<u64, Fault> {
     let mut count = 1u64;
     for wait in waits {
@@ -68,7 +69,7 @@ fn count_of(waits: &[u32]) -> Result<u64, Fault> {
     Ok(count)
 }
 
-/// The picks of the image with this number.
+/// Returns the picks of the image with this number.
 fn picks_of(alloc: Global, waits: &[u32], number: u64) -> Result<Vec<Pick>, Fault> {
     let mut picks = Vec::new(alloc);
     let mut rest = number;
@@ -83,7 +84,7 @@ fn picks_of(alloc: Global, waits: &[u32], number: u64) -> Result<Vec<Pick>, Faul
     Ok(picks)
 }
 
-/// The image with this number.
+/// Returns the image with this number.
 fn numbered(
     alloc: Global,
     disk: &MemoryDisk,
@@ -95,7 +96,7 @@ fn numbered(
     image(alloc, disk, at, picks.as_slice())
 }
 
-/// What is reached on a disk, once it is opened; why it is not opened else.
+/// Returns what is reached on a disk once it is opened, or why it is not opened.
 pub fn reading(alloc: Global, disk: MemoryDisk) -> Result<String, Fault> {
     match Core::open(alloc, disk, 0) {
         Ok(mut core) => {
@@ -113,7 +114,7 @@ fn put_once(found: &mut Vec<String>, text: String) -> Result<(), Fault> {
     Ok(())
 }
 
-/// What the images of a crash at this moment read as, each once.
+/// Returns what the images of a crash at this moment read as, each once.
 pub fn readings_at(
     alloc: Global,
     disk: &MemoryDisk,
@@ -154,8 +155,10 @@ fn picks_by(alloc: Global, waits: &[u32], kept: Kept) -> Result<Vec<Pick>, Fault
     Ok(picks)
 }
 
-/// What three images of a crash at this moment read as, each once: without the writes that wait, with the last of
-/// each block, and with the last of each block with an even number.
+/// Returns what three images of a crash at this moment read as, each once.
+///
+/// They are without the writes that wait, with the last of each block, and with the last of each block with an even
+/// number.
 pub fn three_at(
     alloc: Global,
     disk: &MemoryDisk,
@@ -171,7 +174,7 @@ pub fn three_at(
     Ok(found)
 }
 
-/// A disk that records, with these blocks.
+/// Makes a disk that records, with these blocks.
 fn recorded(alloc: Global, blocks: &[Block]) -> Result<MemoryDisk, Fault> {
     let count = u32::try_from(blocks.len()).unwrap_or(0);
     let mut disk = MemoryDisk::recording(alloc, count, Vec::new(alloc))?;
@@ -186,7 +189,7 @@ fn recorded(alloc: Global, blocks: &[Block]) -> Result<MemoryDisk, Fault> {
     Ok(disk)
 }
 
-/// The disk after an opening.
+/// Returns the disk after an opening.
 fn opened(alloc: Global, disk: MemoryDisk) -> MemoryDisk {
     match Core::open(alloc, disk, 0) {
         Ok(core) => core.into_disk(),
@@ -194,7 +197,7 @@ fn opened(alloc: Global, disk: MemoryDisk) -> MemoryDisk {
     }
 }
 
-/// What the images of a crash at each moment from one to another read as, each once.
+/// Returns what the images of a crash at each moment from one to another read as, each once.
 pub fn readings(
     alloc: Global,
     disk: &MemoryDisk,
@@ -215,7 +218,7 @@ pub fn readings(
     Ok(found)
 }
 
-/// What the images of openings of these images read as, where that is not as the image that was opened.
+/// Returns what the images of openings of these images read as, if they don't read as the image that was opened.
 pub fn cuts_at(
     alloc: Global,
     disk: &MemoryDisk,

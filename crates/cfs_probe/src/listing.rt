@@ -5,10 +5,10 @@ use cfs_base::{Puid, Session};
 use std::alloc::Global;
 use ufs_model::{Asker, MOST_AT_ONCE, Ref, Reply, Request};
 
-/// Who looks, and has no grant.
+/// The session that looks. It has no grant.
 const LOOKER: Session = u32::MAX;
 
-/// So many slots of an index are read, and so many bytes of a file.
+/// How many slots of an index are read at most, and how many bytes of a file.
 const SLOTS: u64 = 256;
 
 const BYTES: u64 = 65_536;
@@ -35,8 +35,10 @@ pub fn put_bytes(out: &mut String, bytes: &[u8]) -> Result<(), Fault> {
     put_run(out, run)
 }
 
-/// Of each object, in the order in which it is found, its word and what it has. Of an index that is its number of
-/// slots, and the words in the filled ones; of a file, its size and its bytes.
+/// Lists the word and the content of each object, in the order in which it is found.
+///
+/// For an index that is its number of slots, and the words in the filled ones. For a file it is its size and its
+/// bytes.
 pub fn listing<A: Asker>(server: &mut A, alloc: Global, root: Puid) -> Result<String, Fault> {
     let mut out = String::new(alloc);
     let mut found = vec![in alloc; root; 1]?;
@@ -113,7 +115,7 @@ fn put_file<A: Asker>(
     }
 }
 
-/// The first so many bytes of a file.
+/// Returns the first bytes of a file.
 fn content_of<A: Asker>(
     server: &mut A,
     alloc: Global,

@@ -8,7 +8,7 @@ use cfs_script::{REPLY_ROOM, print_reply, print_unread};
 use std::alloc::Global;
 use ufs_model::{MOST_AT_ONCE, Reply, Unread};
 
-/// What is answered, without the end of its line; and the identifier in it, if there is one.
+/// An answer, without the end of its line, and the identifier in it, if there is one.
 #[derive(Drop)]
 pub struct Said {
     pub text: String,
@@ -16,12 +16,14 @@ pub struct Said {
 }
 
 impl Said {
-    /// Something that names no identifier.
+    /// Returns an answer that names no identifier.
     pub fn of(text: String) -> Said {
         Said { text, id: None }
     }
 
-    /// Whether another server answered the same. Their identifiers may be at other blocks.
+    /// Returns whether another server answered the same.
+    ///
+    /// Their identifiers may be at other blocks.
     pub fn is_like(&self, other: &Said) -> bool {
         match (self.id, other.id) {
             (Some(id), Some(also)) => id.word == also.word,
@@ -30,7 +32,7 @@ impl Said {
     }
 }
 
-/// Whether a reply line has room for it.
+/// Returns whether a reply line has room for it.
 fn fits(reply: &Reply) -> bool
     ensures { IsTrue result → FitsLine reply.now }
 {
@@ -40,12 +42,12 @@ fn fits(reply: &Reply) -> bool
     }
 }
 
-/// A text of its own.
+/// Returns a copy of a text.
 pub fn owned(alloc: Global, text: &str) -> Result<String, Fault> {
     Ok(String::from_str(alloc, text)?)
 }
 
-/// The text of a line.
+/// Returns the text of a line.
 fn text_of(alloc: Global, line: &[u8]) -> Result<String, Fault> {
     let mut text = String::new(alloc);
     for byte in line {
@@ -56,7 +58,7 @@ fn text_of(alloc: Global, line: &[u8]) -> Result<String, Fault> {
     Ok(text)
 }
 
-/// A reply.
+/// Returns the text of a reply.
 pub fn replied(alloc: Global, reply: &Reply) -> Result<Said, Fault> {
     if !fits(reply) {
         return Err(Fault::Place);
@@ -71,7 +73,7 @@ pub fn replied(alloc: Global, reply: &Reply) -> Result<Said, Fault> {
     Ok(Said { text, id })
 }
 
-/// A line that is no request.
+/// Returns the text for a line that is no request.
 pub fn unread(alloc: Global, why: Unread) -> Result<Said, Fault> {
     let mut line = Vec::with_capacity(alloc, REPLY_ROOM)?;
     print_unread(why, &mut line);

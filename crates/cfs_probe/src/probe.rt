@@ -12,7 +12,7 @@ use cfs_core::Status;
 use cfs_fakes::MemoryDisk;
 use std::alloc::Global;
 
-/// A volume that a core serves, or its disk alone; the slow server beside it; and all that happened since it was
+/// A volume that a core serves, or its disk alone, the slow server beside it, and all that happened since it was
 /// made.
 #[derive(Drop)]
 pub struct Probe {
@@ -29,6 +29,7 @@ pub struct Probe {
 }
 
 impl Probe {
+    /// Makes a probe with no volume.
     pub fn new(alloc: Global) -> Probe {
         Probe {
             fails: None,
@@ -66,7 +67,7 @@ impl Probe {
         }
     }
 
-    /// The call at this moment fails on the disks that are made from now on.
+    /// Lets the call at this moment fail on the disks that are made from now on.
     pub fn fail(&mut self, call: u64) {
         self.fails = Some(call);
     }
@@ -84,7 +85,7 @@ impl Probe {
         self.mark()
     }
 
-    /// What happened is not done again.
+    /// Forgets what happened, which is not done again.
     fn forget(&mut self) {
         self.twin = None;
         self.past.clear();
@@ -106,7 +107,7 @@ impl Probe {
         }
     }
 
-    /// The core gives up its disk.
+    /// Makes the core give up its disk.
     pub fn unmount(&mut self) {
         if let Some(service) = self.service.take() {
             self.disk = Some(service.server.into_disk());
@@ -120,7 +121,7 @@ impl Probe {
         self.mount(alloc, seed)
     }
 
-    /// Something happens to the core, and to the slow server: what is told of it.
+    /// Lets an event happen to the core, and to the slow server, and returns what is reported of it.
     pub fn does(&mut self, alloc: Global, event: Event) -> Result<String, Fault> {
         let service = self.service()?;
         let said = happens(service, alloc, &event)?;
@@ -138,12 +139,12 @@ impl Probe {
         Ok(told)
     }
 
-    /// What the core tells of itself.
+    /// Returns what the core reports of itself.
     pub fn status(&mut self) -> Result<Status, Fault> {
         Ok(self.service()?.server.status())
     }
 
-    /// The clock of the disk.
+    /// Returns the clock of the disk.
     pub fn moment(&mut self) -> Result<u64, Fault> {
         match &self.service {
             Some(service) => Ok(service.server.moment()),
@@ -151,24 +152,24 @@ impl Probe {
         }
     }
 
-    /// Crashes are tried from here on.
+    /// Marks the moment from which crashes are tried.
     pub fn mark(&mut self) -> Result<(), Fault> {
         self.mark = (self.past.len(), self.moment()?);
         Ok(())
     }
 
-    /// What is reached from the root.
+    /// Returns what is reached from the root.
     pub fn reading(&mut self, alloc: Global) -> Result<String, Fault> {
         let service = self.service()?;
         listing(&mut service.server, alloc, service.root)
     }
 
-    /// What the slow server has.
+    /// Returns what the slow server has.
     pub fn twin_reading(&mut self, alloc: Global) -> Result<String, Fault> {
         self.twin()?.reading(alloc)
     }
 
-    /// The bytes of a block.
+    /// Returns the bytes of a block.
     pub fn block(&mut self, alloc: Global, at: u32) -> Result<String, Fault> {
         let block = block_of(self.disk()?, at)?;
         let mut text = String::new(alloc);
@@ -176,7 +177,7 @@ impl Probe {
         owned(alloc, text.as_str().trim_start())
     }
 
-    /// Puts these bytes into a block, from a place on.
+    /// Puts these bytes into a block, beginning at a place.
     pub fn poke(&mut self, at: u32, place: u32, bytes: &[u8]) -> Result<(), Fault> {
         let disk = self.disk()?;
         let mut block = *block_of(disk, at)?.bytes();
@@ -191,7 +192,7 @@ impl Probe {
         states(alloc, root, self.plan.seed, self.past.as_slice())
     }
 
-    /// How the images of each event since the mark read.
+    /// Returns how the images of each event since the mark read.
     pub fn crashes(&mut self, alloc: Global, opened: Opened) -> Result<String, Fault> {
         let states = self.states(alloc)?;
         let Some(disk) = &self.disk else {
@@ -201,14 +202,14 @@ impl Probe {
         crashes(alloc, disk, past, states.as_slice(), self.mark, opened)
     }
 
-    /// What the images since the mark read as.
+    /// Returns what the images since the mark read as.
     pub fn readings(&mut self, alloc: Global) -> Result<Vec<String>, Fault> {
         let from = self.mark.1;
         let disk = self.disk()?;
         readings(alloc, disk, from, disk.moment())
     }
 
-    /// Each call since the opening fails.
+    /// Lets each call since the opening fail, and returns what comes of that.
     pub fn failures(&mut self, alloc: Global) -> Result<String, Fault> {
         let states = self.states(alloc)?;
         let past = self.past.as_slice();

@@ -12,7 +12,7 @@ use std::alloc::Global;
 /// A core and its sessions' names.
 pub type Service = Desk<Core<MemoryDisk>>;
 
-/// So many collections are called for at most.
+/// How many collections may be called for.
 const MOST_CALLED: u32 = 1_000_000;
 
 /// What may happen to a core.
@@ -22,7 +22,7 @@ pub enum Event {
     Ask { who: Session, line: String },
     /// A session leaves.
     Leave { who: Session },
-    /// So many collections more are called for.
+    /// `more` collections are called for.
     Call { more: u32 },
     /// One part is made of what is left of a commit.
     Tidy,
@@ -31,7 +31,7 @@ pub enum Event {
 }
 
 impl Event {
-    /// Its name: of what a session says, the line.
+    /// Appends its name. For what a session says that is the line.
     pub fn put_name(&self, out: &mut String) -> Result<(), Fault> {
         match self {
             Event::Ask { line, .. } => out.push_str(line.as_str())?,
@@ -44,7 +44,7 @@ impl Event {
     }
 }
 
-/// Something happens to a core: what is answered.
+/// Lets an event happen to a core, and returns what is answered.
 pub fn happens(service: &mut Service, alloc: Global, event: &Event) -> Result<Said, Fault> {
     match event {
         Event::Ask { who, line } => service.say(alloc, *who, line.as_str()),
@@ -78,7 +78,7 @@ fn tidies(core: &mut Core<MemoryDisk>, alloc: Global) -> Result<Said, Fault> {
     }))
 }
 
-/// What is left of a commit is carried out, and then the collector makes a step.
+/// Carries out what is left of a commit, and then makes a step of the collector.
 fn steps(core: &mut Core<MemoryDisk>, alloc: Global) -> Result<Said, Fault> {
     for _ in 0..u64::MAX {
         match core.tidy() {
@@ -101,7 +101,7 @@ fn collects(core: &mut Core<MemoryDisk>, alloc: Global) -> Result<Said, Fault>
     }))
 }
 
-/// The fault of a step that is told in the same words.
+/// Returns the fault of a step that is reported in the same words.
 fn fault_of(fault: TidyFault) -> CollectFault {
     match fault {
         TidyFault::Disk { doubt } => CollectFault::Disk { doubt },
@@ -122,7 +122,7 @@ fn step_name(step: &Step) -> &'static str {
     }
 }
 
-/// A step's name, of what is condemned how many objects, and how many blocks are Free after it.
+/// Returns the name of a step, how many objects it condemned, if it did, and how many blocks are Free after it.
 fn step_text(alloc: Global, step: &Step, free: u32) -> Result<String, Fault> {
     let mut text = owned(alloc, step_name(step))?;
     if let Step::Condemned { ids } = step {
@@ -132,7 +132,9 @@ fn step_text(alloc: Global, step: &Step, free: u32) -> Result<String, Fault> {
     Ok(text)
 }
 
-/// Why a step was not made. In `no disk` without a moment all is as it was.
+/// Returns why a step was not made.
+///
+/// In `no disk` without a moment all is as it was.
 fn fault_text(alloc: Global, fault: CollectFault) -> Result<String, Fault> {
     let (mut text, at) = match fault {
         CollectFault::Memory => (owned(alloc, "no memory")?, None),
@@ -146,7 +148,7 @@ fn fault_text(alloc: Global, fault: CollectFault) -> Result<String, Fault> {
     Ok(text)
 }
 
-/// A status as one line.
+/// Returns a status as one line.
 pub fn status_text(alloc: Global, status: &Status) -> Result<String, Fault> {
     let mut text = format!(in alloc;
         "objects {} grants {} free {} called {} finished {}",

@@ -14,7 +14,7 @@ pub struct Past {
     pub event: Event,
     pub text: String,
     pub end: u64,
-    /// Whether the slow server was told of it.
+    /// Whether the event was passed to the slow server.
     pub is_told: bool,
 }
 
@@ -22,11 +22,11 @@ pub struct Past {
 #[derive(Drop)]
 pub struct Twin {
     desk: Desk<Plain>,
-    /// A collection took something, which this server still has.
+    /// Whether a collection took something that this server still has.
     is_outlived: bool,
 }
 
-/// Whether only a server on a disk answers so.
+/// Returns whether only a server on a disk answers so.
 fn is_of_the_disk(text: &str) -> bool {
     let is_refused = text.starts_with("no disk") || text.starts_with("no damaged");
     is_refused
@@ -36,7 +36,7 @@ fn is_of_the_disk(text: &str) -> bool {
 }
 
 impl Twin {
-    /// Beside a fresh volume.
+    /// Makes the slow server beside a fresh volume.
     pub fn new(alloc: Global, root: Puid, seed: u64) -> Result<Twin, Fault> {
         if root.block == 0 {
             return Err(Fault::Place);
@@ -48,7 +48,7 @@ impl Twin {
         })
     }
 
-    /// The same happens to it: what it answers, if a session asked.
+    /// Lets the same event happen to it, and returns what it answers, if a session asked.
     fn hear(&mut self, alloc: Global, event: &Event) -> Result<Option<Said>, Fault> {
         match event {
             Event::Ask { who, line } => return Ok(Some(self.desk.say(alloc, *who, line.as_str())?)),
@@ -58,8 +58,9 @@ impl Twin {
         Ok(None)
     }
 
-    /// Whether it is told of what a core answered so: it knows nothing of the disk, and nothing of what a collection
-    /// took.
+    /// Returns whether it gets an event that a core answered so.
+    ///
+    /// It knows nothing of the disk, and nothing of what a collection took.
     fn is_told(&mut self, text: &str) -> bool {
         if text.starts_with("Condemned") {
             self.is_outlived = true;
@@ -67,8 +68,10 @@ impl Twin {
         !is_of_the_disk(text) && !(self.is_outlived && text == "no object")
     }
 
-    /// It is told of an event. What the core answered, and beside it the answer of this server where that is
-    /// another; and whether it was told.
+    /// Passes an event to it, if it gets that.
+    ///
+    /// Returns what the core answered, with the answer of this server if that is another, and whether it got the
+    /// event.
     pub fn beside(
         &mut self,
         alloc: Global,
@@ -87,16 +90,17 @@ impl Twin {
         Ok((text, is_told))
     }
 
+    /// Returns the identifier of the root index.
     pub fn root(&self) -> Puid {
         self.desk.root
     }
 
-    /// What is reached from its root.
+    /// Returns what is reached from its root.
     pub fn reading(&mut self, alloc: Global) -> Result<String, Fault> {
         listing(&mut self.desk.server, alloc, self.desk.root)
     }
 
-    /// What it has once all sessions have left.
+    /// Returns what it has once all sessions have left.
     fn rest(&mut self, alloc: Global) -> Result<String, Fault> {
         for who in 0..MOST_SESSIONS {
             self.desk.server.leave(who);
@@ -104,7 +108,7 @@ impl Twin {
         self.reading(alloc)
     }
 
-    /// The first so many events happen to it.
+    /// Lets the first `count` events happen to it.
     fn hear_first(&mut self, alloc: Global, past: &[Past], count: usize) -> Result<(), Fault> {
         for happened in past.iter().take(count) {
             if happened.is_told {
@@ -115,7 +119,7 @@ impl Twin {
     }
 }
 
-/// What a crash leaves after so many events.
+/// Returns what a crash leaves after `count` events.
 fn state_after(
     alloc: Global,
     root: Puid,
@@ -128,7 +132,7 @@ fn state_after(
     twin.rest(alloc)
 }
 
-/// What a crash leaves after none of the events, after the first, and so on to the last.
+/// Returns what a crash leaves after none of the events, after the first, and so on to the last.
 pub fn states(alloc: Global, root: Puid, seed: u64, past: &[Past]) -> Result<Vec<String>, Fault> {
     let mut states = Vec::new(alloc);
     for count in 0..=past.len() {

@@ -1,4 +1,4 @@
--- What is checked of the blocks of an object, each by itself. After each: what is wrong where it doesn't hold.
+-- What is checked of the blocks of an object, each by itself. After each check: what is wrong if it doesn't hold.
 use Rattle.std.specs.Prelude.{◌≡◌, ◌≢◌, ℕ, ◌+◌, ◌*◌, ◌<◌, ◌≤◌, true, List, length, get_or}
 use Rattle.cfs_base.specs.Codes as codes
 use Rattle.cfs_base.specs.Disk.{Image, block_at}
@@ -13,7 +13,7 @@ use Rattle.cfs_recover.specs.Entries.{damage}
 use Rattle.cfs_recover.specs.declared.head.Head.{Head}
 use Rattle.cfs_recover.specs.declared.spot.Spot.{Spot}
 
--- ---- a block to which a pointer leads: it is on the disk, and entered for its owner and place
+-- ---- a block to which a pointer leads: it is on the disk, and its entry has its owner and place
 
 pub record IsInPlace (image : Image) (spot : Spot) : Type 0 where
   pub on_disk : spot.block < length image
@@ -35,7 +35,7 @@ pub record IsLike (own : Root) (content : List ℕ) (root : Root) : Type 0 where
 abbrev pub HasNoneLike : Root → List ℕ → Type 0
 HasNoneLike own content = (root : Root) → IsRootBlock content root → root.kind ≡ own.kind → root.word ≢ own.word
 
--- the object with this root block, of this root, is read from the block of the head, which has the head's root
+-- the object with this root block and root is read from the block of the head, which has the head's root
 pub record IsHead (image : Image) (r : ℕ) (own : Root) (head : Head) : Type 0 where
   pub from : head.from ≡ source image r
   pub one_shadow : length (shadows image r) ≤ 1

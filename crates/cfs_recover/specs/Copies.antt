@@ -15,8 +15,8 @@ use Rattle.cfs_recover.specs.declared.found.Found.{Found}
 abbrev pub HasCopy : List Copied → ℕ → Type 0
 HasCopy copies r = (k : ℕ) × (c : Copied) × (slice_get copies k ≡ Some c) × (c.block ≡ r)
 
--- Each is the root by which the object of an item is read, where it stands elsewhere. Of so many items there is one
--- wherever it does, and no two for one root block.
+-- Each is the root by which the object of an item is read, if that root is elsewhere than in the root block. Of the
+-- first `done` items each such item has one, and no two are for one root block.
 pub record AreCopies (image : Image) (found : List Found) (done : ℕ) (copies : List Copied) : Type 0 where
   pub each : (k : ℕ) (c : Copied) → slice_get copies k ≡ Some c
       → IsRootBlock (block_at image (source image c.block)) c.root
@@ -37,7 +37,7 @@ node_piece number block = record { number = number; bytes = to_be_bytes w32 bloc
 abbrev pub head_piece : Root → Piece
 head_piece root = record { number = 255; bytes = root.fill ∷ drop 5 (to_be_bytes w64 root.size) }
 
--- a node with a number, where the root leads to one
+-- a node with a number, if the root leads to one
 abbrev pub piece_at : ℕ → ℕ → List Piece
 piece_at number zero = []
 piece_at number (suc n) = node_piece number (suc n) ∷ []
@@ -53,14 +53,14 @@ pieces_of root = head_piece root ∷ node_pieces 0 root.nodes
 abbrev pub all_pieces : List Copied → List Piece
 all_pieces copies = flat_map (λ c. pieces_of c.root) copies
 
--- the first piece, if there is one, has another number; or it begins a root
+-- the first piece, if there is one, has another number, or it begins a root
 abbrev pub BeginsWithout : ℕ → List Piece → Type 0
 BeginsWithout number pieces = (p : Piece) (rest : List Piece) → pieces ≡ p ∷ rest → p.number ≢ number
 
 abbrev pub BeginsAnew : List Piece → Type 0
 BeginsAnew pieces = (p : Piece) (rest : List Piece) → pieces ≡ p ∷ rest → p.number ≡ 255
 
--- how many of the first so many items are read from elsewhere
+-- how many of the first items are read from elsewhere
 abbrev pub copies_for : Image → Option Found → ℕ
 copies_for image None = 0
 copies_for image (Some x) = cond (nat_eq (source image x.block) x.block) 0 1
@@ -69,7 +69,7 @@ unfoldable pub copies_before : Image → List Found → ℕ → ℕ
 copies_before image found zero = 0
 copies_before image found (suc k) = copies_before image found k + copies_for image (slice_get found k)
 
--- These pieces are those of the copies, which stand in the order of the list.
+-- These pieces are those of the copies, which are in the order of the list.
 pub record AreKeptPieces (image : Image) (found : List Found) (done : ℕ) (pieces : List Piece)
     (copies : List Copied) : Type 0 where
   pub are : AreCopies image found done copies

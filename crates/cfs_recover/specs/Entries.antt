@@ -1,4 +1,4 @@
--- What is said of single entries, and of the shadow roots that stand by them.
+-- What is said of single entries, and of the shadow roots that stand for objects by them.
 use Rattle.std.specs.Prelude.{◌≡◌, ◌≢◌, ℕ, ◌<◌, ◌≤◌, true, List, [], ◌∷◌, length, filter, get_or, Some}
 use Rattle.std.specs.List.{range_with_len}
 use Rattle.cfs_base.specs.Codes as codes
@@ -16,12 +16,12 @@ damage block code = record { block = block; code = code }
 
 -- ---- one entry
 
--- the entry may be of this block
+-- the block may have this entry
 pub record MayStand (n : ℕ) (e : MapEntry) : Type 0 where
   pub own : OwnsItself n e
   pub fixed : is_fixed n ≡ true → e ≡ reserved
 
--- it can't: it is a root's of another block, or not reserved where it must be
+-- the block can't have it: it is the entry of a root of another block, or not reserved though it must be
 pub data EntryFault (n : ℕ) (e : MapEntry) : Damage → Type 0 where
   RootOfAnother : e.place ≡ Some places.Root → e.owner ≢ n → EntryFault n e (damage (map_of n) codes.no_entry)
   NotReserved : is_fixed n ≡ true → e ≢ reserved → EntryFault n e (damage n codes.not_owned)
@@ -37,7 +37,7 @@ IsShadow blocks shadow.None = blocks ≡ []
 IsShadow blocks (shadow.One s) = blocks ≡ s ∷ []
 IsShadow blocks shadow.Several = 2 ≤ length blocks
 
--- of each block what stands for it below this number
+-- what stands for each block among the blocks below this number
 abbrev pub AreStanding : Image → ℕ → List Shadow → Type 0
 AreStanding image below standing =
     (r : ℕ) → r < length standing → IsShadow (standing_below image below r) (get_or standing r shadow.None)

@@ -28,8 +28,8 @@ IsFaultOf image d = Fault image d.code d.block
 
 -- ---- what an image says
 
--- A block of the volume names this identifier: the label, or a leaf of an index that is reached. Whether the identifier
--- names an object isn't said.
+-- A block of the volume names this identifier: the label, or a leaf of an index that is reached. Whether the
+-- identifier names an object isn't said.
 pub data IsNamed (image : Image) (id : Puid) : ℕ → Type 0 where
   ByLabel : (label : Label) → HasLabel image label → label.root ≡ id → IsNamed image id 1
   BySlot : (i : Puid) (root : Root) (index : Index) (s : ℕ) (h : Held) → IsReachedIn image i
@@ -46,7 +46,7 @@ lists w id = is_some (directory_kind w.directory.named id)
 abbrev pub holds : Walk → ℕ → Bool
 holds w n = get_or w.held.items n false
 
--- the identifier is listed, or clashes with one that is
+-- the identifier is listed, or clashes with one that is listed
 abbrev pub IsNotedIn : Walk → Puid → Type 0
 IsNotedIn w id = (lists w id ≡ true) ⊎ IsSome w.clash
 
@@ -80,12 +80,13 @@ pub record IsWalkedObject (image : Image) (w : Walk) (id : Puid) (o : Object) : 
   pub reached : IsReachedIn image id
   pub reads : ReadsAs (length image) id (sight image id.block) o
   pub leads : (x : Puid) → is_among x (referred o) ≡ true → IsNotedIn w x
-  -- the root index is one of 64 slots
+  -- the root index is an index of 64 slots
   pub sort : id.block ≡ 2 → HasRootSlots reads.source
   pub root : holds w id.block ≡ true
   pub below : (path : List ℕ) (h : Held) → (shown_tree image id.block).below path ≡ Some h → holds w h.block ≡ true
 
--- The walk has taken so many of the list. A graph has all that is listed: those that were taken as they read.
+-- The walk has taken the first `done` items of the list. A graph has all that is listed: the objects that were taken
+-- are as they read.
 pub record IsWalk (image : Image) (w : Walk) (done : ℕ) : Type 0 where
   pub graph : Graph
   pub named : w.directory.named ≡ kinds_of graph
@@ -115,7 +116,7 @@ pub record IsNextItem (found : List Found) (done block : ℕ) : Type 0 where
 abbrev pub IsInSlot : List ℕ → ℕ → ℕ → ℕ → Puid → Type 0
 IsInSlot bytes size leaf s id = (s < 64) × (512 * leaf + 8 * s < size) × (slot_in bytes s ≡ Some id)
 
--- each identifier in one is named by this block
+-- this block names each identifier in such a slot
 abbrev pub AreNamed : Image → List ℕ → ℕ → ℕ → ℕ → Type 0
 AreNamed image bytes size leaf by = (s : ℕ) (id : Puid) → IsInSlot bytes size leaf s id → IsNamed image id by
 

@@ -23,14 +23,14 @@ pub record AreGrounds (image : Image) (label : Label) : Type 0 where
 
 -- ---- a map, by its cylinder
 
--- each of its entries may stand
+-- each block may have its entry
 abbrev pub AllMayStand : ℕ → List MapEntry → Type 0
 AllMayStand cylinder map = (k : ℕ) (e : MapEntry) → k < 64 → slice_get map k ≡ Some e → MayStand (64 * cylinder + k) e
 
 abbrev pub AllMapsStand : List (List MapEntry) → Type 0
 AllMapsStand maps = (j : ℕ) → j < length maps → AllMayStand j (get_or maps j [])
 
--- one can't
+-- a block can't have its entry
 pub record HasEntryFault (cylinder : ℕ) (map : List MapEntry) (d : Damage) : Type 0 where
   pub k : ℕ
   pub e : MapEntry
@@ -40,22 +40,22 @@ pub record HasEntryFault (cylinder : ℕ) (map : List MapEntry) (d : Damage) : T
 
 -- ---- why a volume isn't opened
 
--- the image has a label that is no volume's, or none
+-- the image has no label, or one that is no volume's
 abbrev pub HasNoLabel : Image → Type 0
 HasNoLabel image = (length image < 3) ⊎ IsNoVolume (block_at image 1)
 
--- it has one of another version
+-- the image has a label of another version
 abbrev pub HasVersion : Image → ℕ → Type 0
 HasVersion image found = (3 ≤ length image) × IsOtherVersion (block_at image 1) found
 
--- it has one of this version
+-- the image has a label of this version
 pub record IsLabelled (image : Image) : Type 0 where
   pub long : 3 ≤ length image
   pub label : Label
   pub has : HasLabel image label
 
--- Which of these holds of an image is told: it has no label, or one of another version, or one of this version and this
--- fault. A device call that failed and want of memory say nothing of it.
+-- The fault says which of these holds of an image: it has no label, or one of another version, or one of this version
+-- and this damage. A device call that failed and want of memory say nothing of it.
 abbrev pub IsOpenFault : Image → RecoverFault → Type 0
 IsOpenFault image faults.Disk = Unit {0}
 IsOpenFault image faults.NotVolume = HasNoLabel image

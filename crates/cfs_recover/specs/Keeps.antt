@@ -1,4 +1,4 @@
--- A run of writes, every image of which has one property.
+-- A run of writes of which every image has one property.
 use Rattle.std.specs.Prelude.{◌≡◌, ◌⊎◌, ◌<◌, ◌≤◌, ℕ, slice_get, Some, List, length}
 use Rattle.cfs_base.specs.Disk.{Image, block_at}
 use Rattle.cfs_base.specs.Run.{Leaves, Tells, left_now}
@@ -17,14 +17,14 @@ use Rattle.cfs_recover.specs.declared.found.Found.{Found}
 use Rattle.cfs_recover.specs.declared.survey.Walked.{Walked}
 use Rattle.cfs_recover.specs.declared.copies.Copied.{Copied}
 
--- A run from `start` has come to `now`, be it that its last call failed: the content has P, and so has whatever a crash
+-- A run from `start` has come to `now`, even if its last call failed: the content has P, and so has whatever a crash
 -- left on the way.
 pub record Leads {D : Type 0} (g : Ghosts D) (P : Image → Type 0) (start now : D) : Type 0 where
   pub content : P (g.content now)
   pub leaves : Leaves g start now P
 
--- A run from `start` has come to `now` with no failure: the content has P, and so has whatever a crash leaves now or
--- left on the way.
+-- A run from `start` has come to `now` without a failure: the content has P, and so has whatever a crash leaves now
+-- or left on the way.
 pub record RunKeeps {D : Type 0} (g : Ghosts D) (P : Image → Type 0) (start now : D) : Type 0 where
   pub tells : Tells g now
   pub content : P (g.content now)
@@ -42,7 +42,7 @@ pub record IsCopyOf (a : Image) (g : Graph) (c : Copied) : Type 0 where
 abbrev pub AreCopiesOf : Image → Graph → List Copied → Type 0
 AreCopiesOf a g copies = (k : ℕ) (c : Copied) → slice_get copies k ≡ Some c → IsCopyOf a g c
 
--- of these copies so many are written
+-- the first `done` of these copies are written
 abbrev pub AreWritten : Image → List Copied → Image → ℕ → Type 0
 AreWritten a copies b done = (k : ℕ) (c : Copied) → k < done → slice_get copies k ≡ Some c
     → block_at b c.block ≡ block_at a (source a c.block)
@@ -55,7 +55,7 @@ pub record AreAllCopies (a : Image) (g : Graph) (copies : List Copied) : Type 0 
 
 -- ---- the copies, as a walk has kept them
 
--- the maps and the table of what stands are those of an image in which one shadow root stands at most for this root
+-- the maps and the table of shadow roots are those of an image in which at most one shadow root stands for this root
 -- block
 pub record AreShown (a : Image) (maps : List (List MapEntry)) (w : Walked) (r : ℕ) : Type 0 where
   pub maps_are : AreMapsOf a maps

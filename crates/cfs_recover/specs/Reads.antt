@@ -25,15 +25,15 @@ is_index_kind kinds.Normal = false
 is_index_kind kinds.Special = false
 is_index_kind kinds.Index = true
 
--- the content of a leaf matters where it has slots, or ends past the size
+-- the content of a leaf matters if it has slots, or the leaf ends past the size
 abbrev pub is_leaf_read : (kind : Kind) → (size leaf : ℕ) → Bool
 is_leaf_read kind size leaf = is_index_kind kind || nat_lt size (512 * leaf + 512)
 
--- the leaves that are held and whose content matters: all of an index, and of a file the one in which it ends
+-- the leaves that are held and whose content matters: all leaves of an index, and of a file the one in which it ends
 abbrev pub leaves_read : Object → List ℕ
 leaves_read o = filter (is_leaf_read (object_kind o) (size_of o)) (held_leaves o)
 
--- with its root, a shadow root where one stands, and its nodes
+-- the same with its root, a shadow root if one stands for it, and its nodes
 abbrev pub reads_wanted : Object → ℕ
 reads_wanted o = 2 + length (held_nodes o) + length (leaves_read o)
 
@@ -48,7 +48,7 @@ reads_of_volume blocks g = 1 + blocks / 64 + reads_of_all g.objects
 
 -- ---- block by block
 
--- how many reads check the blocks to which pointers lead, and all below them. A pointer 0 leads nowhere
+-- How many reads check the blocks to which pointers lead, and all below them. Pointer 0 leads nowhere.
 abbrev pub reads_if : ℕ → ℕ → ℕ
 reads_if zero reads = 0
 reads_if (suc block) reads = reads
@@ -61,7 +61,7 @@ reads_through reads first pointers =
 abbrev pub reads_of_leaf : Root → ℕ → ℕ
 reads_of_leaf root leaf = cond (is_leaf_read root.kind root.size leaf) 1 0
 
--- how many check a block with this number among those above so many levels, and all below it
+-- how many reads check a block with this number that is `height` levels above the leaves, and all below it
 abbrev pub reads_below : Image → Root → (height number block : ℕ) → ℕ
 reads_below image root zero number block = reads_of_leaf root number
 reads_below image root (suc height) number block =
@@ -70,7 +70,7 @@ reads_below image root (suc height) number block =
 
 -- ---- what was read
 
--- the item of the list reads as this object, which is read with at most so many reads
+-- the item of the list reads as this object, which takes at most this many reads
 pub record IsReadItem (image : Image) (x : Found) (reads : ℕ) : Type 0 where
   pub id : Puid
   pub object : Object
@@ -78,20 +78,20 @@ pub record IsReadItem (image : Image) (x : Found) (reads : ℕ) : Type 0 where
   pub reads_as : ReadsAs (length image) id (sight image id.block) object
   pub count : reads ≡ reads_wanted object
 
--- it reads as this object
+-- the item reads as this object
 pub record IsReadAt (image : Image) (found : List Found) (k : ℕ) (e : Puid × Object) : Type 0 where
   pub item : Found
   pub here : slice_get found k ≡ Some item
   pub block : item.block ≡ e.0.block
   pub reads_as : ReadsAs (length image) e.0 (sight image e.0.block) e.1
 
--- the first so many items read as these, the last first
+-- the first items read as these, the last first
 abbrev pub AreRead : Image → List Found → ℕ → List (Puid × Object) → Type 0
 AreRead image found done [] = done ≡ 0
 AreRead image found done (e ∷ es) =
     (before : ℕ) × (done ≡ before + 1) × IsReadAt image found before e × AreRead image found before es
 
--- a run of nothing but reads, no more than the first so many items want
+-- a run of only reads, no more than the first items need
 abbrev pub HasRead : {D : Type 0} → Ghosts D → Image → List Found → ℕ → D → D → Type 0
 HasRead g image found done old new =
     (es : List (Puid × Object)) × AreRead image found done es × OnlyReads g (reads_of_all es) old new

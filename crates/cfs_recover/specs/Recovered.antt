@@ -25,15 +25,15 @@ use Rattle.vol_owners.specs.Account.{Accounts, IsSwept, no_drafts}
 use Rattle.cfs_recover.specs.Survey.{IsIn}
 
 -- Beside the maps and the label exactly the blocks of the objects aren't Free. They are Allocated, and no commit bit
--- stands.
+-- is set.
 pub record IsClean (image : Image) (graph : Graph) : Type 0 where
   pub free : (n : ℕ) (e : MapEntry) → entry_in image n ≡ Some e → is_fixed n ≡ false → ¬ IsIn image graph n
       → e ≡ unheld_entry
   pub held : (n : ℕ) (e : MapEntry) → entry_in image n ≡ Some e → IsIn image graph n
       → (e.state ≡ Allocated) × (e.committed ≡ false)
 
--- The disk holds a volume that reads as image `before` did, with nothing but its objects. The label is the volume's,
--- the directory has its identifiers with their kinds, and the space has its counts. The last five are what a store
+-- The disk holds a volume that reads as image `before` did, with only its objects. The label is the volume's, the
+-- directory has its identifiers with their kinds, and the space has its counts. The last five fields are what a store
 -- needs that is opened on the disk with no draft.
 pub record IsRecovered {D : Type 0} (g : Ghosts D) (before : Image) (d : D) (label : Label) (directory : Listing)
     (space : Kept) : Type 0 where
@@ -58,16 +58,16 @@ pub record IsUntouched {D : Type 0} (g : Ghosts D) (old new : D) : Type 0 where
   pub content : g.content new ≡ g.content old
   pub images : Leaves g old new Nothing
 
--- 1 where a block isn't what it was, and else 0
+-- 1 if a block isn't what it was, else 0
 abbrev pub one_if_changed : List ℕ → List ℕ → ℕ
 one_if_changed old new = cond (pointwise nat_eq new old) 0 1
 
--- how many maps, of so many cylinders, aren't what they were
+-- how many maps, of this many cylinders, aren't what they were
 unfoldable pub changed_maps : Image → Image → ℕ → ℕ
 changed_maps old new zero = 0
 changed_maps old new (suc n) = changed_maps old new n + one_if_changed (block_at old (64 * n)) (block_at new (64 * n))
 
--- Beside so many barriers nothing was written but root blocks whose objects were read from elsewhere, each once, and
+-- Beside `barriers` barriers, only root blocks whose objects were read from elsewhere were written, each once, and
 -- each map that isn't what it was, once.
 pub record WritesWhatDiffers {D : Type 0} (g : Ghosts D) (barriers : ℕ) (old new : D) : Type 0 where
   pub roots : List ℕ
@@ -78,7 +78,7 @@ pub record WritesWhatDiffers {D : Type 0} (g : Ghosts D) (barriers : ℕ) (old n
 
 -- ---- images on the way
 
--- one call was made, a barrier, and it was done: nothing waits
+-- one call was made, a barrier, and it was done: no write waits
 pub record HasFlushed {D : Type 0} (g : Ghosts D) (old new : D) : Type 0 where
   pub settled : IsSettled g new
   pub untouched : IsUntouched g old new
@@ -92,6 +92,6 @@ pub record HasNotFlushed {D : Type 0} (g : Ghosts D) (old new : D) : Type 0 wher
   pub calls : g.calls new ≡ count_after (g.calls old)
   pub tries : g.tries new ≡ count_after (g.tries old)
 
--- The first call is a barrier. Where that was done, whatever a crash left since, or leaves now, has P.
+-- The first call is a barrier. If it was done, whatever a crash left since, or leaves now, has P.
 abbrev pub LeavesSinceBarrier : {D : Type 0} → Ghosts D → D → D → (Image → Type 0) → Type 0
 LeavesSinceBarrier {D} g old new P = HasNotFlushed g old new ⊎ ((mid : D) × HasFlushed g old mid × Leaves g mid new P)

@@ -5,7 +5,7 @@ use Rattle.cfs_base.specs.declared.refusal.Damage.{Damage}
 use Rattle.cfs_recover.specs.declared.fault.RecoverFault.{RecoverFault}
 use Rattle.cfs_recover.specs.declared.fault.RecoverFault.TheVariants as faults
 
--- where it says that a device call failed, one did
+-- if the refusal says that a device call failed, one did
 abbrev pub IsCaused : {D : Type 0} → Ghosts D → D → D → RecoverFault → Type 0
 IsCaused g old new faults.Disk = HasFailed g old new
 IsCaused g old new faults.NotVolume = Unit {0}
@@ -13,7 +13,7 @@ IsCaused g old new (faults.Version found) = Unit {0}
 IsCaused g old new (faults.Damaged d) = Unit {0}
 IsCaused g old new faults.Memory = Unit {0}
 
--- it names a damage of which this is so, or says nothing of the volume: a device call failed, or want of memory
+-- the refusal names a damage with P, or says nothing of the volume: a device call failed, or there was no memory
 abbrev pub NamesDamage : (Damage → Type 0) → RecoverFault → Type 0
 NamesDamage P faults.Disk = Unit {0}
 NamesDamage P faults.NotVolume = ⊥
@@ -21,6 +21,6 @@ NamesDamage P (faults.Version found) = ⊥
 NamesDamage P (faults.Damaged d) = P d
 NamesDamage P faults.Memory = Unit {0}
 
--- it says nothing of the volume
+-- the refusal says nothing of the volume
 abbrev pub TellsNothing : RecoverFault → Type 0
 TellsNothing e = NamesDamage (λ d. ⊥) e

@@ -1,4 +1,4 @@
--- The table of the shadow roots that stand.
+-- The table of the shadow roots that stand for root blocks.
 use Rattle.std.specs.Prelude.{◌≡◌, ◌⊎◌, ℕ, ◌-◌, ◌<◌, ◌≤◌, ◌==◌, if◌then◌else◌, List, length, slice_get, Some}
 pub use Rattle.cfs_recover.specs.declared.standing.Shadow.{Shadow}
 use Rattle.cfs_recover.specs.declared.standing.Shadow.TheVariants.{None, One, Several}
@@ -7,7 +7,7 @@ use Rattle.cfs_recover.specs.declared.standing.Shadow.TheVariants.{None, One, Se
 abbrev pub shadow_of : ℕ → Shadow
 shadow_of n = if n == 0 then None else (if n == 4294967295 then Several else One (n - 1))
 
--- with one more that stands
+-- the entry with one more shadow root
 abbrev pub one_more : Shadow → ℕ → Shadow
 one_more None s = One s
 one_more (One t) s = Several

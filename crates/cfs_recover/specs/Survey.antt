@@ -35,7 +35,7 @@ pub record IsWholeWalk (image : Image) (w : Walk) : Type 0 where
   pub held : (n : ℕ) → holds w n ≡ true → IsIn image graph n
   pub all : (n : ℕ) → IsIn image graph n → holds w n ≡ true
 
--- all on the list were walked, which begins at the label
+-- all objects on the list, which begins at the label, were walked
 pub record IsWalked (image : Image) (label : Label) (w : Walked) : Type 0 where
   pub walk : IsWalk image w.walk (length w.walk.found.items)
   pub noted : IsNotedIn w.walk label.root
@@ -49,7 +49,7 @@ pub record IsSurvey (image : Image) (s : Survey) : Type 0 where
   pub walked : IsWalked image s.grounds.label s.walked
   pub whole : IsWholeWalk image s.walked.walk
 
--- ---- the sizes of what is known of a disk of so many blocks, whatever it holds
+-- ---- the sizes of what is known of a disk of this size, whatever it holds
 
 pub record IsOfSize (blocks : ℕ) (w : Walked) : Type 0 where
   pub held : length w.walk.held.items ≡ blocks

@@ -1,5 +1,4 @@
--- What recovery writes, and the images that it may leave on the way: roots that are copied, and then maps that are
--- tidied.
+-- What recovery writes, and the images that it may leave on the way: roots are copied, and then maps are tidied.
 use Rattle.std.specs.Prelude.{◌≡◌, ◌≢◌, ◌⊎◌, ℕ, ◌+◌, ◌*◌, ◌%◌, ◌<◌, Bool, true, false, List, [], length, get_or}
 use Rattle.std.specs.Prelude.{slice_get, Some}
 use Rattle.cfs_base.specs.Disk.{Image, block_at}
@@ -21,7 +20,7 @@ use Rattle.vol_owners.specs.Account.{StandsIn}
 
 -- ---- the roots
 
--- Image b is image a, with the content by which an object is read written to the roots of some objects.
+-- Image b is image a in which the content by which an object is read is written to the roots of some objects.
 pub record CopiesRoots (a : Image) (g : Graph) (b : Image) : Type 0 where
   pub size : length b ≡ length a
   pub each : (n : ℕ) → (block_at b n ≡ block_at a n)
@@ -51,7 +50,7 @@ pub record Tidies (a : Image) (g : Graph) (b : Image) : Type 0 where
   pub standing : (id : Puid) (o : Object) (n : ℕ) → object_at g id ≡ Some o → stands_for id.block (entry_in b n) ≡ true
       → stands_for id.block (entry_in a n) ≡ true
 
--- this entry of a block may come into such an image
+-- such an image may have this entry of a block
 pub record IsTidy (a : Image) (g : Graph) (n : ℕ) (e : MapEntry) : Type 0 where
   pub own : OwnsItself n e
   pub fixed : is_fixed n ≡ true → entry_in a n ≡ Some e
@@ -65,13 +64,13 @@ pub record IsTidy (a : Image) (g : Graph) (n : ℕ) (e : MapEntry) : Type 0 wher
   pub standing : (id : Puid) (o : Object) → object_at g id ≡ Some o → stands_for id.block (Some e) ≡ true
       → stands_for id.block (entry_in a n) ≡ true
 
--- each entry of a map may come
+-- such an image may have each entry of a map
 abbrev pub IsTidyMap : Image → Graph → ℕ → List ℕ → Type 0
 IsTidyMap a g j block = (k : ℕ) → k < 64 → (e : MapEntry) × (entry_at block k ≡ Some e) × IsTidy a g (64 * j + k) e
 
 -- ---- the entries that are written
 
--- each block that an object holds is marked: its root, and what stands below it
+-- each block that an object holds is marked: its root, and what is below it
 pub record AreMarked (a : Image) (g : Graph) (held : ℕ → Bool) : Type 0 where
   pub root : (id : Puid) (o : Object) → object_at g id ≡ Some o → held id.block ≡ true
   pub inner : (id : Puid) (o : Object) (path : List ℕ) (h : Held) → object_at g id ≡ Some o
@@ -90,7 +89,7 @@ pub record IsHeldIn (a : Image) (g : Graph) (n : ℕ) : Type 0 where
   pub there : object_at g id ≡ Some object
   pub here : (n ≡ id.block) ⊎ StandsIn (tree_in a (block_at a id.block)) n
 
--- each entry of image b is the tidied one of image a, by marks of exactly what objects have
+-- each entry of image b is the tidied one of image a, by marks of exactly the blocks that objects have
 pub record IsTidied (a : Image) (g : Graph) (held : ℕ → Bool) (b : Image) : Type 0 where
   pub entries : (n : ℕ) (e : MapEntry) → entry_in a n ≡ Some e → entry_in b n ≡ Some (tidied (is_fixed n) (held n) e)
   pub only : (n : ℕ) → held n ≡ true → IsHeldIn a g n
@@ -114,13 +113,13 @@ pub record IsMapIn (a : Image) (cylinder : ℕ) (map : List MapEntry) : Type 0 w
   pub entries : (k : ℕ) → k < 64 → entry_in a (64 * cylinder + k) ≡ slice_get map k
   pub whole : IsMap map
 
--- the map of a cylinder is the tidied one of this map, and so many of its blocks are Free
+-- the map of a cylinder is this map, tidied, and `count` of its blocks are Free
 pub record HasTidied (b : Image) (cylinder : ℕ) (map : List MapEntry) (held : List Bool) (count : ℕ) : Type 0 where
   pub tidy : List MapEntry
   pub tidied : IsTidiedMap cylinder map held tidy
   pub spelled : block_at b (64 * cylinder) ≡ map_spelling tidy
   pub free : count ≡ free_entries tidy
 
--- so are those of so many cylinders
+-- so are the maps of the first `done` cylinders
 abbrev pub AreTidied : Image → List (List MapEntry) → List Bool → List ℕ → ℕ → Type 0
 AreTidied b maps held free done = (k : ℕ) → k < done → HasTidied b k (get_or maps k []) held (get_or free k 0)

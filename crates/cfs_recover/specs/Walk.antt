@@ -34,7 +34,7 @@ use Rattle.cfs_recover.specs.Stored.{AreMapsOf, Stores}
 abbrev pub object_shown : Image → Puid → Root → Object
 object_shown image id root = object_with root (leaf_in (shown_tree image id.block))
 
--- the object is reached, and read by this root, which stands in this block
+-- the object is reached, and read by this root, which is in this block
 pub record IsShown (image : Image) (id : Puid) (from : ℕ) (root : Root) : Type 0 where
   pub reached : IsReachedIn image id
   pub shows : Shows image id.block root (object_shown image id root)
@@ -53,7 +53,7 @@ pub record IsOwn (image : Image) (x : Found) (own : Root) : Type 0 where
   pub named : IsNamed image (id_of x own) x.by
   pub some : x.block ≢ 0
 
--- it is read by this head, and its own block is entered as a root
+-- the object is read by this head, and its own block has the entry of a root
 pub record IsOpened (image : Image) (id : Puid) (head : Head) : Type 0 where
   pub shown : IsShown image id head.from head.root
   pub owned : BelongsTo id.block places.Root (part_at image id.block)
@@ -64,14 +64,14 @@ pub record IsCopy (image : Image) (r : ℕ) (head : Head) : Type 0 where
   pub from : head.from ≡ source image r
   pub spelled : IsRootBlock (block_at image head.from) head.root
 
--- ---- its blocks, each by what leads to it
+-- ---- the blocks of an object, each by what leads to it
 
--- how many reads check a block above so many levels of nodes' pointers, and all below it
+-- how many reads check a block that is this many levels above the leaves, and all below it
 abbrev pub reads_by_height : ℕ → ℕ
 reads_by_height zero = 1
 reads_by_height (suc height) = 1 + leaf_pointers.count * reads_by_height height
 
--- and how many an object, with its own root and the one by which it is read
+-- how many reads check an object, with its own root and the one by which it is read
 abbrev pub reads_of_object : ℕ
 reads_of_object = 2 + node_pointers.count * reads_by_height node_levels
 
@@ -89,7 +89,7 @@ pub record IsReadByRoot (image : Image) (owner : ℕ) (root : Root) : Type 0 whe
   pub shows : Shows image id.block root (object_shown image id root)
   pub owner_is : owner ≡ id.block
 
--- A block of its tree has these pointers, as many as there are at a level: it is number `at.number` of those at the end
+-- A block of its tree has these pointers, as many as a level has. It is number `at.number` of the blocks at the end
 -- of the levels above, and its tree goes on as the pointers say.
 pub record HasPointers (image : Image) (owner : ℕ) (root : Root) (at : Branch) (pointers : List ℕ) : Type 0 where
   pub read : IsReadByRoot image owner root
@@ -117,7 +117,7 @@ pub record HasBlock (image : Image) (owner : ℕ) (root : Root) (twig : Twig) : 
   }
   pub some : twig.block ≢ 0
 
--- ---- its blocks, as they were checked and noted
+-- ---- the blocks of an object, as they were checked and noted
 
 -- the block holds this node, which leads on
 pub record IsNodeAt (image : Image) (block : ℕ) (node : Node) : Type 0 where
@@ -134,7 +134,7 @@ pub record IsGoodLeaf (image : Image) (root : Root) (w : Walk) (leaf block : ℕ
   pub within : leaf < leaves_in root.size
   pub read : IsReadLeaf image root w leaf block
 
--- a block with this number among those above so many levels, by itself
+-- a block with this number at this height above the leaves is good by itself
 pub record IsGood (image : Image) (owner : ℕ) (root : Root) (w : Walk) (height number block : ℕ) : Type 0 where
   pub on_disk : block < length image
   pub owned : BelongsTo owner (place_above (levels_below height) number) (part_at image block)
@@ -142,7 +142,7 @@ pub record IsGood (image : Image) (owner : ℕ) (root : Root) (w : Walk) (height
   pub leads_on : height ≢ 0 → (j : ℕ) × (pointer leaf_pointers (block_at image block) j ≢ 0)
   pub leaf : height ≡ 0 → IsGoodLeaf image root w number block
 
--- with all below it
+-- the same with all below it
 abbrev pub AreGood : Image → ℕ → Root → Walk → ℕ → ℕ → ℕ → Type 0
 AreGood image owner root w zero number block = IsGood image owner root w zero number block
 AreGood image owner root w (suc height) number block = IsGood image owner root w (suc height) number block
@@ -150,7 +150,7 @@ AreGood image owner root w (suc height) number block = IsGood image owner root w
     → AreGood image owner root w height (number * leaf_pointers.count + j)
     (pointer leaf_pointers (block_at image block) j))
 
--- to what one of these pointers leads, and to what all below one do
+-- the same for what one of these pointers leads to, and for all below it
 abbrev pub IsGoodAt : Image → ℕ → Root → Walk → Branch → List ℕ → ℕ → Type 0
 IsGoodAt image owner root w at pointers k = get_or pointers k 0 ≢ 0
     → AreGood image owner root w at.height (at.number * length pointers + k) (get_or pointers k 0)
@@ -158,14 +158,14 @@ IsGoodAt image owner root w at pointers k = get_or pointers k 0 ≢ 0
 abbrev pub AreGoodBelow : Image → ℕ → Root → Walk → Branch → List ℕ → ℕ → Type 0
 AreGoodBelow image owner root w at pointers below = (k : ℕ) → k < below → IsGoodAt image owner root w at pointers k
 
--- all below a root of this content
+-- the same for all below a root of this content
 abbrev pub IsGoodTree : Image → ℕ → Root → Walk → List ℕ → Type 0
 IsGoodTree image owner root w content = (k : ℕ) → pointer node_pointers content k ≢ 0
     → AreGood image owner root w node_levels (0 * node_pointers.count + k) (pointer node_pointers content k)
 
 -- ---- the walk
 
--- a walk over the image that a disk holds, whose maps are these, has taken so many
+-- a walk over the image that a disk holds, whose maps are these, has taken the first `done` items
 pub record Walks {D : Type 0} (g : Ghosts D) (d : D) (image : Image) (maps : List (List MapEntry)) (w : Walk)
     (done : ℕ) : Type 0 where
   pub stored : Stores g d image

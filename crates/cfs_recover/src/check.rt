@@ -1,4 +1,4 @@
-//! A volume checked, with reads alone.
+//! A volume checked by reads alone.
 ghost use Rattle.std.specs.Prelude.{◌≡◌, ◌⊎◌, ◌+◌, ◌*◌, IfErr, OnOk};
 ghost use Rattle.cfs_base.specs.Calls.{OnlyReads};
 ghost use Rattle.cfs_base.specs.Run.{Tells};
@@ -14,9 +14,11 @@ use crate::survey::survey_volume;
 use cfs_base::Disk;
 use std::alloc::Global;
 
-/// Whether a disk holds a sound volume: all tests that recovery makes before it writes. Reads the label, each map, each
-/// root, shadow root that stands, node and leaf of an index that is reached once, and of a file the leaf in which it
-/// ends. Refused for the first fault that is found, for a device call that failed, or for want of memory.
+/// Checks that a disk holds a sound volume, by all tests that recovery makes before it writes.
+///
+/// Reads once the label, each map, each root and the shadow root that stands for it, each node, each leaf of an index
+/// that is reached, and of a file the leaf in which it ends. Refused for the first fault that is found, for a device
+/// call that failed, or for want of memory.
 pub fn check_volume<D: Disk>(alloc: Global, disk: &mut D) -> Result<(), RecoverFault>
     ensures sound { Tells D.Disk disk.old → OnOk result (IsSound (D.content disk.old)) }
     ensures refused { Tells D.Disk disk.old → IfErr result (IsOpenFault (D.content disk.old)) }

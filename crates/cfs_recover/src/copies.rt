@@ -1,4 +1,4 @@
-//! Roots that are to be copied, in five bytes for each root and each of its nodes.
+//! Roots that are to be copied, kept in five bytes for each root and each of its nodes.
 ghost use Rattle.std.specs.Prelude.{◌≡◌, ℕ, ◌+◌, ◌<◌, ◌^◌, List, ◌∷◌, ◌++◌, None, Some, slice_get, IfSome, IsSome};
 ghost use Rattle.std.specs.Prelude.{OnOk};
 ghost use Rattle.block_tree.specs.Root.{IsGoodRoot};
@@ -12,15 +12,17 @@ use crate::head::Head;
 use block_tree::{NODES, Root};
 use cfs_base::{Kind, NoMemory};
 
-/// A root block, and the root by which its object is read, which stands in another block.
+/// A root block, and the root by which its object is read, which is in another block.
 #[derive(Clone, Copy, Debug, PartialEq, Eq)]
 pub(crate) struct Copied {
     pub block: u32,
     pub root: Root,
 }
 
-/// Five bytes of what is kept of a root. Of each node: its number, and its block. Before them, by the number `HEAD`:
-/// the fill byte, and the last three bytes of the size. The kind and the word are those of the object's identifier.
+/// Five bytes of what is kept of a root.
+///
+/// For each node they are its number and its block. A piece with the number `HEAD` comes before them, and has the
+/// fill byte and the last three bytes of the size. The kind and the word are those of the object's identifier.
 #[derive(Clone, Copy, Debug)]
 pub(crate) struct Piece {
     pub number: u8,
@@ -30,7 +32,7 @@ pub(crate) struct Piece {
 /// The number of a piece that begins a root.
 const HEAD: u8 = u8::MAX;
 
-/// The piece that begins a root.
+/// Returns the piece that begins a root.
 fn head_piece(root: &Root) -> Piece
     ensures { result ≡ spec.head_piece root.now }
 {
@@ -59,7 +61,7 @@ fn keep_root(kept: &mut Vec<Piece>, root: &Root) -> Result<(), NoMemory>
     Ok(())
 }
 
-/// Keeps the root by which an object is read, where it stands in another block than the object's root block.
+/// Keeps the root by which an object is read, if it is in another block than the object's root block.
 pub(crate) fn note_copy(kept: &mut Vec<Piece>, block: u32, head: &Head) -> Result<(), NoMemory>
     ensures { (image : Image) (found : List Found) (done : ℕ) → spec.HasKept image found done kept.old.items
         → (x : Found) → slice_get found done ≡ Some x → x.block ≡ block → IsCopy image block head.now
@@ -73,7 +75,7 @@ pub(crate) fn note_copy(kept: &mut Vec<Piece>, block: u32, head: &Head) -> Resul
     Ok(())
 }
 
-/// The block of the node with this number, where the first piece is of it, and the pieces that follow.
+/// Returns the block of the node with this number, if the first piece is that node's, and the pieces that follow.
 fn next_node(kept: &[Piece], number: u8) -> Option<(u32, &[Piece])>
     ensures some { (block : ℕ) (rest : List spec.Piece) → block < 2 ^ 32
         → kept.now ≡ spec.node_piece number block ∷ rest
@@ -87,7 +89,7 @@ fn next_node(kept: &[Piece], number: u8) -> Option<(u32, &[Piece])>
     Some((u32::from_be_bytes(first.bytes), rest))
 }
 
-/// The root of this kind and word of which these are the first pieces, and the pieces that follow.
+/// Returns the root of this kind and word that begins the pieces, and the pieces that follow.
 pub(crate) fn first_root(kept: &[Piece], kind: Kind, word: u32) -> Option<(Root, &[Piece])>
     ensures { (root : Root) (rest : List spec.Piece) → IsGoodRoot root → root.kind ≡ kind → root.word ≡ word
         → kept.now ≡ spec.pieces_of root ++ rest → spec.BeginsAnew rest

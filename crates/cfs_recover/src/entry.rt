@@ -14,7 +14,7 @@ pub const RESERVED: MapEntry = MapEntry {
     owner: 0,
 };
 
-/// The entry of a block.
+/// Returns the entry of a block.
 pub fn entry_at(maps: &[Map], block: u32) -> MapEntry
     requires { block / 64 < length maps.now }
     ensures { slice_get (get_or maps.now (block / 64) []) (block % 64) ≡ Some result }
@@ -22,15 +22,17 @@ pub fn entry_at(maps: &[Map], block: u32) -> MapEntry
     maps[(block / 64) as usize].get((block % 64) as u8)
 }
 
-/// Whether this is a map block, or the label.
+/// Returns whether this is a map block or the label.
 pub fn is_fixed(block: u32) -> bool
     ensures { result ≡ part.is_fixed block }
 {
     block % 64 == 0 || block == 1
 }
 
-/// Whether the entry can be of this block: a root's is that of its own block, and a map block and the label are
-/// reserved. Refused with code 2 of its map, and with code 5 of the block.
+/// Checks that a block may have this entry.
+///
+/// A root's is that of its own block, and a map block and the label are reserved. Refused with code 2 of its map, and
+/// with code 5 of the block.
 pub fn check_entry(block: u32, entry: MapEntry) -> Result<(), Damage>
     ensures { MatchResult result (λ _. MayStand block entry) (EntryFault block entry) }
 {
@@ -49,14 +51,14 @@ pub fn check_entry(block: u32, entry: MapEntry) -> Result<(), Damage>
     Ok(())
 }
 
-/// Whether a block with this entry is of this owner, at this place.
+/// Returns whether a block with this entry has this owner and place.
 pub fn belongs(entry: MapEntry, owner: u32, place: Place) -> bool
     ensures { IsTrue result ↔ part.BelongsTo owner place (part.part_of (Some entry)) }
 {
     entry.state != BlockState::Free && entry.owner == owner && entry.place == Some(place)
 }
 
-/// Whether a block with this entry stands for this root block, as its shadow root.
+/// Returns whether a block with this entry stands for this root block, as its shadow root.
 pub fn stands(entry: MapEntry, root: u32) -> bool
     ensures { result ≡ part.stands_for root (Some entry) }
 {
@@ -65,7 +67,7 @@ pub fn stands(entry: MapEntry, root: u32) -> bool
         && entry.owner == root
 }
 
-/// Whether the commit bit stands in this entry.
+/// Returns whether the commit bit is set in this entry.
 pub fn is_committed(entry: MapEntry) -> bool
     ensures { result ≡ part.is_committed (part.part_of (Some entry)) }
 {

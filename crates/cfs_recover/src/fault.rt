@@ -15,13 +15,13 @@ pub enum RecoverFault {
     /// The disk holds no volume. Nothing was written.
     #[error("not a volume")]
     NotVolume,
-    /// A volume of another version. Nothing was written.
+    /// The volume has another version. Nothing was written.
     #[error("a volume of version {found}")]
     Version { found: u32 },
-    /// A block of the volume is damaged, as told. Nothing was written.
+    /// A block of the volume is damaged, as it says. Nothing was written.
     #[error("a damaged volume")]
     Damaged(Damage),
-    /// Want of memory. Nothing was written.
+    /// There was no memory. Nothing was written.
     #[error("out of memory")]
     Memory,
 }

@@ -8,7 +8,7 @@ use leaf_changes::slot_at;
 use puid_space::Directory;
 use std::alloc::Global;
 
-/// A root block that was found: the identifier that names it stands in the block `by`.
+/// A root block that was found. The identifier that names it is in block `by`.
 #[derive(Clone, Copy, Debug, PartialEq, Eq)]
 pub(crate) struct Found {
     pub block: u32,
@@ -18,14 +18,15 @@ pub(crate) struct Found {
 /// What a walk over the objects of a volume has found.
 #[derive(Debug, Drop)]
 pub(crate) struct Walk {
-    /// The identifiers that were found, at most one for each root block. Until an object is read it is listed as an
-    /// index.
+    /// The identifiers that were found, at most one for each root block.
+    ///
+    /// An object is listed as an index until it is read.
     pub directory: Directory,
     /// Their root blocks, in the order in which they were found.
     pub found: Vec<Found>,
-    /// Of each block whether an object that was read holds it.
+    /// Whether an object that was read holds the block, for each block.
     pub held: Vec<bool>,
-    /// The block that names an identifier with the root block, but not the word, of one that was found.
+    /// The block that names an identifier that has the root block, but not the word, of one that was found.
     pub clash: Option<u32>,
     ghost sized: { IsSized directory found.items held.items },
 }
@@ -40,7 +41,7 @@ impl Walk {
     ghost use Rattle.cfs_recover.specs.Found as spec;
     ghost use Rattle.cfs_recover.specs.Refusals.{NamesDamage};
 
-    /// Nothing was found. Takes the memory for a volume of so many blocks.
+    /// Makes a walk that has found nothing. Takes the memory for a volume of `blocks` blocks.
     pub fn new(alloc: Global, blocks: u32) -> Result<Walk, NoMemory>
         ensures room { IfOk result (λ walk. walk.directory.room ≡ blocks) }
         ensures directory { IfOk result (λ walk. walk.directory.named ≡ []) }
@@ -60,7 +61,7 @@ impl Walk {
         })
     }
 
-    /// Whether an identifier is listed. It is then the only one with its root block.
+    /// Returns whether an identifier is listed. It is then the only one with its root block.
     pub fn lists(&self, id: Puid) -> bool
         ensures lists { result ≡ spec.lists self.now id }
         ensures alone { result ≡ true → (other : Puid) → spec.lists self.now other ≡ true → other.block ≡ id.block
@@ -69,8 +70,9 @@ impl Walk {
         id.block < self.directory.room() && self.directory.kind(id).is_some()
     }
 
-    /// Notes an identifier that the block `by` names. Refused with code 6 of that block, where the identifier's is
-    /// none.
+    /// Notes an identifier that block `by` names.
+    ///
+    /// Refused with code 6 of that block, if the identifier has no valid block.
     pub fn note(&mut self, id: Puid, by: u32) -> Result<(), RecoverFault>
         ensures told { (image : Image) (done : ℕ) → spec.IsWalk image self.old done → spec.IsNamed image id by
             → MatchResult result (λ _. spec.IsWalk image self.new done) (NamesDamage (spec.IsFaultOf image)) }
@@ -94,7 +96,7 @@ impl Walk {
         Ok(())
     }
 
-    /// Notes the identifiers in a leaf of an index of this size, which stands in the block `by`.
+    /// Notes the identifiers in a leaf of an index of this size. The leaf is in block `by`.
     pub fn note_slots(
         &mut self,
         content: &Block,
@@ -131,7 +133,7 @@ impl Walk {
         self.held[block as usize] = true;
     }
 
-    /// Notes of what kind an object is that was read.
+    /// Notes the kind of an object that was read.
     pub fn learn(&mut self, id: Puid, kind: Kind)
         requires { spec.lists self.old id ≡ true }
         ensures told { (image : Image) (done : ℕ) (o : Object) → spec.IsWalk image self.old done

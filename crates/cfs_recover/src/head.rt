@@ -25,7 +25,7 @@ pub struct Head {
     pub root: Root,
 }
 
-/// The root that this block spells. Refused with code 3.
+/// Returns the root that this block spells. Refused with code 3.
 pub fn check_root(block: u32, content: &Block) -> Result<Root, Damage>
     ensures { MatchResult result (IsRootBlock content.now)
         (λ d. (d ≡ damage block codes.no_root) × HasNoRoot content.now) }
@@ -39,7 +39,7 @@ pub fn check_root(block: u32, content: &Block) -> Result<Root, Damage>
     }
 }
 
-/// The root that this block spells, of the same kind and word as the object's own. Refused with code 3.
+/// Returns the root that this block spells, of the same kind and word as the object's own. Refused with code 3.
 pub fn check_shadow(own: &Root, block: u32, content: &Block) -> Result<Root, Damage>
     ensures { MatchResult result (IsLike own.now content.now)
         (λ d. (d ≡ damage block codes.no_root) × HasNoneLike own.now content.now) }
@@ -54,7 +54,7 @@ pub fn check_shadow(own: &Root, block: u32, content: &Block) -> Result<Root, Dam
     Ok(root)
 }
 
-/// Whether the root index, which is read by this root, is an index of 64 slots. Refused with code 6 of block 2.
+/// Checks that the root index, which is read by this root, is an index of 64 slots. Refused with code 6 of block 2.
 pub fn check_root_index(root: &Root) -> Result<(), Damage>
     ensures { MatchResult result (λ _. HasRootSlots root.now)
         (λ d. (d ≡ damage 2 codes.names_nothing) × ¬ HasRootSlots root.now) }
@@ -83,7 +83,7 @@ pub(crate) fn read_block<D: Disk>(disk: &mut D, at: u32) -> Result<Block, Recove
     }
 }
 
-/// The block by which an object is read that has one shadow root at most.
+/// Returns the block by which an object is read that has at most one shadow root.
 pub(crate) fn source_of(maps: &[Map], standing: &Standing, block: u32) -> u32
     requires below { block < length standing.now }
     requires maps { length standing.now ≡ 64 * length maps.now }
@@ -100,8 +100,10 @@ pub(crate) fn source_of(maps: &[Map], standing: &Standing, block: u32) -> u32
     }
 }
 
-/// Reads the root by which an object is read: its own, or that of the one shadow root that stands where its commit bit
-/// does. With at most one read. Refused with code 7 of its block, and with code 3 of the shadow root.
+/// Reads the root by which an object is read.
+///
+/// It is its own, or that of the one shadow root that stands for it if its commit bit is set. Makes at most one read.
+/// Refused with code 7 of its block, and with code 3 of the shadow root.
 pub fn read_head<D: Disk>(
     disk: &mut D,
     maps: &[Map],

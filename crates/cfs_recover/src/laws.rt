@@ -1,4 +1,4 @@
-//! What is proved of what recovery writes, as contracts. None of these calls does anything.
+//! What is proved of what recovery writes, as contracts of functions that do nothing.
 ghost use Rattle.std.specs.Prelude.{◌≡◌, ◌⊎◌, ℕ, Bool, ◌*◌, ◌<◌, List, length, set, Some};
 ghost use Rattle.cfs_base.specs.Disk.{Image, block_at};
 ghost use Rattle.cfs_base.specs.declared.identifier.Puid.{Puid};
@@ -33,12 +33,12 @@ pub fn tidying_keeps_the_reading()
     ensures begin { (a : Image) (g : Graph) → Holds a g → Tidies a g a }
     ensures write { (a c : Image) (g : Graph) (j : ℕ) (block : List ℕ) → Tidies a g c → 64 * j < length c
         → IsTidyMap a g j block → Tidies a g (set c (64 * j) block) }
-    // What is held becomes Allocated, and all else but the maps and the label Free.
+    // What is held becomes Allocated, and all else except the maps and the label Free.
     ensures entries { (a : Image) (g : Graph) (held : ℕ → Bool) → Holds a g → AreCopied a g → AreMarked a g held
         → (n : ℕ) (e : MapEntry) → entry_in a n ≡ Some e → IsTidy a g n (tidied (is_fixed n) (held n) e) }
 {}
 
-/// A tidied volume has nothing but its objects, each exactly its blocks.
+/// A tidied volume has only its objects, each with exactly its blocks.
 pub fn tidied_volumes_have_their_objects_alone()
     ensures accounts { (a b : Image) (g : Graph) (held : ℕ → Bool) → Holds a g → AreCopied a g → Tidies a g b
         → IsTidied a g held b → Accounts b g no_drafts }
@@ -46,8 +46,9 @@ pub fn tidied_volumes_have_their_objects_alone()
         → IsTidied a g held b → IsSwept b g }
 {}
 
-/// What is told of a volume that isn't opened: that there is no label, else that it is of another version, else a
-/// damage. This does nothing: it is a law.
+/// The order of the faults of a volume that isn't opened.
+///
+/// There is no label, else it has another version, else it is damaged. This is a law: the call does nothing.
 pub fn faults_come_in_order()
     ensures no_label { (image : Image) (e : RecoverFault) → HasNoLabel image → IsOpenFault image e
         → (e ≡ faults.NotVolume) ⊎ TellsNothing e }

@@ -1,6 +1,7 @@
 //! Opening a volume that a crash left: all tests of a sound image, and then its recovery.
-//! The layer above uses that `recover` is Ok exactly where the image is sound, that the volume then reads as before and
-//! has nothing but what it reads as, and that recovery may be stopped anywhere and begun again.
+//!
+//! The layer above uses that `recover` is `Ok` exactly if the image is sound, that the volume then reads as before
+//! and has nothing but what it reads as, and that recovery may be stopped anywhere and begun again.
 #![tactic(auto)]
 
 mod check;

@@ -1,4 +1,4 @@
-//! The label and the maps of a volume, and the shadow roots that stand by them.
+//! The label and the maps of a volume, and the shadow roots that stand for objects by them.
 ghost use Rattle.std.specs.Prelude.{◌≡◌, ◌+◌, ◌*◌, ◌<◌, ◌≤◌, ℕ, Some, length, IfErr, IfOk, MatchResult};
 ghost use Rattle.cfs_base.specs.Calls.{OnlyReads};
 ghost use Rattle.cfs_base.specs.Disk.{Image, block_at};
@@ -22,7 +22,9 @@ use cyl_map::{Map, MapEntry};
 use std::alloc::Global;
 use vol_label::{Label, LabelFault};
 
-/// Reads the label of a volume, with one read. Refused as no volume, for its version, or with code 1 of block 1.
+/// Reads the label of a volume, with one read.
+///
+/// Refused as no volume, for its version, or with code 1 of block 1.
 pub(crate) fn read_label<D: Disk>(disk: &mut D) -> Result<Label, RecoverFault>
     ensures told { (image : Image) → Stores D.Disk disk.old image
         → MatchResult result (HasLabel image) (IsOpenFault image) }
@@ -51,7 +53,9 @@ pub(crate) fn read_label<D: Disk>(disk: &mut D) -> Result<Label, RecoverFault>
     }
 }
 
-/// Whether each entry of a map can be of its block. Refused with code 2 of the map, and with code 5 of the block.
+/// Checks that each block may have its entry of a map.
+///
+/// Refused with code 2 of the map, and with code 5 of the block.
 pub(crate) fn check_map(cylinder: u32, map: &Map) -> Result<(), Damage>
     requires { cylinder < 65536 }
     ensures { MatchResult result (λ _. AllMayStand cylinder map.now) (HasEntryFault cylinder map.now) }
@@ -105,7 +109,7 @@ pub(crate) fn read_maps<D: Disk>(
     Ok(maps)
 }
 
-/// Notes the block with this entry, where it stands for a root block.
+/// Notes the block with this entry, if it stands for a root block.
 pub fn note_standing(standing: &mut Standing, block: u32, entry: MapEntry)
     requires { block < length standing.old }
     ensures told { (image : Image) → AreStanding image block standing.old → entry_in image block ≡ Some entry
@@ -118,7 +122,7 @@ pub fn note_standing(standing: &mut Standing, block: u32, entry: MapEntry)
     }
 }
 
-/// The shadow roots that stand by these maps.
+/// Returns the shadow roots that stand for root blocks by these maps.
 pub(crate) fn standing_in(alloc: Global, maps: &[Map]) -> Result<Standing, NoMemory>
     requires { length maps.now ≤ 65536 }
     ensures told { (image : Image) → AreMapsOf image maps.now → IfOk result (AreStanding image (length image)) }

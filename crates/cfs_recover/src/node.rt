@@ -6,7 +6,7 @@ ghost use Rattle.cfs_recover.specs.Entries.{damage};
 use block_tree::Node;
 use cfs_base::{Damage, code};
 
-/// Whether the node leads to a leaf. Refused with code 10 of its block.
+/// Checks that the node leads to a leaf. Refused with code 10 of its block.
 pub fn check_node(block: u32, node: &Node) -> Result<(), Damage>
     ensures { MatchResult result (λ _. (j : ℕ) × (get_or node.now.leaves j 0 ≢ 0))
         (λ d. (d ≡ damage block codes.dead_end) × ((j : ℕ) → get_or node.now.leaves j 0 ≡ 0)) }

@@ -1,4 +1,4 @@
-//! A volume opened: what a crash left of it is told apart from damage, and tidied.
+//! A volume opened: what a crash left of it is distinguished from damage, and tidied.
 ghost use Rattle.std.specs.Prelude.{◌≡◌, ◌≢◌, ◌⊎◌, ◌+◌, ◌*◌, length, replicate, None, IsTrue, IfErr, IfOk, OnErr, OnOk};
 ghost use Rattle.cfs_base.specs.Calls.{HasFailed, MakesAtMost};
 ghost use Rattle.cfs_base.specs.Disk.{Image};
@@ -23,12 +23,14 @@ use puid_space::Directory;
 use std::alloc::Global;
 use vol_label::Label;
 
-/// A volume that was opened: its label, the identifiers of its objects with their kinds, and how many of its blocks are
-/// Free.
+/// A volume that was opened.
 #[derive(Debug, Drop)]
 pub struct Recovered {
+    /// The label.
     pub label: Label,
+    /// The identifiers of the objects, with their kinds.
     pub directory: Directory,
+    /// How many blocks of each cylinder are Free.
     pub space: Space,
 }
 
@@ -51,7 +53,7 @@ fn tidy_volume<D: Disk>(disk: &mut D, survey: &Survey, space: &mut Space) -> Res
     Ok(())
 }
 
-/// What was surveyed, without what only recovery needs.
+/// Returns what was surveyed, without what only recovery needs.
 fn hand_over(survey: Survey, space: Space) -> Recovered
     ensures label { result.label ≡ survey.grounds.label }
     ensures directory { result.directory ≡ survey.walked.walk.directory }
@@ -68,7 +70,7 @@ fn hand_over(survey: Survey, space: Space) -> Recovered
     }
 }
 
-/// Opens the volume on a disk of which no write waits.
+/// Opens the volume on a disk on which no write waits for a barrier.
 fn open_settled<D: Disk>(alloc: Global, disk: &mut D) -> Result<Recovered, RecoverFault>
     ensures opened { IsSettled D.Disk disk.old → IfOk result (λ r.
         IsRecovered D.Disk (D.content disk.old) disk.new r.label r.directory r.space
@@ -93,10 +95,13 @@ fn open_settled<D: Disk>(alloc: Global, disk: &mut D) -> Result<Recovered, Recov
     Ok(hand_over(survey, space))
 }
 
-/// Opens the volume on a disk that a crash left. Makes a barrier, and all tests; then writes to the root block of each
-/// object the root by which it is read, where that stands elsewhere, and makes a barrier; then writes each map that
-/// isn't that of the objects alone, and makes a barrier. It may be stopped anywhere and begun again. Refused for the
-/// first fault that is found, for a device call that failed, or for want of memory.
+/// Opens the volume on a disk that a crash left.
+///
+/// It makes a barrier, and all tests. Then it writes the root by which each object is read to the object's root
+/// block, if that root is elsewhere, and makes a barrier. Then it writes each map that isn't that of the objects
+/// alone, and makes a barrier. It may be stopped anywhere and begun again.
+///
+/// Refused for the first fault that is found, for a device call that failed, or for want of memory.
 pub fn recover<D: Disk>(alloc: Global, disk: &mut D) -> Result<Recovered, RecoverFault>
     ensures opened { IsTrue (D.honest disk.old) → IfOk result (λ r.
         IsRecovered D.Disk (D.content disk.old) disk.new r.label r.directory r.space) }
@@ -104,16 +109,16 @@ pub fn recover<D: Disk>(alloc: Global, disk: &mut D) -> Result<Recovered, Recove
     // A sound volume is refused for nothing else.
     ensures free { IsTrue (D.honest disk.old) → IsSound (D.content disk.old)
         → IfErr result (λ e. (e ≡ RecoverFault.Disk) ⊎ (e ≡ RecoverFault.Memory)) }
-    // Nothing was written where it is refused for another reason than a device call, or the volume isn't sound.
+    // If it is refused for another reason than a device call, or the volume isn't sound, nothing was written.
     ensures untouched { IfErr result (λ e. e ≢ RecoverFault.Disk → IsUntouched D.Disk disk.old disk.new) }
     ensures unsound { IsTrue (D.honest disk.old) → ¬ IsSound (D.content disk.old)
         → IsUntouched D.Disk disk.old disk.new }
-    // A sound volume reads as it did, on the disk and in each image since the first barrier, Ok or not.
+    // A sound volume reads as it did, on the disk and in each image since the first barrier, `Ok` or not.
     ensures reading { IsTrue (D.honest disk.old) → (g : Graph) → IsSoundAs (D.content disk.old) g
         → IsSoundAs (D.content disk.new) g }
     ensures images { IsTrue (D.honest disk.old) → (g : Graph) → IsSoundAs (D.content disk.old) g
         → LeavesSinceBarrier D.Disk disk.old disk.new (λ c. IsSoundAs c g) }
-    // Beside three barriers nothing is written but what differs: of a clean volume nothing.
+    // Beside three barriers, only what differs is written: on a clean volume nothing.
     ensures writes { IsTrue (D.honest disk.old) → OnOk result (WritesWhatDiffers D.Disk 3 disk.old disk.new) }
     // On any disk the space is one of its cylinders.
     ensures size { IfOk result (λ r. D.blocks disk.new ≡ 64 * length r.space.free) }

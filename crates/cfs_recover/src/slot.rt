@@ -5,8 +5,10 @@ ghost use Rattle.cfs_recover.specs.Entries.{damage};
 
 use cfs_base::{Damage, Puid, code};
 
-/// Whether an identifier that the block `by` names has a block on a disk of so many, other than block 0. Refused with
-/// code 6 of the block that names it. Whether that block is a root of its word is told where it is read.
+/// Checks that an identifier that block `by` names has a block other than block 0, on a disk of `blocks` blocks.
+///
+/// Refused with code 6 of block `by`. Whether that block is a root with the identifier's word is checked when it is
+/// read.
 pub fn check_slot(blocks: u32, id: Puid, by: u32) -> Result<(), Damage>
     ensures { MatchResult result (λ _. (id.block ≢ 0) × (id.block < blocks))
         (λ d. (d ≡ damage by codes.names_nothing) × ((id.block ≡ 0) ⊎ (blocks ≤ id.block))) }

@@ -8,17 +8,22 @@ use crate::entry::{belongs, entry_at};
 use cfs_base::{Damage, Place, code};
 use cyl_map::Map;
 
-/// A block to which a pointer leads: the block that holds the pointer, and whose block it should be, at which place.
+/// A block to which a pointer leads, and the owner and place that it should have.
 #[derive(Clone, Copy, Debug, PartialEq, Eq)]
 pub struct Spot {
+    /// The block that holds the pointer.
     pub holder: u32,
+    /// The block to which the pointer leads.
     pub block: u32,
+    /// The owner that the block should have.
     pub owner: u32,
+    /// The place that the block should have.
     pub place: Place,
 }
 
-/// Whether the block is on the disk, and entered for its owner and place. Refused with code 4 of the holder, and with
-/// code 5 of the block.
+/// Checks that the block is on the disk, and that its entry has the owner and place.
+///
+/// Refused with code 4 of the holder, and with code 5 of the block.
 pub fn check_spot(maps: &[Map], spot: Spot) -> Result<(), Damage>
     ensures told { (image : Image) → AreMapsOf image maps.now →
         MatchResult result (λ _. IsInPlace image spot) (SpotFault image spot) }

@@ -10,19 +10,22 @@ use std::marker::Model;
 /// The shadow roots that stand for a root block.
 #[derive(Clone, Copy, Debug, PartialEq, Eq)]
 pub enum Shadow {
+    /// No shadow root stands for it.
     None,
+    /// This block alone stands for it.
     One(u32),
+    /// More than one shadow root stands for it.
     Several,
 }
 
-/// Of each block of a volume the shadow roots that stand for it.
+/// The shadow roots that stand for each block of a volume.
 #[derive(Debug, Drop)]
 pub struct Standing {
-    /// Of each block 0, or one more than the shadow root, or `SEVERAL`.
+    /// For each block 0, or one more than the shadow root, or `SEVERAL`.
     of: Vec<u32>,
 }
 
-/// Stands for more than one.
+/// More than one shadow root stands for the block.
 const SEVERAL: u32 = u32::MAX;
 
 impl Model for Standing {
@@ -40,7 +43,7 @@ impl Model for Standing {
 }
 
 impl Standing {
-    /// Nothing stands for any of so many blocks.
+    /// Makes a table of `blocks` blocks, for none of which a shadow root stands.
     pub fn none(alloc: Global, blocks: u32) -> Result<Standing, NoMemory>
         requires { blocks ≤ 4294967294 }
         ensures { IfOk result (λ standing. standing ≡ replicate blocks shadows.None) }
@@ -49,14 +52,14 @@ impl Standing {
         Ok(Standing { of })
     }
 
-    /// The number of blocks.
+    /// Returns the number of blocks.
     pub fn blocks(&self) -> u32
         ensures { result ≡ length self.now }
     {
         self.of.len() as u32
     }
 
-    /// What stands for a block.
+    /// Returns what stands for a block.
     pub fn of(&self, block: u32) -> Shadow
         requires { block < length self.now }
         ensures of { result ≡ get_or self.now block shadows.None }
@@ -69,7 +72,7 @@ impl Standing {
         }
     }
 
-    /// One more stands for a block.
+    /// Notes one more shadow root that stands for a block.
     pub fn note(&mut self, block: u32, shadow: u32)
         requires block { block < length self.old }
         requires within { shadow < length self.old }

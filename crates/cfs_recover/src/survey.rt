@@ -36,7 +36,10 @@ pub(crate) struct Grounds {
     pub maps: Vec<Map>,
 }
 
-/// What the objects of a volume hold, the shadow roots that stand, and what is kept of the roots that are to be copied.
+/// What a walk over the objects of a volume gives.
+///
+/// It has what the objects hold, the shadow roots that stand for objects, and what is kept of the roots that are to
+/// be copied.
 #[derive(Debug, Drop)]
 pub(crate) struct Walked {
     pub walk: Walk,
@@ -67,7 +70,7 @@ fn read_grounds<D: Disk>(alloc: Global, disk: &mut D) -> Result<Grounds, Recover
     Ok(Grounds { label, maps })
 }
 
-/// A walk that begins at the root index, which block 1 names.
+/// Begins a walk at the root index, which block 1 names.
 fn begin_walk(alloc: Global, blocks: u32, root: Puid) -> Result<Walk, RecoverFault>
     ensures told { (image : Image) (label : Label) → length image ≡ blocks → HasLabel image label → label.root ≡ root
         → MatchResult result (λ walk. IsWalk image walk 0) (NamesDamage (IsFaultOf image)) }
@@ -110,7 +113,9 @@ fn walk_volume<D: Disk>(
     })
 }
 
-/// Whether no two identifiers were found with one root block. Refused with code 6 of the block that names the second.
+/// Checks that no two identifiers were found with one root block.
+///
+/// Refused with code 6 of the block that names the second.
 fn check_clash(walk: &Walk) -> Result<(), Damage>
     ensures { (image : Image) → IsWalk image walk.now (length walk.now.found.items)
         → MatchResult result (λ _. walk.now.clash ≡ None) (IsFaultOf image) }
@@ -124,7 +129,7 @@ fn check_clash(walk: &Walk) -> Result<(), Damage>
     }
 }
 
-/// Whether 4 blocks are left beside the maps, the label and what is held. Refused with code 11 of block 0.
+/// Checks that 4 blocks are left beside the maps, the label and what is held. Refused with code 11 of block 0.
 fn check_room(walk: &Walk, cylinders: u32) -> Result<(), Damage>
     ensures { MatchResult result (λ _. count_by (λ h. h) walk.now.held.items + 5 ≤ 63 * cylinders)
         (λ d. (d ≡ damage 0 codes.too_full) × ¬ (count_by (λ h. h) walk.now.held.items + 5 ≤ 63 * cylinders)) }
@@ -139,7 +144,7 @@ fn check_room(walk: &Walk, cylinders: u32) -> Result<(), Damage>
     Ok(())
 }
 
-/// Whether a volume whose objects were all walked is sound.
+/// Checks that a volume whose objects were all walked is sound.
 fn check_walked(walk: &Walk, label: Label) -> Result<(), Damage>
     ensures { (image : Image) → AreGrounds image label → IsWalk image walk.now (length walk.now.found.items)
         → IsNotedIn walk.now label.root → MatchResult result (λ _. IsWholeWalk image walk.now) (IsFaultOf image) }
@@ -148,7 +153,9 @@ fn check_walked(walk: &Walk, label: Label) -> Result<(), Damage>
     check_room(walk, label.cylinders)
 }
 
-/// Surveys a volume, with reads alone: Ok where it is sound, and else the refusal names what is wrong.
+/// Surveys a volume, by reads alone.
+///
+/// `Ok` if it is sound. Else the refusal names what is wrong.
 pub(crate) fn survey_volume<D: Disk>(alloc: Global, disk: &mut D) -> Result<Survey, RecoverFault>
     ensures told { (image : Image) → Stores D.Disk disk.old image
         → MatchResult result (IsSurvey image) (IsOpenFault image) }

@@ -18,7 +18,7 @@ use cfs_base::{BlockNo, Disk, Failed};
 use cyl_alloc::Space;
 use cyl_map::{BlockState, Map, MapEntry};
 
-/// The entry of a block that nobody has.
+/// The entry of a block that nothing owns.
 const FREE: MapEntry = MapEntry {
     state: BlockState::Free,
     committed: false,
@@ -26,8 +26,9 @@ const FREE: MapEntry = MapEntry {
     owner: 0,
 };
 
-/// The entry of a block once the volume is tidy: a map block and the label keep theirs, what is held is Allocated, and
-/// all else is Free.
+/// Returns the entry of a block once the volume is tidy.
+///
+/// A map block and the label keep theirs, what is held is Allocated, and all else is Free.
 fn tidied(block: u32, held: bool, entry: MapEntry) -> MapEntry
     ensures { result ≡ spec.tidied (part.is_fixed block) held entry }
 {
@@ -44,7 +45,7 @@ fn tidied(block: u32, held: bool, entry: MapEntry) -> MapEntry
     FREE
 }
 
-/// The map of a cylinder once the volume is tidy.
+/// Returns the map of a cylinder once the volume is tidy.
 pub(crate) fn tidy_map(cylinder: u32, map: &Map, held: &[bool]) -> Map
     requires held { 64 * cylinder + 64 ≤ length held.now }
     requires few { cylinder < 65536 }
@@ -58,7 +59,7 @@ pub(crate) fn tidy_map(cylinder: u32, map: &Map, held: &[bool]) -> Map
     tidy
 }
 
-/// Writes the map of a cylinder as it is in a tidy volume, where it differs. Gives that map.
+/// Writes the map of a cylinder as it is in a tidy volume, if it differs, and returns that map.
 fn write_tidy<D: Disk>(disk: &mut D, cylinder: u32, map: &Map, held: &[bool]) -> Result<Map, Failed>
     requires on_disk { 64 * cylinder < D.blocks disk.old }
     requires held { 64 * cylinder + 64 ≤ length held.now }
@@ -86,7 +87,7 @@ fn write_tidy<D: Disk>(disk: &mut D, cylinder: u32, map: &Map, held: &[bool]) ->
     Ok(tidy)
 }
 
-/// Writes the map of a cylinder as it is in a tidy volume, where it differs, and counts what is Free in it.
+/// Writes the map of a cylinder as it is in a tidy volume, if it differs, and counts what is Free in it.
 fn tidy_cylinder<D: Disk>(
     disk: &mut D,
     cylinder: u32,
@@ -155,7 +156,7 @@ fn write_maps<D: Disk>(
     Ok(())
 }
 
-/// Writes each map that isn't tidy, counts what is Free, and makes the maps outlast a crash.
+/// Writes each map that isn't tidy, counts what is Free, and makes the maps survive a crash.
 pub(crate) fn tidy_maps<D: Disk>(
     disk: &mut D,
     maps: &[Map],

@@ -19,8 +19,9 @@ use crate::walk_object::walk_object;
 use cfs_base::Disk;
 use cyl_map::Map;
 
-/// Walks all objects on the list, and those that they lead to. `kept` gets the pieces of each root that stands
-/// elsewhere than in its object's root block.
+/// Walks all objects on the list, and those to which they lead.
+///
+/// `kept` gets the pieces of each root that is in another block than its object's root block.
 pub(crate) fn walk_all<D: Disk>(
     disk: &mut D,
     maps: &[Map],

@@ -18,26 +18,31 @@ use block_tree::Root;
 use cfs_base::{Disk, Place};
 use cyl_map::Map;
 
-/// Pointers of a tree: the block that holds them, its number among those of its level, and how many levels lie below
-/// the blocks to which they lead.
+/// Pointers of a tree.
 #[derive(Clone, Copy)]
 pub struct Branch {
+    /// The block that holds the pointers.
     pub block: u32,
+    /// The number of that block among those of its level.
     pub number: u32,
+    /// How many levels are below the blocks to which the pointers lead.
     pub height: u32,
 }
 
-/// A block to which a pointer leads: the block that holds the pointer, its own number among those of its level, and how
-/// many levels lie below it.
+/// A block to which a pointer leads.
 #[derive(Clone, Copy)]
 pub struct Twig {
+    /// The block that holds the pointer.
     pub holder: u32,
+    /// The block to which the pointer leads.
     pub block: u32,
+    /// The number of that block among those of its level.
     pub number: u32,
+    /// How many levels are below it.
     pub height: u32,
 }
 
-/// Where the block should be, and whose.
+/// Returns the owner and place that the block should have, and its holder.
 pub fn spot_of(owner: u32, twig: Twig) -> Spot
     requires { twig.number < leaf_limit }
     ensures { result ≡ record {
@@ -60,8 +65,9 @@ pub fn spot_of(owner: u32, twig: Twig) -> Spot
     }
 }
 
-/// Checks the block to which a pointer leads and all below it, each with at most one read, and notes them and what they
-/// name.
+/// Checks the block to which a pointer leads and all below it, and notes them and what they name.
+///
+/// Makes at most one read of each.
 #[cycle(levels)]
 fn walk_twig<D: Disk>(
     disk: &mut D,
@@ -99,7 +105,7 @@ fn walk_twig<D: Disk>(
     Ok(())
 }
 
-/// The same for all to which pointers lead.
+/// Checks all blocks to which pointers lead, and all below them, in the same way.
 #[cycle(levels)]
 pub(crate) fn walk_below<D: Disk>(
     disk: &mut D,

@@ -20,7 +20,7 @@ use crate::walk_below::Twig;
 use block_tree::{Node, Root};
 use cfs_base::{Block, Disk, Kind};
 
-/// Notes what the slots of a leaf of this object name, where it is an index.
+/// Notes what the slots of a leaf of this object name, if the object is an index.
 fn note_leaf(
     walk: &mut Walk,
     content: &Block,
@@ -41,7 +41,7 @@ fn note_leaf(
     walk.note_slots(content, root.size, leaf, block)
 }
 
-/// Reads a leaf only where its content matters, and notes what it names.
+/// Reads a leaf if its content matters, and notes what it names.
 fn read_leaf<D: Disk>(
     disk: &mut D,
     walk: &mut Walk,

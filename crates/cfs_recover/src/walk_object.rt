@@ -28,8 +28,9 @@ use cyl_map::Map;
 /// The root block of the root index.
 const ROOT_BLOCK: u32 = 2;
 
-/// Reads the root block of an item of the list: the root that it holds, if that has the word of the identifier that is
-/// listed.
+/// Reads the root block of an item of the list, and returns the root that it holds.
+///
+/// That root must have the word of the identifier that is listed.
 fn own_root<D: Disk>(disk: &mut D, walk: &Walk, item: Found) -> Result<Root, RecoverFault>
     requires { item.block < D.blocks disk.old }
     ensures told { (image : Image) → Stores D.Disk disk.old image → IsFoundItem image walk.now item
@@ -53,7 +54,7 @@ fn own_root<D: Disk>(disk: &mut D, walk: &Walk, item: Found) -> Result<Root, Rec
     Ok(own)
 }
 
-/// Whether the root index, where this is its root block, is an index of 64 slots.
+/// Checks that the root index, if this is its root block, is an index of 64 slots.
 fn check_sort(block: u32, root: &Root) -> Result<(), Damage>
     ensures { MatchResult result (λ _. block ≡ 2 → HasRootSlots root.now)
         (λ d. (d ≡ damage 2 codes.names_nothing) × (block ≡ 2) × ¬ HasRootSlots root.now) }
@@ -94,7 +95,8 @@ fn open_object<D: Disk>(
 }
 
 /// Checks the next object of the list, each of its blocks with at most one read, and notes them and what they name.
-/// Gives the root by which it is read.
+///
+/// Returns the root by which the object is read.
 pub(crate) fn walk_object<D: Disk>(
     disk: &mut D,
     maps: &[Map],

@@ -39,8 +39,9 @@ pub(crate) fn write_root<D: Disk>(disk: &mut D, copied: &Copied) -> Result<(), F
     Ok(())
 }
 
-/// The root of an item by which its object is read, where it stands elsewhere than in its root block, and the pieces
-/// that follow.
+/// Returns the root by which the object of an item is read, and the pieces that follow.
+///
+/// It is `None` if that root is in the object's root block.
 fn next_copy<'a>(
     maps: &[Map],
     walked: &Walked,
@@ -96,7 +97,7 @@ pub(crate) fn write_roots<D: Disk>(
     Ok(())
 }
 
-/// Makes what was written outlast a crash.
+/// Makes what was written survive a crash.
 pub fn flush<D: Disk>(disk: &mut D) -> Result<(), Failed>
     ensures settled { OnOk result (IsTrue (D.honest disk.old) → IsSettled D.Disk disk.new) }
     ensures untouched { IsUntouched D.Disk disk.old disk.new }
@@ -109,7 +110,7 @@ pub fn flush<D: Disk>(disk: &mut D) -> Result<(), Failed>
     Ok(())
 }
 
-/// Writes each root that was kept to its root block, and makes them outlast a crash.
+/// Writes each root that was kept to its root block, and makes them survive a crash.
 pub(crate) fn copy_roots<D: Disk>(disk: &mut D, maps: &[Map], walked: &Walked) -> Result<(), Failed>
     requires maps { D.blocks disk.old ≡ 64 * length maps.now }
     requires size { IsOfSize (D.blocks disk.old) walked.now }

@@ -6,7 +6,7 @@ use Rattle.cfs_base.specs.declared.identifier.Puid.{Puid}
 use Rattle.ufs_model.specs.declared.asked.Bound.{Bound}
 use Rattle.ufs_model.specs.Names.{Names}
 
--- the root, each name with what it stands for, and for how many new names there is room
+-- the root, each name with what it is bound to, and for how many new names there is room
 pub record NameTable : Type 0 where
   pub root : Puid
   pub entries : List (List ℕ × Bound)

@@ -5,11 +5,11 @@ use std::alloc::AllocError;
 /// Why a line is no request.
 #[derive(Clone, Copy, Debug, PartialEq, Eq)]
 pub enum ScriptFault {
-    /// It has none of the forms.
+    /// The line has none of the forms.
     Syntax,
-    /// A name in it is not bound, or to the wrong sort.
+    /// A name in it is not bound, or is bound to the wrong kind of thing.
     NoName,
-    /// Want of memory.
+    /// There was no memory.
     Memory,
 }
 

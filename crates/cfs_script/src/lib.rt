@@ -1,6 +1,7 @@
 //! The lines of a session: requests are read from the bytes of its script, and replies are written as bytes.
-//! The layers above use that a line is read as exactly what the definitions say that it asks, and a reply is written
-//! as exactly its line.
+//!
+//! The layers above use that a line is read as exactly what the definitions say that it asks, and that a reply is
+//! written as exactly its line.
 #![tactic(auto)]
 
 mod fault;

@@ -4,35 +4,37 @@ ghost use Rattle.std.specs.Prelude.{length, drop, position, IsNone, IfSome};
 ghost use Rattle.std.specs.List.{list_all};
 ghost use Rattle.ufs_model.specs.Script.{LF, is_blank, is_request_line, request_lines, without_cr};
 
-/// A request line without its end, and how many bytes of the text it takes, with what stands before it and its end.
+/// A request line of a text.
 #[derive(Clone, Copy, Debug)]
 pub struct NextLine<'a> {
+    /// The line, without its end.
     pub line: &'a [u8],
+    /// How many bytes of the text it takes, with what comes before it and its end.
     pub taken: usize,
 }
 
-/// Whether this is a space or a tab.
+/// Returns whether this is a space or a tab.
 pub fn is_blank(byte: u8) -> bool
     ensures { result ≡ is_blank byte }
 {
     byte == b' ' || byte == b'\t'
 }
 
-/// The line without one CR at its end.
+/// Returns the line without one CR at its end.
 fn without_cr(line: &[u8]) -> &[u8]
     ensures { result.now ≡ without_cr line.now }
 {
     line.strip_suffix(b"\r").unwrap_or(line)
 }
 
-/// Whether the line has blanks alone.
+/// Returns whether the line has only blanks.
 fn is_blank_line(line: &[u8]) -> bool
     ensures { result ≡ list_all is_blank line.now }
 {
     line.iter().all(|byte| is_blank(*byte))
 }
 
-/// Whether the line is neither blank nor a comment.
+/// Returns whether the line is neither blank nor a comment.
 fn is_request_line(line: &[u8]) -> bool
     ensures { result ≡ is_request_line line.now }
 {
@@ -42,14 +44,14 @@ fn is_request_line(line: &[u8]) -> bool
     }
 }
 
-/// Where the first LF stands.
+/// Returns the place of the first LF.
 fn line_end(text: &[u8]) -> Option<usize>
     ensures { result ≡ position (λ c. c == LF) text.now }
 {
     text.iter().position(|byte| *byte == b'\n')
 }
 
-/// The first line of the text, a request line or not.
+/// Returns the first line of the text, a request line or not.
 fn first_line(text: &[u8]) -> NextLine<'_>
     requires { 0 < length text.now }
     ensures line { request_lines text.now ≡ (if is_request_line result.line.now
@@ -70,7 +72,7 @@ fn first_line(text: &[u8]) -> NextLine<'_>
     }
 }
 
-/// The first request line of the text; nothing where it has none.
+/// Returns the first request line of the text, or `None` if it has none.
 pub fn next_line(text: &[u8]) -> Option<NextLine<'_>>
     ensures none { IsNone result ↔ (request_lines text.now ≡ []) }
     ensures line { IfSome result (λ next.

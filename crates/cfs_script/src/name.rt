@@ -11,7 +11,9 @@ use std::alloc::Global;
 use std::marker::Model;
 use ufs_model::MOST_NAME;
 
-/// A name: 1 to 32 letters, digits and dashes that begin with a letter, and neither `root` nor 16 hexadecimal digits.
+/// A name: 1 to 32 letters, digits and dashes that begin with a letter.
+///
+/// It is neither `root` nor 16 hexadecimal digits.
 #[derive(Debug, Drop)]
 pub struct Name {
     letters: Vec<u8>,
@@ -29,7 +31,7 @@ impl Model for Name {
 }
 
 impl Name {
-    /// The name of these letters.
+    /// Returns the name of these letters.
     pub fn new(alloc: Global, letters: &[u8]) -> Result<Name, NoMemory>
         requires { IsTrue (is_name letters.now) }
         ensures { IfOk result (λ name. name ≡ letters.now) }
@@ -38,7 +40,7 @@ impl Name {
         Ok(Name { letters })
     }
 
-    /// Its letters.
+    /// Returns the letters.
     pub fn as_slice(&self) -> &[u8]
         ensures letters { result.now ≡ self.now }
         ensures named { IsTrue (is_name self.now) }
@@ -46,7 +48,7 @@ impl Name {
         self.letters.as_slice()
     }
 
-    /// Takes no memory.
+    /// Returns the vector inside. Takes no memory.
     pub fn into_vec(self) -> Vec<u8>
         ensures { result.items ≡ self }
     {
@@ -55,7 +57,7 @@ impl Name {
     }
 }
 
-/// Whether the word is a name.
+/// Returns whether the word is a name.
 pub fn is_name(word: &[u8]) -> bool
     ensures { result ≡ is_name word.now }
 {
@@ -66,7 +68,7 @@ pub fn is_name(word: &[u8]) -> bool
         && !is_id_digits(word)
 }
 
-/// Whether the word has letters, digits and dashes alone.
+/// Returns whether the word has only letters, digits and dashes.
 fn has_name_bytes(word: &[u8]) -> bool
     ensures { result ≡ list_all
         (λ c. (nat_le (byte "a") c && nat_le c (byte "z")) || is_ascii_digit c || (c == byte "-")) word.now }
@@ -75,7 +77,7 @@ fn has_name_bytes(word: &[u8]) -> bool
         .all(|c| matches!(*c, b'a'..=b'z' | b'0'..=b'9' | b'-'))
 }
 
-/// Whether the word is 16 hexadecimal digits.
+/// Returns whether the word is 16 hexadecimal digits.
 pub fn is_id_digits(word: &[u8]) -> bool
     ensures { result ≡ is_id_digits word.now }
 {

@@ -1,4 +1,4 @@
-//! What a session's names stand for.
+//! What a session's names are bound to.
 ghost use Rattle.std.specs.Prelude.{◌≡◌, ◌+◌, ◌<◌, ◌≤◌, OnOk};
 ghost use Rattle.ufs_model.specs.Names.{bind, no_names};
 
@@ -9,7 +9,7 @@ use std::collections::HashMap;
 use std::marker::Model;
 use ufs_model::Bound;
 
-/// The root, what each name stands for, and room for names that are new.
+/// The root, what each name is bound to, and room for new names.
 #[derive(Drop)]
 pub struct Names {
     root: Puid,
@@ -33,7 +33,7 @@ impl Model for Names {
 impl Names {
     ghost use Rattle.cfs_script.specs.NameTable.{names_of};
 
-    /// As a session begins. It takes no memory.
+    /// Makes the names of a session that begins. Takes no memory.
     pub fn new(alloc: Global, root: Puid) -> Names
         ensures { names_of result ≡ no_names root }
     {
@@ -43,7 +43,7 @@ impl Names {
         }
     }
 
-    /// Makes room for one name. What names stand for stays.
+    /// Makes room for one name. What names are bound to stays.
     pub fn reserve(&mut self) -> Result<(), NoMemory>
         ensures ok { OnOk result (0 < self.new.room) }
         ensures names { names_of self.new ≡ names_of self.old }
@@ -53,7 +53,7 @@ impl Names {
         Ok(())
     }
 
-    /// Lets the name stand for this, whatever it stood for. It takes no memory.
+    /// Binds the name to `to`, whatever it was bound to. Takes no memory.
     pub fn bind(&mut self, name: Name, to: Bound)
         requires { 0 < self.old.room }
         ensures names { names_of self.new ≡ bind (names_of self.old) name to }
@@ -62,14 +62,14 @@ impl Names {
         let _ = self.bound.insert(name.into_vec(), to);
     }
 
-    /// The root of the graph.
+    /// Returns the root of the graph.
     pub fn root(&self) -> Puid
         ensures { result ≡ (names_of self.now).root }
     {
         self.root
     }
 
-    /// What the name stands for.
+    /// Returns what the name is bound to.
     pub fn find(&self, name: &[u8]) -> Option<Bound>
         ensures { result ≡ (names_of self.now).bound name.now }
     {

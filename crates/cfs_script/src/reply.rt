@@ -1,4 +1,4 @@
-//! Replies, written into room that is there. Nothing here takes memory.
+//! Replies, written into a vector that has room for them. Nothing here takes memory.
 ghost use Rattle.std.specs.Prelude.{◌≡◌, ◌+◌, ◌*◌, ◌≤◌, ◌++◌, ◌∷◌, [], length, map, codes};
 ghost use Rattle.std.specs.Vec.{vec_len, vec_capacity};
 ghost use Rattle.std.specs.Fmt.{decimal};
@@ -10,7 +10,7 @@ ghost use Rattle.cfs_script.specs.Room.{FitsLine};
 use itoa::Buffer;
 use ufs_model::{Reply, Unread};
 
-/// The bytes of room that `print_reply` needs.
+/// How many bytes of room `print_reply` needs.
 pub const REPLY_ROOM: usize = 8_256;
 
 /// Appends the text.
@@ -48,7 +48,7 @@ fn put_hex(into: &mut Vec<u8>, bytes: &[u8])
     let _ = hex::encode_to_slice(bytes, &mut into.as_mut_slice()[start..]);
 }
 
-/// Appends the line of these words and numbers. It takes no memory.
+/// Appends the line of these words and numbers. Takes no memory.
 pub fn put_line(into: &mut Vec<u8>, words: &[u8], numbers: &[u64])
     requires { vec_len into.old + length words.now + 21 * length numbers.now + 1 ≤ vec_capacity into.old }
     ensures items { into.new.items ≡ into.old.items ++ line_of (words.now ∷ map decimal numbers.now) }
@@ -72,7 +72,7 @@ fn put_ok(into: &mut Vec<u8>, bytes: &[u8])
     put(into, b"\n");
 }
 
-/// The bytes of an identifier.
+/// Returns the bytes of an identifier.
 fn id_bytes(high: u32, low: u32) -> [u8; 8]
     ensures { result ≡ to_be_bytes w32 high ++ to_be_bytes w32 low }
 {
@@ -81,7 +81,7 @@ fn id_bytes(high: u32, low: u32) -> [u8; 8]
     [a, b, c, d, e, f, g, h]
 }
 
-/// Appends the line of the reply. It takes no memory.
+/// Appends the line of the reply. Takes no memory.
 pub fn print_reply(reply: &Reply, into: &mut Vec<u8>)
     requires room { vec_len into.old + REPLY_ROOM ≤ vec_capacity into.old }
     requires fits { FitsLine reply.now }
@@ -119,7 +119,7 @@ pub fn print_reply(reply: &Reply, into: &mut Vec<u8>)
     }
 }
 
-/// Appends the line of a request line that is no request. It takes no memory.
+/// Appends the reply to a request line that is no request. Takes no memory.
 pub fn print_unread(why: Unread, into: &mut Vec<u8>)
     requires { vec_len into.old + length (unread_line why) ≤ vec_capacity into.old }
     ensures line { into.new.items ≡ into.old.items ++ unread_line why }

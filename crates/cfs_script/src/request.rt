@@ -1,4 +1,4 @@
-//! What the words of a line ask, a form a function.
+//! What the words of a line ask, with a function for each form.
 ghost use Rattle.std.specs.Prelude.{◌≡◌};
 ghost use Rattle.ufs_model.specs.Spoken.{spoken, create_file_form, create_index_form, retain_form, retrieve_form};
 ghost use Rattle.ufs_model.specs.Spoken.{delete_form, slots_form};
@@ -18,7 +18,7 @@ use crate::words::Words;
 use std::alloc::Global;
 use ufs_model::Request;
 
-/// What the words of a line of this language ask.
+/// Reads what the words of a line of this language ask.
 pub fn request_in(
     alloc: Global,
     language: &[Verb],
@@ -44,7 +44,7 @@ pub fn request_in(
     request_of(alloc, verb, words, names)
 }
 
-/// What the words ask after this verb, and after its name.
+/// Reads what the words ask after this verb, and after its name.
 fn request_of(
     alloc: Global,
     verb: Verb,

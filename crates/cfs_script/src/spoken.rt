@@ -23,7 +23,7 @@ pub struct Spoken {
     pub name: Option<Name>,
 }
 
-/// The word that is a name to bind.
+/// Returns the word that is a name to bind.
 fn name_word<'a>(language: &[Verb], mut words: Words<'a>) -> Option<&'a [u8]>
     ensures { option_map (λ word. word.now) result ≡ name_spoken (forms_of language.now) words.entry }
 {
@@ -34,8 +34,10 @@ fn name_word<'a>(language: &[Verb], mut words: Words<'a>) -> Option<&'a [u8]>
     words.next()
 }
 
-/// Reads a line of this language, once. `Syntax` comes exactly where it has none of the forms; `NoName` where a name in
-/// it stands for nothing, or for the wrong sort; `Memory` may stand in place of any. What names stand for stays.
+/// Reads a line of this language, once.
+///
+/// What names are bound to stays. `Syntax` if the line has none of the forms, and only then. `NoName` if a name in it
+/// is bound to nothing, or to the wrong kind of thing. `Memory` may come in the place of any result.
 pub fn read_line(
     alloc: Global,
     language: &[Verb],

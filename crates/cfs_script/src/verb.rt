@@ -1,4 +1,4 @@
-//! The verbs of the language, a row each.
+//! The verbs of the language, in a table.
 ghost use Rattle.std.specs.Prelude.{◌≡◌, map};
 ghost use Rattle.std.specs.Option.{option_map};
 ghost use Rattle.ufs_model.specs.Spoken.{all_forms, form_of};
@@ -7,21 +7,33 @@ ghost use Rattle.cfs_script.specs.Language.{form_of_verb, forms_of};
 /// What a request line begins with.
 #[derive(Clone, Copy, Debug, PartialEq, Eq)]
 pub enum Verb {
+    /// `create-file`
     CreateFile,
+    /// `create-index`
     CreateIndex,
+    /// `retain`
     Retain,
+    /// `retrieve`
     Retrieve,
+    /// `delete`
     Delete,
+    /// `slots`
     Slots,
+    /// `open`
     Open,
+    /// `close`
     Close,
+    /// `read`
     Read,
+    /// `write`
     Write,
+    /// `size`
     Size,
+    /// `resize`
     Resize,
 }
 
-/// All verbs.
+/// Returns all verbs.
 pub fn all_verbs() -> [Verb; 12]
     ensures { forms_of result ≡ all_forms }
 {
@@ -42,7 +54,7 @@ pub fn all_verbs() -> [Verb; 12]
 }
 
 impl Verb {
-    /// Its word.
+    /// Returns the verb's word.
     fn letters(self) -> &'static [u8]
         ensures { result.now ≡ (form_of_verb self).verb }
     {
@@ -62,7 +74,7 @@ impl Verb {
         }
     }
 
-    /// Whether the next word is a name that an ok reply binds.
+    /// Returns whether the next word is a name that an ok reply binds.
     pub fn binds(self) -> bool
         ensures { result ≡ (form_of_verb self).binds }
     {
@@ -74,7 +86,7 @@ impl Verb {
     }
 }
 
-/// The verb of this language that the word is.
+/// Returns the verb of this language with this word.
 pub fn verb_of(language: &[Verb], word: &[u8]) -> Option<Verb>
     ensures { option_map form_of_verb result ≡ form_of (forms_of language.now) word.now }
 {

@@ -18,14 +18,14 @@ use hex::FromHex;
 use std::alloc::Global;
 use ufs_model::{Bound, Ref};
 
-/// Whether the word is of decimal digits alone.
+/// Returns whether the word has only decimal digits.
 fn has_digits(word: &[u8]) -> bool
     ensures { result ≡ list_all is_ascii_digit word.now }
 {
     word.iter().all(|byte| byte.is_ascii_digit())
 }
 
-/// The number that the word writes: 1 to 20 decimal digits, within a u64.
+/// Returns the number that the word writes: 1 to 20 decimal digits, within a u64.
 pub fn number_of(word: &[u8]) -> Option<u64>
     ensures { MatchOption result (number_in word.now ≡ Bad) (λ number. number_in word.now ≡ Is number) }
 {
@@ -41,7 +41,7 @@ pub fn number_of(word: &[u8]) -> Option<u64>
     }
 }
 
-/// The same, as a word of a line.
+/// Reads such a number as a word of a line.
 pub fn number_in(word: &[u8]) -> Result<u64, ScriptFault>
     ensures { AnswersReading result (number_in word.now) }
 {
@@ -51,7 +51,7 @@ pub fn number_in(word: &[u8]) -> Result<u64, ScriptFault>
     }
 }
 
-/// The value of a hexadecimal digit; 16 of another byte.
+/// Returns the value of a hexadecimal digit, or 16 for another byte.
 fn digit_value(byte: u8) -> u8
     ensures { result ≡ unwrap_or (hex_digit_value byte) 16 }
 {
@@ -63,7 +63,7 @@ fn digit_value(byte: u8) -> u8
     }
 }
 
-/// Reads two digits a byte, without a branch at any. Answers whether all were digits.
+/// Reads two digits for each byte, without a branch on them, and returns whether all were digits.
 fn read_digits(digits: &[u8], into: &mut [u8]) -> bool
     requires { length digits.now ≡ 2 * length into.old }
     ensures { MatchBool result (decode_of digits.now ≡ Ok into.new) (IsErr (decode_of digits.now)) }
@@ -78,7 +78,7 @@ fn read_digits(digits: &[u8], into: &mut [u8]) -> bool
     most < 16
 }
 
-/// The bytes that the word writes: two hexadecimal digits or more, of an even number.
+/// Reads the bytes that the word writes: two hexadecimal digits or more, of an even number.
 pub fn bytes_in(alloc: Global, word: &[u8]) -> Result<Bytes, ScriptFault>
     ensures { AnswersReading result (hex_in word.now) }
 {
@@ -94,7 +94,7 @@ pub fn bytes_in(alloc: Global, word: &[u8]) -> Result<Bytes, ScriptFault>
     Ok(Bytes::new(bytes))
 }
 
-/// The byte that the word writes: two hexadecimal digits.
+/// Reads the byte that the word writes: two hexadecimal digits.
 pub fn byte_in(word: &[u8]) -> Result<u8, ScriptFault>
     ensures { AnswersReading result (byte_in word.now) }
 {
@@ -105,7 +105,7 @@ pub fn byte_in(word: &[u8]) -> Result<u8, ScriptFault>
     Ok(byte)
 }
 
-/// The kind of file that the word names.
+/// Reads the kind of file that the word names.
 pub fn kind_in(word: &[u8]) -> Result<FileKind, ScriptFault>
     ensures { AnswersReading result (kind_in word.now) }
 {
@@ -118,7 +118,7 @@ pub fn kind_in(word: &[u8]) -> Result<FileKind, ScriptFault>
     }
 }
 
-/// For what an object is to be opened.
+/// Reads how an object is to be opened.
 pub fn mode_in(word: &[u8]) -> Result<Mode, ScriptFault>
     ensures { AnswersReading result (mode_in word.now) }
 {
@@ -131,7 +131,7 @@ pub fn mode_in(word: &[u8]) -> Result<Mode, ScriptFault>
     }
 }
 
-/// Whether a draft is to become the file.
+/// Reads whether a draft is to become the file.
 pub fn commit_in(word: &[u8]) -> Result<bool, ScriptFault>
     ensures { AnswersReading result (commit_in word.now) }
 {
@@ -144,7 +144,7 @@ pub fn commit_in(word: &[u8]) -> Result<bool, ScriptFault>
     }
 }
 
-/// The identifier that the word writes: 16 hexadecimal digits.
+/// Returns the identifier that the word writes: 16 hexadecimal digits.
 pub fn id_of(word: &[u8]) -> Option<Puid>
     ensures { MatchOption result (digits_in word.now ≡ Bad) (λ id. digits_in word.now ≡ Is id) }
 {
@@ -158,7 +158,7 @@ pub fn id_of(word: &[u8]) -> Option<Puid>
     })
 }
 
-/// The same, as a word of a line.
+/// Reads such an identifier as a word of a line.
 fn digits_in(word: &[u8]) -> Result<Puid, ScriptFault>
     ensures { AnswersReading result (digits_in word.now) }
 {
@@ -168,7 +168,7 @@ fn digits_in(word: &[u8]) -> Result<Puid, ScriptFault>
     }
 }
 
-/// The identifier that the word stands for: `root`, 16 hexadecimal digits, or a name.
+/// Reads the identifier of a word: `root`, 16 hexadecimal digits, or a name.
 pub fn id_in(names: &Names, word: &[u8]) -> Result<Puid, ScriptFault>
     ensures { AnswersReading result (id_in (names_of names.now) word.now) }
 {
@@ -187,7 +187,7 @@ pub fn id_in(names: &Names, word: &[u8]) -> Result<Puid, ScriptFault>
     }
 }
 
-/// What a request goes to: as `id_in`, or a name that stands for a grant.
+/// Reads what a request goes to: a word as in `id_in`, or a name that is bound to a grant.
 pub fn ref_in(names: &Names, word: &[u8]) -> Result<Ref, ScriptFault>
     ensures { AnswersReading result (ref_in (names_of names.now) word.now) }
 {
@@ -207,7 +207,7 @@ pub fn ref_in(names: &Names, word: &[u8]) -> Result<Ref, ScriptFault>
     }
 }
 
-/// The grant that the name stands for.
+/// Reads the grant to which the name is bound.
 pub fn grant_in(names: &Names, word: &[u8]) -> Result<Tuid, ScriptFault>
     ensures { AnswersReading result (grant_in (names_of names.now) word.now) }
 {
@@ -220,7 +220,9 @@ pub fn grant_in(names: &Names, word: &[u8]) -> Result<Tuid, ScriptFault>
     }
 }
 
-/// Both, where both can be read. No form comes before no name, and want of memory stands between the two.
+/// Returns both, if both could be read.
+///
+/// `Syntax` comes before `Memory`, and `Memory` before `NoName`.
 pub fn both<A: Drop, B: Drop>(
     a: Result<A, ScriptFault>,
     b: Result<B, ScriptFault>,

@@ -8,7 +8,7 @@ use crate::line::is_blank;
 use std::marker::Model;
 use ufs_model::MOST_LINE;
 
-/// What is left of a line: contracts see its words.
+/// What is left of a line. Contracts see its words.
 #[derive(Debug, Drop)]
 pub struct Words<'a> {
     rest: &'a [u8],
@@ -24,13 +24,14 @@ impl<'a> Model for Words<'a> {
 }
 
 impl<'a> Words<'a> {
+    /// Returns the words of a line.
     pub fn of(line: &'a [u8]) -> Words<'a>
         ensures { result ≡ words_of line.now }
     {
         Words { rest: line }
     }
 
-    /// Takes off the first word.
+    /// Removes the first word and returns it.
     pub fn next(&mut self) -> Option<&'a [u8]>
         ensures { MatchOption result (self.old ≡ []) (λ word. self.old ≡ word.now ∷ self.new) }
     {
@@ -40,7 +41,7 @@ impl<'a> Words<'a> {
         Some(word)
     }
 
-    /// The one word that is left, where it is the only one.
+    /// Returns the one word that is left, if there are no more.
     pub fn one(mut self) -> Option<&'a [u8]>
         ensures { MatchOption result (length self.entry ≢ 1) (λ word. self.entry ≡ word.now ∷ []) }
     {
@@ -51,7 +52,7 @@ impl<'a> Words<'a> {
         Some(word)
     }
 
-    /// The two words that are left, where there are no more.
+    /// Returns the two words that are left, if there are no more.
     pub fn two(mut self) -> Option<(&'a [u8], &'a [u8])>
         ensures { MatchOption result (length self.entry ≢ 2) (λ words. self.entry ≡ words.0.now ∷ words.1.now ∷ []) }
     {
@@ -60,7 +61,7 @@ impl<'a> Words<'a> {
         Some((first, second))
     }
 
-    /// The three words that are left, where there are no more.
+    /// Returns the three words that are left, if there are no more.
     pub fn three(mut self) -> Option<(&'a [u8], &'a [u8], &'a [u8])>
         ensures { MatchOption result (length self.entry ≢ 3)
             (λ words. self.entry ≡ words.0.now ∷ words.1.now ∷ words.2.now ∷ []) }
@@ -70,7 +71,7 @@ impl<'a> Words<'a> {
         Some((first, second, third))
     }
 
-    /// The four words that are left, where there are no more.
+    /// Returns the four words that are left, if there are no more.
     pub fn four(mut self) -> Option<(&'a [u8], &'a [u8], &'a [u8], &'a [u8])>
         ensures { MatchOption result (length self.entry ≢ 4)
             (λ words. self.entry ≡ words.0.now ∷ words.1.now ∷ words.2.now ∷ words.3.now ∷ []) }
@@ -81,7 +82,7 @@ impl<'a> Words<'a> {
     }
 }
 
-/// Where the first byte of a word stands.
+/// Returns the place of the first byte of a word.
 fn word_start(text: &[u8]) -> Option<usize>
     ensures value { result ≡ position (λ c. not (is_blank c)) text.now }
     ensures within { IfSome result (λ at. at < length text.now) }
@@ -89,7 +90,7 @@ fn word_start(text: &[u8]) -> Option<usize>
     text.iter().position(|byte| !is_blank(*byte))
 }
 
-/// Where the first blank stands.
+/// Returns the place of the first blank.
 fn word_end(text: &[u8]) -> Option<usize>
     ensures value { result ≡ position is_blank text.now }
     ensures within { IfSome result (λ at. at < length text.now) }
@@ -97,7 +98,7 @@ fn word_end(text: &[u8]) -> Option<usize>
     text.iter().position(|byte| is_blank(*byte))
 }
 
-/// The text from its first word on.
+/// Returns the text from its first word on.
 fn from_first_word(text: &[u8]) -> Option<&[u8]>
     ensures { MatchOption result (words_of text.now ≡ [])
         (λ rest. (words_of rest.now ≡ words_of text.now) × BeginsWord rest.now) }
@@ -106,7 +107,7 @@ fn from_first_word(text: &[u8]) -> Option<&[u8]>
     Some(&text[start..])
 }
 
-/// The word that the text begins with, and what follows it.
+/// Returns the word with which the text begins, and what follows it.
 fn cut_word(text: &[u8]) -> (&[u8], &[u8])
     requires { BeginsWord text.now }
     ensures { words_of text.now ≡ result.0.now ∷ words_of result.1.now }
@@ -117,7 +118,7 @@ fn cut_word(text: &[u8]) -> (&[u8], &[u8])
     }
 }
 
-/// Whether each byte is a blank or one of a word.
+/// Returns whether each byte is a blank or one of a word.
 fn has_line_bytes(line: &[u8]) -> bool
     ensures { result ≡ list_all (λ c. is_blank c || is_graphic c) line.now }
 {
@@ -125,7 +126,7 @@ fn has_line_bytes(line: &[u8]) -> bool
         .all(|byte| is_blank(*byte) || matches!(*byte, 0x21..=0x7e))
 }
 
-/// Whether the line is short enough, and of such bytes alone.
+/// Returns whether the line is short enough, and has only such bytes.
 pub fn is_readable(line: &[u8]) -> bool
     ensures { result ≡ is_readable line.now }
 {

@@ -2,12 +2,12 @@
 use Rattle.std.specs.Prelude.{◌≡◌, ℕ, ◌≤◌, List, ◌++◌, take, Some, Result, MatchResult}
 use Rattle.cfs_base.specs.Outside.{Intake, Rose}
 
--- it has taken all of the text, after what it had, where it tells that
+-- the sink has taken all of the text, after what it had, if it tells that
 pub record Wrote (old new : Intake) (text : List ℕ) : Type 0 where
   pub kept : old.faults ≤ new.faults
   pub whole : (taken : List ℕ) → old.taken ≡ Some taken → new.taken ≡ Some (taken ++ text)
 
--- it failed, and has taken some of the text's beginning
+-- the sink failed, and has taken some of the text's beginning
 pub record WroteSome (old new : Intake) (text : List ℕ) : Type 0 where
   pub kept : old.faults ≤ new.faults
   pub failed : Rose old.faults new.faults

@@ -10,9 +10,9 @@ use std::alloc::AllocError;
 pub enum ReadFault {
     /// A read failed. The source's count of faults rose, and what was read is lost.
     Failed,
-    /// It has more bytes than the limit. One more than the limit was taken of it.
+    /// The source has more bytes than the limit. One more than the limit was taken of it.
     Long,
-    /// Want of memory, at any time. What was read is lost.
+    /// There was no memory, at any time. What was read is lost.
     Memory,
 }
 

@@ -1,5 +1,7 @@
-//! Sources read whole and sinks written whole, by as many calls as it takes. The layers above use `WritesWhole`: all of
-//! a text was taken, or some of its beginning where the sink failed; two texts written one after the other are one.
+//! Sources that are read whole and sinks that are written whole, by as many calls as it takes.
+//!
+//! The layers above use `WritesWhole`: all of a text was taken, or some of its beginning if the sink failed. Two
+//! texts written one after the other are one.
 #![tactic(auto)]
 
 mod fault;

@@ -11,13 +11,13 @@ use std::alloc::Global;
 /// The most bytes that one read asks for.
 const BUFFER: usize = 4096;
 
-/// Reads the source to its end, or to one byte past the limit, and takes no more than that of it.
+/// Reads the source to its end, and takes at most one byte past the limit of it.
 pub fn read_whole<S: Source>(
     alloc: Global,
     source: &mut S,
     limit: usize,
 ) -> Result<Vec<u8>, ReadFault>
-    // Of a source that tells its bytes, the answer is all of them, or that they are too many.
+    // A source that tells its bytes gives all of them, or there are too many.
     ensures whole { (left : List ℕ) → (S.supply source.old).left ≡ Some left
         → IfOk result (λ v. v.items ≡ left) }
     ensures fits { IfOk result (λ v. vec_len v ≤ limit) }
@@ -43,7 +43,7 @@ pub fn read_whole<S: Source>(
     Err(ReadFault::Long)
 }
 
-/// Reads once into the buffer, and puts what came at the end of the bytes.
+/// Reads once into the buffer, and appends what came to the bytes.
 fn read_more<S: Source>(
     source: &mut S,
     bytes: &mut Vec<u8>,

@@ -34,7 +34,7 @@ impl Model for Trail {
 }
 
 impl Trail {
-    /// A trail of no events. Takes no memory.
+    /// Makes a trail of no events. Takes no memory.
     pub fn new(alloc: Global) -> Trail
         ensures { result ≡ record { events = []; moments = []; room = 0 } }
     {
@@ -43,7 +43,7 @@ impl Trail {
         }
     }
 
-    /// The number of events, each of which has its moment.
+    /// Returns the number of events. Each has its moment.
     pub fn len(&self) -> u64
         ensures events { result ≡ length self.now.events }
         ensures moments { result ≡ length self.now.moments }
@@ -51,7 +51,7 @@ impl Trail {
         self.entries.len() as u64
     }
 
-    /// The event at a place, counted from 0.
+    /// Returns the event at a place. Places are counted from 0.
     pub fn event(&self, at: u64) -> &Event
         requires { at < length self.now.events }
         ensures { slice_get self.now.events at ≡ Some result.now }
@@ -59,7 +59,7 @@ impl Trail {
         &self.entries[at as usize].event
     }
 
-    /// The moment at which the event at a place was recorded.
+    /// Returns the moment at which the event at a place was recorded.
     pub fn moment(&self, at: u64) -> u64
         requires { at < length self.now.events }
         ensures { slice_get self.now.moments at ≡ Some result }
@@ -67,7 +67,7 @@ impl Trail {
         self.entries[at as usize].moment
     }
 
-    /// Makes room for so many events more. Where memory is wanting all stays as it was.
+    /// Makes room for `more` events. On an error nothing is changed.
     pub fn reserve(&mut self, more: u64) -> Result<(), NoMemory>
         ensures room { OnOk result (more ≤ self.new.room) }
         ensures events { self.new.events ≡ self.old.events }

@@ -13,12 +13,12 @@ use Rattle.cfs_workload.specs.declared.act.Act.TheVariants as acts
 
 -- ---- what is drawn
 
--- The word at a place of a session's stream: the key is the seed's 8 little-endian bytes, the session's number and one
--- more, and 23 zero bytes; the stream number is 0
+-- The word at a place of a session's stream. The key is the seed's 8 little-endian bytes, the session's number plus
+-- one, and 23 zero bytes. The stream number is 0.
 unfoldable pub word_of : (seed session place : ℕ) → ℕ
 word_of seed session place = word_at 10 (key_of (to_le_bytes w64 seed ++ (session + 1) ∷ replicate 23 0)) 0 place
 
--- of a word the lowest three bits tell what is asked, the next six the slot, and the next twelve a size
+-- the lowest three bits of a word give what is asked, the next six the slot, and the next twelve a size
 abbrev pub slot_drawn : ℕ → ℕ
 slot_drawn w = w / 8 % 64
 
@@ -59,7 +59,7 @@ left_after acts.Write left = left
 left_after acts.Read left = left
 left_after acts.Size left = left
 
--- ---- lines, without their ends. The object of slot s is named os, and all lie in the session's own index
+-- ---- lines, without their ends, where the object of slot s is named os, and all are in the session's own index
 
 abbrev pub act_line : Act → (slot size word : ℕ) → List ℕ
 act_line acts.CreateNormal slot size word =
@@ -75,7 +75,7 @@ act_line acts.Write slot size word =
 act_line acts.Read slot size word = codes "read o" ++ (decimal slot ++ codes " 0 1")
 act_line acts.Size slot size word = codes "size o" ++ decimal slot
 
--- what is asked at a place, where the slots have this left in them
+-- what is asked at a place, if the slots have this left in them
 abbrev pub act_at : (seed session place : ℕ) → List Left → Act
 act_at seed session place left =
     let w = word_of seed session place in act_of (w % 8) (get_or left (slot_drawn w) Nothing)
@@ -89,13 +89,13 @@ left_at seed session place left =
     let slot = slot_drawn (word_of seed session place) in
     set left slot (left_after (act_at seed session place left) (get_or left slot Nothing))
 
--- so many lines from a place on, each with its end
+-- `count` lines from a place on, each with its end
 abbrev pub lines_from : (seed session place count : ℕ) → List Left → List ℕ
 lines_from seed session place zero left = []
 lines_from seed session place (suc count) left =
     line_at seed session place left ++ LF ∷ lines_from seed session (place + 1) count (left_at seed session place left)
 
--- the first line makes the session's own index, in the slot of its number; then come so many lines
+-- the first line makes the session's own index, in the slot of its number, and `count` lines follow
 abbrev pub script : (seed session count : ℕ) → List ℕ
 script seed session count =
     (codes "create-index top 64 root " ++ decimal session)

@@ -9,25 +9,38 @@ use std::alloc::{AllocError, Global};
 /// What the last create or delete left in a slot.
 #[derive(Clone, Copy, Debug, PartialEq, Eq)]
 pub enum Left {
+    /// No object.
     Nothing,
+    /// A file.
     File,
+    /// An index.
     Index,
 }
 
 /// What a line asks.
 #[derive(Clone, Copy, Debug, PartialEq, Eq)]
 pub enum Act {
+    /// Makes a normal file.
     CreateNormal,
+    /// Makes a special file.
     CreateSpecial,
+    /// Makes an index.
     CreateIndex,
+    /// Empties the slot.
     Delete,
+    /// Sets the size of the file.
     Resize,
+    /// Writes into the file.
     Write,
+    /// Reads a byte of the file.
     Read,
+    /// Asks for the size of the file.
     Size,
 }
 
-/// What is asked of a slot where this is drawn. What can't be asked of it becomes the create of a normal file.
+/// Returns what is asked of a slot if this number is drawn.
+///
+/// What can't be asked of it becomes the create of a normal file.
 pub fn act_of(drawn: u32, left: Left) -> Act
     ensures { result ≡ act_of drawn left }
 {
@@ -61,7 +74,7 @@ fn of_file(left: Left, act: Act) -> Act
     }
 }
 
-/// What it leaves in the slot.
+/// Returns what the act leaves in the slot.
 pub fn left_after(act: Act, left: Left) -> Left
     ensures { result ≡ left_after act left }
 {
@@ -73,7 +86,7 @@ pub fn left_after(act: Act, left: Left) -> Left
     }
 }
 
-/// Its line without its end, for this slot, this size in bytes and this word.
+/// Returns the act's line without its end, for this slot, this size in bytes and this word.
 pub fn line_of(
     alloc: Global,
     act: Act,
@@ -95,7 +108,7 @@ pub fn line_of(
     }
 }
 
-/// The line that writes the word at the beginning of a file.
+/// Returns the line that writes the word at the beginning of a file.
 fn write_line(alloc: Global, slot: usize, word: u32) -> Result<String, AllocError>
     ensures { IfOk result (λ line. string_bytes line ≡ act_line acts.Write slot 0 word) }
 {

@@ -1,9 +1,9 @@
-//! What is proved of scripts, as a contract. The call does nothing.
+//! What is proved of scripts, as the contract of a function that does nothing.
 ghost use Rattle.std.specs.Prelude.{◌≡◌, ℕ, ◌<◌, ◌≤◌, ◌+◌, ◌*◌, length};
 ghost use Rattle.ufs_model.specs.Script.{request_lines};
 ghost use Rattle.cfs_workload.specs.Workload.{script};
 
-/// A script has one request line for each word that is drawn, and the first; and no more than 64 bytes for each.
+/// A script has one first request line and one for each word that is drawn, of at most 64 bytes each.
 pub fn scripts_have_so_many_lines()
     ensures lines { (seed : ℕ) (session : ℕ) (count : ℕ) → session < 4
         → length (request_lines (script seed session count)) ≡ count + 1 }

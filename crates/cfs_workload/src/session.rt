@@ -9,10 +9,10 @@ use rand_core::SeedableRng;
 use rand_core::utils::NextWord;
 use std::alloc::Global;
 
-/// The slots that lines speak of.
+/// How many slots lines name.
 const SLOTS: usize = 64;
 
-/// The word at a place of the session's stream.
+/// Returns the word at a place of the session's stream.
 #[tactic(auto, unfolding(crate::specs::Workload::word_of))]
 fn word_of(seed: u64, session: u32, place: u64) -> u32
     requires { session < 4 }
@@ -28,7 +28,7 @@ fn word_of(seed: u64, session: u32, place: u64) -> u32
     stream.next_word()
 }
 
-/// The slot that a word names.
+/// Returns the slot that a word names.
 fn slot_in(word: u32) -> usize
     ensures slot { result ≡ slot_drawn word }
     ensures within { result < 64 }
@@ -36,14 +36,16 @@ fn slot_in(word: u32) -> usize
     (word / 8 % 64) as usize
 }
 
-/// The size that a word names, in bytes.
+/// Returns the size that a word names, in bytes.
 fn size_in(word: u32) -> u32
     ensures { result ≡ size_in word }
 {
     word / 512 % 4_096
 }
 
-/// The script of a session, of so many lines after the first. `NoMemory` comes only for want of memory.
+/// Returns the script of a session, with `count` lines after the first.
+///
+/// `NoMemory` comes only for want of memory.
 pub fn script(alloc: Global, seed: u64, session: u32, count: u64) -> Result<Vec<u8>, NoMemory>
     requires { session < 4 }
     ensures { IfOk result (λ text. text.items ≡ script seed session count) }

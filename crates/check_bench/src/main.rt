@@ -1,5 +1,7 @@
-//! Checks for a clock to be held to: `check_bench VOLUME COUNT` loads a volume, makes COUNT reports of it, and prints the
-//! microseconds of each, with what was found. With a COUNT of 0 it recovers the volume, as `serve` does.
+//! Checks for timing.
+//!
+//! `check_bench VOLUME COUNT` loads a volume, makes COUNT reports of it, and prints the microseconds of each, with
+//! what was found. With a COUNT of 0 it recovers the volume, as `serve` does.
 #![tactic(auto)]
 
 use cfs_check::{Checked, Image, load, report};
@@ -11,7 +13,7 @@ use std::thread::Threads;
 use std::time::Instant;
 use std::{env, io};
 
-/// The microseconds since a time, 0 where there is no clock.
+/// Returns the microseconds since a time, or 0 if there is no clock.
 fn micros(rt: &HostRuntime, from: Option<Instant>) -> u64 {
     match from {
         None => 0,
@@ -22,7 +24,7 @@ fn micros(rt: &HostRuntime, from: Option<Instant>) -> u64 {
     }
 }
 
-/// What was found, in a few words.
+/// Prints what was found, in a few words.
 fn tell(rt: &HostRuntime, checked: &Checked, spent: u64) -> io::Result<()> {
     match checked {
         Checked::NotVolume => println!(rt; "report {spent} us: no volume"),
@@ -36,7 +38,7 @@ fn tell(rt: &HostRuntime, checked: &Checked, spent: u64) -> io::Result<()> {
     }
 }
 
-/// Makes so many reports.
+/// Makes `count` reports.
 fn measure<R: Threads + Sync>(
     rt: &HostRuntime,
     threads: &R,
@@ -54,7 +56,7 @@ fn measure<R: Threads + Sync>(
     Ok(())
 }
 
-/// Loads the volume and makes so many reports; or recovers it.
+/// Loads the volume and makes `count` reports, or recovers it.
 fn run<R: Threads + Sync>(rt: &HostRuntime, threads: &R, path: &str, count: u32) -> io::Result<()> {
     let alloc = rt.alloc();
     let mut disk = FileDisk::existing(rt, path)?;

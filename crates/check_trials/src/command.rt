@@ -44,7 +44,7 @@ fn copy(volume: &mut Volume, line: &str) -> Result<(), Fault> {
     volume.copy(number(from)?, number(to)?)
 }
 
-/// What was found, a line each.
+/// Returns what was found, with a line for each fault.
 fn told(alloc: Global, checked: &Checked) -> Result<String, Fault> {
     match checked {
         Checked::NotVolume => Ok(format!(in alloc; "not a volume\n")?),
@@ -61,13 +61,13 @@ fn told(alloc: Global, checked: &Checked) -> Result<String, Fault> {
     }
 }
 
-/// How many images a crash may leave of a mend, each of which is mended to the same.
+/// Returns how many images a crash may leave of a mend. Each of them is mended to the same.
 fn images<R: Threads + Sync>(rt: &R, alloc: Global, volume: &Volume) -> Result<String, Fault> {
     let images = crashed(rt, alloc, volume)?;
     Ok(format!(in alloc; "{images} images\n")?)
 }
 
-/// Does what a command says. Gives the lines that answer it.
+/// Does what a command says, and returns the lines that answer it.
 pub fn answer<R: Threads + Sync>(
     rt: &R,
     alloc: Global,

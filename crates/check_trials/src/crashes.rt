@@ -6,7 +6,7 @@ use cfs_fakes::{MemoryDisk, Pick};
 use std::alloc::Global;
 use std::thread::Threads;
 
-/// The blocks that were written since the last barrier before this moment.
+/// Returns the blocks that were written since the last barrier before this moment.
 fn waiting(alloc: Global, disk: &MemoryDisk, at: u64) -> Result<Vec<u32>, Fault> {
     if !disk.is_recording() {
         return Err(Fault::Place);
@@ -20,7 +20,9 @@ fn waiting(alloc: Global, disk: &MemoryDisk, at: u64) -> Result<Vec<u32>, Fault>
     Ok(blocks)
 }
 
-/// The image with this number: a bit for each block that waits, whether its write is left.
+/// Returns the picks of the image with this number.
+///
+/// It has a bit for each block that waits: whether its write is left.
 fn picks_of(alloc: Global, waiting: &[u32], number: u32) -> Result<Vec<Pick>, Fault> {
     let mut picks = Vec::new(alloc);
     let mut rest = number;
@@ -34,7 +36,7 @@ fn picks_of(alloc: Global, waiting: &[u32], number: u32) -> Result<Vec<Pick>, Fa
     Ok(picks)
 }
 
-/// What the image by these picks holds once it is mended.
+/// Returns what the image by these picks holds once it is mended.
 fn mended_image<R: Threads + Sync>(
     rt: &R,
     alloc: Global,
@@ -50,7 +52,7 @@ fn mended_image<R: Threads + Sync>(
     blocks_of(alloc, &mut image)
 }
 
-/// Mends each image that a crash at this moment may leave. How many there are.
+/// Mends each image that a crash at this moment may leave, and returns how many there are.
 fn mend_images<R: Threads + Sync>(
     rt: &R,
     alloc: Global,
@@ -72,7 +74,9 @@ fn mend_images<R: Threads + Sync>(
     Ok(images)
 }
 
-/// How many images a crash may leave since the first barrier of a mend. Refused where one is mended otherwise.
+/// Returns how many images a crash may leave since the first barrier of a mend.
+///
+/// It is refused if one of them is mended to other bytes.
 pub fn crashed<R: Threads + Sync>(rt: &R, alloc: Global, volume: &Volume) -> Result<u32, Fault> {
     let mut disk = volume.recorded(alloc)?;
     let from = mend_disk(rt, alloc, &mut disk)?;

@@ -1,15 +1,17 @@
-//! Damaged volumes that are checked and mended: a transcript of commands, one a line, each with what it answers. The gate gives it
-//! `stdin`, of which it must make `stdout`. Comments, which begin with `#`, and blank lines stay. The commands:
+//! Damaged volumes that are checked and mended: a transcript of commands, one for each line, each with its answer.
 //!
-//! - `disk BLOCKS`: so many zero blocks.
-//! - `at BLOCK PLACE HEX`: puts these bytes into a block, from a place on.
+//! The gate gives it `stdin`, from which it must make `stdout`. Comments, which begin with `#`, and blank lines stay.
+//! The commands are:
+//!
+//! - `disk BLOCKS`: makes a disk of BLOCKS zero blocks.
+//! - `at BLOCK PLACE HEX`: puts these bytes into a block, beginning at a place.
 //! - `entry BLOCK HEX`: puts these eight bytes as the entry of a block.
-//! - `copy FROM TO`: puts what a block has into another.
-//! - `keep`, `again`: remembers the blocks; has those again that were remembered.
-//! - `check`: each fault of the volume, or that it is sound, with the numbers of its objects and of the blocks that are
-//!   left.
-//! - `mend`: mends the volume, or tells why it isn't mended.
-//! - `images`: how many images a crash may leave since the first barrier of a mend; each is mended again, to the same
+//! - `copy FROM TO`: copies a block to another.
+//! - `keep`, `again`: remembers the blocks, and puts the remembered ones back.
+//! - `check`: each fault of the volume, or that it is sound, with the numbers of its objects and of the blocks that
+//!   are left.
+//! - `mend`: mends the volume, or says why it isn't mended.
+//! - `images`: how many images a crash may leave since the first barrier of a mend. Each is mended again, to the same
 //!   bytes. The volume stays as it is.
 #![tactic(auto)]
 

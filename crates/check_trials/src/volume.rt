@@ -6,6 +6,7 @@ use cfs_fakes::MemoryDisk;
 use std::alloc::Global;
 use std::thread::Threads;
 
+/// The blocks of a volume, and those that are remembered.
 #[derive(Drop)]
 pub struct Volume {
     blocks: Vec<Block>,
@@ -37,7 +38,7 @@ fn block_of(disk: &mut MemoryDisk, at: u32) -> Result<Block, Fault> {
     Ok(block)
 }
 
-/// What a disk holds.
+/// Returns what a disk holds.
 pub fn blocks_of(alloc: Global, disk: &mut MemoryDisk) -> Result<Vec<Block>, Fault> {
     let mut blocks = Vec::new(alloc);
     for at in 0..disk.blocks() {
@@ -46,7 +47,7 @@ pub fn blocks_of(alloc: Global, disk: &mut MemoryDisk) -> Result<Vec<Block>, Fau
     Ok(blocks)
 }
 
-/// Mends what a disk holds. Gives the moment at which that begins.
+/// Mends what a disk holds, and returns the moment at which that begins.
 pub fn mend_disk<R: Threads + Sync, D: Disk>(
     rt: &R,
     alloc: Global,
@@ -59,6 +60,7 @@ pub fn mend_disk<R: Threads + Sync, D: Disk>(
 }
 
 impl Volume {
+    /// Makes a volume of no blocks.
     pub fn new(alloc: Global) -> Volume {
         Volume {
             blocks: Vec::new(alloc),
@@ -66,11 +68,13 @@ impl Volume {
         }
     }
 
+    /// Makes a volume of `blocks` zero blocks.
     pub fn disk(&mut self, alloc: Global, blocks: u32) -> Result<(), Fault> {
         self.blocks = vec![in alloc; Block::zero(); blocks as usize]?;
         Ok(())
     }
 
+    /// Puts these bytes into a block, beginning at a place.
     pub fn put(&mut self, block: u32, place: u32, bytes: &[u8]) -> Result<(), Fault> {
         let Some(old) = self.blocks.get_mut(block as usize) else {
             return Err(Fault::Place);
@@ -83,6 +87,7 @@ impl Volume {
         Ok(())
     }
 
+    /// Copies a block to another.
     pub fn copy(&mut self, from: u32, to: u32) -> Result<(), Fault> {
         let Some(content) = self.blocks.get(from as usize).copied() else {
             return Err(Fault::Place);
@@ -94,11 +99,13 @@ impl Volume {
         Ok(())
     }
 
+    /// Remembers the blocks.
     pub fn keep(&mut self, alloc: Global) -> Result<(), Fault> {
         self.kept = copies(alloc, &self.blocks)?;
         Ok(())
     }
 
+    /// Puts the remembered blocks back.
     pub fn again(&mut self, alloc: Global) -> Result<(), Fault> {
         self.blocks = copies(alloc, &self.kept)?;
         Ok(())
@@ -121,26 +128,28 @@ impl Volume {
         Ok(())
     }
 
-    /// A disk that holds it.
+    /// Returns a disk that holds the volume.
     fn mounted(&self, alloc: Global) -> Result<MemoryDisk, Fault> {
         let mut disk = MemoryDisk::new(alloc, self.count()?)?;
         self.put_on(&mut disk)?;
         Ok(disk)
     }
 
-    /// A disk that holds it, and records its calls.
+    /// Returns a disk that holds the volume, and records its calls.
     pub fn recorded(&self, alloc: Global) -> Result<MemoryDisk, Fault> {
         let mut disk = MemoryDisk::recording(alloc, self.count()?, Vec::new(alloc))?;
         self.put_on(&mut disk)?;
         Ok(disk)
     }
 
+    /// Checks the volume.
     pub fn check<R: Threads + Sync>(&self, rt: &R, alloc: Global) -> Result<Checked, Fault> {
         let mut disk = self.mounted(alloc)?;
         let image = load(alloc, &mut disk)?;
         Ok(report(rt, alloc, &image)?)
     }
 
+    /// Mends the volume.
     pub fn mend<R: Threads + Sync>(&mut self, rt: &R, alloc: Global) -> Result<(), Fault> {
         let mut disk = self.mounted(alloc)?;
         mend_disk(rt, alloc, &mut disk)?;

@@ -9,14 +9,14 @@ use Rattle.cyl_alloc.specs.Space.{IsLeastFree}
 abbrev pub SameEntries : Image → Image → Type 0
 SameEntries a b = (m : ℕ) → entry_in b m ≡ entry_in a m
 
--- the least-numbered Free block of image a has this entry in image b, and all others have theirs
+-- the least-numbered Free block of image a has this entry in image b, and all others have the same
 pub record IsClaimed (e : MapEntry) (a b : Image) : Type 0 where
   pub block : ℕ
   pub least : IsLeastFree a block
   pub here : entry_in b block ≡ Some e
   pub others : (m : ℕ) → m ≢ block → entry_in b m ≡ entry_in a m
 
--- From image a to image c a block was claimed for each of these entries, in their order. An entry tells its block's
+-- From image a to image c a block was claimed for each of these entries, in their order. An entry names its block's
 -- owner and place.
 abbrev pub AreClaimed : List MapEntry → Image → Image → Type 0
 AreClaimed [] a c = SameEntries a c

@@ -6,9 +6,10 @@ use cfs_base::{Block, BlockNo, Disk, Failed, Kind, Puid};
 /// How many objects an index refers to.
 const FAN: u64 = 64;
 
-/// A disk of a sound volume whose objects are a tree: object k refers to the objects from 64 k + 1 to 64 k + 64, as far
-/// as they are among the kept. The others are referred to by none. It tells nothing, and keeps nothing of what is
-/// written.
+/// A disk of a sound volume whose objects are a tree.
+///
+/// Object `k` refers to the objects from `64 k + 1` to `64 k + 64`, as far as they are among the kept. Nothing refers
+/// to the others. The disk tells nothing, and keeps nothing of what is written.
 #[derive(Drop)]
 pub struct Tree {
     cylinders: u32,
@@ -43,13 +44,15 @@ const NODE: u32 = 0x0103_0000;
 
 const LEAF: u32 = 0x0104_0000;
 
-/// The nth block that isn't a cylinder's map, from 0.
+/// Returns the block with number `n`, from 0, among those that aren't a cylinder's map.
 fn block_of(n: u64) -> u32 {
     let n = n.min(63 * 65_536 - 1);
     (64 * (n / 63) + n % 63 + 1) as u32
 }
 
-/// The identifier of an object. Block 1 is the label, and the roots of all objects follow.
+/// Returns the identifier of an object.
+///
+/// Block 1 is the label, and the roots of all objects follow.
 pub fn id_of(object: u32) -> Puid {
     Puid {
         block: block_of(u64::from(object) + 1),
@@ -58,7 +61,7 @@ pub fn id_of(object: u32) -> Puid {
 }
 
 impl Tree {
-    /// None where the objects don't fit.
+    /// Makes the disk, or returns `None` if the objects don't fit.
     pub fn new(cylinders: u32, objects: u32, kept: u32) -> Option<Tree>
         requires { cylinders ≤ 65536 }
         ensures { IfSome result (λ disk. disk.cylinders ≡ cylinders) }
@@ -74,13 +77,14 @@ impl Tree {
         (kept <= objects && blocks <= 63 * u64::from(cylinders)).then_some(tree)
     }
 
-    /// How many objects are indices that refer to others.
+    /// Returns how many objects are indices that refer to others.
     fn indices(&self) -> u64
         ensures { result < 2 ^ 32 }
     {
         (u64::from(self.kept) + FAN - 2) / FAN
     }
 
+    /// Returns the kind of an object.
     pub fn kind_of(&self, object: u32) -> Kind {
         if u64::from(object) < self.indices() {
             Kind::Index
@@ -89,7 +93,9 @@ impl Tree {
         }
     }
 
-    /// An index's node and its leaf follow the roots, two blocks an index.
+    /// Returns what a block is.
+    ///
+    /// An index's node and its leaf follow the roots, two blocks for each index.
     fn content(&self, block: u32) -> Content {
         let block = u64::from(block);
         let objects = u64::from(self.objects);
@@ -119,7 +125,7 @@ impl Tree {
         block_of(u64::from(self.objects) + 2 + 2 * index.min(1 << 32))
     }
 
-    /// What the map says of a block: its place, and the root block of the object that has it.
+    /// Returns what the map says of a block: its place, and the root block of the object that has it.
     fn entry(&self, block: u32) -> (u32, u32) {
         match self.content(block) {
             Content::Reserved => (RESERVED, 0),
@@ -141,7 +147,7 @@ impl Tree {
         map
     }
 
-    /// Object 0 is the root.
+    /// Returns the label. Object 0 is the root.
     fn label(&self) -> Block {
         let mut label = Block::zero();
         label.put_u32(0, MAGIC);

@@ -1,6 +1,8 @@
-//! Collections for a clock to be held to: `collect_bench CYLINDERS OBJECTS COUNT` makes COUNT collections of a tree of
-//! OBJECTS objects, of which a tenth can't be reached, and prints what they did. Where COUNT is 0 it opens the volume,
-//! as after a crash, and all its objects can be reached.
+//! Collections for timing.
+//!
+//! `collect_bench CYLINDERS OBJECTS COUNT` makes COUNT collections of a tree of OBJECTS objects, of which a tenth
+//! can't be reached, and prints what they did. If COUNT is 0 it opens the volume, as after a crash, and all its
+//! objects can be reached.
 #![tactic(auto)]
 
 mod disk;
@@ -44,7 +46,7 @@ fn collector_for(alloc: Global, blocks: u32) -> Option<Collector>
     }
 }
 
-/// An empty directory, with room for the identifiers of so many blocks.
+/// Makes an empty directory, with room for the identifiers of `blocks` blocks.
 fn directory_for(alloc: Global, blocks: u32) -> Option<Directory>
     ensures { IfSome result (λ directory. directory.room ≡ blocks) }
 {
@@ -56,7 +58,7 @@ fn directory_for(alloc: Global, blocks: u32) -> Option<Directory>
 }
 
 impl Volume {
-    /// None where the objects don't fit.
+    /// Opens the volume, or returns `None` if the objects don't fit.
     fn open(alloc: Global, cylinders: u32, objects: u32) -> Option<Volume>
         requires some { 1 ≤ cylinders }
         requires most { cylinders ≤ 65536 }
@@ -89,7 +91,7 @@ impl Volume {
         Some(())
     }
 
-    /// A whole collection, after which what it took is there again. Gives the number of its steps.
+    /// Makes a whole collection, puts back what it took, and returns the number of its steps.
     fn round(&mut self) -> Option<u32> {
         if self.collector.phase() != Phase::Idle {
             return None;
@@ -105,7 +107,7 @@ impl Volume {
         None
     }
 
-    /// What was taken is there again.
+    /// Puts back what was taken.
     fn restore(&mut self) -> Option<()> {
         for n in 0..self.gone.len() {
             let id = *self.gone.get(n)?;
@@ -136,7 +138,7 @@ impl Volume {
         }
     }
 
-    /// With each index that is read, an object is opened.
+    /// Makes the steps that mark. With each index that is read, an object is opened.
     fn mark(&mut self, steps: u32) -> Option<()> {
         if self.collector.phase() != Phase::Marking {
             return None;
@@ -169,7 +171,7 @@ fn open(rt: &HostRuntime, alloc: Global, cylinders: u32, objects: u32) -> Option
     println!(rt; "{found} objects opened by {calls} device calls, {free} blocks Free").ok()
 }
 
-/// The three numbers that the program's words are.
+/// Returns the three numbers that the program's words are.
 fn numbers(rt: &HostRuntime) -> Option<(u32, u32, u32)> {
     let mut words = env::args(rt).ok()?.skip(1);
     let cylinders = words.next()?.as_str().parse::<u32>().ok()?;

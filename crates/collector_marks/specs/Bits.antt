@@ -7,6 +7,6 @@ use Rattle.std.specs.List.{range_with_len}
 abbrev pub bit_in : List ℕ → ℕ → Bool
 bit_in words n = bit_at (get_or words (n / 64) 0) (n % 64) == 1
 
--- so many bits, from the first on
+-- the first `count` bits
 abbrev pub bits_of : (count : ℕ) → List ℕ → List Bool
 bits_of count words = map (bit_in words) (range_with_len 0 count)

@@ -12,14 +12,14 @@ pub record Marked : Type 0 where
   pub marks : List Bool
   pub grey : List Grey
 
--- past the volume's end nothing is marked
+-- nothing past the volume's end is marked
 abbrev pub colours_of : Marked → Colours
 colours_of m = record { marked = λ block. get_or m.marks block false; grey = m.grey }
 
 abbrev pub blocks_marked : Marked → ℕ
 blocks_marked m = length m.marks
 
--- where an index stands first, counted from the end of a list; None where it isn't grey
+-- the first place of an index, counted from the end of a list, or None if it isn't grey
 abbrev pub place_among : List Grey → Puid → Option ℕ
 place_among [] i = None
 place_among (e ∷ es) i = if same_puid i e.id then Some (length es) else place_among es i

@@ -5,10 +5,10 @@ use cfs_base::NoMemory;
 use std::alloc::Global;
 use std::marker::Model;
 
-/// The bits of a word.
+/// The number of bits in a word.
 const WORD: u32 = 64;
 
-/// So many bits, in words of 64. Clauses see their list.
+/// Bits, in words of 64. Clauses see the list of the bits.
 #[derive(Debug, Drop)]
 pub(crate) struct Bits {
     words: Vec<u64>,
@@ -27,7 +27,7 @@ impl Model for Bits {
 }
 
 impl Bits {
-    /// None is set.
+    /// Makes `count` bits, of which none is set.
     pub fn new(alloc: Global, count: u32) -> Result<Bits, NoMemory>
         ensures { IfOk result (λ b. b ≡ replicate count false) }
     {
@@ -35,28 +35,28 @@ impl Bits {
         Ok(Bits { words, count })
     }
 
-    /// None is set any more.
+    /// Clears all bits.
     pub fn clear(&mut self)
         ensures { self.new ≡ replicate (length self.old) false }
     {
         self.words.fill(0);
     }
 
-    /// How many they are.
+    /// Returns the number of bits.
     pub fn len(&self) -> usize
         ensures { result ≡ length self.now }
     {
         self.count as usize
     }
 
-    /// Whether a bit is set; past the last none is.
+    /// Returns whether a bit is set. No bit past the last is set.
     pub fn has(&self, at: u32) -> bool
         ensures { result ≡ get_or self.now at false }
     {
         at < self.count && self.is_set(at)
     }
 
-    /// Whether one of these bits is set.
+    /// Returns whether one of these bits is set.
     pub fn is_set(&self, at: u32) -> bool
         requires { at < length self.now }
         ensures { result ≡ get_or self.now at false }
@@ -64,7 +64,7 @@ impl Bits {
         self.words[(at / WORD) as usize] >> (at % WORD) & 1 == 1
     }
 
-    /// Sets a bit, and tells whether it was set.
+    /// Sets a bit, and returns whether it was set before.
     pub fn put(&mut self, at: u32) -> bool
         requires { at < length self.old }
         ensures put { self.new ≡ set self.old at true }

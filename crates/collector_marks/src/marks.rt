@@ -9,13 +9,15 @@ use marking::Grey;
 use std::alloc::Global;
 use std::marker::Model;
 
-/// The marked objects by their root blocks, and the grey indices, of which there is room for as many as the volume has
-/// blocks. Clauses see the set, the list, and how many blocks the volume has.
+/// The marked objects by their root blocks, and the grey indices.
+///
+/// There is room for as many grey indices as the volume has blocks. Clauses see the set, the list, and the number of
+/// blocks of the volume.
 #[derive(Debug, Drop)]
 pub struct Marks {
-    /// For each block of the volume whether the object with this root block is marked.
+    /// For each block of the volume, whether the object with this root block is marked.
     marked: Bits,
-    /// The grey indices, the first last.
+    /// The grey indices, the first in the last place.
     grey: Vec<Grey>,
 }
 
@@ -44,7 +46,7 @@ fn is_index(kind: Kind) -> bool
     }
 }
 
-/// Where the last entry of this index stands; None where there is none.
+/// Returns the place of the last entry of this index, or `None` if there is none.
 fn place_in(grey: &[Grey], id: Puid) -> Option<usize>
     ensures { result ≡ place_among (reverse grey.now) id }
 {
@@ -58,7 +60,7 @@ fn place_in(grey: &[Grey], id: Puid) -> Option<usize>
 }
 
 impl Marks {
-    /// Nothing is marked on a volume of so many blocks. All memory is taken here.
+    /// Makes marks by which nothing is marked, for a volume of `blocks` blocks. All memory is taken here.
     pub fn new(alloc: Global, blocks: u32) -> Result<Marks, NoMemory>
         ensures none { IfOk result (λ marks. colours_of marks ≡ none_marked) }
         ensures blocks { IfOk result (λ marks. blocks_marked marks ≡ blocks) }
@@ -68,7 +70,7 @@ impl Marks {
         Ok(Marks { marked, grey })
     }
 
-    /// Nothing is marked any more.
+    /// Clears all marks.
     pub fn clear(&mut self)
         ensures none { colours_of self.new ≡ none_marked }
         ensures blocks { blocks_marked self.new ≡ blocks_marked self.old }
@@ -77,8 +79,9 @@ impl Marks {
         self.grey.clear();
     }
 
-    /// Marks an object, and makes it the first grey index where it is an index; nothing where it is marked. Takes no
-    /// memory.
+    /// Marks an object, and makes it the first grey index if it is an index.
+    ///
+    /// Does nothing if it is marked. Takes no memory.
     pub fn shade(&mut self, id: Puid, kind: Kind)
         requires { id.block < blocks_marked self.old }
         ensures shaded { colours_of self.new ≡ shaded id kind (colours_of self.old) }
@@ -90,21 +93,23 @@ impl Marks {
         }
     }
 
-    /// Whether the object with this root block is marked; of a block past the volume's end false.
+    /// Returns whether the object with this root block is marked.
+    ///
+    /// It is false for a block past the volume's end.
     pub fn is_marked(&self, block: u32) -> bool
         ensures { result ≡ (colours_of self.now).marked block }
     {
         self.marked.has(block)
     }
 
-    /// How many blocks the volume has.
+    /// Returns the number of blocks of the volume.
     pub fn blocks(&self) -> usize
         ensures { result ≡ blocks_marked self.now }
     {
         self.marked.len()
     }
 
-    /// The first grey index; None exactly where none is grey.
+    /// Returns the first grey index, or `None` if none is grey.
     pub fn next_grey(&self) -> Option<Grey>
         ensures first { result ≡ first_grey (colours_of self.now) }
         ensures inside { IfSome result (λ e. e.id.block < blocks_marked self.now) }
@@ -112,7 +117,9 @@ impl Marks {
         self.grey.last().copied()
     }
 
-    /// Moves the cursor of the first grey index; nothing where none is grey. Takes no memory.
+    /// Moves the cursor of the first grey index.
+    ///
+    /// Does nothing if none is grey. Takes no memory.
     pub fn advance(&mut self, cursor: u32)
         ensures moved { colours_of self.new ≡ moved (Some cursor) (colours_of self.old) }
         ensures blocks { blocks_marked self.new ≡ blocks_marked self.old }
@@ -125,7 +132,9 @@ impl Marks {
         }
     }
 
-    /// The first grey index is grey no more; nothing where none is grey. Takes no memory.
+    /// Makes the first grey index grey no more.
+    ///
+    /// Does nothing if none is grey. Takes no memory.
     pub fn finish_grey(&mut self)
         ensures moved { colours_of self.new ≡ moved None (colours_of self.old) }
         ensures blocks { blocks_marked self.new ≡ blocks_marked self.old }
@@ -133,7 +142,9 @@ impl Marks {
         let _ = self.grey.pop();
     }
 
-    /// Where the reading of this index is; None exactly where it isn't grey. Goes over all grey indices.
+    /// Returns how far this index was read, or `None` if it isn't grey.
+    ///
+    /// It goes through all grey indices.
     pub fn cursor_of(&self, id: Puid) -> Option<u32>
         ensures { result ≡ cursor_of (colours_of self.now).grey id }
     {
@@ -143,7 +154,9 @@ impl Marks {
         Some(self.grey[place].cursor)
     }
 
-    /// Moves the cursor of this index; nothing where it isn't grey. Goes over all grey indices. Takes no memory.
+    /// Moves the cursor of this index.
+    ///
+    /// Does nothing if it isn't grey. It goes through all grey indices. Takes no memory.
     pub fn set_cursor(&mut self, id: Puid, cursor: u32)
         ensures moved { colours_of self.new ≡ with_cursor id cursor (colours_of self.old) }
         ensures blocks { blocks_marked self.new ≡ blocks_marked self.old }

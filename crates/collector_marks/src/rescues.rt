@@ -25,7 +25,7 @@ impl Model for Rescues {
 }
 
 impl Rescues {
-    /// None waits. Takes no memory.
+    /// Makes a list of no rescues. Takes no memory.
     pub fn new(alloc: Global) -> Rescues
         ensures { result.list ≡ [] }
     {
@@ -34,7 +34,7 @@ impl Rescues {
         }
     }
 
-    /// Makes room for one more.
+    /// Makes room for one more rescue.
     pub fn reserve(&mut self) -> Result<(), NoMemory>
         ensures room { OnOk result (0 < self.new.room) }
         ensures same { self.new.list ≡ self.old.list }
@@ -43,7 +43,7 @@ impl Rescues {
         Ok(())
     }
 
-    /// Adds one, which is then the youngest. Takes no memory.
+    /// Adds a rescue, which is then the youngest. Takes no memory.
     pub fn push(&mut self, rescue: Rescue)
         requires { 0 < self.old.room }
         ensures pushed { self.new.list ≡ self.old.list ++ rescue ∷ [] }
@@ -52,7 +52,7 @@ impl Rescues {
         self.waiting.push_back_reserved(rescue);
     }
 
-    /// Takes the oldest away; None exactly where none waits.
+    /// Removes the oldest rescue and returns it, or `None` if none waits.
     pub fn take(&mut self) -> Option<Rescue>
         ensures taken { result ≡ slice_get self.old.list 0 }
         ensures rest { self.new.list ≡ drop 1 self.old.list }
@@ -61,7 +61,7 @@ impl Rescues {
         self.waiting.pop_front()
     }
 
-    /// None waits any more. Takes no memory.
+    /// Removes all rescues. Takes no memory.
     pub fn clear(&mut self)
         ensures none { self.new.list ≡ [] }
         ensures room { self.old.room ≤ self.new.room }
@@ -69,6 +69,7 @@ impl Rescues {
         self.waiting.clear();
     }
 
+    /// Returns whether no rescue waits.
     pub fn is_empty(&self) -> bool
         ensures { IsTrue result ↔ (self.now.list ≡ []) }
     {

@@ -22,7 +22,8 @@ pub record Collecting : Type 0 where
   pub marks : Marked
   pub rescues : Waiting
   pub phase : Phase
-  -- the steps since the collection began, and the rescues added; each stays at the last number of a u64
+  -- the number of steps since the collection began, and of rescues that were added; each stays at the last number of
+  -- a u64
   pub steps : ℕ
   pub added : ℕ
 
@@ -33,11 +34,11 @@ colours_in k = colours_of k.marks
 abbrev pub waiting_in : Collecting → List Rescue
 waiting_in k = k.rescues.list
 
--- the blocks of the volume
+-- the number of blocks of the volume
 abbrev pub volume_of : Collecting → ℕ
 volume_of k = blocks_marked k.marks
 
--- nothing but room may have changed
+-- only the room may have changed
 pub record IsAsBefore (old new : Collecting) : Type 0 where
   pub marks : new.marks ≡ old.marks
   pub rescues : waiting_in new ≡ waiting_in old
@@ -57,11 +58,11 @@ pub record Serves {D : Type 0} (g : Ghosts D) (disk : D) (directory : List (Puid
 
 -- ---- between any two calls
 
--- At most so many steps were made beside two for each rescue and each block, as long as rescues were counted.
+-- At most `more` steps were made beside two for each rescue and two for each block, as long as rescues were counted.
 abbrev pub AreStepsWithin : Collecting → ℕ → Type 0
 AreStepsWithin k more = k.added < 2 ^ 64 - 1 → k.steps ≤ 2 * volume_of k + 2 * k.added + more
 
--- By phase: what holds of the marks, or how far the sweep is; and how many steps were made.
+-- What holds in each phase of the marks, or how far the sweep is, and how many steps were made.
 abbrev pub IsCollecting : Phase → Image → State → Collecting → Type 0
 IsCollecting phases.Idle image s k = Unit {0}
 IsCollecting phases.Marking image s k = IsMarking s (colours_in k) (waiting_in k)

@@ -1,4 +1,4 @@
--- How much a collection has left to do, whatever disk it is.
+-- How much a collection has left to do, on any disk.
 use Rattle.std.specs.Prelude.{ℕ, zero, suc, ◌+◌, ◌-◌, ◌*◌, ◌/◌, Bool, if◌then◌else◌, length}
 use Rattle.std.specs.List.{sum_by}
 use Rattle.marking.specs.declared.memory.Grey.{Grey}
@@ -9,17 +9,17 @@ use Rattle.collector_steps.specs.Collecting.{Collecting, colours_in, volume_of, 
 
 -- ---- reading
 
--- A grey index is read in one step for each place from its cursor on, and one more: no index has more than 15,360
--- leaves, and no draft of one.
+-- A grey index is read in one step for each place from its cursor on, and one more. No index has more than 15,360
+-- leaves, and no draft of one has.
 abbrev pub reads_of : Grey → ℕ
 reads_of e = 1 + (30720 - e.cursor)
 
--- the blocks below this one that are not marked
+-- how many blocks below this one are not marked
 unfoldable pub unmarked_below : ℕ → (ℕ → Bool) → ℕ
 unmarked_below zero marked = 0
 unmarked_below (suc n) marked = unmarked_below n marked + (if marked n then 0 else 1)
 
--- each of them may be shaded once, as an index of which no leaf was read
+-- each such block may be shaded once, as an index of which no leaf was read
 unfoldable pub reads_left : (blocks : ℕ) → Colours → ℕ
 reads_left blocks c = 30721 * unmarked_below blocks c.marked + sum_by reads_of c.grey
 
@@ -29,8 +29,8 @@ reads_left blocks c = 30721 * unmarked_below blocks c.marked + sum_by reads_of c
 abbrev pub cylinders_of : Collecting → ℕ
 cylinders_of k = volume_of k / 64
 
--- A collection that marks reads leaves and takes rescues, and then condemns; one that sweeps passes over each cylinder
--- twice, and then ends.
+-- A collection that marks reads leaves and takes rescues, and then condemns. One that sweeps passes over each
+-- cylinder twice, and then ends.
 abbrev pub left_in : Phase → Collecting → ℕ
 left_in phases.Idle k = 0
 left_in phases.Marking k =
@@ -39,11 +39,11 @@ left_in (phases.Inner cylinder) k = (cylinders_of k - cylinder) + cylinders_of k
 left_in (phases.Roots cylinder) k = (cylinders_of k - cylinder) + 2
 left_in phases.Swept k = 1
 
--- the steps that are left, if nothing is rescued
+-- how many steps are left, if nothing is rescued
 abbrev pub steps_left : Collecting → ℕ
 steps_left k = left_in k.phase k
 
--- a collection that begins on so many blocks makes no more than these, and one for each rescue
+-- how many steps a collection that begins on this many blocks makes at most, beside one for each rescue
 abbrev pub most_steps : (blocks : ℕ) → ℕ
 most_steps blocks = 30721 * blocks + 2 * (blocks / 64) + 5
 

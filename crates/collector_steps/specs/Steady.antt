@@ -3,7 +3,7 @@ use Rattle.std.specs.Prelude.{ℕ, ◌*◌, ◌<◌, ◌≤◌}
 use Rattle.collector_steps.specs.declared.phase.Phase.{Phase}
 use Rattle.collector_steps.specs.declared.phase.Phase.TheVariants as phases
 
--- while it marks there is room to hand out each object; a sweep is at a cylinder of the volume
+-- while it marks there is room to hand out each object, and a sweep is at a cylinder of the volume
 abbrev pub IsPhaseReady : Phase → (blocks spare : ℕ) → Type 0
 IsPhaseReady phases.Idle blocks spare = Unit {0}
 IsPhaseReady phases.Marking blocks spare = blocks ≤ spare

@@ -32,12 +32,12 @@ swept_map directory pass entries = map (swept directory pass) entries
 
 -- ---- one cylinder
 
--- no entry of the cylinder goes
+-- no entry of the cylinder is to become Free
 abbrev pub NoneGoes : List (Puid × Kind) → Pass → ℕ → Image → Type 0
 NoneGoes directory pass cylinder image = (n : ℕ) (e : MapEntry) → n / 64 ≡ cylinder → entry_in image n ≡ Some e
     → goes directory pass e ≡ false
 
--- Image b is a, but that each entry of the cylinder that goes is Free.
+-- Image b is image a in which each entry of the cylinder that is to become Free is Free.
 pub record IsSweptOf (directory : List (Puid × Kind)) (pass : Pass) (cylinder : ℕ) (a b : Image) : Type 0 where
   pub size : length b ≡ length a
   pub contents : (n : ℕ) → n ≢ 64 * cylinder → block_at b n ≡ block_at a n
@@ -46,12 +46,13 @@ pub record IsSweptOf (directory : List (Puid × Kind)) (pass : Pass) (cylinder :
 
 -- ---- cylinder after cylinder
 
--- In the cylinders that the inner pass has left no node, leaf or shadow root is a block of an object that is gone.
+-- In the cylinders that the inner pass is done with, no node, leaf or shadow root is a block of an object that is
+-- gone.
 abbrev pub NoInner : Image → Graph → ℕ → Type 0
 NoInner image g cylinders = (n : ℕ) → n / 64 < cylinders → is_stray g (entry_in image n) ≡ true
     → is_root is_taken (entry_in image n) ≡ true
 
--- In those that the root pass has left no block is.
+-- In the cylinders that the root pass is done with, no block is.
 abbrev pub NoStray : Image → Graph → ℕ → Type 0
 NoStray image g cylinders = (n : ℕ) → n / 64 < cylinders → is_stray g (entry_in image n) ≡ false
 

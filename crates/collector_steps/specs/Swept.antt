@@ -27,13 +27,13 @@ abbrev pub IsDamageTrouble : Trouble → Type 0
 IsDamageTrouble (trouble.Disk tried) = ⊥
 IsDamageTrouble (trouble.Damaged damage) = Unit {0}
 
--- One read, and one write where some entry goes.
+-- One read, and one write if some entry is to become Free.
 pub record IsSweep {D : Type 0} (g : Ghosts D) (directory : List (Puid × Kind)) (pass : Pass) (cylinder : ℕ)
     (old new : D)
     (before after : Kept) (result : Result (Unit {0}) Trouble) : Type 0 where
-  -- each entry that goes is Free, and no other changed
+  -- each entry that is to become Free is Free, and no other changed
   pub swept : Tells g old → OnOk result (IsSweptOf directory pass cylinder (g.content old) (g.content new))
-  -- what is served is served on
+  -- what was served is still served
   pub serves : (s : State) (ds : Drafts) → Serves g old directory s ds → MayBegin pass (g.content old) s.graph
       → OnOk result (Serves g new directory s ds)
   -- done or failed, each image that a crash leaves has the graph
@@ -43,12 +43,12 @@ pub record IsSweep {D : Type 0} (g : Ghosts D) (directory : List (Puid × Kind))
   pub cylinders : length after.free ≡ length before.free
   pub left : after.left ≡ before.left
   pub kept : OnErr result (after ≡ before)
-  -- a device call failed, or the cylinder's map block is no map, which is not so on a disk that is served
+  -- a device call failed, or the cylinder's map block is no map, which can't be on a disk that is served
   pub refused : IfErr result (IsMapTrouble g old new (64 * cylinder))
   pub sound : (s : State) (ds : Drafts) → Serves g old directory s ds → IfErr result (λ t. ¬ IsDamageTrouble t)
   pub unless_tried : IfErr result (λ t. trouble_had_tried t ≡ false → OnlyReads g 1 old new)
   pub calls : MakesAtMost g 2 1 old new
-  -- a map of which no entry goes isn't written
+  -- a map of which no entry is to become Free isn't written
   pub spares : Tells g old → NoneGoes directory pass cylinder (g.content old) → OnlyReads g 1 old new
 
 -- ---- a collector that sweeps

@@ -28,17 +28,19 @@ use puid_space::Directory;
 use std::alloc::Global;
 use std::marker::Model;
 
-/// A collector of the objects of a volume. Clauses see its marks, the rescues that wait, where it is, and two counts.
+/// A collector of the objects of a volume.
+///
+/// Clauses see its marks, the rescues that wait, its phase, and two counts.
 #[derive(Debug, Drop)]
 pub struct Collector {
     pub(crate) marks: Marks,
     pub(crate) rescues: Rescues,
-    /// Empty, with room for all that may be condemned while a collection marks.
+    /// Empty while a collection marks, with room for all that may be condemned.
     pub(crate) condemned: Vec<Puid>,
     pub(crate) phase: Phase,
-    /// The steps since the collection began.
+    /// The number of steps since the collection began.
     pub(crate) steps: u64,
-    /// The rescues added since then.
+    /// The number of rescues that were added since then.
     added: u64,
     pub(crate) alloc: Global,
 }
@@ -65,7 +67,7 @@ impl Model for Collector {
 }
 
 impl Collector {
-    /// No collection runs on a volume of so many blocks.
+    /// Makes a collector by which no collection runs, for a volume of `blocks` blocks.
     pub fn new(alloc: Global, blocks: u32) -> Result<Collector, NoMemory>
         requires { 0 < blocks }
         ensures phase { IfOk result (λ k. k.phase ≡ Phase.Idle) }
@@ -83,8 +85,9 @@ impl Collector {
         })
     }
 
-    /// A collection begins: nothing is marked but these objects, the root and each that is open. Makes room for all
-    /// that may be condemned.
+    /// Begins a collection, in which only the objects `roots` are marked: the root and each that is open.
+    ///
+    /// Makes room for all that may be condemned.
     pub fn begin(&mut self, roots: &[Puid], directory: &Directory) -> Result<(), NoMemory>
         requires phase { self.old.phase ≡ Phase.Idle }
         requires blocks { directory.now.room ≤ volume_of self.old }
@@ -93,7 +96,7 @@ impl Collector {
         ensures phase { OnOk result (self.new.phase ≡ Phase.Marking) }
         ensures counts { OnOk result ((self.new.steps ≡ 1) × (self.new.added ≡ 0)) }
         ensures volume { volume_of self.new ≡ volume_of self.old }
-        // Whatever disk it is, so many steps come to its end, if nothing is rescued.
+        // On any disk this many steps bring it to its end, if nothing is rescued.
         ensures left { OnOk result (steps_left self.new < most_steps (volume_of self.new)) }
         ensures same { OnErr result (IsAsBefore self.old self.new) }
         // The leaves of the objects and their drafts are no more than the blocks.
@@ -121,7 +124,9 @@ impl Collector {
         self.rescues.reserve()
     }
 
-    /// Adds a rescue: an object that was put into an index, or opened, where there is none. Takes no memory.
+    /// Adds a rescue. Takes no memory.
+    ///
+    /// It is an object that was put into an index, or one that was opened, if `index` is `None`.
     pub fn rescue(&mut self, index: Option<Puid>, id: Puid)
         requires { 0 < self.old.rescues.room }
         ensures waiting { waiting_in self.new ≡ waiting_in self.old ++ record { index = index; id = id } ∷ [] }
@@ -134,7 +139,7 @@ impl Collector {
         self.added = self.added.saturating_add(1);
     }
 
-    /// Takes the oldest rescue, and shades its object where it has no index or its index is marked. Takes no memory.
+    /// Removes the oldest rescue, and shades its object if it has no index or its index is marked. Takes no memory.
     pub fn take(&mut self, directory: &Directory)
         requires phase { self.old.phase ≡ Phase.Marking }
         requires waits { ¬ (waiting_in self.old ≡ []) }
@@ -159,7 +164,7 @@ impl Collector {
         shade_rescued(&mut self.marks, directory, rescue);
     }
 
-    /// The collection ends.
+    /// Ends the collection.
     pub fn end(&mut self)
         requires { self.old.phase ≡ Phase.Swept }
         ensures phase { self.new.phase ≡ Phase.Idle }
@@ -175,28 +180,28 @@ impl Collector {
         self.steps = self.steps.saturating_add(1);
     }
 
-    /// Where the collection is.
+    /// Returns the phase of the collection.
     pub fn phase(&self) -> Phase
         ensures { result ≡ self.now.phase }
     {
         self.phase
     }
 
-    /// Whether a rescue waits.
+    /// Returns whether a rescue waits.
     pub fn has_rescue(&self) -> bool
         ensures { IsTrue result ↔ ¬ (waiting_in self.now ≡ []) }
     {
         !self.rescues.is_empty()
     }
 
-    /// Whether an index is grey.
+    /// Returns whether an index is grey.
     pub fn has_grey(&self) -> bool
         ensures { IsTrue result ↔ ¬ (self.now.marks.grey ≡ []) }
     {
         self.marks.next_grey().is_some()
     }
 
-    /// The first grey index; None exactly where none is grey.
+    /// Returns the first grey index, or `None` if none is grey.
     pub fn next_index(&self) -> Option<Puid>
         ensures { result ≡ option_map (λ e. e.id) (first_grey (colours_in self.now)) }
     {
@@ -204,8 +209,10 @@ impl Collector {
         Some(first.id)
     }
 
-    /// The draft of this index ended: where it was being read, the reading goes on at the index's own first leaf.
-    /// Goes over all grey indices. Takes no memory.
+    /// Records that the draft of this index ended.
+    ///
+    /// If it was being read, the reading goes on at the index's own first leaf. It goes through all grey indices.
+    /// Takes no memory.
     pub fn draft_ended(&mut self, id: Puid)
         ensures ended { colours_in self.new ≡ draft_over id (colours_in self.old) }
         ensures waiting { self.new.rescues ≡ self.old.rescues }
@@ -213,7 +220,7 @@ impl Collector {
         ensures steps { self.new.steps ≡ self.old.steps }
         ensures added { self.new.added ≡ self.old.added }
         ensures volume { volume_of self.new ≡ volume_of self.old }
-        // Whatever disk it is, no step more is left.
+        // On any disk this leaves no more steps than before.
         ensures left { steps_left self.new ≤ steps_left self.old }
         ensures keeps { (s : State) (image : Image) → draft_at s.grants id ≡ None → Collects image s self.old
             → Collects image s self.new }

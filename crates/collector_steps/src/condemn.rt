@@ -24,7 +24,7 @@ use collector_marks::Marks;
 use puid_space::Directory;
 use std::mem;
 
-/// Takes out of a directory what isn't marked, and adds it to a list that has room for it. Takes no memory.
+/// Removes what isn't marked from a directory, and appends it to a list that has room for it. Takes no memory.
 fn take_unmarked(marks: &Marks, directory: &mut Directory, gone: &mut Vec<Puid>)
     requires { vec_len gone.old + length directory.old.named ≤ vec_capacity gone.old }
     ensures named { directory.new.named ≡ kept_by (colours_of marks.now).marked directory.old.named }
@@ -36,8 +36,9 @@ fn take_unmarked(marks: &Marks, directory: &mut Directory, gone: &mut Vec<Puid>)
 }
 
 impl Collector {
-    /// Nothing is left to read or to take: what isn't marked leaves the directory, all at one stroke, and is handed out
-    /// in rising order. Takes no memory.
+    /// Removes what isn't marked from the directory, all at once, and returns it in increasing order.
+    ///
+    /// Nothing is left to read or to take. Takes no memory.
     pub fn condemn(&mut self, directory: &mut Directory) -> Ids
         requires phase { self.old.phase ≡ Phase.Marking }
         requires read { self.old.marks.grey ≡ [] }

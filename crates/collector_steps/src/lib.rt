@@ -1,6 +1,7 @@
 //! The steps of the collector: a collection begins, marks, condemns, sweeps and ends, one short step at a time.
+//!
 //! The layer above uses that each step keeps what holds of a collection between any two calls, that exactly what may
-//! vanish is condemned, and that nothing but blocks of vanished objects is swept.
+//! vanish is condemned, and that only blocks of vanished objects are swept.
 #![tactic(auto)]
 
 mod collector;

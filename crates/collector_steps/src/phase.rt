@@ -1,10 +1,13 @@
-//! Where a collection is.
+//! The phases of a collection.
 
-/// Where a collection is. A sweep is at the cylinder that its next step sweeps.
+/// The phase of a collection.
+///
+/// A sweep is at the cylinder that its next step sweeps.
 #[derive(Clone, Copy, Debug, PartialEq, Eq)]
 pub enum Phase {
     /// No collection runs.
     Idle,
+    /// Indices are read, and what they refer to is marked.
     Marking,
     /// Nodes, leaves and shadow roots are swept.
     Inner { cylinder: u32 },

@@ -37,17 +37,17 @@ use cfs_base::{Block, BlockNo, Disk, Trouble};
 use collector_marks::{Grey, Marks};
 use puid_space::Directory;
 
-/// Places from this one on are leaves of an index itself; those below are leaves of its draft.
+/// Places from this one on are leaves of an index itself, and those below it are leaves of its draft.
 pub(crate) const OWN_PART: u32 = LEAF_LIMIT;
 
-/// What a step finds, whose leaf was read, if it found one; and the place where the reading goes on, if it does.
+/// What a step finds: what it read, if it found a leaf, and the place where the reading goes on, if it does.
 #[derive(Clone, Copy, Debug)]
 struct Found {
     step: LeafStep,
     next: Option<u32>,
 }
 
-/// The next leaf of a tree after the one that was found, where another is held.
+/// Returns the next leaf of a tree after the one that was found, if another is held.
 fn following(step: LeafStep) -> Option<u32>
     requires { IfSome step.found (λ s. s.held.leaf < leaf_limit) }
     ensures { result ≡ following step }
@@ -59,7 +59,7 @@ fn following(step: LeafStep) -> Option<u32>
     }
 }
 
-/// Where the reading goes on after a step of the index's own tree.
+/// Returns where the reading goes on after a step of the index's own tree.
 fn after_own(step: LeafStep) -> Option<u32>
     requires { IfSome step.found (λ s. s.held.leaf < leaf_limit) }
     ensures { result ≡ after_own step }
@@ -70,15 +70,17 @@ fn after_own(step: LeafStep) -> Option<u32>
     }
 }
 
-/// Where the reading goes on after a draft's last leaf: at the index's own first leaf, if it holds one.
+/// Returns where the reading goes on after a draft's last leaf: at the index's own first leaf, if it holds one.
 fn after_last(any: bool) -> Option<u32>
     ensures { result ≡ (if any then Some own_part else None) }
 {
     if any { Some(OWN_PART) } else { None }
 }
 
-/// The first held leaf not below the cursor, if there is one, and whether another follows, of the tree with this root,
-/// which is that of the index at a block or of its draft. At most 2 device calls.
+/// Finds the first held leaf not below the cursor, if there is one, and whether another follows.
+///
+/// The tree is the one with this root, which is that of the index at a block or of its draft. Makes at most 2 device
+/// calls.
 fn find_leaf<D: Disk>(
     disk: &mut D,
     block: u32,
@@ -112,7 +114,7 @@ fn find_leaf<D: Disk>(
     }
 }
 
-/// That leaf, and its content. At most 3 device calls.
+/// Finds that leaf, and reads its content. Makes at most 3 device calls.
 fn next_leaf<D: Disk>(
     disk: &mut D,
     block: u32,
@@ -140,7 +142,7 @@ fn next_leaf<D: Disk>(
     }
 }
 
-/// A step in the tree of the index with this root block, from a leaf on. At most 4 device calls.
+/// Makes a step in the tree of the index with this root block, from a leaf on. Makes at most 4 device calls.
 fn read_own<D: Disk>(
     disk: &mut D,
     block: u32,
@@ -163,7 +165,7 @@ fn read_own<D: Disk>(
     })
 }
 
-/// A step in the draft of that index, which has this root. At most 4 device calls.
+/// Makes a step in the draft of that index, which has this root. Makes at most 4 device calls.
 fn read_draft<D: Disk>(
     disk: &mut D,
     block: u32,
@@ -196,7 +198,9 @@ fn read_draft<D: Disk>(
     })
 }
 
-/// A step of this grey index: in its draft, which has this root, or in its own tree. At most 4 device calls.
+/// Makes a step of this grey index, in its draft or in its own tree.
+///
+/// `draft` is the draft's root. Makes at most 4 device calls.
 fn read_place<D: Disk>(
     disk: &mut D,
     first: Grey,
@@ -233,8 +237,9 @@ fn read_place<D: Disk>(
     read_draft(disk, first.id.block, draft, first.cursor, into)
 }
 
-/// Moves on to the next place, if there is one, and shades each object in the leaf that was read; or ends the first
-/// grey index. Takes no memory.
+/// Moves on to the next place, or ends the first grey index if there is none. Takes no memory.
+///
+/// Each object in the leaf that was read is shaded.
 fn read_on(marks: &mut Marks, directory: &Directory, found: Found, content: &Block)
     requires blocks { directory.now.room ≤ blocks_marked marks.old }
     ensures read { colours_of marks.new ≡ read directory.now.named (ids_read found.step content.now, found.next)
@@ -251,9 +256,11 @@ fn read_on(marks: &mut Marks, directory: &Directory, found: Found, content: &Blo
 }
 
 impl Collector {
-    /// Reads the next held leaf of the first grey index, first of its draft, whose root this is, and then of the index
-    /// itself, and shades each object in it; where neither holds a further leaf, the index is grey no more. At most 4
-    /// device calls, none of which writes. Takes no memory.
+    /// Reads the next held leaf of the first grey index, and shades each object in it.
+    ///
+    /// The leaves of its draft, whose root this is, come first, and then those of the index itself. If neither holds
+    /// a further leaf, the index is grey no more. Makes at most 4 device calls, none of which writes. Takes no
+    /// memory.
     pub fn scan<D: Disk>(
         &mut self,
         disk: &mut D,

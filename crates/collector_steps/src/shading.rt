@@ -9,7 +9,7 @@ use cfs_base::{Kind, Puid};
 use collector_marks::{Marks, Rescue};
 use puid_space::Directory;
 
-/// The kind of an object, whose root block there is room for where it is there.
+/// Returns the kind of an object if it is there. There is room for its root block then.
 fn kind_of(directory: &Directory, id: Puid) -> Option<Kind>
     ensures kind { result ≡ directory_kind directory.now.named id }
     ensures inside { IfSome result (λ _. id.block < directory.now.room) }
@@ -18,7 +18,7 @@ fn kind_of(directory: &Directory, id: Puid) -> Option<Kind>
     directory.kind(id)
 }
 
-/// Shades an object; nothing where it isn't there. Takes no memory.
+/// Shades an object. Does nothing if it isn't there. Takes no memory.
 pub fn shade_one(marks: &mut Marks, directory: &Directory, id: Puid)
     requires blocks { directory.now.room ≤ blocks_marked marks.old }
     ensures shaded { colours_of marks.new ≡ shaded_in directory.now.named id (colours_of marks.old) }
@@ -29,7 +29,7 @@ pub fn shade_one(marks: &mut Marks, directory: &Directory, id: Puid)
     }
 }
 
-/// Shades each of these. Takes no memory.
+/// Shades each of these objects. Takes no memory.
 pub fn shade_all(marks: &mut Marks, directory: &Directory, ids: &[Puid])
     requires blocks { directory.now.room ≤ blocks_marked marks.old }
     ensures shaded { colours_of marks.new ≡ all_shaded directory.now.named ids.now (colours_of marks.old) }
@@ -40,7 +40,7 @@ pub fn shade_all(marks: &mut Marks, directory: &Directory, ids: &[Puid])
     }
 }
 
-/// Whether an object that is found here is looked for: there is no index, or it is marked.
+/// Returns whether an object found here is to be shaded: there is no index, or the index is marked.
 fn is_live(marks: &Marks, index: Option<Puid>) -> bool
     ensures { result ≡ is_live index (colours_of marks.now) }
 {
@@ -50,7 +50,7 @@ fn is_live(marks: &Marks, index: Option<Puid>) -> bool
     }
 }
 
-/// Shades the object of a rescue, where it has no index or its index is marked. Takes no memory.
+/// Shades the object of a rescue, if it has no index or its index is marked. Takes no memory.
 pub fn shade_rescued(marks: &mut Marks, directory: &Directory, rescue: Rescue)
     requires blocks { directory.now.room ≤ blocks_marked marks.old }
     ensures shaded { colours_of marks.new ≡ rescued directory.now.named rescue (colours_of marks.old) }

@@ -17,7 +17,7 @@ use cyl_alloc::maps::read_map;
 use cyl_map::{BlockState, Map, MapEntry};
 use puid_space::Directory;
 
-/// Which blocks a sweep is over.
+/// The blocks that a sweep is over.
 #[derive(Clone, Copy, Debug, PartialEq, Eq)]
 pub enum Pass {
     /// Nodes, leaves and shadow roots.
@@ -26,7 +26,9 @@ pub enum Pass {
     Roots,
 }
 
-/// The first pass is over nodes, leaves and shadow roots, the second over roots, but for those that are being made.
+/// Returns whether a pass is over a block with this entry.
+///
+/// The first pass is over nodes, leaves and shadow roots, the second over roots, except those that are being made.
 fn is_of_pass(pass: Pass, entry: MapEntry) -> bool
     ensures { result ≡ spec.is_of_pass pass entry }
 {
@@ -39,14 +41,14 @@ fn is_of_pass(pass: Pass, entry: MapEntry) -> bool
     }
 }
 
-/// Whether an entry is of a block of the pass whose owner is the root block of no object.
+/// Returns whether an entry is that of a block of the pass whose owner is the root block of no object.
 fn goes(entry: MapEntry, directory: &Directory, pass: Pass) -> bool
     ensures { result ≡ spec.goes directory.now.named pass entry }
 {
     is_of_pass(pass, entry) && !directory.has_root(entry.owner)
 }
 
-/// Makes one entry Free where it goes, and tells whether it does.
+/// Makes one entry Free if it is to go, and returns whether it is.
 fn sweep_entry(map: &mut Map, place: u8, directory: &Directory, pass: Pass) -> bool
     requires { place < 64 }
     ensures swept { map.new ≡ set map.old place
@@ -69,7 +71,7 @@ fn sweep_entry(map: &mut Map, place: u8, directory: &Directory, pass: Pass) -> b
     goes
 }
 
-/// Makes each entry Free that goes, and counts them.
+/// Makes each entry Free that is to go, and returns how many they are.
 fn sweep_map(map: &mut Map, directory: &Directory, pass: Pass) -> u32
     ensures swept { map.new ≡ spec.swept_map directory.now.named pass map.old }
     ensures count { result ≡ count_by (spec.goes directory.now.named pass) map.old }
@@ -84,8 +86,9 @@ fn sweep_map(map: &mut Map, directory: &Directory, pass: Pass) -> u32
     freed
 }
 
-/// Writes a block with which the content stays within a frame. Done or failed, each image that a crash leaves holds the
-/// graph.
+/// Writes a block with which the content stays within a frame.
+///
+/// Done or failed, each image that a crash leaves holds the graph.
 fn write_block<D: Disk>(disk: &mut D, at: BlockNo, block: &Block) -> Result<(), Failed>
     requires on_disk { at.0 < D.blocks disk.old }
     ensures carries { (g : Graph) → Carries D.Disk g disk.old
@@ -101,7 +104,7 @@ fn write_block<D: Disk>(disk: &mut D, at: BlockNo, block: &Block) -> Result<(), 
     disk.write(at, block)
 }
 
-/// Sweeps one cylinder: one read, and one write where some entry goes.
+/// Sweeps one cylinder by one read, and one write if some entry goes.
 pub fn sweep_cylinder<D: Disk>(
     disk: &mut D,
     space: &mut Space,

@@ -21,6 +21,8 @@ fn cylinder_of(phase: Phase) -> u32
     }
 }
 
+/// Returns the phase after a step of the sweep.
+///
 /// The inner pass is over all cylinders before the root pass begins.
 fn next_phase(phase: Phase, cylinders: u32) -> Phase
     ensures { result ≡ spec.next_phase cylinders phase }
@@ -39,8 +41,10 @@ fn next_phase(phase: Phase, cylinders: u32) -> Phase
 }
 
 impl Collector {
-    /// Sweeps nodes, leaves and shadow roots of one cylinder: each whose owner is the root block of no object is Free.
-    /// One read, and one write where there is one. Takes no memory.
+    /// Sweeps nodes, leaves and shadow roots of one cylinder.
+    ///
+    /// Each whose owner is the root block of no object becomes Free. Makes one read, and one write if there is such a
+    /// block. Takes no memory.
     pub fn sweep_inner<D: Disk>(
         &mut self,
         disk: &mut D,
@@ -57,7 +61,7 @@ impl Collector {
         self.sweep(disk, space, directory, Pass::Inner)
     }
 
-    /// The same with roots, but for those of objects that are being made.
+    /// Sweeps the roots of one cylinder in the same way, except those of objects that are being made.
     pub fn sweep_roots<D: Disk>(
         &mut self,
         disk: &mut D,

@@ -6,7 +6,7 @@ use cfs_base::{Block, Kind};
 
 pub const BLOCKS: u32 = 64;
 
-/// The blocks from here on stay Free.
+/// The blocks from this one on stay Free.
 pub const USED: u32 = 18;
 
 /// The first half of a map's entry of a block that no object has, of a root, of node 0 and of leaf 0.
@@ -18,22 +18,23 @@ const NODE: u32 = 0x0103_0000;
 
 const LEAF: u32 = 0x0104_0000;
 
-/// The root block of an object.
+/// Returns the root block of an object.
 pub fn root_of(index: Object) -> u32
     ensures { result < 18 }
 {
     2 + index.number as u32
 }
 
-/// The node of an index.
+/// Returns the node of an index.
 pub fn node_of(index: Object) -> u32
     ensures { result < 18 }
 {
     6 + index.number as u32
 }
 
-/// The leaf that has a slot: which of its index it is, its block, and the slot's first byte in it. Both slots of the
-/// root index are in one leaf.
+/// Returns the leaf that has a slot: its number in its index, its block, and the slot's first byte in it.
+///
+/// Both slots of the root index are in one leaf.
 pub fn leaf_of(slot: Slot) -> (u32, u32, usize)
     ensures leaf { result.0 < 2 }
     ensures block { result.1 < 18 }
@@ -47,7 +48,9 @@ pub fn leaf_of(slot: Slot) -> (u32, u32, usize)
     }
 }
 
-/// The root block of a new object. The root index has 64 slots, another 128.
+/// Returns the root block of a new object.
+///
+/// The root index has 64 slots, and another index 128.
 pub fn root_block(object: Object, kind: Kind) -> Block {
     let (code, size) = match (kind, object.number) {
         (Kind::Index, 0) => (0x0300, 512),
@@ -61,7 +64,7 @@ pub fn root_block(object: Object, kind: Kind) -> Block {
     block
 }
 
-/// Enters a block in the map of the cylinder.
+/// Writes the entry of a block into the map of the cylinder.
 fn enter(map: &mut Block, block: u32, place: u32, owner: u32)
     requires { block < 18 }
 {
@@ -69,7 +72,7 @@ fn enter(map: &mut Block, block: u32, place: u32, owner: u32)
     map.put_u32(8 * block as usize + 4, owner);
 }
 
-/// The map of the cylinder where exactly the world's objects and the leaves that they hold have blocks.
+/// Returns the map of the cylinder if exactly the world's objects and the leaves that they hold have blocks.
 pub fn map_of(world: &World) -> Block {
     let mut map = Block::zero();
     enter(&mut map, 0, RESERVED, 0);
@@ -88,7 +91,7 @@ pub fn map_of(world: &World) -> Block {
     map
 }
 
-/// Enters the leaf that has a slot, and its node.
+/// Writes the entries of the leaf that has a slot, and of its node.
 pub fn enter_leaf(map: &mut Block, slot: Slot) {
     let root = root_of(slot.index());
     let (leaf, block, _) = leaf_of(slot);
@@ -96,7 +99,7 @@ pub fn enter_leaf(map: &mut Block, slot: Slot) {
     enter(map, block, LEAF + leaf, root);
 }
 
-/// How many blocks a map says are Free.
+/// Returns how many blocks a map says are Free.
 pub fn free_in(map: &Block) -> u32 {
     let mut free = BLOCKS - USED;
     for block in 0..USED {

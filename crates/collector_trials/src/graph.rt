@@ -6,8 +6,9 @@ use cfs_base::{Kind, Puid};
 /// How many objects a graph has at most.
 pub const OBJECTS: usize = 4;
 
-/// How many slots are tried of all indices: the first two of the root index, and of each other the first slot of its
-/// first two leaves.
+/// How many slots are tried of all indices.
+///
+/// They are the first two of the root index, and of each other index the first slot of its first two leaves.
 pub const SLOTS: usize = 8;
 
 /// An object by its number. The root index is 0.
@@ -39,21 +40,22 @@ pub type Set = [bool; OBJECTS];
 /// From which object a slot leads to which.
 pub type Edges = [Set; OBJECTS];
 
-/// A graph, what is open, and what stood at any time since the collection began.
+/// A graph, what is open, and what there was at any time since the collection began.
 #[derive(Clone, Copy)]
 pub struct World {
-    /// The kind of each object that is there.
+    /// The kind of each object of the graph.
     pub kinds: [Option<Kind>; OBJECTS],
     pub filled: [Option<Object>; SLOTS],
     /// Which slots were ever filled: their leaves are held.
     pub held: [bool; SLOTS],
-    /// How often each object is open.
+    /// How many times each object is open.
     pub open: [u32; OBJECTS],
     pub edges: Edges,
     pub starts: Set,
 }
 
 impl Object {
+    /// Returns the object's identifier.
     pub fn id(self) -> Puid {
         let number = self.number as u32;
         Puid {
@@ -64,6 +66,7 @@ impl Object {
 }
 
 impl Slot {
+    /// Returns the index that has the slot.
     pub fn index(self) -> Object {
         Object {
             number: self.number / 2,
@@ -72,13 +75,13 @@ impl Slot {
 }
 
 impl World {
-    /// What stands as a collection begins.
+    /// Begins a collection with what there is now.
     pub fn begin(&mut self) {
         self.edges = self.edges_now();
         self.starts = self.starts_now();
     }
 
-    /// The root index, and what is open.
+    /// Returns the root index, and what is open.
     pub fn starts_now(&self) -> Set {
         let mut starts = [true, false, false, false];
         for n in 1..OBJECTS {
@@ -87,6 +90,7 @@ impl World {
         starts
     }
 
+    /// Returns the edges that there are now.
     pub fn edges_now(&self) -> Edges {
         let mut edges = [[false; OBJECTS]; OBJECTS];
         for n in 0..SLOTS {
@@ -97,7 +101,7 @@ impl World {
         edges
     }
 
-    /// Whether it isn't refused: all that it names is there, and an index that is open isn't changed.
+    /// Returns whether a request isn't refused: all that it names exists, and an index that is open isn't changed.
     pub fn allows(&self, request: Request) -> bool {
         match request {
             Request::Retain { slot, id } => self.has(slot.index())
@@ -110,6 +114,7 @@ impl World {
         }
     }
 
+    /// Makes the effect of a request.
     pub fn ask(&mut self, request: Request) {
         match request {
             Request::Retain { slot, id } => {
@@ -126,7 +131,7 @@ impl World {
         }
     }
 
-    /// Objects leave the graph, with their slots and leaves.
+    /// Removes objects from the graph, with their slots and leaves.
     pub fn vanish(&mut self, taken: &Set) {
         for n in 0..SLOTS {
             if taken[n / 2] {

@@ -4,7 +4,7 @@ ghost use Rattle.std.specs.Prelude.{◌<◌};
 use crate::graph::{Edges, OBJECTS, Object, Set, World};
 use cfs_base::Puid;
 
-/// The objects of a list, where it names them in rising order and no other.
+/// Returns the objects of a list, if it names them in increasing order and nothing else.
 pub fn objects_in(ids: &[Puid]) -> Option<Set> {
     let mut set = [false; OBJECTS];
     let mut found = 0;
@@ -17,7 +17,9 @@ pub fn objects_in(ids: &[Puid]) -> Option<Set> {
     (found == ids.len()).then_some(set)
 }
 
-/// What is reached from these objects: all that was reached and all that its slots hold, as often as there are objects.
+/// Returns what is reached from these objects.
+///
+/// All that was reached and all that its slots hold is added, as many times as there are objects.
 fn reached(starts: &Set, edges: &Edges) -> Set {
     let mut found = *starts;
     for _ in 0..OBJECTS {
@@ -32,7 +34,7 @@ fn reached(starts: &Set, edges: &Edges) -> Set {
     found
 }
 
-/// What is wrong with the objects that were taken, if anything is.
+/// Returns what is wrong with the objects that were taken, if anything is.
 pub fn fault(world: &World, taken: &Set) -> Option<&'static str> {
     let edges = world.edges_now();
     let kept = reached(&world.starts_now(), &edges);
@@ -55,7 +57,7 @@ pub fn fault(world: &World, taken: &Set) -> Option<&'static str> {
     None
 }
 
-/// Whether an index that remains refers to an object.
+/// Returns whether an index that remains refers to an object.
 fn is_referred_to(edges: &Edges, taken: &Set, id: usize) -> bool
     requires { id < 4 }
 {

@@ -1,5 +1,5 @@
 //! The collector tried on small graphs: each interleaving of its steps with a request or two, beside the definitions
-//! written plainly. Nothing stands above this crate; its use is its tests.
+//! written plainly. No crate is above this one: it is made for its tests.
 #![tactic(auto)]
 
 #[cfg(test)]

@@ -6,27 +6,27 @@ use crate::volume::{Made, Volume};
 /// More steps than a small collection makes.
 pub const MANY: u32 = 64;
 
-/// A request after so many steps of a collection that has begun.
+/// A request after `place` steps of a collection that has begun.
 #[derive(Clone, Copy)]
 pub struct Asked {
     pub place: u32,
     pub request: Request,
 }
 
-/// How a run went.
+/// How a run ended.
 #[derive(Clone, Copy)]
 pub enum Outcome {
     /// It goes on.
     Goes,
-    /// A request was refused, so the run is another's.
+    /// A request was refused, so the run is another one's.
     Refused,
-    /// The collection made no more than so many steps before some request.
+    /// The collection ended before the steps after which a request comes.
     Past,
     Ended,
     Wrong(&'static str),
 }
 
-/// Asks what isn't refused. None for want of memory.
+/// Asks a request, unless it is refused. `None` for want of memory.
 fn ask(volume: &mut Volume, world: &mut World, request: Request) -> Option<()> {
     world.ask(request);
     match request {
@@ -40,7 +40,7 @@ fn ask(volume: &mut Volume, world: &mut World, request: Request) -> Option<()> {
     }
 }
 
-/// Makes the requests of a place, and tells whether none was refused. None for want of memory.
+/// Makes the requests of a place, and returns whether none was refused. `None` for want of memory.
 fn ask_at(volume: &mut Volume, world: &mut World, asked: &[Asked], place: u32) -> Option<bool> {
     for at in asked {
         if at.place == place {
@@ -72,7 +72,7 @@ fn step(volume: &mut Volume, world: &mut World) -> Option<Outcome> {
     }
 }
 
-/// A whole collection on a volume that holds the world's graph. None for want of memory.
+/// Runs a whole collection on a volume that holds the world's graph. `None` for want of memory.
 pub fn run(volume: &mut Volume, world: &mut World, asked: &[Asked]) -> Option<Outcome> {
     world.begin();
     volume.begin(&world.starts)?;

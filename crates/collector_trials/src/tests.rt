@@ -5,7 +5,8 @@ use crate::volume::Volume;
 use cfs_base::{Block, Kind};
 use std::alloc::Global;
 
-/// What is tried: graphs of so many objects, of which those in the mask are files, with so many slots of each index.
+/// What is tried: graphs with this number of objects, of which those in the mask are files, and of slots of each
+/// index.
 #[derive(Clone, Copy)]
 struct Shape {
     objects: usize,
@@ -14,7 +15,7 @@ struct Shape {
 }
 
 impl Shape {
-    /// The kind of an object; None where there is none.
+    /// Returns the kind of an object, or `None` if there is none.
     fn kind(self, object: Object) -> Option<Kind> {
         let number = object.number;
         if number >= self.objects {
@@ -26,12 +27,12 @@ impl Shape {
         Some(Kind::Index)
     }
 
-    /// Whether a slot is tried.
+    /// Returns whether a slot is tried.
     fn tries(self, slot: Slot) -> bool {
         slot.number % 2 < self.slots && self.kind(slot.index()) == Some(Kind::Index)
     }
 
-    /// The graph with this number, in which nothing is open; None past the last.
+    /// Returns the graph with this number, in which nothing is open, or `None` past the last.
     fn graph(self, number: u64) -> Option<World> {
         let mut world = World {
             kinds: [None; OBJECTS],
@@ -64,7 +65,7 @@ impl Shape {
         (rest == 0).then_some(world)
     }
 
-    /// All that may be asked.
+    /// Returns all that may be asked.
     fn requests(self, alloc: Global) -> Option<Vec<Request>> {
         let mut requests = Vec::new(alloc);
         for number in 0..OBJECTS {
@@ -106,7 +107,7 @@ struct Trial {
 }
 
 impl Trial {
-    /// A run from a world whose blocks these are: how it ended, or what is wrong.
+    /// Runs from a world whose blocks these are, and returns how it ended, or what is wrong.
     fn run(
         &mut self,
         start: &World,
@@ -124,7 +125,7 @@ impl Trial {
         Ok(outcome)
     }
 
-    /// All graphs of a shape, with the first so many objects beside the root open, for each such number.
+    /// Tries all graphs of a shape, each with the first objects beside the root open, for each number of them.
     fn all(&mut self, shape: Shape) -> Result<(), &'static str> {
         for number in 0..u64::MAX {
             let Some(world) = shape.graph(number) else {
@@ -150,14 +151,14 @@ impl Trial {
         Ok(())
     }
 
-    /// All runs from a world.
+    /// Makes all runs from a world.
     fn started(&mut self, start: &World) -> Result<(), &'static str> {
         let blocks = self.volume.laid(self.alloc, start).ok_or(WANTING)?;
         self.run(start, &blocks, &[])?;
         self.from(start, &blocks)
     }
 
-    /// Each request at each place, alone, and where there are to be two, each other one from there on too.
+    /// Tries each request at each place, alone, and if there are to be two, also with each other one from there on.
     fn from(&mut self, start: &World, blocks: &[Block]) -> Result<(), &'static str> {
         for place in 0..MANY {
             for n in 0..self.requests.len() {
@@ -182,7 +183,7 @@ impl Trial {
         Some(Asked { place, request })
     }
 
-    /// A request, and each other one at its place and at each place after it.
+    /// Tries a request with each other one at its place and at each place after it.
     fn with(&mut self, start: &World, blocks: &[Block], first: Asked) -> Result<(), &'static str> {
         for place in first.place..MANY {
             for n in 0..self.requests.len() {
@@ -198,7 +199,7 @@ impl Trial {
     }
 }
 
-/// How many graphs are tried, and in how many runs, with each choice of files.
+/// Returns how many graphs are tried, and in how many runs, with each choice of files.
 fn tried(
     alloc: Global,
     objects: usize,

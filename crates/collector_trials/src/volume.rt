@@ -1,4 +1,4 @@
-//! A volume of one cylinder on which a collector works. Its calls answer None for want of memory.
+//! A volume of one cylinder on which a collector works. Its calls return `None` for want of memory.
 ghost use Rattle.std.specs.Prelude.{◌≡◌, ◌+◌, ◌<◌, ◌≤◌, length, IfOk, IfSome};
 ghost use Rattle.cfs_fakes.specs.Memory.{contents};
 ghost use Rattle.collector_steps.specs.Collecting.{volume_of};
@@ -23,7 +23,7 @@ const NODES: usize = 32;
 pub enum Made {
     Marked,
     Condemned(Set),
-    /// What was condemned is no rising list of objects.
+    /// What was condemned is no increasing list of objects.
     Disordered,
     Swept,
     Ended,
@@ -43,7 +43,7 @@ pub struct Volume {
 }
 
 impl Volume {
-    /// All is Free, and no object is there.
+    /// Makes a volume on which all is Free, with no object.
     pub fn new(alloc: Global) -> Option<Volume> {
         let mut disk = MemoryDisk::new(alloc, BLOCKS).ok()?;
         let space = Space::counted(alloc, &mut disk, 1).ok()?;
@@ -58,8 +58,9 @@ impl Volume {
         })
     }
 
-    /// The blocks of a world's graph, which are the first of the disk: each object has its root, and of its leaves
-    /// those that are held.
+    /// Returns the blocks of a world's graph, which are the first of the disk.
+    ///
+    /// Each object has its root, and of its leaves those that are held.
     pub fn laid(&mut self, alloc: Global, world: &World) -> Option<Vec<Block>> {
         for at in 0..USED {
             self.write(at, &Block::zero())?;
@@ -83,7 +84,7 @@ impl Volume {
         Some(blocks)
     }
 
-    /// The disk has these blocks again, the world's objects are there, and no collection runs.
+    /// Puts these blocks on the disk again, with the world's objects and no collection.
     pub fn reset(&mut self, alloc: Global, blocks: &[Block], world: &World) -> Option<()> {
         for (at, block) in (0..USED).zip(blocks) {
             self.write(at, block)?;
@@ -96,7 +97,7 @@ impl Volume {
         Some(())
     }
 
-    /// An object is there with this kind, or isn't there.
+    /// Enters an object with this kind, or removes it.
     fn name(&mut self, object: Object, kind: Option<Kind>) -> Option<()> {
         let id = object.id();
         let _ = self.directory.remove(id);
@@ -126,7 +127,7 @@ impl Volume {
         self.disk.write(BlockNo(at), block).ok()
     }
 
-    /// A pointer in a block leads to another.
+    /// Makes a pointer in a block lead to another.
     fn point(&mut self, at: u32, byte: usize, to: u32) -> Option<()>
         requires { byte + 4 ≤ 512 }
     {
@@ -135,7 +136,9 @@ impl Volume {
         self.write(at, &block)
     }
 
-    /// A slot of an index is filled or emptied. Its leaf is claimed where it isn't held.
+    /// Fills or empties a slot of an index.
+    ///
+    /// Its leaf is claimed if it isn't held.
     pub fn put(&mut self, slot: Slot, id: Option<Object>) -> Option<()> {
         let (index, (leaf, block, byte)) = (slot.index(), leaf_of(slot));
         self.hold(slot)?;
@@ -146,7 +149,7 @@ impl Volume {
         self.write(block, &content)
     }
 
-    /// The leaf that has a slot, and its node, aren't Free.
+    /// Takes the leaf that has a slot, and its node.
     fn hold(&mut self, slot: Slot) -> Option<()> {
         let mut map = self.read(0)?;
         let before = free_in(&map);
@@ -157,7 +160,7 @@ impl Volume {
         self.write(0, &map)
     }
 
-    /// While a collection marks, an object that was put into an index or opened is a rescue.
+    /// Adds an object that was put into an index or opened as a rescue, while a collection marks.
     pub fn rescue(&mut self, index: Option<Object>, id: Object) -> Option<()> {
         if self.collector.phase() == Phase::Marking {
             self.collector.reserve().ok()?;
@@ -167,7 +170,7 @@ impl Volume {
         Some(())
     }
 
-    /// A collection begins with these objects, of which the root is one.
+    /// Begins a collection with these objects, one of which is the root.
     pub fn begin(&mut self, starts: &Set) -> Option<()> {
         // those that are open, and then the root
         let mut roots = [Object { number: 0 }.id(); OBJECTS];
@@ -184,7 +187,7 @@ impl Volume {
         self.collector.begin(&roots, &self.directory).ok()
     }
 
-    /// The next step of the collection.
+    /// Makes the next step of the collection.
     pub fn step(&mut self) -> Option<Made> {
         match self.collector.phase() {
             Phase::Idle => None,
@@ -208,7 +211,7 @@ impl Volume {
         }
     }
 
-    /// Rescues come first, then what is grey.
+    /// Makes a step that marks: rescues come first, then what is grey.
     fn mark(&mut self) -> Option<Made> {
         if self.collector.phase() != Phase::Marking {
             return None;
@@ -227,7 +230,7 @@ impl Volume {
         Some(objects_in(taken.as_slice()).map_or(Made::Disordered, Made::Condemned))
     }
 
-    /// Whether each block of the world's graph has its entry, and all others are Free and counted.
+    /// Returns whether each block of the world's graph has its entry, and all others are Free and counted.
     pub fn is_right(&mut self, world: &World) -> Option<bool> {
         let map = self.read(0)?;
         Some(map == map_of(world) && self.space.free() == free_in(&map))

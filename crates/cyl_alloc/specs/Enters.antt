@@ -1,4 +1,4 @@
--- The least-numbered Free block is entered in its map as something else: with one read, and one write.
+-- The least-numbered Free block gets another entry in its map, by one read and one write.
 use Rattle.std.specs.Prelude.{◌≡◌, ℕ, ◌<◌, ◌↔◌, false, IsErr, IsTrue, IfErr, IfOk, OnOk, Result, Err, length, sum}
 use Rattle.cfs_base.specs.Calls.{HasTried, MakesAtMost, OnlyReads}
 use Rattle.cfs_base.specs.Disk.{Image, Written}
@@ -17,7 +17,7 @@ use Rattle.cyl_alloc.specs.Space.{Kept, AreCounts, IsGoodMap, IsLeastFree, after
 abbrev pub EntryWritten : (Image → Type 0) → Image → MapEntry → Image → Type 0
 EntryWritten images image entry c = (n : ℕ) × IsLeastFree image n × Written images (map_of n) (map_with image n entry) c
 
--- what a call did that enters a block so: to the disk, old and new, and to the counts, before and after
+-- what such a call did: to the disk, old and new, and to the counts, before and after
 pub record Enters {D : Type 0} (g : Ghosts D) (entry : MapEntry) (old new : D) (before after : Kept)
     (result : Result BlockNo Refused) : Type 0 where
   -- the least-numbered Free block has the entry, and no other entry changed
@@ -34,11 +34,11 @@ pub record Enters {D : Type 0} (g : Ghosts D) (entry : MapEntry) (old new : D) (
   pub kept : IsErr result → after ≡ before
   pub cylinders : length after.free ≡ length before.free
   pub left : after.left ≡ before.left
-  -- Full exactly where no block is Free
+  -- it is full exactly if no block is Free
   pub full : (result ≡ Err (Full (record { free = 0; need = 1 }))) ↔ (sum before.free ≡ 0)
   pub refused : IfErr result (IsFindRefusal g old new before)
   pub unless_tried : IfErr result (λ error. had_tried error ≡ false → OnlyReads g 1 old new)
-  -- a crash on the way leaves the map as it was or with the entry
+  -- a crash on the way leaves the map as it was, or with the entry
   pub images : Tells g old → AreCounts (g.content old) before
       → Leaves g old new (EntryWritten (left_now g old) (g.content old) entry)
   pub calls : MakesAtMost g 2 1 old new

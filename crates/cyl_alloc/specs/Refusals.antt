@@ -21,7 +21,7 @@ pub record IsNoMap {D : Type 0} (g : Ghosts D) (old : D) (n : ℕ) (damage : Dam
   pub block : damage.block ≡ map_of n
   pub bad : Tells g old → IsBadMap (g.content old) n
 
--- a device call failed, or the map of this block is none
+-- a device call failed, or the map block of this block is no map
 abbrev pub IsMapTrouble : {D : Type 0} → Ghosts D → D → D → ℕ → Trouble → Type 0
 IsMapTrouble g old new n (trouble.Disk tried) = HasStopped g tried old new
 IsMapTrouble g old new n (trouble.Damaged damage) = IsNoMap g old n damage
@@ -53,7 +53,7 @@ pub record IsFirstNoMap {D : Type 0} (g : Ghosts D) (old : D) (damage : Damage) 
   pub bad : Tells g old → IsBadMap (g.content old) damage.block
   pub first : Tells g old → (j : ℕ) → 64 * j < damage.block → IsGoodMap (g.content old) (64 * j)
 
--- a device call failed, some map block is no map, or want of memory
+-- a device call failed, some map block is no map, or there was no memory
 abbrev pub IsCountRefusal : {D : Type 0} → Ghosts D → D → D → Refused → Type 0
 IsCountRefusal g old new (refused.Full need) = ⊥
 IsCountRefusal g old new (refused.Disk tried) = HasStopped g tried old new

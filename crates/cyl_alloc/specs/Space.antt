@@ -1,4 +1,4 @@
--- How many blocks of each cylinder are Free, and what the maps of a volume say of it.
+-- How many blocks of each cylinder are Free, and what the maps of a volume say of them.
 use Rattle.std.specs.Prelude.{◌≡◌, ◌≢◌, ℕ, ◌+◌, ◌-◌, ◌*◌, ◌/◌, ◌<◌, ◌≤◌, min, true, false, List, length, get_or, set}
 use Rattle.std.specs.Prelude.{sum, None, Option, Some, IsSome}
 use Rattle.cfs_base.specs.Disk.{Image}
@@ -24,15 +24,15 @@ count_at kept n = get_or kept.free (n / 64) 0
 abbrev pub with_count : Kept → ℕ → ℕ → Kept
 with_count kept n count = record kept { free = set kept.free (n / 64) count }
 
--- one block less
+-- one block less is Free
 abbrev pub after_taking : Kept → ℕ → Kept
 after_taking kept n = with_count kept n (count_at kept n - 1)
 
--- so many blocks more, as far as a cylinder has them
+-- `count` more blocks are Free, as far as the cylinder has them
 abbrev pub after_giving : Kept → ℕ → ℕ → Kept
 after_giving kept n count = with_count kept n (min 64 (count_at kept n + count))
 
--- so many blocks were taken at most, of as many cylinders; and what is left of a commit stays
+-- at most `most` blocks were taken, there are as many cylinders, and what is left of a commit stays
 pub record TakesAtMost (most : ℕ) (before after : Kept) : Type 0 where
   pub cylinders : length after.free ≡ length before.free
   pub left : after.left ≡ before.left
@@ -49,18 +49,19 @@ pub record AreCounts (image : Image) (kept : Kept) : Type 0 where
   pub size : length image ≡ 64 * length kept.free
   pub each : (j : ℕ) → j < length kept.free → get_or kept.free j 0 ≡ free_in_cylinder image j
 
--- Block n is a map block, in whose cylinder some blocks are counted Free; where the disk tells, none is.
+-- Block n is a map block, by whose count some blocks of its cylinder are Free. If the disk tells its content, none
+-- is.
 pub record IsMiscounted (Told : Type 0) (image : Image) (kept : Kept) (n : ℕ) : Type 0 where
   pub map : n ≡ map_of n
   pub counted : 0 < count_at kept n
   pub none : Told → free_in_cylinder image (n / 64) ≡ 0
 
--- as many blocks, and in all cylinders but that of block n the same are Free
+-- the image has as many blocks, and in each cylinder but that of block n as many are Free
 pub record IsFreeElsewhere (image : Image) (n : ℕ) (other : Image) : Type 0 where
   pub size : length other ≡ length image
   pub same : (m : ℕ) → map_of m ≢ map_of n → is_free_in other m ≡ is_free_in image m
 
--- so many blocks more of the cylinder of block n are Free, and elsewhere the same
+-- `count` more blocks are Free in the cylinder of block n, and as many elsewhere
 pub record HasMoreFree (image : Image) (n count : ℕ) (other : Image) : Type 0 where
   pub elsewhere : IsFreeElsewhere image n other
   pub more : free_in_cylinder other (n / 64) ≡ free_in_cylinder image (n / 64) + count
@@ -70,17 +71,17 @@ pub record IsLeastFree (image : Image) (n : ℕ) : Type 0 where
   pub free : is_free_in image n ≡ true
   pub least : (m : ℕ) → m < n → is_free_in image m ≡ false
 
--- the map block of a block is no map: some entry of it is none
+-- the map block of a block is no map: the bytes of some entry spell none
 abbrev pub IsBadMap : Image → ℕ → Type 0
 IsBadMap image n = (k : ℕ) × (k < 64) × (entry_in image (map_of n + k) ≡ None)
 
--- each of its 64 entries is one
+-- the bytes of each of its 64 entries spell one
 abbrev pub IsGoodMap : Image → ℕ → Type 0
 IsGoodMap image n = (k : ℕ) → k < 64 → IsSome (entry_in image (map_of n + k))
 
 -- ---- the entries that are written
 
--- a block that is something to an object
+-- a block that has a place in an object
 abbrev pub entered : BlockState → Place → ℕ → MapEntry
 entered state place owner = record { state = state; committed = false; place = Some place; owner = owner }
 

@@ -11,8 +11,9 @@ use crate::unfinished::{Blocks, Unfinished};
 use cfs_base::BlockNo;
 
 impl Space {
-    /// Keeps a commit whose bit is durable. The blocks are those whose entries are still to be changed, the shadow root
-    /// as the last.
+    /// Keeps a commit whose bit is durable.
+    ///
+    /// `rest` has the blocks whose entries are still to be changed, the shadow root last.
     pub fn note(&mut self, root: BlockNo, shadow: BlockNo, rest: Blocks)
         requires none { self.old.left ≡ None }
         requires root { root.0 < 64 * length self.old.free }
@@ -30,14 +31,14 @@ impl Space {
         self.unfinished = Some(Unfinished::new(root, shadow, rest));
     }
 
-    /// How many commits aren't carried out: 1 or 0.
+    /// Returns how many commits aren't carried out: 1 or 0.
     pub fn unfinished(&self) -> u32
         ensures { result ≡ if is_some self.now.left then 1 else 0 }
     {
         self.unfinished.is_some() as u32
     }
 
-    /// How many parts of it are left.
+    /// Returns how many parts are left of the commit that is kept.
     pub fn parts_left(&self) -> u64
         ensures is { result ≡ left.parts_left self.now.left }
         // A list in memory has fewer than 2 ^ 62 numbers.
@@ -49,11 +50,12 @@ impl Space {
         }
     }
 
-    /// The block by which an object is read: the shadow root where its commit is kept and its root isn't copied, else
-    /// the root.
+    /// Returns the block by which an object is read.
+    ///
+    /// It is the shadow root if the object's commit is kept and its root isn't copied, else the root.
     pub fn shown(&self, root: BlockNo) -> BlockNo
         ensures shown { result.0 ≡ left.block_shown self.now.left root.0 }
-        // It lies on the disk where the root does.
+        // That block is on the disk if the root is.
         ensures near { root.0 < 64 * length self.now.free → result.0 < 64 * length self.now.free }
     {
         match &self.unfinished {
@@ -62,7 +64,7 @@ impl Space {
         }
     }
 
-    /// The next part of the commit that is kept. None exactly where none is.
+    /// Returns the next part of the commit that is kept, or `None` if none is kept.
     pub fn next_part(&self) -> Option<Part>
         ensures part { result ≡ option_map (λ l. left.next_part_of l) self.now.left }
         ensures near { IfSome result (left.IsPartNear (64 * length self.now.free)) }
@@ -71,7 +73,7 @@ impl Space {
         Some(commit.part())
     }
 
-    /// Whether the next block whose entry is changed is the shadow root.
+    /// Returns whether the next block whose entry is changed is the shadow root.
     pub fn is_shadow_next(&self) -> bool
         ensures { (l : left.LeftCommit) → self.now.left ≡ Some l → result ≡ left.is_first l.shadow l.rest }
     {
@@ -81,7 +83,7 @@ impl Space {
         }
     }
 
-    /// The next part was made.
+    /// Records that the next part was made.
     pub fn part_done(&mut self)
         requires { IsSome self.old.left }
         ensures { self.new ≡ record self.old { left = left.after_next self.old.left } }
@@ -95,7 +97,9 @@ impl Space {
         }
     }
 
-    /// The blocks whose entries are changed next, in their order. None while the root isn't copied.
+    /// Returns the blocks whose entries are changed next, in their order.
+    ///
+    /// There are none while the root isn't copied.
     pub fn next_flips(&self) -> &[u32]
         ensures blocks { result.now ≡ left.flips_in self.now.left }
         ensures near { All (λ n. n < 64 * length self.now.free) result.now }
@@ -106,7 +110,7 @@ impl Space {
         }
     }
 
-    /// The shadow root of the commit that is kept; 0 where none is.
+    /// Returns the shadow root of the commit that is kept, or 0 if none is kept.
     pub fn shadow(&self) -> BlockNo
         ensures { (l : left.LeftCommit) → self.now.left ≡ Some l → result.0 ≡ l.shadow }
     {
@@ -116,7 +120,7 @@ impl Space {
         }
     }
 
-    /// The entries of so many of the next blocks were changed.
+    /// Records that the entries of `count` of the next blocks were changed.
     pub fn flips_done(&mut self, count: usize)
         requires { count ≤ length (left.flips_in self.old.left) }
         ensures { self.new ≡ record self.old { left = left.after_flips count self.old.left } }

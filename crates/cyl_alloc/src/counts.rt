@@ -6,14 +6,14 @@ use cfs_base::NoMemory;
 use std::alloc::Global;
 use std::marker::Model;
 
-/// How many cylinders are summed up in one number.
+/// How many cylinders are added up in one number.
 const GROUP: u32 = 256;
 
 /// How many blocks of each cylinder are Free. Clauses see the list of these counts.
 #[derive(Debug, Drop)]
 pub(crate) struct Counts {
     each: Vec<u32>,
-    /// The sum of each 256 of them, so that two short scans lead to the first that isn't 0.
+    /// The sum of each 256 counts, so that two short scans find the first that isn't 0.
     groups: Vec<u32>,
     total: u32,
 }
@@ -29,7 +29,7 @@ impl Model for Counts {
     ghost invariant = { λ a. AreSums a.each.items a.groups.items a.total };
 }
 
-/// The place of the first number above 0.
+/// Returns the place of the first number above 0.
 fn first_above(numbers: &[u32]) -> Option<usize>
     ensures { IsFirstAbove numbers.now result }
 {
@@ -37,7 +37,7 @@ fn first_above(numbers: &[u32]) -> Option<usize>
 }
 
 impl Counts {
-    /// No block is Free.
+    /// Makes counts by which no block is Free.
     pub fn zeros(alloc: Global, cylinders: u32) -> Result<Counts, NoMemory>
         requires some { 1 ≤ cylinders }
         requires most { cylinders ≤ 65536 }
@@ -53,7 +53,7 @@ impl Counts {
         })
     }
 
-    /// The sum of all.
+    /// Returns the sum of all counts.
     pub fn total(&self) -> u32
         ensures sum { result ≡ sum self.now }
         ensures kept { AreFreeCounts self.now }
@@ -61,7 +61,7 @@ impl Counts {
         self.total
     }
 
-    /// The count of a cylinder.
+    /// Returns the count of a cylinder.
     pub fn at(&self, cylinder: u32) -> u32
         requires { cylinder < length self.now }
         ensures count { result ≡ get_or self.now cylinder 0 }
@@ -70,7 +70,7 @@ impl Counts {
         self.each[cylinder as usize]
     }
 
-    /// Puts another count for a cylinder.
+    /// Replaces the count of a cylinder.
     pub fn put(&mut self, cylinder: u32, count: u32)
         requires cylinder { cylinder < length self.old }
         requires most { count ≤ 64 }
@@ -85,7 +85,7 @@ impl Counts {
         self.total = self.total - old + count;
     }
 
-    /// The first cylinder whose count isn't 0.
+    /// Returns the first cylinder whose count isn't 0.
     pub fn first(&self) -> Option<u32>
         ensures first { IsFirstAbove self.now result }
         ensures kept { AreFreeCounts self.now }

@@ -1,4 +1,4 @@
-//! Maps that are known to be ones.
+//! Maps that are known to be valid.
 ghost use Rattle.std.specs.Prelude.{◌≡◌, ℕ, ◌<◌, true, false, IsTrue, IfErr, OnOk, OnErr, set};
 ghost use Rattle.cfs_base.specs.Calls.{OnlyReads, HasStopped, HasTried, MakesAtMost};
 ghost use Rattle.cfs_base.specs.Disk.{Written};
@@ -15,17 +15,18 @@ use cfs_base::{Block, BlockNo, Damage, Disk, Failed, Trouble, code};
 use cyl_map::{BadMap, Map, MapEntry};
 use std::marker::Model;
 
-/// How many maps are known. Each cylinder has its place among them by its number.
+/// How many maps are known. The number of a cylinder gives its place among them.
 const KNOWN: usize = 8;
 
-/// The bytes of some maps: of those that were written last, which most often are the next that are read. The same bytes
-/// aren't tested again. Which maps they are makes no difference to what is read or written.
+/// The bytes of the maps that were written last, which most often are the next to be read.
+///
+/// The same bytes aren't tested again. Which maps these are makes no difference to what is read or written.
 #[derive(Debug, Drop)]
 pub struct KnownMaps {
     maps: [Block; KNOWN],
 }
 
-/// The place of a block's map among those that are known.
+/// Returns the place of a block's map among those that are known.
 fn place_of(block: u32) -> usize
     ensures { result < 8 }
 {
@@ -43,7 +44,9 @@ impl Model for KnownMaps {
     ghost invariant = { λ a. All SpellsMap a.maps };
 }
 
-/// Whether a block spells a map, refused as by `Map::check`. The same bytes as those of a map aren't tested again.
+/// Checks that a block spells a map. It is refused as by `Map::check`.
+///
+/// The bytes of a known map aren't tested again.
 fn check_beside(block: &Block, map: &Block) -> Result<(), BadMap>
     requires spells { SpellsMap map.now }
     ensures map { OnOk result (SpellsMap block.now) }
@@ -56,14 +59,16 @@ fn check_beside(block: &Block, map: &Block) -> Result<(), BadMap>
 }
 
 impl KnownMaps {
-    /// The map of 64 Free blocks is known.
+    /// Begins with the map of 64 Free blocks as known.
     pub fn new() -> KnownMaps {
         KnownMaps {
             maps: [Block::zero(); KNOWN],
         }
     }
 
-    /// Reads the map that has a block's entry into `map`. `Damaged` names its map block, with code 2, which is no map.
+    /// Reads the map that has a block's entry into `map`.
+    ///
+    /// `Damaged` names its map block, with code 2, if it is no map.
     pub fn load_map<D: Disk>(
         &self,
         disk: &mut D,
@@ -91,8 +96,9 @@ impl KnownMaps {
         Ok(())
     }
 
-    /// Puts an entry in place of a block's into the map that was loaded, and writes that map, which is known then.
-    /// After a write that fails the map block has either content.
+    /// Replaces a block's entry in the map that was loaded, and writes that map, which is known then.
+    ///
+    /// After a write that fails the map block has its old or its new content.
     pub fn store_entry<D: Disk>(
         &mut self,
         disk: &mut D,
@@ -118,8 +124,9 @@ impl KnownMaps {
         disk.write(BlockNo(64 * (block / 64)), map)
     }
 
-    /// Writes a map that was loaded and changed, which is known then. After a write that fails the map block has either
-    /// content.
+    /// Writes a map that was loaded and changed, which is known then.
+    ///
+    /// After a write that fails the map block has its old or its new content.
     pub fn store_map<D: Disk>(
         &mut self,
         disk: &mut D,

@@ -1,4 +1,4 @@
-//! What is proved of counts, as contracts. None of these calls does anything.
+//! What is proved of counts, as contracts of functions that do nothing.
 ghost use Rattle.std.specs.Prelude.{◌≡◌, ℕ, ◌+◌, true, false, length, sum, Some};
 ghost use Rattle.cfs_base.specs.Disk.{Image};
 ghost use Rattle.cyl_map.specs.Entry.{IsEntry};
@@ -7,9 +7,9 @@ ghost use Rattle.cyl_map.specs.Volume.{entry_in, free_from, with_entry};
 ghost use Rattle.cyl_map.specs.declared.entry.MapEntry.{MapEntry};
 ghost use Rattle.cyl_alloc.specs.Space.{AreCounts, Kept, after_giving, after_taking};
 
-/// The counts of an image follow each change of one entry, and an image has no others.
+/// The counts of an image follow each change of one entry, and an image has no other counts.
 pub fn counts_follow()
-    // A Free block is taken: its cylinder has one less, and so has the volume.
+    // If a Free block is taken, its cylinder has one less, and so has the volume.
     ensures taken { (image : Image) (kept : Kept) (n : ℕ) (old e : MapEntry) → AreCounts image kept
         → entry_in image n ≡ Some old
         → IsEntry e → is_free old ≡ true → is_free e ≡ false

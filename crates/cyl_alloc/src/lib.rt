@@ -1,7 +1,9 @@
-//! The Free blocks of a volume: how many each cylinder has, and their claim, intention and release in the maps on the
-//! disk; and one commit that is past its bit, while it isn't carried out. The layer above uses that a claim or an
-//! intention gives the least-numbered Free block, that each of the three changes the entry of its block and no other,
-//! and that a crash leaves the map as it was or with that one entry changed.
+//! The Free blocks of a volume, and one commit that is past its bit, while it isn't carried out.
+//!
+//! It counts how many Free blocks each cylinder has, and makes their claim, intention and release in the maps on the
+//! disk. The layer above uses that a claim or an intention gives the least-numbered Free block, that each of the
+//! three changes the entry of its block and no other, and that a crash leaves the map as it was or with that one
+//! entry changed.
 #![tactic(auto)]
 
 mod commits;

@@ -21,7 +21,9 @@ pub const FREE: MapEntry = MapEntry {
     owner: 0,
 };
 
-/// Reads the map that has a block's entry. `Damaged` names its map block, with code 2, which is no map.
+/// Reads the map that has a block's entry.
+///
+/// `Damaged` names its map block, with code 2, if it is no map.
 pub fn read_map<D: Disk>(disk: &mut D, block: u32) -> Result<Map, Trouble>
     requires { map_of block < D.blocks disk.old }
     ensures map { Tells D.Disk disk.old → IfOk result (IsMapOf (D.content disk.old) block) }
@@ -44,21 +46,21 @@ pub fn read_map<D: Disk>(disk: &mut D, block: u32) -> Result<Map, Trouble>
     Ok(map)
 }
 
-/// Whether the bytes of an entry say that the block is Free.
+/// Returns whether the bytes of an entry say that the block is Free.
 fn says_free(bytes: &[u8; 8]) -> bool
     ensures { result ≡ is_free (said_by bytes.now) }
 {
     bytes[0] % 0x80 == 0
 }
 
-/// The first of some entries that says that its block is Free.
+/// Returns the place of the first of some entries that says that its block is Free.
 fn first_saying_free(entries: &[[u8; 8]]) -> Option<usize>
     ensures { result ≡ position (λ bytes. is_free (said_by bytes)) entries.now }
 {
     entries.iter().position(|bytes| says_free(bytes))
 }
 
-/// The first block that is Free in the map that a block spells.
+/// Returns the first block that is Free in the map that a block spells.
 pub(crate) fn first_free(map: &Block) -> Option<u8>
     ensures first { result ≡ position is_free (entries_of map.now) }
     ensures none { IsNone result ↔ (free_entries (entries_of map.now) ≡ 0) }

@@ -4,7 +4,7 @@ use cfs_base::BlockNo;
 /// The next part of a commit that is past its bit.
 #[derive(Clone, Copy, Debug, PartialEq, Eq)]
 pub enum Part {
-    /// The root gets the content of the shadow root.
+    /// The content of the shadow root is written into the root.
     Copy { root: BlockNo, shadow: BlockNo },
     /// The intention with a block is carried out: it becomes Allocated, or Free.
     Flip { block: BlockNo },

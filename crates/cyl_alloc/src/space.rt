@@ -26,13 +26,14 @@ use cyl_map::{BlockState, MapEntry};
 use std::alloc::Global;
 use std::marker::Model;
 
-/// How many blocks of each cylinder of a volume are Free. It is counted on, and handed in with, one disk of 64 blocks a
-/// cylinder.
+/// How many blocks of each cylinder of a volume are Free.
+///
+/// The counts are those of one disk of 64 blocks a cylinder, which is handed in with each call.
 #[derive(Debug, Drop)]
 pub struct Space {
     counts: Counts,
     known: KnownMaps,
-    /// A commit that is past its bit and isn't carried out.
+    /// The commit that is past its bit and isn't carried out.
     pub(crate) unfinished: Option<Unfinished>,
 }
 
@@ -50,8 +51,9 @@ impl Model for Space {
 }
 
 impl Space {
-    /// Counts the Free blocks of a disk, with one read a cylinder. `Damaged` names the first map block that is no map,
-    /// with code 2. Nothing was written where it is refused.
+    /// Counts the Free blocks of a disk, with one read a cylinder.
+    ///
+    /// `Damaged` names the first map block that is no map, with code 2. If it is refused nothing was written.
     pub fn counted<D: Disk>(alloc: Global, disk: &mut D, cylinders: u32) -> Result<Space, Refused>
         requires some { 1 ≤ cylinders }
         requires most { cylinders ≤ 65536 }
@@ -76,7 +78,7 @@ impl Space {
         })
     }
 
-    /// No block is Free, before what the caller counts is given by `gave`.
+    /// Makes a space by which no block is Free, to which `gave` adds what the caller counts.
     pub fn none(alloc: Global, cylinders: u32) -> Result<Space, NoMemory>
         requires some { 1 ≤ cylinders }
         requires most { cylinders ≤ 65536 }
@@ -91,8 +93,9 @@ impl Space {
         })
     }
 
-    /// How many blocks of a cylinder are Free, in 0 to 64, with one read. `Damaged` names its map block, with code 2,
-    /// which is no map.
+    /// Counts the Free blocks of a cylinder, 0 to 64, with one read.
+    ///
+    /// `Damaged` names its map block, with code 2, if it is no map.
     pub fn count_free<D: Disk>(disk: &mut D, cylinder: u32) -> Result<u32, Trouble>
         requires on_disk { 64 * cylinder + 64 ≤ D.blocks disk.old }
         ensures counted { Tells D.Disk disk.old → IfOk result (λ n.
@@ -110,7 +113,7 @@ impl Space {
         Ok(map.free_count())
     }
 
-    /// How many blocks are Free.
+    /// Returns how many blocks are Free.
     pub fn free(&self) -> u32
         ensures sum { result ≡ sum self.now.free }
         ensures counted { (image : Image) → spec.AreCounts image self.now →
@@ -120,7 +123,7 @@ impl Space {
         self.counts.total()
     }
 
-    /// `Full` where fewer blocks are Free than these.
+    /// Checks that `need` + `floor` blocks are Free. Fails with `Full` if fewer are.
     pub fn has_room(&self, need: u32, floor: u32) -> Result<(), Refused>
         ensures room { OnOk result (need + floor ≤ sum self.now.free) }
         ensures full { IfErr result (λ e. (e ≡ Full (record { free = sum self.now.free; need = need }))
@@ -133,8 +136,10 @@ impl Space {
         Ok(())
     }
 
-    /// The least-numbered Free block. `Full` where no block is Free. `Damaged` names the first map with a Free block
-    /// by the counts: with code 2 where it is no map, else with code 12 where it has no Free block.
+    /// Finds the least-numbered Free block.
+    ///
+    /// `Full` if no block is Free. `Damaged` names the first map that has a Free block by the counts: with code 2 if
+    /// it is no map, else with code 12 if it has no Free block.
     pub fn find<D: Disk>(&self, disk: &mut D) -> Result<BlockNo, Refused>
         requires size { D.blocks disk.old ≡ 64 * length self.now.free }
         ensures found { Tells D.Disk disk.old → spec.AreCounts (D.content disk.old) self.now →
@@ -151,8 +156,10 @@ impl Space {
         Ok(BlockNo(self.least(disk, &mut map)?))
     }
 
-    /// Makes the least-numbered Free block Allocated, for an owner's place. Refused as `find`, and where the write of
-    /// the map fails. The counts are then as they were, and so is the disk, where no write was tried.
+    /// Makes the least-numbered Free block Allocated, for an owner's place.
+    ///
+    /// Refused as by `find`, and if the write of the map fails. The counts are then as they were, and so is the disk
+    /// if no write was tried.
     pub fn claim<D: Disk>(
         &mut self,
         disk: &mut D,
@@ -166,8 +173,9 @@ impl Space {
         self.enter(disk, BlockState::Allocated, place, owner)
     }
 
-    /// Makes the least-numbered Free block IntendAllocate, for the place that it will have in an owner's draft. Refused
-    /// as `claim`.
+    /// Makes the least-numbered Free block IntendAllocate, for the place that it will have in an owner's draft.
+    ///
+    /// Refused as by `claim`.
     pub fn intend<D: Disk>(
         &mut self,
         disk: &mut D,
@@ -209,9 +217,10 @@ impl Space {
         Ok(BlockNo(block))
     }
 
-    /// Makes a block Free that wasn't, and counts it; one that was Free is counted all the same. `Damaged` names its
-    /// map block, with code 2, which is no map. Where it is refused the counts are as they were, and so is the disk,
-    /// where no write was tried.
+    /// Makes a block Free, and counts it.
+    ///
+    /// A block that was Free before is counted all the same. `Damaged` names its map block, with code 2, if it is no
+    /// map. If it is refused the counts are as they were, and so is the disk if no write was tried.
     pub fn release<D: Disk>(&mut self, disk: &mut D, block: BlockNo) -> Result<(), Trouble>
         requires size { D.blocks disk.old ≡ 64 * length self.old.free }
         requires on_disk { block.0 < D.blocks disk.old }
@@ -244,7 +253,9 @@ impl Space {
         Ok(())
     }
 
-    /// One block of this block's cylinder is Free no more, by a write that the caller made. A count of 0 stays.
+    /// Records that one block of this block's cylinder is Free no more, by a write that the caller made.
+    ///
+    /// A count of 0 stays.
     pub fn took(&mut self, block: BlockNo)
         requires on_disk { block.0 < 64 * length self.old.free }
         ensures taken { self.new ≡ spec.after_taking self.old block.0 }
@@ -258,7 +269,9 @@ impl Space {
         self.counts.put(cylinder, count.saturating_sub(1));
     }
 
-    /// So many blocks of this block's cylinder are Free again, by writes that the caller made. A count stops at 64.
+    /// Records that `count` blocks of this block's cylinder are Free again, by writes that the caller made.
+    ///
+    /// A count stops at 64.
     pub fn gave(&mut self, block: BlockNo, count: u32)
         requires on_disk { block.0 < 64 * length self.old.free }
         ensures given { self.new ≡ spec.after_giving self.old block.0 count }
@@ -273,14 +286,16 @@ impl Space {
         self.counts.put(cylinder, after);
     }
 
-    /// The maps that are known, for calls that change entries. None of them changes a count.
+    /// Returns the maps that are known, for calls that change entries.
+    ///
+    /// None of these calls changes a count.
     pub fn known(&mut self) -> &mut KnownMaps
         ensures* { sem 𝓛 (LendsKnown self.entry result) }
     {
         &mut self.known
     }
 
-    /// The least-numbered Free block. Reads the map that has its entry into `map`.
+    /// Finds the least-numbered Free block. Reads the map that has its entry into `map`.
     fn least<D: Disk>(&self, disk: &mut D, map: &mut Block) -> Result<u32, Refused>
         requires size { D.blocks disk.old ≡ 64 * length self.now.free }
         ensures found { Tells D.Disk disk.old → spec.AreCounts (D.content disk.old) self.now →

@@ -21,14 +21,14 @@ impl Model for Blocks {
 }
 
 impl Blocks {
-    /// These blocks.
+    /// Wraps the numbers of these blocks.
     pub fn new(items: Vec<u32>) -> Blocks
         ensures { result ≡ items.items }
     {
         Blocks { items }
     }
 
-    /// Their numbers.
+    /// Returns the numbers.
     pub fn into_vec(self) -> Vec<u32>
         ensures { result.items ≡ self }
     {
@@ -42,7 +42,7 @@ pub(crate) struct Unfinished {
     root: BlockNo,
     shadow: BlockNo,
     rest: Blocks,
-    /// How many of these are done.
+    /// How many of `rest` are done.
     done: usize,
     copied: bool,
 }
@@ -62,7 +62,7 @@ impl Model for Unfinished {
 }
 
 impl Unfinished {
-    /// All is left.
+    /// Makes the record of a commit of which all is left.
     pub fn new(root: BlockNo, shadow: BlockNo, rest: Blocks) -> Unfinished
         ensures { result ≡ record { root = root.0; shadow = shadow.0; rest = rest; copied = false } }
     {
@@ -75,7 +75,7 @@ impl Unfinished {
         }
     }
 
-    /// The block by which an object is read.
+    /// Returns the block by which an object is read.
     pub fn shown(&self, root: BlockNo) -> BlockNo
         ensures { result.0 ≡ spec.block_shown (Some self.now) root.0 }
     {
@@ -86,7 +86,7 @@ impl Unfinished {
         }
     }
 
-    /// The next part.
+    /// Returns the next part.
     pub fn part(&self) -> Part
         ensures { result ≡ spec.next_part_of self.now }
     {
@@ -104,7 +104,7 @@ impl Unfinished {
         }
     }
 
-    /// How many parts are left.
+    /// Returns how many parts are left.
     pub fn parts_left(&self) -> u64
         ensures is { result ≡ spec.parts_left (Some self.now) }
         ensures small { result < 4611686018427387904 }
@@ -116,7 +116,7 @@ impl Unfinished {
         }
     }
 
-    /// Whether the next block whose entry is changed is the shadow root.
+    /// Returns whether the next block whose entry is changed is the shadow root.
     pub fn is_shadow_next(&self) -> bool
         ensures { result ≡ spec.is_first self.now.shadow self.now.rest }
     {
@@ -126,7 +126,7 @@ impl Unfinished {
         }
     }
 
-    /// The next part was made. Answers whether it was the last.
+    /// Records that the next part was made, and returns whether it was the last.
     pub fn go_on(&mut self) -> bool
         ensures goes { result ≡ false → spec.after_part self.old ≡ Some self.new }
         ensures ends { result ≡ true → spec.after_part self.old ≡ None }
@@ -144,7 +144,7 @@ impl Unfinished {
         }
     }
 
-    /// The blocks whose entries are changed next.
+    /// Returns the blocks whose entries are changed next.
     pub fn next_flips(&self) -> &[u32]
         ensures { result.now ≡ spec.flips_in (Some self.now) }
     {
@@ -157,14 +157,14 @@ impl Unfinished {
         }
     }
 
-    /// The shadow root.
+    /// Returns the shadow root.
     pub fn shadow(&self) -> BlockNo
         ensures { result.0 ≡ self.now.shadow }
     {
         self.shadow
     }
 
-    /// The entries of so many of the next blocks were changed.
+    /// Records that the entries of `count` of the next blocks were changed.
     pub fn flips_done(&mut self, count: usize)
         requires { count ≤ length self.old.rest }
         ensures { self.new ≡ record self.old { rest = drop count self.old.rest } }

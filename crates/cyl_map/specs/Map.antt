@@ -1,4 +1,4 @@
--- The 512 bytes of a map: 64 entries, one after the other.
+-- The 512 bytes of a map: 64 entries, one after another.
 use Rattle.std.specs.Prelude.{◌≡◌, ℕ, ◌*◌, ◌<◌, Bool, true, false, List, take, drop, length, map, All, count_by, Option}
 use Rattle.std.specs.Prelude.{IsSome}
 use Rattle.std.specs.List.{flat_map}
@@ -9,7 +9,7 @@ use Rattle.cyl_map.specs.declared.entry.MapEntry.{MapEntry}
 use Rattle.cyl_map.specs.Entry.{IsEntry, spelling}
 use Rattle.cyl_map.specs.Reading.{IsFirstBad, entry_of, said_by}
 
--- what a map's entries are
+-- the entries of a map
 pub record IsMap (entries : List MapEntry) : Type 0 where
   pub long : length entries ≡ 64
   pub each : All IsEntry entries
@@ -22,15 +22,15 @@ map_spelling entries = flat_map spelling entries
 abbrev pub bytes_at : List ℕ → ℕ → List ℕ
 bytes_at block entry = take 8 (drop (8 * entry) block)
 
--- the entry that they are, if they are one
+-- the entry that these bytes spell, if they spell one
 abbrev pub entry_at : List ℕ → ℕ → Option MapEntry
 entry_at block entry = entry_of (bytes_at block entry)
 
--- each eight bytes are an entry
+-- each eight bytes spell an entry
 abbrev pub AreEntries : List ℕ → Type 0
 AreEntries block = (k : ℕ) → k < 64 → IsSome (entry_at block k)
 
--- the first entry that is none, and the least bad place of its bytes
+-- the first entry that is invalid, and the least bad place of its bytes
 pub record IsFirstBadEntry (block : List ℕ) (entry byte : ℕ) : Type 0 where
   pub within : entry < 64
   pub before : (k : ℕ) → k < entry → IsSome (entry_at block k)
@@ -44,7 +44,7 @@ eights block = first_chunks 8 64 block
 abbrev pub entries_of : List ℕ → List MapEntry
 entries_of bytes = map said_by (eights bytes)
 
--- the bytes are those of a map
+-- the bytes spell a map
 pub record SpellsMap (bytes : List ℕ) : Type 0 where
   pub entries : IsMap (entries_of bytes)
   pub spelled : bytes ≡ map_spelling (entries_of bytes)

@@ -4,7 +4,7 @@ use Rattle.cyl_map.specs.declared.entry.MapEntry.{MapEntry}
 use Rattle.cyl_map.specs.declared.row.Row.{Row}
 use Rattle.cyl_map.specs.Entry.{is_of, spelling}
 
--- some entry of the row is spelled so
+-- some entry of the row has this spelling
 abbrev pub IsSpelledBy : Row → List ℕ → Type 0
 IsSpelledBy row bytes = (e : MapEntry) × (is_of row e ≡ true) × (bytes ≡ spelling e)
 
@@ -12,7 +12,7 @@ IsSpelledBy row bytes = (e : MapEntry) × (is_of row e ≡ true) × (bytes ≡ s
 abbrev pub BeginsEntryOf : Row → List ℕ → Type 0
 BeginsEntryOf row bytes = (e : MapEntry) × (is_of row e ≡ true) × (rest : List ℕ) × (spelling e ≡ bytes ++ rest)
 
--- the least place such that no entry of the row begins with the bytes up to and with it
+-- the least place such that no entry of the row begins with the bytes up to it and with it
 pub record IsFirstBadOf (row : Row) (bytes : List ℕ) (place : ℕ) : Type 0 where
   pub before : BeginsEntryOf row (take place bytes)
   pub bad : ¬ BeginsEntryOf row (take (place + 1) bytes)

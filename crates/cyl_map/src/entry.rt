@@ -1,4 +1,4 @@
-//! One entry of a map, and its eight bytes.
+//! An entry of a map, and its eight bytes.
 ghost use Rattle.std.specs.Prelude.{◌≡◌, ◌↔◌, ℕ, IfOk, IsSome, IsTrue, MatchResult};
 ghost use Rattle.cyl_map.specs.Entry.{IsEntry, spelling};
 ghost use Rattle.cyl_map.specs.Map.{is_free};
@@ -11,23 +11,25 @@ use cfs_base::Place;
 /// What a map says of one block.
 #[derive(Clone, Copy, Debug, PartialEq, Eq)]
 pub struct MapEntry {
+    /// The state of the block.
     pub state: BlockState,
     /// The commit bit of a root.
     pub committed: bool,
-    /// What the block is to its owner; None where it has none.
+    /// What the block is to its owner. `None` if it has no owner.
     pub place: Option<Place>,
     /// The root block of the object that owns the block, or 0.
     pub owner: u32,
 }
 
-/// Eight bytes are no entry: `byte` is the least place such that no entry begins with the bytes up to and with it.
+/// Eight bytes spell no entry.
 #[derive(Clone, Copy, Debug, PartialEq, Eq)]
 pub struct BadEntry {
+    /// The least place such that no entry begins with the bytes up to it and with it.
     pub byte: u8,
 }
 
 impl MapEntry {
-    /// Whether these bytes spell an entry, told without a branch on them.
+    /// Returns whether these bytes spell an entry, computed without a branch on them.
     pub(crate) fn is_spelled(bytes: &[u8; 8]) -> bool
         ensures { IsTrue result ↔ IsSome (entry_of bytes.now) }
     {
@@ -38,7 +40,7 @@ impl MapEntry {
         any
     }
 
-    /// What the bytes of an entry say.
+    /// Returns what the bytes of an entry say.
     pub(crate) fn said_by(bytes: &[u8; 8]) -> MapEntry
         ensures { result ≡ said_by bytes.now }
     {
@@ -55,22 +57,22 @@ impl MapEntry {
         }
     }
 
-    /// Whether the bytes of an entry say that the block is Free.
+    /// Returns whether the bytes of an entry say that the block is Free.
     pub(crate) fn says_free(bytes: &[u8; 8]) -> bool
         ensures { result ≡ is_free (said_by bytes.now) }
     {
         bytes[0] % 0x80 == 0
     }
 
-    /// The entry that these bytes spell.
+    /// Returns the entry that these bytes spell.
     pub fn decode(bytes: &[u8; 8]) -> Result<MapEntry, BadEntry>
-        // What is read is an entry of the table, and spelled so.
+        // What is read is an entry of the table, and the bytes spell it.
         ensures read { IfOk result (λ entry. IsEntry entry × (bytes.now ≡ spelling entry)) }
-        // What is spelled so is read.
+        // Bytes that spell an entry are read as that entry.
         ensures only { (entry : MapEntry) → IsEntry entry → bytes.now ≡ spelling entry → result ≡ Ok entry }
         ensures refused { (place : ℕ) → (result ≡ Err (record { byte = place })) ↔ IsFirstBad bytes.now place }
 
-        // It is what reading gives.
+        // The value is what reading gives.
         ensures value { MatchResult result
             (λ entry. entry_of bytes.now ≡ Some entry) (λ bad. entry_of bytes.now ≡ None) }
     {
@@ -88,12 +90,12 @@ impl MapEntry {
         Err(bad)
     }
 
-    /// The one spelling of the entry.
+    /// Returns the one spelling of the entry.
     #[tactic(auto, unfolding(crate::specs::Entry::spelling))]
     pub fn encode(&self) -> [u8; 8]
         requires { IsEntry self.now }
         ensures spelled { result ≡ spelling self.now }
-        // No other entry is spelled so.
+        // No other entry has this spelling.
         ensures alone { (other : MapEntry) → IsEntry other → spelling other ≡ spelling self.now → other ≡ self.now }
     {
         let first = self.state.code() + if self.committed { 0x80 } else { 0 };

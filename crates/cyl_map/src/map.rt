@@ -11,16 +11,20 @@ use crate::entry::MapEntry;
 use cfs_base::Block;
 use std::marker::Model;
 
-/// What the 64 blocks of a cylinder are, as its map block spells it. Clauses see the list of the entries.
+/// What the 64 blocks of a cylinder are, as its map block spells it.
+///
+/// Clauses see the list of the entries.
 #[derive(Clone, Copy, Debug, PartialEq, Eq)]
 pub struct Map {
     bytes: [u8; 512],
 }
 
-/// A block is no map: its first bad entry, and the place in that entry that `MapEntry::decode` names.
+/// A block spells no map.
 #[derive(Clone, Copy, Debug, PartialEq, Eq)]
 pub struct BadMap {
+    /// The number of the first bad entry.
     pub entry: u8,
+    /// The place in that entry that `MapEntry::decode` names.
     pub byte: u8,
 }
 
@@ -42,7 +46,7 @@ impl Model for Map {
     ghost inverse_ok = { λ a h. ap (λ b. record { bytes = b }) (sym h.spelled) };
 }
 
-/// The eight bytes of each entry.
+/// Returns the eight bytes of each entry.
 fn eights(block: &[u8; 512]) -> &[[u8; 8]]
     ensures each { result.now ≡ spec.eights block.now }
     ensures count { length result.now ≡ 64 }
@@ -50,14 +54,14 @@ fn eights(block: &[u8; 512]) -> &[[u8; 8]]
     block.as_chunks::<8>().0
 }
 
-/// The number that is spelled so.
+/// Returns the number that is spelled so.
 fn number_of(bytes: &[u8; 8]) -> u64
     ensures { to_be_bytes w64 result ≡ bytes.now }
 {
     u64::from_be_bytes(*bytes)
 }
 
-/// Puts eight bytes in place of an entry's.
+/// Puts eight bytes in the place of an entry.
 #[tactic(auto, unfolding(crate::specs::Volume::with_bytes))]
 fn put_at(block: &mut [u8; 512], entry: usize, bytes: &[u8; 8])
     requires { entry < 64 }
@@ -66,7 +70,7 @@ fn put_at(block: &mut [u8; 512], entry: usize, bytes: &[u8; 8])
     block[8 * entry..8 * entry + 8].copy_from_slice(bytes);
 }
 
-/// Whether each eight bytes spell an entry, told without a branch on them.
+/// Returns whether each eight bytes spell an entry, computed without a branch on them.
 fn is_spelled(block: &[u8; 512]) -> bool
     ensures { IsTrue result ↔ spec.AreEntries block.now }
 {
@@ -77,7 +81,7 @@ fn is_spelled(block: &[u8; 512]) -> bool
     good
 }
 
-/// The first entry that is none, and its least bad place.
+/// Returns the first entry that is invalid, and its least bad place.
 fn first_bad(block: &[u8; 512]) -> BadMap
     requires { ¬ spec.AreEntries block.now }
     ensures { spec.IsFirstBadEntry block.now result.entry result.byte }
@@ -93,7 +97,7 @@ fn first_bad(block: &[u8; 512]) -> BadMap
     unreachable!()
 }
 
-/// The first of some entries that says that its block is Free.
+/// Returns the place of the first of some entries that says that its block is Free.
 fn first_free(entries: &[[u8; 8]]) -> Option<usize>
     ensures { result ≡ position (λ bytes. spec.is_free (said_by bytes)) entries.now }
 {
@@ -101,16 +105,16 @@ fn first_free(entries: &[[u8; 8]]) -> Option<usize>
 }
 
 impl Map {
-    /// The map that this block spells.
+    /// Returns the map that this block spells.
     pub fn decode(block: &Block) -> Result<Map, BadMap>
-        // What is read is a map, and spelled so.
+        // What is read is a map, and the block spells it.
         ensures read { IfOk result (λ map. spec.IsMap map × (block.now ≡ spec.map_spelling map)) }
-        // What is spelled so is read.
+        // A block that spells a map is read as that map.
         ensures only { (map : List MapEntry) → spec.IsMap map → block.now ≡ spec.map_spelling map → result ≡ Ok map }
         ensures refused { (entry byte : ℕ) →
             (result ≡ Err (record { entry = entry; byte = byte })) ↔ spec.IsFirstBadEntry block.now entry byte }
 
-        // Each entry is what reading gives there.
+        // Each entry is what reading gives at its place.
         ensures entries { IfOk result (λ map. (k : ℕ) → k < 64 → spec.entry_at block.now k ≡ slice_get map k) }
     {
         let bytes = block.bytes();
@@ -120,7 +124,9 @@ impl Map {
         Ok(Map { bytes: *bytes })
     }
 
-    /// Whether a block spells a map, refused as by `decode`. Nothing is copied.
+    /// Checks that a block spells a map. Nothing is copied.
+    ///
+    /// It is refused as by `decode`.
     pub fn check(block: &Block) -> Result<(), BadMap>
         ensures map { OnOk result (spec.SpellsMap block.now) }
         ensures refused { IfErr result (λ bad. spec.IsFirstBadEntry block.now bad.entry bad.byte) }
@@ -132,7 +138,7 @@ impl Map {
         Ok(())
     }
 
-    /// An entry of the map that a block spells.
+    /// Returns an entry of the map that a block spells.
     pub fn entry_in(block: &Block, entry: u8) -> MapEntry
         requires below { entry < 64 }
         ensures { result ≡ said_by (spec.bytes_at block.now entry) }
@@ -141,7 +147,7 @@ impl Map {
         MapEntry::said_by(&entries[entry as usize])
     }
 
-    /// The entry that its eight bytes in a block spell, where they spell one.
+    /// Returns the entry that its eight bytes in a block spell, or `None` if they spell none.
     pub fn read_in(block: &Block, entry: u8) -> Option<MapEntry>
         requires { entry < 64 }
         ensures { result ≡ spec.entry_at block.now entry }
@@ -150,7 +156,7 @@ impl Map {
         MapEntry::decode(&entries[entry as usize]).ok()
     }
 
-    /// Puts an entry into the block in place of another.
+    /// Puts an entry into the block in the place of another.
     pub fn put_in(block: &mut Block, entry: u8, value: MapEntry)
         requires below { entry < 64 }
         requires entry { IsEntry value }
@@ -159,7 +165,7 @@ impl Map {
         block.put_u64(8 * entry as usize, number_of(&value.encode()));
     }
 
-    /// The one spelling of the map.
+    /// Returns the one spelling of the map.
     pub fn encode(&self) -> Block
         ensures spelled { result ≡ spec.map_spelling self.now }
         ensures entries { (k : ℕ) → k < 64 → spec.entry_at result k ≡ slice_get self.now k }
@@ -167,6 +173,7 @@ impl Map {
         Block::of(self.bytes)
     }
 
+    /// Returns an entry.
     pub fn get(&self, entry: u8) -> MapEntry
         requires { entry < 64 }
         ensures got { slice_get self.now entry ≡ Some result }
@@ -176,7 +183,7 @@ impl Map {
         MapEntry::said_by(&entries[entry as usize])
     }
 
-    /// Puts the entry in place of another, and changes no other.
+    /// Puts an entry in the place of another, and changes no other.
     pub fn set(&mut self, entry: u8, value: MapEntry)
         requires below { entry < 64 }
         requires entry { IsEntry value }
@@ -186,7 +193,7 @@ impl Map {
         put_at(&mut self.bytes, entry as usize, &value.encode());
     }
 
-    /// How many blocks are Free.
+    /// Returns how many blocks are Free.
     pub fn free_count(&self) -> u32
         ensures count { result ≡ spec.free_entries self.now }
         ensures map { spec.IsMap self.now }
@@ -197,7 +204,7 @@ impl Map {
         free.count() as u32
     }
 
-    /// The first block that is Free.
+    /// Returns the first block that is Free.
     pub fn first_free(&self) -> Option<u8>
         ensures first { result ≡ position spec.is_free self.now }
         ensures none { IsNone result ↔ (spec.free_entries self.now ≡ 0) }

@@ -9,20 +9,20 @@ use crate::entry::{BadEntry, MapEntry};
 use crate::state::BlockState;
 use cfs_base::Place;
 
-/// The states from one to another go with the places of one kind that are numbered up to the last.
+/// A row: the states `from` to `to` go with the places of one kind that are numbered up to `last`.
 pub(crate) struct Row {
     pub from: BlockState,
     pub to: BlockState,
     pub last: Option<Place>,
     /// Whether the block has an owner.
     pub owned: bool,
-    /// Whether the commit bit may stand.
+    /// Whether the commit bit may be set.
     pub may_commit: bool,
 }
 
 const NO_OWNER: u32 = 0;
 
-/// All entries that there are.
+/// All entries that there are, by kind of place.
 pub(crate) static TABLE: [Row; 6] = [
     Row {
         from: BlockState::Free,
@@ -68,7 +68,7 @@ pub(crate) static TABLE: [Row; 6] = [
     },
 ];
 
-/// The number of the kind of place in the low half of an entry's second byte.
+/// Returns the number of a kind of place, as the low half of an entry's second byte has it.
 pub(crate) fn place_code(place: Option<Place>) -> u8
     ensures { result ≡ spec.place_code place }
 {
@@ -82,7 +82,7 @@ pub(crate) fn place_code(place: Option<Place>) -> u8
     }
 }
 
-/// Which of its kind the place is.
+/// Returns the number of a place among those of its kind.
 pub(crate) fn place_number(place: Option<Place>) -> u32
     ensures { result ≡ spec.place_number place }
 {
@@ -93,7 +93,7 @@ pub(crate) fn place_number(place: Option<Place>) -> u32
     }
 }
 
-/// The second byte of an entry with this place.
+/// Returns the second byte of an entry with this place.
 pub(crate) fn place_byte(place: Option<Place>) -> u8
     requires { spec.place_number place < 2 ^ 20 }
     ensures { result ≡ spec.place_byte place }
@@ -101,7 +101,7 @@ pub(crate) fn place_byte(place: Option<Place>) -> u8
     place_code(place) + 16 * (place_number(place) / 0x1_0000) as u8
 }
 
-/// The place that the second byte and the two after it say, where they are an entry's.
+/// Returns the place that the second byte and the two after it say, if they are an entry's.
 pub(crate) fn place_of(byte: u8, low: u16) -> Option<Place>
     ensures { result ≡ said_place byte low }
 {
@@ -115,7 +115,7 @@ pub(crate) fn place_of(byte: u8, low: u16) -> Option<Place>
     }
 }
 
-/// The place of the same kind with this number.
+/// Returns the place of the same kind with this number.
 fn numbered(place: Option<Place>, number: u32) -> Option<Place>
     requires { number ≤ spec.place_number place }
     ensures kind { spec.place_code result ≡ spec.place_code place }
@@ -129,7 +129,7 @@ fn numbered(place: Option<Place>, number: u32) -> Option<Place>
     }
 }
 
-/// The place of the first byte of the owner that isn't 0.
+/// Returns the place of the first byte of the owner that isn't 0.
 fn first_of_owner(bytes: &[u8; 8]) -> Option<u8>
     ensures found { IfSome result (IsFirstOfOwner bytes.now) }
     ensures none { IfNone result ((k : ℕ) → 4 ≤ k → k < 8 → slice_index bytes.now k ≡ 0) }
@@ -142,8 +142,9 @@ fn first_of_owner(bytes: &[u8; 8]) -> Option<u8>
     None
 }
 
-/// The number in the first four bytes, little-endian. It and the next have functions of their own, so that four bytes
-/// are read at once.
+/// Returns the number in the first four bytes, little-endian.
+///
+/// This function and the next one stand alone so that four bytes are read at once.
 fn little_endian(bytes: &[u8; 8]) -> u32
     ensures { result ≡ slice_index bytes.now 0 + slice_index bytes.now 1 * 2 ^ 8 + slice_index bytes.now 2 * 2 ^ 16
         + slice_index bytes.now 3 * 2 ^ 24 }
@@ -151,7 +152,7 @@ fn little_endian(bytes: &[u8; 8]) -> u32
     u32::from_le_bytes([bytes[0], bytes[1], bytes[2], bytes[3]])
 }
 
-/// The number in the first four bytes, big-endian.
+/// Returns the number in the first four bytes, big-endian.
 fn big_endian(bytes: &[u8; 8]) -> u32
     ensures { result ≡ slice_index bytes.now 0 * 2 ^ 24 + slice_index bytes.now 1 * 2 ^ 16
         + slice_index bytes.now 2 * 2 ^ 8
@@ -161,7 +162,7 @@ fn big_endian(bytes: &[u8; 8]) -> u32
 }
 
 impl Row {
-    /// The state and the commit bit that the first byte tells, where the row lets them stand.
+    /// Returns the state and the commit bit that the first byte says, if the row allows them.
     fn state_in(&self, first: u8) -> Option<(BlockState, bool)>
         ensures found { IfSome result (λ found.
             (spec.lets_state self.now found.0 found.1 ≡ true) × (spec.first_byte found.0 found.1 ≡ first)) }
@@ -177,7 +178,7 @@ impl Row {
         Some((state, committed))
     }
 
-    /// Whether the bytes spell an entry of this row, told without a branch on them.
+    /// Returns whether the bytes spell an entry of this row, computed without a branch on them.
     pub fn spells(&self, bytes: &[u8; 8]) -> bool
         requires fits { spec.place_number self.now.last < 2 ^ 20 }
         ensures { IsTrue result ↔ IsSpelledBy self.now bytes.now }
@@ -198,8 +199,9 @@ impl Row {
             & ((owner != NO_OWNER) == self.owned)
     }
 
-    /// The entry of this row that the bytes spell; else the least place such that no entry of the row begins with the
-    /// bytes up to and with it.
+    /// Returns the entry of this row that the bytes spell.
+    ///
+    /// The error names the least place such that no entry of the row begins with the bytes up to it and with it.
     pub fn read(&self, bytes: &[u8; 8]) -> Result<MapEntry, BadEntry>
         requires range { spec.state_code self.now.from ≤ spec.state_code self.now.to }
         requires fits { spec.place_number self.now.last < 2 ^ 20 }

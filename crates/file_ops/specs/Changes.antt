@@ -48,7 +48,7 @@ use Rattle.vol_image.specs.Sound.{Holds}
 use Rattle.vol_owners.specs.Account.{Drafts}
 use Rattle.vol_owners.specs.Change.{ChangesOnly, of_owner}
 
--- the store has a file at this block, of this kind, and no draft of it; the place of the change lies within it
+-- the store has a file at this block, of this kind, and no draft of it, and the place of the change is within it
 pub record MayChangeFile {D : Type 0} (g : Ghosts D) (at : ℕ) (kind : FileKind) (change : Change) (d : D)
     (space : Kept) : Type 0 where
   pub view : ObjectView g d space at
@@ -58,17 +58,17 @@ pub record MayChangeFile {D : Type 0} (g : Ghosts D) (at : ℕ) (kind : FileKind
   pub kind_is : file.kind ≡ kind
   pub inside : IsInside change (objects.File file)
 
--- How many blocks it takes. A normal file takes the leaves and nodes that it doesn't hold yet, where bytes are written.
--- A special file takes all that is written anew, and a shadow root.
+-- How many blocks it takes. For a write a normal file takes the leaves and nodes that it doesn't hold yet. A special
+-- file takes all that is written anew, and a shadow root.
 abbrev pub need_for : FileKind → Change → File → ℕ
 need_for kinds.Normal (Overwrite offset bytes) f = needs f offset (length bytes)
 need_for kinds.Normal (SetSize size) f = 0
 need_for kinds.Normal (Fill slot what) f = 0
 need_for kinds.Special change f = missing (written_anew change (objects.File f) []) [] + 1
 
--- ---- begun
+-- ---- how a draft begins
 
--- how a draft without a shadow root is begun, on any disk: the root block alone is read
+-- how a draft without a shadow root begins, on any disk: only the root block is read
 pub record DirectCall {D : Type 0} (g : Ghosts D) (at : ℕ) (old new : D) (before after : Kept)
     (result : Result Drafting Refused) : Type 0 where
   pub begun : IfOk result (λ draft. draft ≡ begun_at at None draft.own)
@@ -79,24 +79,25 @@ pub record DirectCall {D : Type 0} (g : Ghosts D) (at : ℕ) (old new : D) (befo
   pub space : after ≡ before
   pub reads : OnlyReads g 1 old new
 
--- ---- done
+-- ---- when it is done
 
--- once it is done a crash takes nothing of it back; only a normal file's resize to less ends in writes that may be lost
+-- once it is done a crash takes nothing of it back; only a normal file's resize to less ends in writes that may be
+-- lost
 abbrev pub IsDurable : FileKind → Change → File → Type 0
 IsDurable kinds.Normal (Overwrite offset bytes) f = Unit {0}
 IsDurable kinds.Normal (SetSize size) f = length f.bytes ≤ size
 IsDurable kinds.Normal (Fill slot what) f = Unit {0}
 IsDurable kinds.Special change f = Unit {0}
 
--- The object is the changed file now. In the image that is to come nothing changed but blocks of the object or such as
--- were Free.
+-- The object is the changed file now. In the image that is to come nothing changed except blocks of the object and
+-- blocks that were Free.
 pub record Changed {D : Type 0} (g : Ghosts D) (kind : FileKind) (change : Change) (graph : Graph) (ds : Drafts)
     (id : Puid) (f : File) (old new : D) (space : Kept) : Type 0 where
   pub store : StoreIs g (with_object graph id (changed_object change (objects.File f))) ds new space
   pub only : ChangesOnly (λ entry. of_owner id.block entry) (g.content old) (commit.final_image g new space)
   pub settled : IsDurable kind change f → IsSettled g new
 
--- done or not, a crash leaves a special file old or new, and of a normal one the size and each leaf
+-- done or not, a crash leaves a special file old or new, and so are the size and each leaf of a normal one
 abbrev pub MayLeaveFile : FileKind → Change → Graph → Puid → File → Image → Type 0
 MayLeaveFile kinds.Normal (Overwrite offset bytes) graph id f c = IsPartly c graph id f (written f offset bytes)
 MayLeaveFile kinds.Normal (SetSize size) graph id f c = IsPartly c graph id f (resized f size)
@@ -113,8 +114,8 @@ claims_beside at (Overwrite offset bytes) f =
 claims_beside at (SetSize size) f = claims_anew at (written_anew (SetSize size) (objects.File f) []) []
 claims_beside at (Fill slot what) f = []
 
--- Blocks were claimed for these entries from image a on, and last for a shadow root. After the entries nothing changed
--- but blocks of this owner or such as were Free.
+-- Blocks were claimed for these entries from image a on, and last for a shadow root. After the entries nothing
+-- changed except blocks of this owner and blocks that were Free.
 pub record ClaimsBeside (owner : ℕ) (claims : List MapEntry) (a b : Image) : Type 0 where
   pub mid : Image
   pub in_order : AreClaimed claims a mid
@@ -129,7 +130,7 @@ ClaimsFor kinds.Special change at f a b = ClaimsBeside at (claims_beside at chan
 
 -- ---- why it is refused
 
--- so many bytes a file has to have
+-- how many bytes a file must have
 abbrev pub least_size : Change → ℕ
 least_size (Overwrite offset bytes) = offset + length bytes
 least_size (SetSize size) = 0
@@ -141,14 +142,14 @@ is_resize (Overwrite offset bytes) = false
 is_resize (SetSize size) = true
 is_resize (Fill slot what) = false
 
--- no block is left for a shadow root, of those that were counted
+-- no block of those that were counted is left for a shadow root
 pub record IsNoneLeft (after : Kept) (damage : Damage) : Type 0 where
   pub code : damage.code ≡ too_full
   pub block : damage.block ≡ 0
   pub none : sum after.free ≡ 0
 
--- what is wrong where a special file is changed: with a block that was read; its root is one of fewer bytes; or, of a
--- resize, none is left
+-- what is wrong if a special file is changed: a block that was read is damaged, its root is that of a file of fewer
+-- bytes, or no block is left for a resize
 pub data IsBesideDamage {D : Type 0} (g : Ghosts D) (at : ℕ) (change : Change) (old new : D) (after : Kept)
     (damage : Damage) : Type 0 where
   OfBlock : special.IsDraftDamage g (disk_top g at old) old new after damage
@@ -158,7 +159,7 @@ pub data IsBesideDamage {D : Type 0} (g : Ghosts D) (at : ℕ) (change : Change)
       → IsBesideDamage g at change old new after damage
   NoneLeft : is_resize change ≡ true → IsNoneLeft after damage → IsBesideDamage g at change old new after damage
 
--- what is wrong where a normal file is: with a block of it, with a map, or with the counts
+-- what is wrong if a normal file is changed: a block of it, a map, or the counts
 pub data IsPlaceDamage {D : Type 0} (g : Ghosts D) (at : Top) (old new : D) (after : Kept)
     (damage : Damage) : Type 0 where
   OfFile : normal.IsDamage g at old damage → IsPlaceDamage g at old new after damage
@@ -169,8 +170,8 @@ abbrev pub IsFileDamage : {D : Type 0} → Ghosts D → Top → FileKind → Cha
 IsFileDamage g at kinds.Normal change old new after damage = IsPlaceDamage g at old new after damage
 IsFileDamage g at kinds.Special change old new after damage = IsBesideDamage g at.block change old new after damage
 
--- as many blocks as it tells are counted Free, too few; a device call failed; a block that was read is damaged; or
--- memory is wanted, for a special file alone
+-- as many blocks are counted Free as it says, which is too few; a device call failed; a block that was read is
+-- damaged; or memory is wanted, which only a special file needs
 abbrev pub IsFileRefusal : {D : Type 0} → Ghosts D → Top → FileKind → (floor : ℕ) → Change → D → D → Kept → Refused
     → Type 0
 IsFileRefusal g at kind floor change old new after (refusals.Full need) =
@@ -180,7 +181,7 @@ IsFileRefusal g at kind floor change old new after (refusals.Damaged damage) =
     IsFileDamage g at kind change old new after damage
 IsFileRefusal g at kind floor change old new after refusals.Memory = kind ≡ kinds.Special
 
--- the same of a draft that is committed, before which a write was tried or not
+-- the same for a draft that is committed, with or without a write tried before
 abbrev pub IsCommitRefusal : {D : Type 0} → Ghosts D → Top → (wrote : Bool) → D → D → (before after : Kept) → Refused
     → Type 0
 IsCommitRefusal g at wrote old new before after (refusals.Full need) = ⊥
@@ -200,7 +201,7 @@ pub record BesideCall {D : Type 0} (g : Ghosts D) (was : Drafting) (wrote : Bool
   pub bit : OnOk result (IsAtBit g old new after.left)
   pub calls : MakesAtMost g commit_calls commit_tries old new
 
--- Where the store has a draft of the object: it becomes the object. No damage is met where a block is Free.
+-- If the store has a draft of the object, it becomes the object. No damage is met if a block is Free.
 pub record CommitsBeside {D : Type 0} {g : Ghosts D} {old : D} {before : Kept} {was : Drafting}
     (v : DraftView g old before was) (new : D) (after : Kept) (result : Result (Unit {0}) Refused) : Type 0 where
   pub done : OnOk result (Committed g v.graph v.ds v.id v.draft.object None old new after)
@@ -209,7 +210,7 @@ pub record CommitsBeside {D : Type 0} {g : Ghosts D} {old : D} {before : Kept} {
 
 -- ---- the call
 
--- a special file's commit is unfinished then; a normal file is changed in place
+-- a special file's commit is unfinished then, and a normal file is changed in place
 abbrev pub LeavesFileCommit : FileKind → ℕ → Option LeftCommit → Type 0
 LeavesFileCommit kinds.Normal at left = left ≡ None
 LeavesFileCommit kinds.Special at left = (l : LeftCommit) × IsNoted at left l
@@ -218,27 +219,27 @@ LeavesFileCommit kinds.Special at left = (l : LeftCommit) × IsNoted at left l
 pub record EndsChange {D : Type 0} (g : Ghosts D) (at : Top) (kind : FileKind) (floor : ℕ) (change : Change)
     (old new : D) (before after : Kept) (result : Result (Unit {0}) Refused) : Type 0 where
   pub refused : IfErr result (IsFileRefusal g at kind floor change old new after)
-  -- where nothing was tried all is as it was, after Full and want of memory too
+  -- if nothing was tried all is as it was, after Full and want of memory too
   pub untried : IfErr result (λ e. is_untried e ≡ true → (after ≡ before) × OnlyReads g drafted_calls old new)
   pub cylinders : length after.free ≡ length before.free
   pub left : OnOk result (LeavesFileCommit kind at.block after.left)
-  -- where it is unfinished, its bit was tried
+  -- if a commit is unfinished, its bit was tried
   pub bit : OnOk result (IsAtBit g old new after.left)
   pub calls : MakesAtMost g change_calls change_tries old new
 
--- Where the store has the file: done, it is the changed one, and blocks were taken in their order.
+-- If the store has the file and the call is done, it is the changed file, and blocks were taken in their order.
 pub record ChangesSo {D : Type 0} {g : Ghosts D} {at : ℕ} {kind : FileKind} {change : Change} {old : D} {before : Kept}
     (m : MayChangeFile g at kind change old before) (floor : ℕ) (new : D) (after : Kept)
     (result : Result (Unit {0}) Refused) : Type 0 where
   pub done : OnOk result (Changed g kind change m.view.graph m.view.ds m.view.id m.file old new after)
   pub order : OnOk result (ClaimsFor kind change at m.file (g.content old) (commit.final_image g new after))
   pub leaves : Leaves g old new (MayLeaveFile kind change m.view.graph m.view.id m.file)
-  -- Full exactly where the need and the floor aren't Free
+  -- it is full exactly if the need plus the floor isn't Free
   pub room : OnOk result (need_for kind change m.file + floor ≤ sum before.free)
   pub full : IfErr result (λ e. is_full_refusal e ≡ true →
       (e ≡ refusals.Full (record { free = sum before.free; need = need_for kind change m.file }))
       × (sum before.free < need_for kind change m.file + floor))
-  -- where a write was tried they were, or the file stayed as it was
+  -- if a write was tried they were Free, or the file stayed as it was
   pub begun : IfErr result (λ e. e ≡ refusals.Disk true →
       (need_for kind change m.file + floor ≤ sum before.free) ⊎ Leaves g old new (λ c. Holds c m.view.graph))
   -- no damage is met

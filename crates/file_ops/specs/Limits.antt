@@ -6,7 +6,7 @@ use Rattle.special_files.specs.Limits.{commit_calls, commit_tries, resize_calls,
 abbrev pub drafted_calls : ℕ
 drafted_calls = 1 + resize_calls
 
--- and then committed
+-- the same, and the draft is then committed
 abbrev pub change_calls : ℕ
 change_calls = drafted_calls + commit_calls
 

@@ -13,14 +13,18 @@ use cfs_base::{BlockNo, Disk, FileKind, Refused};
 use cyl_alloc::Space;
 use special_files::Room;
 
-/// Writes bytes into a file of this kind with this root, from an offset on; the range lies within the size. A normal
-/// file is written in place, and takes blocks for those leaves and nodes that it doesn't hold yet; a special file is
-/// changed as one commit in the room that is handed in, and takes blocks for all that it writes anew.
-/// `Full` where fewer blocks are Free than it takes, with the floor. `Damaged` names the root block, with code 3, which
-/// is none, or is a special file's of fewer bytes; a block with a pointer past the disk, with code 4; a map, with code
-/// 2, that is none, or with code 12, that has no Free block where some were counted. After `Full`, `Memory` and a
-/// `Disk` that wasn't tried all is as it was. After others a special file is old or new, and of a normal one each leaf
-/// is.
+/// Writes bytes into a file of this kind with this root, at an offset.
+///
+/// The range lies within the size. A normal file is written in place, and takes blocks for those leaves and nodes
+/// that it doesn't hold yet. A special file is changed as one commit in the room that is handed in, and takes blocks
+/// for all that it writes anew.
+///
+/// `Full` if fewer blocks are Free than it takes, plus the floor. `Damaged` names a root block that is none, or is
+/// that of a special file of fewer bytes, with code 3, a block with a pointer past the disk, with code 4, or a map
+/// block that is no map, with code 2, or that has no Free block though some were counted, with code 12.
+///
+/// After `Full`, `Memory` and a `Disk` that wasn't tried all is as it was. After any other error a special file is
+/// old or new, and so is each leaf of a normal one.
 pub fn write<D: Disk>(
     room: Option<Room>,
     disk: &mut D,
@@ -42,9 +46,9 @@ pub fn write<D: Disk>(
     requires inside { offset + length bytes.now ≤ size_limit }
     ensures changes { IsRootAt (D.content disk.old) at.0 root.now → spec.ChangesFile D.Disk at.0 kind floor
         (Overwrite offset bytes.now) disk.old disk.new space.old space.new result }
-    // Memory is wanted only where no room was handed in.
+    // Memory is wanted only if no room was handed in.
     ensures memory { is_some room ≡ true → IfErr result (λ e. e ≢ refusals.Memory) }
-    // On a disk that holds another root, or tells nothing, it ends so too.
+    // On a disk that holds another root, or tells nothing, it ends the same way.
     ensures ends { spec.EndsChange D.Disk (root_top at.0 root.now) kind floor (Overwrite offset bytes.now) disk.old
         disk.new space.old space.new result }
 {
@@ -57,9 +61,11 @@ pub fn write<D: Disk>(
     }
 }
 
-/// Sets the size of a file of this kind, in bytes. Refused as in `write`; of a special file `Damaged` may name block 0,
-/// with code 11, where none is left for a shadow root. A normal file set to less ends in writes that
-/// free what it had, and that no barrier follows; all else outlasts a crash once it is done.
+/// Sets the size of a file of this kind, in bytes.
+///
+/// Refused as by `write`. For a special file `Damaged` may also name block 0, with code 11, if no block is left for a
+/// shadow root. A normal file set to less ends in writes that free what it had, and that no barrier follows. All else
+/// survives a crash once it is done.
 pub fn resize<D: Disk>(
     room: Option<Room>,
     disk: &mut D,

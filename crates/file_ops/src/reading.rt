@@ -18,16 +18,17 @@ use block_tree::Root;
 use cfs_base::{BlockNo, Bytes, Disk, NoMemory, Refused, Trouble};
 use std::alloc::Global;
 
-/// So many bytes.
+/// Makes `count` zero bytes.
 fn zeros(alloc: Global, count: usize) -> Result<Vec<u8>, NoMemory>
     ensures { IfOk result (λ bytes. length bytes.items ≡ count) }
 {
     Ok(vec![in alloc; 0u8; count]?)
 }
 
-/// Reads so many bytes of the file that is shown at a block, with this root, from an offset on. The range lies within
-/// the size. All memory is taken first. `Damaged` names a block with a pointer past the disk, with code 4. Never
-/// `Full`.
+/// Reads `count` bytes of the file with this root, which is shown at a block, beginning at an offset.
+///
+/// The range lies within the size. All memory is taken first. `Damaged` names a block with a pointer past the disk,
+/// with code 4. Never `Full`.
 pub fn read<D: Disk>(
     alloc: Global,
     disk: &mut D,
@@ -43,7 +44,7 @@ pub fn read<D: Disk>(
     ensures long { IfOk result (λ bytes. length bytes ≡ count) }
     ensures refused { IfErr result (spec.IsReadRefusal D.Disk (root_top at.0 root.now) disk.old disk.new) }
     ensures untried { IfErr result (λ e. had_tried e ≡ false) }
-    // one read a node, and one a leaf
+    // one read for each node, and one for each leaf
     ensures reads { OnlyReads D.Disk (nodes_touched offset count + leaves_touched offset count) disk.old disk.new }
 {
     let mut bytes = match zeros(alloc, count) {
@@ -56,8 +57,9 @@ pub fn read<D: Disk>(
     }
 }
 
-/// The root of the file that is shown at a block, which has its size in bytes. `Damaged` names the block, with code 3,
-/// which is none.
+/// Reads the root of the file that is shown at a block. It has the file's size in bytes.
+///
+/// `Damaged` names the block, with code 3, if it is no root block.
 pub fn read_root<D: Disk>(disk: &mut D, at: BlockNo) -> Result<Root, Trouble>
     requires { at.0 < D.blocks disk.old }
     ensures root { Tells D.Disk disk.old → IfOk result (IsRootAt (D.content disk.old) at.0) }
@@ -74,7 +76,9 @@ pub fn read_root<D: Disk>(disk: &mut D, at: BlockNo) -> Result<Root, Trouble>
     }
 }
 
-/// The size of the file that is shown at a block, in bytes. `Damaged` names the block, with code 3, which is none.
+/// Returns the size in bytes of the file that is shown at a block.
+///
+/// `Damaged` names the block, with code 3, if it is no root block.
 pub fn size<D: Disk>(disk: &mut D, at: BlockNo) -> Result<u64, Trouble>
     requires { at.0 < D.blocks disk.old }
     ensures size { (v : ShownView D.Disk disk.old at.0) (f : File) → v.object ≡ objects.File f

@@ -22,7 +22,7 @@ use cfs_base::{BlockNo, Damage, Disk, Refused, Trouble, code};
 use cyl_alloc::Space;
 use special_files::{ObjectDraft, Room};
 
-/// The refusal of a call that may have tried a write before.
+/// Returns the refusal of a call that may have tried a write before.
 fn since(wrote: bool, trouble: Trouble) -> Refused
     ensures { result ≡ refused_by (if wrote then trouble_after_try trouble else trouble) }
 {
@@ -32,8 +32,9 @@ fn since(wrote: bool, trouble: Trouble) -> Refused
     Refused::from(trouble)
 }
 
-/// Begins the draft of the object at a block, without a shadow root. Nothing is written. `Damaged` names the root block,
-/// with code 3, which is none. Never `Full` or `Memory`.
+/// Begins the draft of the object at a block, without a shadow root.
+///
+/// Nothing is written. `Damaged` names the root block, with code 3, if it is no root block. Never `Full` or `Memory`.
 fn begin<D: Disk>(room: Room, disk: &mut D, at: BlockNo) -> Result<ObjectDraft, Refused>
     requires some { at.0 ≢ 0 }
     requires on_disk { at.0 < D.blocks disk.old }
@@ -52,7 +53,9 @@ fn begin<D: Disk>(room: Room, disk: &mut D, at: BlockNo) -> Result<ObjectDraft, 
     Ok(ObjectDraft::direct(room, at, &root))
 }
 
-/// Makes a draft its object. Where the draft wrote something before, each failure is one after a try.
+/// Makes a draft its object.
+///
+/// If the draft wrote something before, each failure is one after a try.
 fn commit<D: Disk>(
     draft: ObjectDraft,
     disk: &mut D,

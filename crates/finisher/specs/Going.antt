@@ -1,4 +1,4 @@
--- A commit that is past its bit is carried on.
+-- How a commit that is past its bit is carried on.
 use Rattle.std.specs.Prelude.{◌≡◌, ℕ, ◌+◌, ◌*◌, ◌<◌, true, false, if◌then◌else◌, is_some, length, Option, Some, None}
 use Rattle.std.specs.Prelude.{IfErr, OnOk, Ok, Err, Result}
 use Rattle.block_tree.specs.Reads.{is_damage}
@@ -20,7 +20,7 @@ use Rattle.ufs_model.specs.Graph.{Graph}
 use Rattle.vol_image.specs.Sound.{Holds}
 use Rattle.vol_owners.specs.Account.{Drafts}
 
--- ---- what a call does where the store has its objects
+-- ---- what a call does if the store has its objects
 
 -- From what was left to what is left now. The image that is to come stays, each image that a crash leaves on the way
 -- holds all objects, and no damage is met.
@@ -40,20 +40,20 @@ Goes g old new before after result = GoesFrom g old new before after before.left
 
 -- ---- on any disk
 
--- a device call failed, or a map block was read and is none
+-- a device call failed, or a map block was read and is no map
 abbrev pub IsLeftTrouble : {D : Type 0} → Ghosts D → D → D → Trouble → Type 0
 IsLeftTrouble g old new (trouble.Disk tried) = HasStopped g tried old new
 IsLeftTrouble g old new (trouble.Damaged damage) = (damage.code ≡ no_entry) × (damage.block ≡ map_of damage.block)
     × (damage.block < g.blocks new) × (Tells g old → IsBadMap (g.content new) damage.block)
 
--- One part, with at most n device calls, t of them writes and barriers: done, a write was tried.
+-- One part, with at most n device calls, t of them writes and barriers. If it is done, a write was tried.
 abbrev pub PartEnds : {D : Type 0} → Ghosts D → (n t : ℕ) → D → D → (before after : Kept)
     → Result (Unit {0}) Trouble → Type 0
 PartEnds g n t old new before after result =
     Went g n t 1 old new before after (length after.free ≡ length before.free) (IsLeftTrouble g old new)
     (λ e. trouble_had_tried e ≡ false) (λ u. Some true) result
 
--- All parts that were left: done, a write was tried where some were.
+-- All parts that were left. If they are done, a write was tried, if there were any.
 abbrev pub Ends : {D : Type 0} → Ghosts D → (n t : ℕ) → D → D → (before after : Kept) → Result (Unit {0}) Trouble
     → Type 0
 Ends g n t old new before after result =

@@ -1,11 +1,11 @@
--- What is left of a commit of which the entries of one map that stand together are changed by one write of it.
+-- What is left of a commit, if the entries of consecutive blocks in one map are changed by one write of it.
 use Rattle.std.specs.Prelude.{◌≡◌, ℕ, ◌+◌, ◌*◌, ◌≤◌, if◌then◌else◌, drop, length, Option, Some, None}
 use Rattle.cfs_base.specs.Calls.{MakesAtMost}
 use Rattle.cfs_base.specs.declared.disk.Disk.{Ghosts}
 use Rattle.cyl_alloc.specs.Left.{LeftCommit}
 use Rattle.intentions.specs.Runs.{runs}
 
--- of one run nothing is left
+-- nothing is left of one run
 pub record AfterRun (was now : Option LeftCommit) : Type 0 where
   pub left : LeftCommit
   pub count : ℕ

@@ -14,14 +14,16 @@ use crate::run::flip_run;
 use cfs_base::{Disk, Trouble};
 use cyl_alloc::Space;
 
-/// Makes one part of the commit that is kept, by at most four device calls, and answers whether there was one.
-/// `Damaged` names a map block, with code 2, which is none. Where it is refused the part isn't done.
+/// Makes one part of the commit that is kept, and returns whether there was one.
+///
+/// Makes at most four device calls. `Damaged` names a map block, with code 2, if it is no map. On an error the part
+/// isn't done.
 pub fn step<D: Disk>(disk: &mut D, space: &mut Space) -> Result<bool, Trouble>
     requires size { D.blocks disk.old ≡ 64 * length space.old.free }
     ensures goes { spec.Goes D.Disk disk.old disk.new space.old space.new (spec.unit_of result) }
     ensures told { IfOk result (λ some. some ≡ is_some space.old.left) }
     ensures left { OnOk result (space.new.left ≡ left.after_next space.old.left) }
-    // After the last part nothing waits.
+    // After the last part no write waits for a barrier.
     ensures settled { IsSome space.old.left → left.after_next space.old.left ≡ None → Tells D.Disk disk.old
         → OnOk result (IsSettled D.Disk disk.new) }
     ensures kept { IsErr result → space.new ≡ space.old }
@@ -42,14 +44,16 @@ pub fn step<D: Disk>(disk: &mut D, space: &mut Space) -> Result<bool, Trouble>
     Ok(true)
 }
 
-/// The trouble of a call that may have made parts before.
+/// Returns the trouble of a call that may have made parts before.
 fn since(tried: bool, trouble: Trouble) -> Trouble
     ensures { result ≡ if tried then trouble_after_try trouble else trouble }
 {
     if tried { trouble.after_try() } else { trouble }
 }
 
-/// Makes the next part: of entries, those of the next blocks that lie in one map at once.
+/// Makes the next part.
+///
+/// Of entries it changes those of the next blocks that lie in one map, at once.
 fn advance<D: Disk>(disk: &mut D, space: &mut Space) -> Result<(), Trouble>
     requires size { D.blocks disk.old ≡ 64 * length space.old.free }
     requires some { IsSome space.old.left }
@@ -69,20 +73,21 @@ fn advance<D: Disk>(disk: &mut D, space: &mut Space) -> Result<(), Trouble>
     Ok(())
 }
 
-/// Makes all parts that are left of the commit that is kept, with one write for the entries of blocks of one map that
-/// stand together. Refused as `step`; the parts before are done.
+/// Makes all parts that are left of the commit that is kept.
+///
+/// One write changes the entries of consecutive blocks in one map. Refused as by `step`. The parts before are done.
 pub fn finish_all<D: Disk>(disk: &mut D, space: &mut Space) -> Result<(), Trouble>
     requires size { D.blocks disk.old ≡ 64 * length space.old.free }
     ensures goes { spec.Goes D.Disk disk.old disk.new space.old space.new result }
     ensures done { OnOk result (space.new.left ≡ None) }
-    // Where something was left, nothing waits then.
+    // If something was left, no write waits for a barrier then.
     ensures settled { IsSome space.old.left → Tells D.Disk disk.old → OnOk result (IsSettled D.Disk disk.new) }
     ensures none { space.old.left ≡ None → (disk.new ≡ disk.old) × (space.new ≡ space.old) }
     ensures ends { spec.Ends D.Disk (spec.calls_left space.old.left) (spec.tries_left space.old.left) disk.old disk.new
         space.old space.new result }
     ensures by_map { MakesAtMost D.Disk (runs.calls_by_map space.old.left) (runs.tries_by_map space.old.left) disk.old
         disk.new }
-    // Where the blocks lie in one cylinder, the copy, one read and one write of its map, and the bit.
+    // If the blocks lie in one cylinder, the calls are the copy, one read and one write of its map, and the bit.
     ensures one_map { (l : left.LeftCommit) (c : ℕ) → space.old.left ≡ Some l → All (λ n. n / 64 ≡ c) l.rest
         → MakesAtMost D.Disk 9 6 disk.old disk.new }
 {

@@ -19,7 +19,7 @@ use cyl_alloc::{Part, Space};
 use cyl_map::MapEntry;
 use intentions::{EntryChange, change_entry, clear_bit, copy_root, is_freed};
 
-/// The shadow root is given back, and all else is carried out.
+/// Returns how an entry changes: the shadow root is given back, and all else is carried out.
 fn how_to(is_shadow: bool) -> EntryChange
     ensures value { result ≡ how_for is_shadow }
     ensures fits { entries.FitsEntry result }
@@ -31,7 +31,7 @@ fn how_to(is_shadow: bool) -> EntryChange
     }
 }
 
-/// Counts a block that became Free.
+/// Counts the block if it became Free.
 fn count_freed(space: &mut Space, block: BlockNo, was: MapEntry, now: MapEntry)
     requires on_disk { block.0 < 64 * length space.old.free }
     requires entry { IsEntry now }
@@ -68,7 +68,7 @@ fn flip<D: Disk>(
     Ok(())
 }
 
-/// Gives the root this content, which is the shadow root's.
+/// Writes this content, which is the shadow root's, into the root.
 fn copy<D: Disk>(disk: &mut D, root: BlockNo, content: &Block) -> Result<(), Trouble>
     requires { root.0 < D.blocks disk.old }
     ensures goes { (l : left.LeftCommit) (space : Kept) → l.copied ≡ false → l.root ≡ root.0
@@ -91,7 +91,7 @@ fn read_shadow<D: Disk>(disk: &mut D, shadow: BlockNo, into: &mut Block) -> Resu
         .map_err(|_| Trouble::Disk { tried: false })
 }
 
-/// Gives the root the content of the shadow root, which is read.
+/// Reads the shadow root, and writes its content into the root.
 fn copy_read<D: Disk>(disk: &mut D, root: BlockNo, shadow: BlockNo) -> Result<(), Trouble>
     requires root_on_disk { root.0 < D.blocks disk.old }
     requires shadow_on_disk { shadow.0 < D.blocks disk.old }

@@ -1,4 +1,4 @@
-//! The blocks of a commit that lie in one map, one after another: their entries are changed by one write of it.
+//! The blocks of a commit that lie in one map and follow one another: their entries are changed by one write of it.
 ghost use Rattle.std.specs.Prelude.{◌≡◌, ◌*◌, ◌<◌, length, IsErr, OnOk};
 ghost use Rattle.cyl_alloc.specs.Left as left;
 ghost use Rattle.intentions.specs.Runs.{IsFirst};

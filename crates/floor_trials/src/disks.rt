@@ -10,21 +10,21 @@ use std::sync::Wait;
 use std::test::Fail;
 use std::thread::Threads;
 
-/// A volume of one cylinder is made by so many calls of its disk.
+/// How many calls of its disk make a volume of one cylinder.
 const FORMAT_CALLS: u64 = 7;
 
 const SERVE: [&str; 4] = ["serve", "volume", "0", "0"];
 
 const COLLECT: [&str; 4] = ["serve", "volume", "0", "1"];
 
-/// A disk of one cylinder, of which the call at this moment fails.
+/// Makes a disk of one cylinder, of which the call at this moment fails.
 fn disk_failing(alloc: Global, moment: u64) -> Result<Option<MemoryDisk>, Fail> {
     let mut calls = Vec::new(alloc);
     calls.push(moment)?;
     Ok(Some(MemoryDisk::failing(alloc, 64, calls)?))
 }
 
-/// Makes a volume, with a report whose sink takes so.
+/// Makes a volume, with a report whose sink takes as `report` says.
 fn format(
     rt: &(impl Abort + Threads + Wait + Sync),
     alloc: Global,
@@ -36,7 +36,7 @@ fn format(
     play(rt, alloc, disk, &asked)
 }
 
-/// A volume on such a disk.
+/// Makes a volume on such a disk.
 fn volume(
     rt: &(impl Abort + Threads + Wait + Sync),
     alloc: Global,
@@ -55,7 +55,7 @@ fn calls_of(disk: &Option<MemoryDisk>) -> u64 {
     }
 }
 
-/// The status of a run, and what its report ends with.
+/// Checks the status of a run, and what its report ends with.
 fn expect_end(rt: &impl Abort, moment: u64, came: &Came, status: u8, end: &str) {
     assert!(rt; came.status == status, "moment {moment}: its status");
     assert!(rt;
@@ -83,8 +83,9 @@ fn each_call_of_a_format_that_fails_is_told(rt: HostRuntime) -> Result<(), Fail>
     Ok(())
 }
 
-/// Serves one session, whose sink fails, on a volume of which the call at this moment fails. What came of it, and how
-/// many calls were made.
+/// Serves one session, whose sink fails, on a volume of which the call at this moment fails.
+///
+/// Returns what came of it, and how many calls were made.
 fn serve_failing(
     rt: &(impl Abort + Threads + Wait + Sync),
     alloc: Global,
@@ -100,7 +101,7 @@ fn serve_failing(
     Ok((came, calls_of(&disk)))
 }
 
-/// The end of the report where a disk failed: `disk` alone, or with the moment if the report has one.
+/// Returns the end of the report if a disk failed: `disk` alone, or with the moment if the report has one.
 fn cause_at(alloc: Global, moment: u64, came: &Came) -> Result<String, Fail> {
     let stopped = format!(in alloc; "\ndisk {moment}\nstatus 4\n")?;
     if came.report.as_slice().ends_with(stopped.as_bytes()) {
@@ -146,11 +147,12 @@ fn the_map_of_a_volume_that_is_served_is_read_once(rt: HostRuntime) -> Result<()
 /// A session that puts the root into a slot.
 const FIRST: &str = "slots root\nretain root 0 root\nslots root\n";
 
-/// Another, that looks at it.
+/// Another session, that looks at the slot.
 const SECOND: &str = "slots root\nretrieve a root 0\n";
 
-/// What came of these two on a volume of which the call at this moment fails; and what the slot has once the volume is
-/// served again.
+/// Serves these two sessions on a volume of which the call at this moment fails.
+///
+/// Returns what came of it, and what the slot has once the volume is served again.
 fn serve_two(
     rt: &(impl Abort + Threads + Wait + Sync),
     alloc: Global,
@@ -174,7 +176,8 @@ fn serve_two(
     Ok((came, again))
 }
 
-/// The service stopped for both sessions and the collector: a turn for each line, and a leave for each session.
+/// Checks that the service stopped for both sessions and the collector, with a turn for each line and a leave for
+/// each session.
 fn expect_stopped(rt: &impl Abort, alloc: Global, moment: u64, came: &Came) -> Result<(), Fail> {
     let second = format!(in alloc; "ok 64\nno stopped {moment}\n")?;
     match came.replies.as_slice() {
@@ -192,7 +195,7 @@ fn expect_stopped(rt: &impl Abort, alloc: Global, moment: u64, came: &Came) -> R
     Ok(())
 }
 
-/// Served again, the slot is empty, or if `may_be` has the root.
+/// Checks that the slot is empty when the volume is served again, or if `may_be` that it has the root.
 fn expect_slot(rt: &impl Abort, came: &Came, may_be: bool) {
     let is_empty = came.first() == b"no empty\n".as_slice();
     let is_root = came.first() == b"ok 00000002ade0b876\n".as_slice();
@@ -200,7 +203,7 @@ fn expect_slot(rt: &impl Abort, came: &Came, may_be: bool) {
     assert!(rt; is_empty || (may_be && is_root));
 }
 
-/// Whether the service stopped at this moment, within the retain.
+/// Returns whether the service stopped at this moment, within the retain.
 fn stops_at(
     rt: &(impl Abort + Threads + Wait + Sync),
     alloc: Global,
@@ -213,7 +216,7 @@ fn stops_at(
         return Ok(false);
     }
     expect_stopped(rt, alloc, moment, &came)?;
-    // after a failure of the first write the slot is empty; after that of a later one it may have the root
+    // after a failure of the first write the slot is empty, and after that of a later one it may have the root
     expect_slot(rt, &again, !is_first);
     Ok(true)
 }
@@ -232,7 +235,7 @@ fn a_write_that_fails_stops_the_service_for_all(rt: HostRuntime) -> Result<(), F
     Ok(())
 }
 
-/// A volume of which what a crash leaves is known, on which the stated script was served beside a collection.
+/// Serves the stated script beside a collection, on a volume of which it is known what a crash leaves.
 fn record(
     rt: &(impl Abort + Threads + Wait + Sync),
     alloc: Global,
@@ -244,11 +247,12 @@ fn record(
     Ok((disk, came))
 }
 
-/// Which blocks hold the last write that waits, where a crash leaves it: those with even numbers, and those with odd
-/// ones. All others hold what they held at the last barrier.
+/// Which blocks hold their last waiting write after a crash: those with even numbers, and those with odd ones.
+///
+/// All others hold what they held at the last barrier.
 type Kept = (bool, bool);
 
-/// What a crash at this moment leaves so.
+/// Returns the disk that a crash at this moment leaves so.
 fn left(
     alloc: Global,
     disk: &Option<MemoryDisk>,

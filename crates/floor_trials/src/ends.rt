@@ -1,4 +1,4 @@
-//! Services whose memory is ample, and whose sources and sinks fail at some call or take a byte a call.
+//! Services whose memory is ample, and whose sources and sinks fail at a call or take one byte at a call.
 use crate::service::{Came, Seat, ask_for, play, session};
 use crate::sink::{ALL, Taking, failing, slow};
 use crate::stated::{LINES, REPLIES, STATED};
@@ -9,7 +9,7 @@ use std::sync::Wait;
 use std::test::Fail;
 use std::thread::Threads;
 
-/// What must come of a run: the status, the report, the replies to each session, and how many events.
+/// What must come of a run: the status, the report, the replies to each session, and the number of events.
 #[derive(Clone, Copy)]
 struct Want<'a> {
     status: u8,
@@ -23,7 +23,7 @@ const STORED: &str =
 
 const STORED_REPLIES: &str = "ok 00000003903df1a0\nok 00000003903df1a0\nok 4\nno empty\nno slot\n";
 
-/// The run ended so.
+/// Returns what must come of a run that ended so.
 fn ended<'a>(status: u8, report: &'a str, replies: &'a [&'a str], events: usize) -> Want<'a> {
     Want {
         status,
@@ -49,19 +49,15 @@ const STATED_WHOLE: Want<'static> = Want {
     events: 16,
 };
 
-/// The first reply is not written, so the create is the last line that is served.
+/// The report of a run whose first reply is not written, so that the create is the last line that is served.
 const CUT_REPORT: &str =
     "sessions 1\nreplies 1\ncollections 0\nobjects 2\nfree 58\nsink\nstatus 5\n";
 
 const MAKING: &str = "create-index a 4 root 0\nretain a 3 root\nretrieve r a 3\nslots r\n";
 
-const MADE: &str = "ok 00000003903df1a0\nok\nok 00000002ade0b876\nok 64\n";
-
 const LOOKING: &str = "slots root\nretrieve x root 63\nslots a\nslots 00000002ade0b876\n";
 
-const LOOKED: &str = "ok 64\nno empty\nno name\nok 64\n";
-
-/// These lines, with a sink that takes so.
+/// Returns a session with these lines, and a sink that takes as `sink` says.
 fn lines_to(lines: &str, sink: Taking) -> Seat<'_> {
     Seat {
         lines,
@@ -70,7 +66,7 @@ fn lines_to(lines: &str, sink: Taking) -> Seat<'_> {
     }
 }
 
-/// The source of these lines fails at this call.
+/// Returns a session with these lines, whose source fails at this call.
 fn broken(lines: &str, source_fails: u64) -> Seat<'_> {
     Seat {
         lines,
@@ -79,7 +75,7 @@ fn broken(lines: &str, source_fails: u64) -> Seat<'_> {
     }
 }
 
-/// Whether these are the replies.
+/// Returns whether these are the replies.
 fn are_replies(came: &[Vec<u8>], want: &[&str]) -> bool {
     for (replies, wanted) in came.iter().zip(want.iter()) {
         if replies.as_slice() != wanted.as_bytes() {
@@ -89,7 +85,7 @@ fn are_replies(came: &[Vec<u8>], want: &[&str]) -> bool {
     came.len() == want.len()
 }
 
-/// What came is what was wanted.
+/// Checks that what came is what was wanted.
 fn expect_came(rt: &impl Abort, came: &Came, want: &Want<'_>) {
     assert_eq!(rt; came.report.as_slice(), want.report.as_bytes());
     assert!(rt; came.status == want.status);
@@ -97,7 +93,7 @@ fn expect_came(rt: &impl Abort, came: &Came, want: &Want<'_>) {
     assert!(rt; came.events.len() == want.events);
 }
 
-/// Serves these sessions on one cylinder in memory, with a sink of the report that takes so.
+/// Serves these sessions on one cylinder in memory, with a sink of the report that takes as `report` says.
 fn expect(
     rt: &(impl Abort + Threads + Wait + Sync),
     alloc: Global,
@@ -136,7 +132,7 @@ fn a_sink_that_fails_ends_its_session(rt: HostRuntime) -> Result<(), Fail> {
     Ok(())
 }
 
-/// How many lines end in these bytes.
+/// Returns how many lines end in these bytes.
 fn lines_in(replies: &[u8]) -> usize {
     let mut lines = 0usize;
     for byte in replies {
@@ -147,8 +143,10 @@ fn lines_in(replies: &[u8]) -> usize {
     lines
 }
 
-/// The stated script beside a collection, to a sink that takes so: it holds these of the replies, and the session
-/// leaves after the line whose reply it hasn't whole.
+/// Serves the stated script beside a collection, to a sink that takes as `sink` says.
+///
+/// Checks that the sink holds these of the replies, and that the session leaves after the first line whose reply the
+/// sink doesn't hold whole.
 fn expect_taken(
     rt: &(impl Abort + Threads + Wait + Sync),
     alloc: Global,
@@ -187,7 +185,7 @@ fn each_call_of_a_sink_that_fails_cuts_the_replies(rt: HostRuntime) -> Result<()
 fn the_first_source_that_fails_is_told(rt: HostRuntime) -> Result<(), Fail> {
     let alloc = rt.alloc();
     let want = ended(6, "source 0\nstatus 6\n", &[""], 0);
-    // one call gives the lines, and one tells that they end
+    // one call gives the lines, and one reports that they end
     for call in 0..2 {
         expect(&rt, alloc, &[broken(STATED, call)], ALL, &want)?;
     }
@@ -207,20 +205,4 @@ fn a_report_that_fails_hides_no_worse_status(rt: HostRuntime) -> Result<(), Fail
     expect(&rt, alloc, &[session(STORED)], slow(9), &part)?;
     let worse = ended(6, "", &[""], 0);
     expect(&rt, alloc, &[broken(STORED, 0)], failing(0), &worse)
-}
-
-#[test]
-fn a_sink_that_fails_ends_its_session_alone(rt: HostRuntime) -> Result<(), Fail> {
-    let seats = [session(MAKING), lines_to(LOOKING, failing(0))];
-    let report = "sessions 2\nreplies 5\ncollections 0\nobjects 2\nfree 56\nsink\nstatus 5\n";
-    let want = ended(5, report, &[MADE, ""], 7);
-    expect(&rt, rt.alloc(), &seats, ALL, &want)
-}
-
-#[test]
-fn sixty_four_sessions_are_served(rt: HostRuntime) -> Result<(), Fail> {
-    // a turn for each of four lines, and a leave
-    let report = "sessions 64\nreplies 256\ncollections 0\nobjects 1\nfree 61\nstatus 0\n";
-    let want = ended(0, report, &[LOOKED; 64], 320);
-    expect(&rt, rt.alloc(), &[session(LOOKING); 64], ALL, &want)
 }

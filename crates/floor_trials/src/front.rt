@@ -1,4 +1,4 @@
-//! A service whose second worker is told how long the trail is while the first is in its turn.
+//! A service whose second worker gets the length of the trail while the first is in its turn.
 use crate::service::expect_form;
 use cfs_base::{Failed, Gate, Sink};
 use cfs_fakes::{MemoryDisk, MemorySource};
@@ -14,14 +14,14 @@ use std::thread::Threads;
 /// How often a sign is looked for at most.
 const LOOKS: u64 = 100_000_000;
 
-/// What the two workers and a sink tell each other.
+/// What the two workers and a sink let each other know.
 #[derive(Drop)]
 struct Board {
     /// Session 0's sink is in its first write.
     writing: AtomicU64,
-    /// How often worker 0 came to pass.
+    /// How many times worker 0 came to pass.
     passed: AtomicU64,
-    /// How often worker 1 was told how many events there are, and how many at first and then.
+    /// How many times worker 1 got the number of events, and how many they were at first and next.
     told: AtomicU64,
     first: AtomicU64,
     second: AtomicU64,
@@ -29,7 +29,7 @@ struct Board {
 }
 
 impl Board {
-    /// Looks until the sign is so high.
+    /// Looks until the sign is at least so high.
     fn wait(&self, sign: &AtomicU64, least: u64) {
         for _ in 0..LOOKS {
             if sign.load(Ordering::SeqCst) >= least {
@@ -41,7 +41,7 @@ impl Board {
     }
 }
 
-/// A copy of the board, of which there is one.
+/// A copy of the only board.
 #[derive(Drop)]
 struct Signs {
     board: Arc<Board, Global>,
@@ -92,7 +92,9 @@ impl Gate for Signs {
     }
 }
 
-/// A sink that takes all. In its first write it waits until worker 1 was told, where it is watched.
+/// A sink that takes all.
+///
+/// If it is watched, it waits in its first write until worker 1 got the number of events.
 #[derive(Drop)]
 struct Watched {
     signs: Option<Signs>,
@@ -120,7 +122,7 @@ fn words_of(alloc: Global) -> Result<Vec<String>, AllocError> {
     Ok(words)
 }
 
-/// For each session one line.
+/// Returns a source of one line for each session.
 fn sources(alloc: Global) -> Result<Vec<MemorySource>, AllocError> {
     let mut sources = Vec::new(alloc);
     for _ in 0..2 {
@@ -130,7 +132,7 @@ fn sources(alloc: Global) -> Result<Vec<MemorySource>, AllocError> {
     Ok(sources)
 }
 
-/// For each session a sink, the first of which is watched.
+/// Returns a sink for each session, the first of which is watched.
 fn sinks(alloc: Global, signs: Signs) -> Result<Vec<Watched>, AllocError> {
     let mut sinks = Vec::new(alloc);
     sinks.push(Watched { signs: Some(signs) })?;
@@ -138,7 +140,7 @@ fn sinks(alloc: Global, signs: Signs) -> Result<Vec<Watched>, AllocError> {
     Ok(sinks)
 }
 
-/// Serves two sessions, behind a gate that keeps their order. Answers the status.
+/// Serves two sessions, behind a gate that keeps their order, and returns the status.
 fn serve(
     rt: &(impl Abort + Threads + Wait + Sync),
     alloc: Global,

@@ -1,6 +1,6 @@
 //! Workers in threads, and the order that a gate makes them keep: two on a floor, and those of whole services.
-//! And whole services whose sources, sinks and disks fail at some call.
-//! Nothing of the server stands on it.
+//!
+//! And whole services whose sources, sinks and disks fail at a call. Nothing of the server uses this crate.
 #![tactic(auto)]
 
 #[cfg(test)]
@@ -22,7 +22,5 @@ mod stated;
 mod tests;
 #[cfg(test)]
 mod torn;
-#[cfg(test)]
-mod worked;
 
 pub use rounds::Rounds;

@@ -4,14 +4,14 @@ use cfs_fakes::{HoldGate, MemoryDisk};
 use std::process::Abort;
 use std::test::Fail;
 
-/// How often each worker came to pass: the two sessions exactly so often, and the collector at least.
+/// Checks how many times each worker came to pass: the two sessions exactly so often, and the collector at least.
 fn expect_passes(rt: &impl Abort, gate: &HoldGate, first: u64, second: u64, collector: u64) {
     assert!(rt; !gate.gave_up());
     assert_eq!(rt; (gate.passed(0), gate.passed(1)), (first, second));
     assert!(rt; gate.passed(2) >= collector);
 }
 
-/// All went well, and these are the replies to the sessions.
+/// Checks that all went well, and that these are the replies to the sessions.
 fn expect_two(rt: &impl Abort, came: &Came, first: &str, second: &str) {
     assert!(rt; came.status == 0);
     match came.replies.as_slice() {
@@ -39,14 +39,14 @@ fn sessions_and_the_collector_run_beside_each_other(rt: HostRuntime) -> Result<(
     ];
     let asked = ask_for(&["play", "4", "0", "1"], &seats);
     let came = serve(&rt, rt.alloc(), &gate, &mut None::<MemoryDisk>, &asked)?;
-    // the words of the seed in their order; a grant begins with how many words were drawn
+    // the words of the seed in their order, where a grant begins with the number of words that were drawn
     let first = "ok 00000003903df1a0\nok 00000002e56a5d40\nok 00000002ade0b876\n";
     expect_two(&rt, &came, first, "ok\n");
     expect_passes(&rt, &gate, 4, 2, 3);
     Ok(())
 }
 
-/// Its events, the replies to its first session, and the report.
+/// Checks the run's events, the replies to its first session, and the report.
 fn expect_run(rt: &impl Abort, came: &Came, events: &str, replies: &str, report: &str) {
     assert_eq!(rt; came.events.as_slice(), events.as_bytes());
     assert_eq!(rt; came.first(), replies.as_bytes());
@@ -56,9 +56,9 @@ fn expect_run(rt: &impl Abort, came: &Came, events: &str, replies: &str, report:
 #[test]
 fn two_collections_come_while_their_session_goes_on(rt: HostRuntime) -> Result<(), Fail> {
     // the collector's turns come once the index is cut off. It carries out the delete in seven parts: the root is
-    // copied, a leaf and a node come, a leaf, a node and the shadow root go, the bit is cleared. Then it begins, scans
-    // the root index, condemns the other, sweeps in two steps and is finished. The session goes on for one line, the
-    // next collection does the same and finds nothing, and then the session goes on
+    // copied, a leaf and a node are finished, a leaf, a node and the shadow root are freed, and the bit is cleared.
+    // Then it begins, scans the root index, condemns the other, sweeps in two steps and is finished. The session goes
+    // on for one line, the next collection does the same and finds nothing, and then the session goes on
     let holds = [
         hold(1, 0, 0, 1),
         hold(0, 2, 1, 12),

@@ -23,7 +23,7 @@ pub struct Seat<'a> {
     pub sink: Taking,
 }
 
-/// A session with these lines, whose ends don't fail.
+/// Returns a session with these lines, whose source and sink don't fail.
 pub fn session(lines: &str) -> Seat<'_> {
     Seat {
         lines,
@@ -40,7 +40,7 @@ pub struct Service<'a> {
     pub report: Taking,
 }
 
-/// A service with these words and sessions, whose report's sink doesn't fail.
+/// Returns a service with these words and sessions, whose report's sink doesn't fail.
 pub fn ask_for<'a>(words: &'a [&'a str], seats: &'a [Seat<'a>]) -> Service<'a> {
     Service {
         words,
@@ -57,12 +57,12 @@ pub struct Came {
     pub replies: Vec<Vec<u8>>,
     /// A letter for each event: `u` unread, `a` asked, `l` left, `b` began, `v` vanished, `f` finished, `h` halted.
     pub events: Vec<u8>,
-    /// The moment at which each was recorded.
+    /// The moment at which each event was recorded.
     pub moments: Vec<u64>,
 }
 
 impl Came {
-    /// The replies to the first session.
+    /// Returns the replies to the first session.
     pub fn first(&self) -> &[u8] {
         match self.replies.first() {
             Some(replies) => replies.as_slice(),
@@ -70,7 +70,7 @@ impl Came {
         }
     }
 
-    /// How many lines had been answered by this moment.
+    /// Returns how many lines had been answered by this moment.
     pub fn answered_by(&self, at: u64) -> usize {
         let mut lines = 0usize;
         for (event, moment) in self.events.iter().zip(self.moments.iter()) {
@@ -82,7 +82,7 @@ impl Came {
     }
 }
 
-/// Before this turn the worker waits until the other worker has finished that turn.
+/// Returns the hold by which before this turn the worker waits until the other worker has finished that turn.
 pub fn hold(worker: u32, turn: u64, until_worker: u32, until_turn: u64) -> Hold {
     Hold {
         worker,
@@ -92,7 +92,7 @@ pub fn hold(worker: u32, turn: u64, until_worker: u32, until_turn: u64) -> Hold 
     }
 }
 
-/// A gate with these holds, each of which looks a hundred million times at most.
+/// Makes a gate with these holds, each of which looks at most a hundred million times.
 pub fn gate_of(alloc: Global, holds: &[Hold]) -> Result<HoldGate, Fail> {
     let mut copies = Vec::new(alloc);
     for hold in holds {
@@ -132,7 +132,7 @@ fn sinks_of(alloc: Global, seats: &[Seat<'_>]) -> Result<Vec<TrialSink>, AllocEr
     Ok(sinks)
 }
 
-/// How many blocks a disk has, where there is one.
+/// Returns how many blocks a disk has, if there is one.
 fn blocks_of<D: Disk>(disk: &Option<D>) -> Option<u32>
     ensures { result ≡ option_map D.blocks disk.now }
 {
@@ -142,7 +142,7 @@ fn blocks_of<D: Disk>(disk: &Option<D>) -> Option<u32>
     }
 }
 
-/// Whether a disk of so many blocks is one for this volume; for no volume, no disk.
+/// Returns whether a disk of this number of blocks is one for this volume. For no volume there must be no disk.
 fn is_for(volume: &Option<Volume>, blocks: Option<u32>) -> bool
     ensures { result ≡ true → FitsVolume volume.now blocks }
 {
@@ -156,8 +156,9 @@ fn is_for(volume: &Option<Volume>, blocks: Option<u32>) -> bool
     }
 }
 
-/// The command of words that are of a form: they name so many sources and sinks, and a volume that such a disk is for; or
-/// none, where there is no disk.
+/// Returns the command of words that have a form.
+///
+/// They name this number of sources and of sinks, and a volume for such a disk, or none if there is no disk.
 pub fn expect_form<'a>(
     rt: &impl Abort,
     alloc: Global,
@@ -227,7 +228,7 @@ fn came_of<D>(
     })
 }
 
-/// Does what the words ask, which are of a form, behind this gate, on the volume of this disk if there is one.
+/// Does what the words ask, which have a form, behind this gate, on the volume of this disk if there is one.
 pub fn serve<D: Disk + Send + Drop>(
     rt: &(impl Abort + Threads + Wait + Sync),
     alloc: Global,
@@ -252,7 +253,7 @@ pub fn serve<D: Disk + Send + Drop>(
     Ok(came)
 }
 
-/// The same with nobody held back.
+/// Does the same with nobody held back.
 pub fn play<D: Disk + Send + Drop>(
     rt: &(impl Abort + Threads + Wait + Sync),
     alloc: Global,

@@ -2,20 +2,20 @@
 use cfs_base::{Failed, Sink};
 use std::alloc::Global;
 
-/// How a sink takes: so many bytes a call at most, and this call, counted from 0, fails.
+/// How a sink takes: at most `most` bytes at a call, and this call, counted from 0, fails.
 #[derive(Clone, Copy)]
 pub struct Taking {
     pub most: usize,
     pub fails_at: u64,
 }
 
-/// It takes all that it is offered.
+/// The sink takes all that it is offered.
 pub const ALL: Taking = Taking {
     most: usize::MAX,
     fails_at: u64::MAX,
 };
 
-/// It takes all, until this call fails.
+/// Returns how a sink takes that takes all, until this call fails.
 pub fn failing(fails_at: u64) -> Taking {
     Taking {
         most: usize::MAX,
@@ -23,12 +23,12 @@ pub fn failing(fails_at: u64) -> Taking {
     }
 }
 
-/// It takes a byte a call, until this call fails.
+/// Returns how a sink takes that takes a byte at a call, until this call fails.
 pub fn slow(fails_at: u64) -> Taking {
     Taking { most: 1, fails_at }
 }
 
-/// Keeps what it has taken.
+/// A sink that keeps what it has taken.
 #[derive(Drop)]
 pub struct TrialSink {
     pub taken: Vec<u8>,
@@ -38,6 +38,7 @@ pub struct TrialSink {
 }
 
 impl TrialSink {
+    /// Makes a sink that has taken nothing.
     pub fn new(alloc: Global, taking: Taking) -> TrialSink {
         TrialSink {
             taken: Vec::new(alloc),

@@ -25,7 +25,7 @@ fn hold(worker: u32, turn: u64, until_worker: u32, until_turn: u64) -> Hold {
     }
 }
 
-/// A gate that makes the turns come as 1, then 2 and 2, then 1 and 1; the last turn of worker 1 ends the order.
+/// Makes a gate by which the turns come as 1, then 2 and 2, then 1 and 1. The last turn of worker 1 ends the order.
 fn one_order(alloc: Global) -> Result<HoldGate, NoMemory> {
     let mut holds = Vec::new(alloc);
     holds.push(hold(1, 0, 0, 0))?;
@@ -34,7 +34,7 @@ fn one_order(alloc: Global) -> Result<HoldGate, NoMemory> {
     HoldGate::new(alloc, holds, 100_000_000)
 }
 
-/// So they came, all behind the gate.
+/// Checks that they came so, all behind the gate.
 fn expect_one_order(rt: &impl Abort, gate: &HoldGate, made: u64) {
     assert!(rt; !gate.gave_up());
     assert!(rt; made == 122_112 || made == 122_121);

@@ -46,7 +46,7 @@ fn record(rt: &(impl Abort + Threads + Wait + Sync), alloc: Global) -> Result<Re
     }
 }
 
-/// What a crash at this moment leaves, with these torn blocks; nothing where it can't leave them.
+/// Returns what a crash at this moment leaves, with these torn blocks, or `None` if it can't leave them.
 fn left(alloc: Global, disk: &TornMemory, at: u64, picks: &[TornPick]) -> Option<Pair> {
     if at > disk.moment() || !disk.may_tear(at, picks) {
         return None;
@@ -57,7 +57,7 @@ fn left(alloc: Global, disk: &TornMemory, at: u64, picks: &[TornPick]) -> Option
     Some(PairDisk::new(image))
 }
 
-/// This block with this byte all over.
+/// Returns the pick by which this block is full of this byte.
 fn torn(block: u32, byte: u8) -> TornPick {
     TornPick {
         block,
@@ -65,7 +65,7 @@ fn torn(block: u32, byte: u8) -> TornPick {
     }
 }
 
-/// The block below that a crash at this moment may tear.
+/// Returns the block below that a crash at this moment may tear.
 fn torn_at(disk: &TornMemory, at: u64) -> Option<u32> {
     for block in 0..disk.blocks() {
         if disk.may_tear(at, &[torn(block, 0)]) {

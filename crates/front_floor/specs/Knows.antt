@@ -4,7 +4,7 @@ use mathlib.Core.List.{IsPrefix}
 use Rattle.atomic_table.specs.Seated.{TableId}
 use Rattle.front_floor.specs.declared.view.LogView.{LogView}
 
--- the table of its lock, its number, its turns that are left, and what it was told of the log
+-- the table of its lock, its number, its turns that are left, and what it knows of the log
 pub record HandleKnows (E : Type 0) : Type 0 where
   pub table : TableId
   pub number : ℕ
@@ -16,12 +16,12 @@ pub record Dealt (E : Type 0) : Type 0 where
   pub table : TableId
   pub handles : List (HandleKnows E)
 
--- each is of the lock with this table
+-- each handle is one of the lock with this table
 pub record AreOf {E : Type 0} (table : TableId) (dealt : Dealt E) : Type 0 where
   pub together : dealt.table ≡ table
   pub all : All (λ (handle : HandleKnows E). handle.table ≡ table) dealt.handles
 
--- places from a on and below b, in increasing order
+-- places from a up to b, in increasing order
 abbrev pub PlacesRise : ℕ → List ℕ → ℕ → Type 0
 PlacesRise a [] b = a ≤ b
 PlacesRise a (place ∷ places) b = (a ≤ place) × PlacesRise (suc place) places b
@@ -36,20 +36,20 @@ module _ {E : Type 0} where
   fresh_from table n (left ∷ budgets) =
       record { table = table; number = n; left = left; heard = nothing } ∷ fresh_from table (suc n) budgets
 
-  -- What was heard fits the log: it begins with all that was seen, the entries that are mine stand in that part, and
-  -- the length that was told is no less than it, and no more than the log's.
+  -- What is known fits the log: the log begins with all that was seen, the entries that are mine are in that part,
+  -- and the known length is no less than that part's and no more than the log's.
   pub record Fits (log : List E) (heard : LogView E) : Type 0 where
     pub begins : IsPrefix heard.seen log
     pub mine : PlacesRise 0 heard.mine (length heard.seen)
     pub told : length heard.seen ≤ heard.known
     pub known : heard.known ≤ length log
 
-  -- so many entries were added at the end, one at most
+  -- `added` entries were added at the end, at most one
   abbrev pub Grows : (before after : List E) → ℕ → Type 0
   Grows before after added =
       ((after ≡ before) × (added ≡ 0)) ⊎ ((entry : E) × (after ≡ before ++ entry ∷ []) × (added ≡ 1))
 
-  -- where an entry was added its place is mine; where none was, no place is
+  -- if an entry was added its place is mine; if none was added, no more place is mine
   abbrev pub Notes : (before after : List E) → (old new : List ℕ) → Type 0
   Notes before after old new =
       ((after ≡ before) × (new ≡ old))
@@ -64,15 +64,15 @@ module _ {E : Type 0} where
     pub mine : IsPrefix old.heard.mine new.heard.mine
     pub known : old.heard.known ≤ new.heard.known
 
--- what a turn of a worker makes of a machine: nothing where the worker is done
+-- what a turn of a worker makes of a machine: nothing if the worker is done
 pub record Turns {M : Type 0} (done : M → ℕ → Bool) (turned : M → ℕ → M → Type 0) (worker : ℕ) (before after : M)
     : Type 0 where
   pub made : done before worker ≡ false → turned before worker after
   pub still : done before worker ≡ true → after ≡ before
 
--- A turn of the worker was made, and it answered whether the worker is done. The log before it had all that was seen,
--- and as much as was known of, at least. All that was seen is seen still, and at least as much as was known of. Where
--- the turn added an entry, that is the last one seen, and its place is mine.
+-- A turn of the worker was made, and it returned whether the worker is done. The log before it had all that was seen,
+-- and at least the known length. All that was seen is still seen, and at least as many entries as were known. If the
+-- turn added an entry, that is the last one seen, and its place is mine.
 pub record EntersLog {M E : Type 0} (done : M → ℕ → Bool) (turned : M → ℕ → M → Type 0) (log : M → List E) (worker : ℕ)
     (answer : Bool) (old new : LogView E) : Type 0 where
   pub before : M

@@ -1,6 +1,6 @@
--- What seats know, the kinds of step that they make, and the rule that holds between any two steps.
--- Word 0 counts the tickets that were drawn, word 1 those that were served, word 2 the entries of the log. Slot
--- 0 has the machine, in a box.
+-- What seats know, the kinds of step that they make, and the rule that holds between any two steps. Word 0 counts the
+-- tickets that were drawn, word 1 those that were served, and word 2 the entries of the log. Slot 0 has the machine,
+-- in a box.
 use Rattle.std.specs.Prelude.{◌≡◌, ℕ, ◌+◌, ◌-◌, ◌<◌, ◌≤◌, ◌^◌, ◌==◌, ◌⊎◌, List, [], ◌∷◌, ◌++◌, length}
 use Rattle.std.specs.Prelude.{Option, Some, None, Bool, MatchBool, sum, All, if◌then◌else◌}
 use Rattle.std.specs.Global.{Box}
@@ -40,7 +40,7 @@ module _ {E : Type 0} where
   log_held stands.Idle = []
   log_held (stands.Waits ticket) = []
 
-  -- the turns that a seat has left, and those that it has still to deal
+  -- the turns that a seat has left, and those that it still has to deal
   abbrev pub budget : View E → ℕ
   budget v = v.left + sum v.plan
 
@@ -62,7 +62,7 @@ module _ {E : Type 0} where
   abbrev pub taken_in : View E → View E → View E
   taken_in v w = record v { parts = v.parts + w.parts; told = w.heard ∷ v.told }
 
-  -- the log that is held was counted: so many entries were added to n of them
+  -- the log that is held was counted: `added` entries were added to n entries
   abbrev pub counted : List E → ℕ → ℕ → View E → View E
   counted log added n v =
       let places = if added == 1 then n ∷ [] else [] in
@@ -88,25 +88,25 @@ abbrev pub Hand : Type 0 → Type 0 → Type 0
 Hand M E = Me (Option M) (View E)
 
 module _ {M E : Type 0} where
-  -- between turns
+  -- the seat is between two turns
   pub record IsIdle (me : Hand M E) : Type 0 where
     pub stand : me.0.stand ≡ stands.Idle
     pub nothing : me.1 ≡ []
 
-  -- what a handle steps with
+  -- a handle, as it makes steps
   pub record IsHandle (turns : ℕ) (me : Hand M E) : Type 0 where
     pub idle : IsIdle me
     pub left : me.0.left ≡ turns
     pub parts : me.0.parts ≡ 1
 
-  -- what the lock is kept with while so many handles are out
+  -- the keeper of a lock, while `count` handles are out
   pub record IsKeeper (count : ℕ) (me : Hand M E) : Type 0 where
     pub idle : IsIdle me
     pub parts : me.0.parts + count ≡ 2 ^ 32
     pub told : me.0.told ≡ []
 
 module _ {M E : Type 0} (log_of : M → List E) where
-  -- where the ticket is served, the seat has the machine
+  -- if the ticket is served, the seat has the machine
   abbrev pub Looked : Bool → Hand M E → Hand M E → Type 0
   Looked here v w =
       MatchBool here
@@ -118,7 +118,8 @@ module _ {M E : Type 0} (log_of : M → List E) where
   abbrev pub Counted : M → (added : ℕ) → Hand M E → (n : ℕ) → Hand M E → Type 0
   Counted m added v n w = (n ≡ length (log_held v.0.stand)) × (w ≡ (counted (log_of m) added n v.0, v.1))
 
-  -- A step finds n in its word. One that adds leaves n + k there, and each other leaves n. The seat, v before, is w.
+  -- A step finds n in its word. One that adds leaves n + k there, and any other leaves n. The seat, v before, becomes
+  -- w.
   abbrev pub Steps : Kind → (k : ℕ) → Hand M E → (n : ℕ) → Hand M E → Type 0
   Steps deal k v n w = w ≡ (dealer v.0, v.1)
   Steps draw k v n w = w ≡ (record v.0 { left = v.0.left - 1; stand = stands.Waits n }, v.1)
@@ -130,8 +131,8 @@ module _ {M E : Type 0} (log_of : M → List E) where
   Steps tell k v n w = (v.0.heard.known ≤ n) × (w ≡ (record v.0 { heard = record v.0.heard { known = n } }, v.1))
   Steps take_in k v n w = (handle : View E) × (w ≡ (taken_in v.0 handle, v.1))
 
-  -- Seats stand in a queue, in the order of their tickets. One that waits has its place there. One that holds has
-  -- the place that is served, and the machine is out.
+  -- Seats wait in a queue, in the order of their tickets. One that waits has its place there. One that holds the
+  -- machine has the place that is served, and the machine is out.
   abbrev pub FitsStand : Homes M → List ℕ → ℕ → List E → ℕ → Stand E → Type 0
   FitsStand homes queue served log id stands.Idle = Unit {0}
   FitsStand homes queue served log id (stands.Waits ticket) =
@@ -146,7 +147,7 @@ module _ {M E : Type 0} (log_of : M → List E) where
     pub heard : Fits log v.heard
     pub told : All (Fits log) v.told
 
-  -- a seat of these holds the machine
+  -- one of these seats holds the machine
   abbrev pub IsHeld : List (View E) → Type 0
   IsHeld views =
       (id : ℕ) × (v : View E) × (own : List E) × (get_elem? views id ≡ maybe.some v) × (v.stand ≡ stands.Holds own)
@@ -157,7 +158,7 @@ module _ {M E : Type 0} (log_of : M → List E) where
       ((m : M) × (s.homes ≡ maybe.some (Some m) ∷ []) × (log_of m ≡ log))
       ⊎ ((s.homes ≡ maybe.none ∷ []) × IsHeld s.views)
 
-  -- the rule, where there are so many turns in all
+  -- the rule, for this number of turns in all
   pub record IsServed (turns : ℕ) (s : State (Option M) (View E)) : Type 0 where
     pub queue : List ℕ
     pub served : ℕ

@@ -10,7 +10,7 @@ use crate::rule::RowSeat;
 use cfs_base::Logged;
 use std::marker::Model;
 
-/// The right to make turns of a worker, and what it was told of the log.
+/// The right to make turns of a worker, and what the handle knows of the log.
 pub struct WorkerHandle<M: Logged> {
     pub(crate) seat: RowSeat<M>,
     pub(crate) number: u32,
@@ -54,14 +54,14 @@ impl<M: Logged> WorkerHandle<M> {
         seat
     }
 
-    /// The worker whose turns it makes.
+    /// Returns the worker whose turns it makes.
     pub fn number(&self) -> u32
         ensures { result ≡ self.now.number }
     {
         self.number
     }
 
-    /// How many turns it may still make.
+    /// Returns how many turns it may still make.
     pub fn left(&self) -> u64
         ensures { result ≡ self.now.left }
     {
@@ -88,7 +88,7 @@ impl<M: Logged> Model for WorkerHandles<M> {
 }
 
 impl<M: Logged> WorkerHandles<M> {
-    /// The handle of this number, which is below their count.
+    /// Returns the handle of this number, which is below their count.
     pub fn at(&mut self, number: u32) -> &mut WorkerHandle<M>
         requires within { number < length self.old.handles }
         ensures* writes_back { sem 𝓛 (Lends (handles_row M.row M.Entry.row (record { log = M.log }) M.Machine)

@@ -1,6 +1,7 @@
-//! A machine that threads enter by tickets, and whose log anybody counts without waiting. The layer above uses what
-//! a handle knows of the log after each call, and that the machine which is taken out is of the type that was put in,
-//! whose log begins with what each handle saw.
+//! A machine that threads enter by tickets, and whose log anybody counts without waiting.
+//!
+//! The layer above uses what a handle knows of the log after each call, and that the machine which is taken out has
+//! the type of the one that was put in, and a log that begins with what each handle saw.
 #![tactic(auto)]
 
 mod handle;

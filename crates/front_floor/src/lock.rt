@@ -17,8 +17,9 @@ use std::sync::Wait;
 
 type Rows<M> = Table<Option<Box<M>>, View<<M as Logged>::Entry>, Vec<u64>, Ticketed<M>, Global>;
 
-/// A machine that handles enter one at a time, in the order of their tickets. Contracts see a lock as the identity
-/// of its table.
+/// A machine that handles enter one at a time, in the order of their tickets.
+///
+/// Contracts see a lock as the identity of its table.
 pub struct TicketLock<M: Logged> {
     rows: Rows<M>,
 }
@@ -40,12 +41,12 @@ pub struct Workplace<M: Logged> {
     pub handles: WorkerHandles<M>,
 }
 
-/// There was no memory for a lock. The machine is handed back.
+/// There was no memory for a lock. It hands back the machine.
 pub struct LockFault<M> {
     pub machine: M,
 }
 
-/// A table with this machine, and its first seat, which has all budgets to deal.
+/// Makes a table with this machine, and its first seat, which has all budgets to deal.
 fn lay<M: Logged>(
     alloc: Global,
     machine: M,
@@ -86,7 +87,7 @@ fn lay<M: Logged>(
     }
 }
 
-/// Deals a handle for each budget, for which the list has room.
+/// Deals a handle for each budget. The list has room for them.
 fn deal_all<M: Logged>(
     words: &SharedRows<M>,
     keeper: &mut RowSeat<M>,
@@ -113,7 +114,7 @@ fn deal_all<M: Logged>(
     }
 }
 
-/// Where one seat has every part of the lock, the machine comes out.
+/// Takes the machine out of a table. One seat has every part of the lock.
 fn finish<M: Logged>(rows: Rows<M>, keeper: RowSeat<M>) -> M
     requires table { SitsAt rows.shared.table_id keeper.table_id }
     requires parts { keeper.me.0.parts ≡ 2 ^ 32 }
@@ -130,8 +131,9 @@ fn finish<M: Logged>(rows: Rows<M>, keeper: RowSeat<M>) -> M
 }
 
 impl<M: Logged> TicketLock<M> {
-    /// A lock with this machine, and a handle for each budget, numbered from 0. The fault comes for want of memory
-    /// alone, and has the machine as it was.
+    /// Makes a lock with this machine, and a handle for each budget, numbered from 0.
+    ///
+    /// Fails only for want of memory, and then hands back the machine as it was.
     pub fn new(alloc: Global, machine: M, budgets: &[u64]) -> Result<Workplace<M>, LockFault<M>>
         requires some { 0 < length budgets.now }
         requires few { length budgets.now < 2 ^ 32 }
@@ -161,8 +163,9 @@ impl<M: Logged> TicketLock<M> {
         }
     }
 
-    /// Makes one turn of the worker whose handle it is, once its ticket is served, and answers whether the worker is
-    /// done. Waits while those with earlier tickets make their turns.
+    /// Makes one turn of the handle's worker, once its ticket is served, and returns whether the worker is done.
+    ///
+    /// Waits while those with earlier tickets make their turns.
     pub fn enter<R: Wait>(&self, rt: &R, handle: &mut WorkerHandle<M>) -> bool
         requires of { handle.old.table ≡ self.now }
         requires left { 0 < handle.old.left }
@@ -175,7 +178,7 @@ impl<M: Logged> TicketLock<M> {
         done
     }
 
-    /// How many entries the log has. Waits for nobody.
+    /// Returns how many entries the log has. Waits for nobody.
     pub fn status(&self, handle: &mut WorkerHandle<M>) -> u64
         requires of { handle.old.table ≡ self.now }
         ensures fresh { handle.old.heard.known ≤ result }
@@ -184,7 +187,7 @@ impl<M: Logged> TicketLock<M> {
         tell(&self.rows.shared, &mut handle.seat)
     }
 
-    /// The machine, once all handles of the lock are handed in.
+    /// Returns the machine, once all handles of the lock are handed in.
     pub fn close(self, handles: WorkerHandles<M>) -> M
         requires of { AreOf self handles }
         ensures fits { All (λ (handle : HandleKnows M.Entry). Fits (M.log result) handle.heard) handles.handles }

@@ -9,7 +9,7 @@ use std::alloc::Global;
 use std::sync::Wait;
 use std::thread::Threads;
 
-/// The turns that each worker of a machine has left, worker after worker.
+/// Returns the turns that each worker of a machine has left, one worker after another.
 fn budgets_of<M: Logged>(alloc: Global, machine: &M) -> Result<Vec<u64>, NoMemory>
     ensures count { IfOk result (λ b. length b.items ≡ M.worker_count machine.now) }
     ensures each { IfOk result (λ b. (w : ℕ) → w < M.worker_count machine.now
@@ -22,7 +22,7 @@ fn budgets_of<M: Logged>(alloc: Global, machine: &M) -> Result<Vec<u64>, NoMemor
     Ok(budgets)
 }
 
-/// Whether a lock can deal these budgets.
+/// Returns whether a lock can deal these budgets.
 fn can_deal(budgets: &[u64]) -> bool
     ensures some { result ≡ true → 0 < length budgets.now }
     ensures few { result ≡ true → length budgets.now < 2 ^ 32 }
@@ -40,8 +40,9 @@ fn can_deal(budgets: &[u64]) -> bool
     0 < budgets.len() && budgets.len() < 1 << 32
 }
 
-/// Makes turns of a machine, each worker's in a thread. None are made where there is no worker, or all together have
-/// 2^64 - 1 turns or more.
+/// Makes turns of a machine, each worker's in a thread.
+///
+/// It makes none if there is no worker, or if all together have 2^64 - 1 turns or more.
 fn make_turns_beside<M: Logged + Send, G: Gate + Sync, R: Threads + Wait + Sync>(
     rt: &R,
     alloc: Global,
@@ -65,9 +66,10 @@ fn make_turns_beside<M: Logged + Send, G: Gate + Sync, R: Threads + Wait + Sync>
     }
 }
 
-/// Makes all turns of a machine, each worker's in a thread, behind the gate; what is left then, worker after worker. No
-/// more is known of the machine than its type, and that each worker is done. The fault comes for want of memory alone:
-/// no turn was made.
+/// Makes all turns of a machine, each worker's in a thread, behind the gate.
+///
+/// Those that are left then are made one worker after another. Nothing is known of the returned machine but its type,
+/// and that each worker is done. Fails only for want of memory, and then no turn was made.
 pub fn make_all_turns<M: Logged + Send, G: Gate + Sync, R: Threads + Wait + Sync>(
     rt: &R,
     alloc: Global,

@@ -1,17 +1,18 @@
-//! The rule of a lock, and what each kind of step tells the seat that makes it.
+//! The rule of a lock, and what the seat that makes a step learns from it, for each kind of step.
 use crate::view::View;
 use atomic_table::{Join, Play, Seat, Shared, Split, TableRule};
 use cfs_base::Logged;
 use std::marker::PhantomData;
 
-/// The rule. It is told the budgets when the table is made.
+/// The rule. It gets the budgets when the table is made.
 pub struct Ticketed<M: Logged>(PhantomData<M>);
 
-/// The words and the slot of a lock. The machine is in a box, so that a turn moves a pointer out of the slot and back,
-/// however large the machine is.
+/// The words and the slot of a lock.
+///
+/// The machine is in a box, so that a turn moves a pointer out of the slot and back, however large the machine is.
 pub type SharedRows<M> = Shared<Option<Box<M>>, View<<M as Logged>::Entry>, Vec<u64>, Ticketed<M>>;
 
-/// What a thread makes steps with.
+/// What a thread uses to make steps.
 pub type RowSeat<M> = Seat<Option<Box<M>>, View<<M as Logged>::Entry>>;
 
 impl<M: Logged> TableRule<Option<Box<M>>, View<M::Entry>, Vec<u64>> for Ticketed<M> {
@@ -23,6 +24,7 @@ impl<M: Logged> TableRule<Option<Box<M>>, View<M::Entry>, Vec<u64>> for Ticketed
     ghost first = { λ budgets. idle (2 ^ 32) 0 budgets.items };
 }
 
+/// The step that draws a ticket.
 pub struct DrawTicket;
 
 impl<M: Logged> Play<Option<Box<M>>, View<M::Entry>> for DrawTicket {
@@ -31,6 +33,7 @@ impl<M: Logged> Play<Option<Box<M>>, View<M::Entry>> for DrawTicket {
     ghost then = { λ s v n w. Steps (log_in M.log) draw s.first v n w };
 }
 
+/// The step that looks which ticket is served.
 pub struct Look;
 
 impl<M: Logged> Play<Option<Box<M>>, View<M::Entry>> for Look {
@@ -39,6 +42,7 @@ impl<M: Logged> Play<Option<Box<M>>, View<M::Entry>> for Look {
     ghost then = { λ s v n w. Steps (log_in M.log) look s.first v n w };
 }
 
+/// The step that counts what was added to the log.
 pub struct Count;
 
 impl<M: Logged> Play<Option<Box<M>>, View<M::Entry>> for Count {
@@ -47,6 +51,7 @@ impl<M: Logged> Play<Option<Box<M>>, View<M::Entry>> for Count {
     ghost then = { λ s v n w. Steps (log_in M.log) count s.first v n w };
 }
 
+/// The step that lets the next ticket be served.
 pub struct PassOn;
 
 impl<M: Logged> Play<Option<Box<M>>, View<M::Entry>> for PassOn {
@@ -55,6 +60,7 @@ impl<M: Logged> Play<Option<Box<M>>, View<M::Entry>> for PassOn {
     ghost then = { λ s v n w. Steps (log_in M.log) pass_on s.first v n w };
 }
 
+/// The step that reads how long the log is.
 pub struct Tell;
 
 impl<M: Logged> Play<Option<Box<M>>, View<M::Entry>> for Tell {
@@ -63,7 +69,7 @@ impl<M: Logged> Play<Option<Box<M>>, View<M::Entry>> for Tell {
     ghost then = { λ s v n w. Steps (log_in M.log) tell s.first v n w };
 }
 
-/// A handle is dealt.
+/// The step that deals a handle.
 pub struct Deal;
 
 impl<E> Split<View<E>> for Deal {
@@ -74,7 +80,7 @@ impl<E> Split<View<E>> for Deal {
     ghost right = { dealt };
 }
 
-/// A handle is taken in.
+/// The step that takes a handle in.
 pub struct TakeIn;
 
 impl<E> Join<View<E>> for TakeIn {

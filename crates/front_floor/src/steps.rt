@@ -1,4 +1,4 @@
-//! The single steps that seats make, a function for each kind.
+//! The single steps that seats make, with a function for each kind.
 ghost use Rattle.std.specs.Prelude.{◌≡◌, ℕ, ◌<◌, ◌^◌, [], ◌∷◌, length, Some, None, true};
 ghost use Rattle.front_floor.specs.Knows.{Grows};
 ghost use Rattle.front_floor.specs.Seats.{IsIdle, Looked, SitsAt, Steps, log_in};
@@ -10,7 +10,7 @@ use cfs_base::Logged;
 use std::sync::Wait;
 use std::thread;
 
-/// Gives a new seat the first budget of those that the keeper has to deal.
+/// Gives a new seat the first of the budgets that the keeper has to deal.
 pub fn deal<M: Logged>(words: &SharedRows<M>, keeper: &mut RowSeat<M>) -> RowSeat<M>
     requires table { SitsAt words.now.table_id keeper.old.table_id }
     requires idle { IsIdle keeper.old.me }
@@ -34,7 +34,7 @@ pub fn draw<M: Logged>(words: &SharedRows<M>, seat: &mut RowSeat<M>) -> u64
     words.fetch_add::<DrawTicket>(seat, 0, 1)
 }
 
-/// Looks until the ticket is served: then the seat has the machine.
+/// Looks until the ticket is served. The seat has the machine then.
 pub fn wait_for_turn<M: Logged, R: Wait>(
     rt: &R,
     words: &SharedRows<M>,
@@ -105,7 +105,7 @@ pub fn pass_on<M: Logged>(words: &SharedRows<M>, seat: &mut RowSeat<M>) -> u64
     words.fetch_add::<PassOn>(seat, 1, 1)
 }
 
-/// Tells how long the log is.
+/// Returns how long the log is.
 pub fn tell<M: Logged>(words: &SharedRows<M>, seat: &mut RowSeat<M>) -> u64
     requires table { SitsAt words.now.table_id seat.old.table_id }
     requires idle { IsIdle seat.old.me }
@@ -115,7 +115,7 @@ pub fn tell<M: Logged>(words: &SharedRows<M>, seat: &mut RowSeat<M>) -> u64
     words.load::<Tell>(seat, 2)
 }
 
-/// Takes a seat in, and remembers what it had heard.
+/// Takes a seat in, and remembers what it knew of the log.
 pub fn take_in<M: Logged>(words: &SharedRows<M>, keeper: &mut RowSeat<M>, handle: RowSeat<M>)
     requires table { SitsAt words.now.table_id keeper.old.table_id }
     requires handle { handle.table_id ≡ words.now.table_id }

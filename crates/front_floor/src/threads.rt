@@ -9,9 +9,10 @@ use std::sync::Wait;
 use std::thread;
 use std::thread::Threads;
 
-/// Makes the turns of each handle beside those of the others, one thread a handle; where no thread can be started the
-/// caller does its work. Before each turn its worker passes the gate, and then is told how many entries the log has.
-/// It ends when its worker is done, or it has no turn left.
+/// Makes the turns of each handle beside those of the others, with a thread for each handle.
+///
+/// If no thread can be started the caller does its work. Before each turn its worker passes the gate, which then gets
+/// the number of entries in the log. A handle ends when its worker is done, or has no turn left.
 pub fn run_workers<M: Logged + Send, G: Gate + Sync, R: Threads + Wait + Sync>(
     rt: &R,
     lock: &TicketLock<M>,
@@ -27,7 +28,7 @@ pub fn run_workers<M: Logged + Send, G: Gate + Sync, R: Threads + Wait + Sync>(
     run_all(rt, lock, gate, handles.handles.as_mut_slice());
 }
 
-/// The same, of handles alone.
+/// Makes the turns of each of these handles in the same way.
 fn run_all<M: Logged + Send, G: Gate + Sync, R: Threads + Wait + Sync>(
     rt: &R,
     lock: &TicketLock<M>,

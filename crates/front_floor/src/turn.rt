@@ -8,7 +8,7 @@ use crate::steps::{count, draw, give, pass_on, take, wait_for_turn};
 use cfs_base::Logged;
 use std::sync::Wait;
 
-/// Makes a turn of a worker. Answers whether it is done, and how many entries the turn added to the log.
+/// Makes a turn of a worker, and returns whether it is done, and how many entries the turn added to the log.
 fn turn_counted<M: Logged>(machine: &mut M, worker: u32) -> (bool, u64)
     ensures turns { Turns M.done M.turned worker machine.old machine.new }
     ensures answers { result.0 ≡ M.done machine.new worker }
@@ -21,7 +21,7 @@ fn turn_counted<M: Logged>(machine: &mut M, worker: u32) -> (bool, u64)
     (done, after - before)
 }
 
-/// Waits until it is the seat's turn, and makes it. Answers whether the worker is done.
+/// Waits until it is the seat's turn, makes it, and returns whether the worker is done.
 pub fn make_turn<M: Logged, R: Wait>(
     rt: &R,
     words: &SharedRows<M>,

@@ -1,22 +1,23 @@
-//! What seats know. It stands in proofs alone: no value of these types is made.
+//! What seats know. These types are for proofs alone: no value of them is made.
 use std::collections::LinkedList;
 
-/// What was heard of the log.
+/// What is known of the log.
 pub struct LogView<E> {
     /// The log as the last turn left it.
     pub seen: LinkedList<E>,
     /// The places in it of the entries that turns of this handle added.
     pub mine: LinkedList<u64>,
-    /// A length of the log that was told.
+    /// A length of the log that was read.
     pub known: u64,
 }
 
-/// How a seat stands to the machine.
+/// What a seat has to do with the machine.
 pub enum Stand<E> {
+    /// The seat is between two turns.
     Idle,
-    /// It has this ticket.
+    /// The seat has this ticket.
     Waits(u64),
-    /// It has the machine, whose log is this one.
+    /// The seat has the machine, whose log is this one.
     Holds(LinkedList<E>),
 }
 
@@ -24,12 +25,14 @@ pub enum Stand<E> {
 pub struct View<E> {
     /// The turns that it may still make.
     pub left: u64,
+    /// What it has to do with the machine.
     pub stand: Stand<E>,
+    /// What it knows of the log.
     pub heard: LogView<E>,
     /// Its parts of the lock, of which there are 2^32 in all.
     pub parts: u64,
     /// The budgets that it has still to deal.
     pub plan: LinkedList<u64>,
-    /// What the handles that it took in had heard.
+    /// What the handles that it took in knew of the log.
     pub told: LinkedList<LogView<E>>,
 }

@@ -27,7 +27,7 @@ impl Diary {
         }
     }
 
-    /// Makes a turn of a worker, who is written down where there is memory.
+    /// Makes a turn of a worker, who is written down if there is memory.
     fn make(&mut self, worker: u32)
         ensures turns { self.new.turns ≡ self.old.turns }
         ensures log { AddsAtMostOne self.old.entries.items self.new.entries.items }

@@ -1,4 +1,4 @@
-//! Two workers behind tickets, who write down whose turn it was. Nothing of the server stands on it.
+//! Two workers behind tickets, who write down whose turn it was. Nothing of the server uses this crate.
 #![tactic(auto)]
 
 mod diary;

@@ -22,7 +22,7 @@ fn diary(alloc: Global, watch: Option<Watch>) -> Diary {
     }
 }
 
-/// How often each of the two stands in the diary.
+/// Checks how often each of the two workers is in the diary.
 fn expect_counts(rt: &impl Abort, diary: &Diary, first: usize, second: usize) {
     assert_eq!(rt;
         diary.entries.iter().filter(|worker| **worker == 0).count(),
@@ -34,7 +34,7 @@ fn expect_counts(rt: &impl Abort, diary: &Diary, first: usize, second: usize) {
     );
 }
 
-/// Makes two turns of a handle. Answers after which of them its worker was done.
+/// Makes two turns of a handle, and returns after which of them its worker was done.
 fn enter_twice(
     rt: &impl Wait,
     lock: &TicketLock<Diary>,

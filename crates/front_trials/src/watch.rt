@@ -8,14 +8,14 @@ use std::thread;
 /// How often a flag is looked for at most.
 const LOOKS: u64 = 100_000_000;
 
-/// Two flags, which all copies share: the turn of worker 0 has begun, and worker 1 was told how long the log is.
+/// Two flags, which all copies share: the turn of worker 0 has begun, and worker 1 got the length of the log.
 #[derive(Drop)]
 pub struct Watch {
     begun: Arc<AtomicU64, Global>,
     told: Arc<AtomicU64, Global>,
 }
 
-/// Looks for a flag. Answers whether it was seen.
+/// Looks for a flag, and returns whether it was seen.
 fn is_seen(flag: &AtomicU64) -> bool {
     for _ in 0..LOOKS {
         if flag.load(Ordering::SeqCst) > 0 {
@@ -27,6 +27,7 @@ fn is_seen(flag: &AtomicU64) -> bool {
 }
 
 impl Watch {
+    /// Makes a watch with no flag set.
     pub fn new(alloc: Global) -> Result<Watch, AllocError> {
         Ok(Watch {
             begun: Arc::new(alloc, AtomicU64::new(0))?,
@@ -34,6 +35,7 @@ impl Watch {
         })
     }
 
+    /// Returns a copy that shares the flags.
     pub fn copy(&self) -> Result<Watch, AllocError> {
         Ok(Watch {
             begun: Arc::try_clone(&self.begun)?,
@@ -41,7 +43,8 @@ impl Watch {
         })
     }
 
-    /// Tells that the turn has begun, and waits until the other worker was told. Answers whether it was.
+    /// Sets the flag that the turn has begun, and waits until the other worker has its answer. Returns whether it
+    /// came.
     pub fn wait(&self) -> bool {
         self.begun.store(1, Ordering::SeqCst);
         is_seen(&self.told)

@@ -33,7 +33,7 @@ new_root_entry n = allocated places.Root n
 
 -- ---- the object alone
 
--- The store has the object besides. The least Free block was claimed for its root, as Allocated, and only this block
+-- The store also has the object. The least Free block was claimed for its root, as Allocated, and only this block
 -- changed.
 pub record MakesAlone {D : Type 0} (g : Ghosts D) (graph : Graph) (ds : Drafts) (id : Puid) (made : Object)
     (old new : D) (after : Kept) : Type 0 where
@@ -49,14 +49,14 @@ abbrev pub made_in : {D : Type 0} {g : Ghosts D} {old : D} {before : Kept} {was 
     → IndexView g old before was → ℕ → Puid → Draft
 made_in i slot id = filled_draft i.index slot (Some id) i.view.draft
 
--- the drafts that stand then
+-- the drafts that there are then
 abbrev pub drafts_then : {D : Type 0} {g : Ghosts D} {old : D} {before : Kept} {was : Drafting}
     → IndexView g old before was → ℕ → Puid → Drafting → Drafts
 drafts_then i slot id now = with_opened i.view.id (opened_as now (made_in i slot id)) i.view.ds
 
--- The store has the object besides, and the draft has its identifier in the slot. The least Free block was claimed for
--- the object's root, as Allocated, and then the draft's leaf and node as for any slot. Nothing changed but this, what
--- is meant for the index, and Free blocks.
+-- The store also has the object, and the draft has its identifier in the slot. The least Free block was claimed for
+-- the object's root, as Allocated, and then the draft's leaf and node as for any slot. Nothing else changed except
+-- what is meant for the index, and Free blocks.
 pub record CreatesInDraft {D : Type 0} {g : Ghosts D} {old : D} {before : Kept} {was : Drafting}
     (i : IndexView g old before was) (slot : ℕ) (made : Object) (new : D) (after : Kept) (now : Drafting)
     (id : Puid) : Type 0 where
@@ -68,7 +68,7 @@ pub record CreatesInDraft {D : Type 0} {g : Ghosts D} {old : D} {before : Kept} 
   pub only : ChangesOnly (λ entry. of_owner id.block entry || of_draft i.view.id.block entry) (g.content old)
       (g.content new)
 
--- how it ends where the store has the draft: each image on the way holds all objects as they were, or the new one too
+-- how it ends if the store has the draft: each image on the way holds all objects as they were, or the new one too
 pub record CreateEnds {D : Type 0} {g : Ghosts D} {old : D} {before : Kept} {was : Drafting}
     (i : IndexView g old before was) (slot : ℕ) (made : Object) (word : ℕ) (new : D) (after : Kept) (now : Drafting)
     (result : Result Puid Refused) : Type 0 where
@@ -91,7 +91,7 @@ pub record CreateCall {D : Type 0} (g : Ghosts D) (slot floor : ℕ) (old new : 
   pub takes : sum before.free ≤ sum after.free + (1 + draft_takes was (slot / 64))
   pub calls : MakesAtMost g 13 7 old new
 
--- how it is made, and its identifier put into a slot of a draft
+-- how the object is made, and its identifier put into a slot of a draft
 pub record CreatesIn {D : Type 0} (g : Ghosts D) (slot : ℕ) (made : Object) (word floor : ℕ) (old new : D)
     (before after : Kept) (was now : Drafting) (result : Result Puid Refused) : Type 0 where
   pub creates : (i : IndexView g old before was) → CreateEnds i slot made word new after now result

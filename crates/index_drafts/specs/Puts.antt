@@ -24,18 +24,19 @@ use Rattle.ufs_model.specs.declared.object.Index.{Index}
 use Rattle.ufs_model.specs.declared.object.Object.TheVariants as objects
 use Rattle.vol_image.specs.Seen.{tree_in}
 
--- The store has the draft, and what it is of the model is this index.
+-- The store has the draft, and its draft of the model is this index.
 pub record IndexView {D : Type 0} (g : Ghosts D) (disk : D) (space : Kept) (was : Drafting) : Type 0 where
   pub view : DraftView g disk space was
   pub index : Index
   pub is : view.draft.object ≡ objects.Index index
 
--- how many blocks the model has a draft take for a slot
+-- how many blocks a draft of the model takes for a slot
 abbrev pub slot_need : ℕ → Draft → ℕ
 slot_need slot d = missing (written_anew (Fill slot None) d.object d.fresh) d.fresh
 
--- The draft is the model's with this in the slot. Its leaf took the least Free block where it wasn't fresh, and after
--- it its node; or a slot that is empty was to be, and nothing is done. No other leaf and node of its tree changed.
+-- The draft is the model's with this in the slot. If its leaf wasn't fresh it took the least Free block, and after it
+-- its node. Or a slot that was to be emptied was empty, and nothing is done. No other leaf and node of its tree
+-- changed.
 pub record PutsInDraft {D : Type 0} {g : Ghosts D} {old : D} {before : Kept} {was : Drafting}
     (i : IndexView g old before was) (slot : ℕ) (what : Option Puid) (new : D) (after : Kept)
     (now : Drafting) : Type 0 where
@@ -47,7 +48,7 @@ pub record PutsInDraft {D : Type 0} {g : Ghosts D} {old : D} {before : Kept} {wa
   pub beside : SameBeside (slot / 64) (tree_in (g.content old) (root_spelling was.root))
       (tree_in (g.content new) (root_spelling now.root))
 
--- Full exactly where fewer blocks are Free than these and the floor; nothing was done then.
+-- It is full exactly if fewer blocks are Free than these plus the floor. Nothing was done then.
 pub record IsFullBelow {D A : Type 0} (need floor : ℕ) (old new : D) (before after : Kept) (was now : Drafting)
     (result : Result A Refused) : Type 0 where
   pub full : sum before.free < need + floor
@@ -63,7 +64,7 @@ pub record PutCall {D : Type 0} (g : Ghosts D) (slot floor : ℕ) (old new : D) 
   pub ends : EndsCall g (top_of was) floor 8 4 (draft_takes was (slot / 64)) old new before after result
   pub kept : IfErr result (λ e. e ≡ refusals.Disk false → now ≡ was)
 
--- how a slot of a draft gets this: where the store has the draft, in blocks of the model's need, and on any disk
+-- how a slot of a draft gets this: if the store has the draft, in blocks of the model's need, and on any disk
 pub record PutsIn {D : Type 0} (g : Ghosts D) (slot : ℕ) (what : Option Puid) (floor : ℕ) (old new : D)
     (before after : Kept) (was now : Drafting) (result : Result (Unit {0}) Refused) : Type 0 where
   pub puts : (i : IndexView g old before was)

@@ -8,10 +8,12 @@ use cfs_base::{Disk, Puid, Refused};
 use cyl_alloc::Space;
 use special_files::ObjectDraft;
 
-/// Makes a slot of a draft, which is an index's, hold this, or nothing. `Full` exactly where fewer blocks are Free than
-/// it takes and the floor: one for the slot's leaf where that isn't fresh, and one for the leaf's node where that
-/// isn't; nothing was done then. `Damaged` names a map block, with code 2, which is none or has no Free block, with
-/// code 12, or a node or the root block, with code 4, where a pointer leads past the disk. Takes no memory.
+/// Makes a slot of an index's draft hold `what`, or nothing.
+///
+/// `Full` exactly if fewer blocks are Free than it takes, plus the floor. It takes one for the slot's leaf if that
+/// isn't fresh, and one for the leaf's node if that isn't. Nothing was done then. `Damaged` names a map block that is
+/// no map, with code 2, or that has no Free block, with code 12, or a node or the root block with a pointer past the
+/// disk, with code 4. Takes no memory.
 pub fn put_in<D: Disk>(
     draft: &mut ObjectDraft,
     disk: &mut D,
@@ -32,7 +34,7 @@ pub fn put_in<D: Disk>(
 }
 
 impl IndexDraft {
-    /// Makes a slot hold this, or nothing.
+    /// Makes a slot hold `what`, or nothing.
     fn put<D: Disk>(
         &mut self,
         disk: &mut D,
@@ -50,11 +52,12 @@ impl IndexDraft {
         put_in(&mut self.draft, disk, space, slot, what, floor)
     }
 
-    /// Puts an identifier of an object that the disk holds into a slot, whatever stood there. `Full` exactly where
-    /// fewer blocks are Free than it takes and the floor: one for the slot's leaf where that isn't fresh, and one for
-    /// the leaf's node where that isn't; nothing was done then. `Damaged` names a map block, with code 2, which is none
-    /// or has no Free block, with code 12, or a node or the root block, with code 4, where a pointer leads past the
-    /// disk. Takes no memory.
+    /// Puts an identifier of an object that the disk holds into a slot, whatever the slot held.
+    ///
+    /// `Full` exactly if fewer blocks are Free than it takes, plus the floor. It takes one for the slot's leaf if
+    /// that isn't fresh, and one for the leaf's node if that isn't. Nothing was done then. `Damaged` names a map
+    /// block that is no map, with code 2, or that has no Free block, with code 12, or a node or the root block with a
+    /// pointer past the disk, with code 4. Takes no memory.
     pub fn retain<D: Disk>(
         &mut self,
         disk: &mut D,
@@ -72,7 +75,9 @@ impl IndexDraft {
         self.put(disk, space, slot, Some(id), floor)
     }
 
-    /// Empties a slot; where it is empty nothing is done. `Full` and `Damaged` as in `retain`. Takes no memory.
+    /// Empties a slot. If the slot is empty nothing is done.
+    ///
+    /// `Full` and `Damaged` as in `retain`. Takes no memory.
     pub fn delete<D: Disk>(
         &mut self,
         disk: &mut D,

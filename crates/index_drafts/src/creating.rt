@@ -21,8 +21,9 @@ use cyl_alloc::Space;
 use intentions::barrier;
 use special_files::{ObjectDraft, least, write_root};
 
-/// Makes the least-numbered Free block the root of a new object: it is Allocated and written, and then both outlast a
-/// crash. Until then the block is nobody's, as recovery sees it.
+/// Makes the least-numbered Free block the root of a new object.
+///
+/// It is Allocated and written, and then both survive a crash. Until then nobody has the block, as recovery sees it.
 fn make_at<D: Disk>(
     disk: &mut D,
     space: &mut Space,
@@ -48,12 +49,15 @@ fn make_at<D: Disk>(
     Ok(())
 }
 
-/// Makes the object with this root, which is a `bare_root`, and puts its identifier into a slot of a draft, which is an
-/// index's, whatever stood there. The object is there at once, with its root at the least-numbered Free block, and an
-/// abort of the draft leaves it there. `Full` exactly where fewer blocks are Free than 1 more than `put_in` takes, and
-/// the floor; nothing was done then. `Damaged` as in `put_in`, and
-/// it names block 0, with code 2, where that map is Free by what it says itself. Refused once the object is there it
-/// answers `Disk` that had tried: the object may be there then, and its identifier in no slot. Takes no memory.
+/// Makes the object with this root, and puts its identifier into a slot of an index's draft.
+///
+/// The root is a `bare_root`, and the slot may hold anything. The object exists at once, with its root at the
+/// least-numbered Free block, and an abort of the draft leaves it. `Full` exactly if fewer blocks are Free than 1
+/// more than `put_in` takes, plus the floor. Nothing was done then. `Damaged` as in `put_in`, and it names block 0,
+/// with code 2, if that map says that its own block is Free.
+///
+/// If it is refused once the object exists, it returns `Disk` that was tried: the object may exist then, with its
+/// identifier in no slot. Takes no memory.
 pub fn create_in<D: Disk>(
     draft: &mut ObjectDraft,
     disk: &mut D,
@@ -83,12 +87,15 @@ pub fn create_in<D: Disk>(
 }
 
 impl IndexDraft {
-    /// Makes the object with this root, which is a `bare_root`, and puts its identifier into a slot, whatever stood
-    /// there. The object is there at once, with its root at the least-numbered Free block, and an abort of the draft
-    /// leaves it there. `Full` exactly where fewer blocks are Free than 1 more than `retain` takes, and the floor;
-    /// nothing was done then. `Damaged` as in `retain`, and it names block
-    /// 0, with code 2, where that map is Free by what it says itself. Refused once the object is there it answers
-    /// `Disk` that had tried: the object may be there then, and its identifier in no slot. Takes no memory.
+    /// Makes the object with this root, and puts its identifier into a slot.
+    ///
+    /// The root is a `bare_root`, and the slot may hold anything. The object exists at once, with its root at the
+    /// least-numbered Free block, and an abort of the draft leaves it. `Full` exactly if fewer blocks are Free than 1
+    /// more than `retain` takes, plus the floor. Nothing was done then. `Damaged` as in `retain`, and it names block
+    /// 0, with code 2, if that map says that its own block is Free.
+    ///
+    /// If it is refused once the object exists, it returns `Disk` that was tried: the object may exist then, with its
+    /// identifier in no slot. Takes no memory.
     pub fn create<D: Disk>(
         &mut self,
         disk: &mut D,

@@ -1,4 +1,4 @@
-//! The draft of an index: begun, read, committed and given up.
+//! The draft of an index: how it begins, is read, committed and given up.
 ghost use Rattle.std.specs.Prelude.{◌≡◌, ◌≢◌, ◌+◌, ◌*◌, ◌/◌, ◌<◌, ◌≤◌, None, false, length, IfErr};
 ghost use Rattle.cfs_base.specs.Disk.{Image};
 ghost use Rattle.cfs_base.specs.declared.identifier.Puid.{Puid};
@@ -20,7 +20,9 @@ use cyl_alloc::Space;
 use special_files::{ObjectDraft, Room};
 use std::marker::Model;
 
-/// A changed index beside the one that stands. It has a shadow root from its beginning on.
+/// A changed index beside the index as it is.
+///
+/// It has a shadow root from its beginning on.
 #[derive(Debug, Drop)]
 pub struct IndexDraft {
     pub(crate) draft: ObjectDraft,
@@ -38,10 +40,12 @@ impl Model for IndexDraft {
 }
 
 impl IndexDraft {
-    /// Begins a draft of the index whose root is at this block, equal to it, and claims the least-numbered Free block
-    /// as its shadow root. `room` is all memory that the draft will need, so it takes none. `Full` where fewer blocks
-    /// are Free than 1 and the floor; nothing was written then. `Damaged` names the root block, with code 3, which is
-    /// none, or the map in which no Free block was found, with code 2 where it is none, else with code 12.
+    /// Begins a draft of the index whose root is at this block, equal to the index.
+    ///
+    /// It claims the least-numbered Free block as the shadow root. `room` is all memory that the draft will need, so
+    /// it takes none. `Full` if fewer blocks are Free than 1 plus the floor. Nothing was written then. `Damaged`
+    /// names the root block, with code 3, if it is no root block, or the map in which no Free block was found: with
+    /// code 2 if it is no map, else with code 12.
     pub fn begin<D: Disk>(
         room: Room,
         disk: &mut D,
@@ -60,7 +64,7 @@ impl IndexDraft {
         Ok(IndexDraft { draft })
     }
 
-    /// How many slots the index has.
+    /// Returns how many slots the index has.
     pub fn slots(&self) -> u64
         ensures size { result ≡ self.now.root.size / 8 }
         ensures count { (image : Image) (id : Puid) (d : drafts.Draft) (i : Index)
@@ -69,15 +73,17 @@ impl IndexDraft {
         self.draft.size() / 8
     }
 
-    /// The root that the index is to get.
+    /// Returns the root that the index is to get.
     pub fn root(&self) -> &Root
         ensures { result.now ≡ self.now.root }
     {
         self.draft.root()
     }
 
-    /// What a slot holds in the draft, also while another object's commit is unfinished: None where it is empty.
-    /// `Damaged` names the root block, or a node, with code 4, where a pointer of it leads past the disk.
+    /// Returns what a slot holds in the draft, or `None` if it is empty.
+    ///
+    /// Another object's commit may be unfinished. `Damaged` names the root block, or a node, with code 4, if a
+    /// pointer of it leads past the disk.
     pub fn retrieve<D: Disk>(&self, disk: &mut D, slot: u64) -> Result<Option<Puid>, Trouble>
         requires on_disk { self.now.at < D.blocks disk.old }
         requires within { 8 * slot + 8 ≤ self.now.root.size }
@@ -87,10 +93,14 @@ impl IndexDraft {
         self.draft.slot(disk, slot)
     }
 
-    /// Makes the draft its index. Done, all is durable, and once the commit that the space keeps is carried out the
-    /// index's blocks are exactly those of the draft. Where it is refused the draft is gone, and each image that a
-    /// crash leaves has the index old or new. `Damaged` names a map block, with code 2, which is none, or a node or the
-    /// root block, with code 4, where a pointer leads past the disk.
+    /// Makes the draft its index.
+    ///
+    /// When it is done, all is durable, and once the commit that the space keeps is carried out the index's blocks
+    /// are exactly those of the draft. If it is refused the draft is gone, and each image that a crash leaves has the
+    /// index old or new.
+    ///
+    /// `Damaged` names a map block, with code 2, if it is no map, or a node or the root block, with code 4, if a
+    /// pointer leads past the disk.
     pub fn commit<D: Disk>(self, disk: &mut D, space: &mut Space) -> Result<(), Trouble>
         requires on_disk { self.at < D.blocks disk.old }
         requires size { D.blocks disk.old ≡ 64 * length space.old.free }
@@ -100,14 +110,16 @@ impl IndexDraft {
             → CommitEnds D.Disk i.view.graph i.view.ds i.view.id (objects.Index i.index) None disk.old disk.new
             space.new result }
         ensures call { CommitCall D.Disk self disk.old disk.new space.old space.new result }
-        // Where a device call failed a write or a barrier was tried.
+        // If a device call failed, a write or a barrier was tried.
         ensures tried { IfErr result (λ trouble. trouble ≢ troubles.Disk false) }
     {
         self.draft.commit(disk, space)
     }
 
-    /// Gives up the draft, whose blocks are Free then. An object that was made in it stays. Where it is refused the
-    /// draft is gone, and each image that a crash leaves has all objects as they were. `Damaged` as in `commit`.
+    /// Gives up the draft. Its blocks are Free then, and an object that was made in it stays.
+    ///
+    /// If it is refused the draft is gone all the same, and each image that a crash leaves has all objects as they
+    /// were. `Damaged` as in `commit`.
     pub fn abort<D: Disk>(self, disk: &mut D, space: &mut Space) -> Result<(), Trouble>
         requires on_disk { self.at < D.blocks disk.old }
         requires size { D.blocks disk.old ≡ 64 * length space.old.free }

@@ -17,13 +17,13 @@ use Rattle.block_tree.specs.declared.root.Root.{Root}
 -- ---- what is wrong with the block that is named
 
 -- on a disk of this size a pointer on the way to a leaf of this root, which is in block `at`, leads past the end; the
--- block that has it is named
+-- damage names the block that has it
 pub record IsFarLeaf (image : Image) (size at : ℕ) (root : Root) (leaf : ℕ) (damage : Damage) : Type 0 where
   pub pointer : Pointer
   pub past : PastOn image size (root_spelling root) leaf pointer
   pub block : damage.block ≡ holder_block at pointer.holder
 
--- ---- why a call ends: a device call failed, or a block is damaged
+-- ---- why a call is refused: a device call failed, or a block is damaged
 
 abbrev pub IsLeafTrouble : {D : Type 0} → Ghosts D → ℕ → Root → ℕ → D → D → Trouble → Type 0
 IsLeafTrouble g at root leaf old new (trouble.Disk tried) = (tried ≡ false) × HasFailed g old new

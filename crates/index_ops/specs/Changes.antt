@@ -31,7 +31,7 @@ use Rattle.vol_image.specs.Seen.{tree_in}
 use Rattle.vol_owners.specs.Account.{Drafts}
 use Rattle.vol_owners.specs.Change.{ChangesOnly, of_owner, of_owners}
 
--- the store has an index at this block, no draft of it, and the slot is one of it
+-- the store has an index at this block, and no draft of it, and the slot is one of its slots
 pub record HasSlot {D : Type 0} (g : Ghosts D) (d : D) (space : Kept) (at slot : ℕ) : Type 0 where
   pub view : ObjectView g d space at
   pub shut : IsShut view
@@ -43,33 +43,33 @@ pub record HasSlot {D : Type 0} (g : Ghosts D) (d : D) (space : Kept) (at slot :
 abbrev pub index_with : Index → ℕ → Option Puid → Object
 index_with i slot what = objects.Index (filled i slot what)
 
--- The object is this one now. No write waits. In the image that is to come nothing changed but blocks of the object or
--- such as were Free.
+-- The object is this one now. No write waits for a barrier. In the image that is to come nothing changed except
+-- blocks of the object and blocks that were Free.
 pub record ChangesIndex {D : Type 0} (g : Ghosts D) (graph : Graph) (ds : Drafts) (id : Puid) (o : Object) (old new : D)
     (space : Kept) : Type 0 where
   pub store : StoreIs g (with_object graph id o) ds new space
   pub settled : IsSettled g new
   pub only : ChangesOnly (λ entry. of_owner id.block entry) (g.content old) (final_image g new space)
 
--- of the tree below a root block only one leaf and its node are others than they were
+-- in the tree below a root block only one leaf and its node differ from before
 abbrev pub IsOneLeaf : (leaf at : ℕ) → Image → Image → Type 0
 IsOneLeaf leaf at a b = SameBeside leaf (tree_in a (block_at a at)) (tree_in b (block_at b at))
 
 -- Blocks were claimed for these entries, one after another, each the least-numbered Free one, and last for the shadow
--- root of the object with this root block. After the entries nothing changed but blocks of this owner and of those that
--- are made with it, or such as were Free.
+-- root of the object with this root block. After the entries nothing changed except blocks of this owner and of those
+-- that are made with it, and blocks that were Free.
 pub record TakesEntries (claims : List MapEntry) (at : ℕ) (made : List ℕ) (a b : Image) : Type 0 where
   pub mid : Image
   pub in_order : AreClaimed claims a mid
   pub only : ChangesOnly (λ entry. of_owners (at ∷ made) entry) mid b
   pub shadow : TakesShadow at mid b
 
--- a leaf of the object with this root block, and after it its node
+-- the entries of a leaf of the object with this root block, and after it of its node
 abbrev pub leaf_and_node : (leaf at : ℕ) → List MapEntry
 leaf_and_node leaf at = intended (Leaf leaf) at ∷ intended (Node (leaf / leaf_pointers.count)) at ∷ []
 
--- Of an index one leaf alone changed, and the node above it: both take blocks, and the commit a shadow root. Or a slot
--- that is empty was to be, and nothing did.
+-- Only one leaf of an index changed, and the node above it: both take blocks, and the commit a shadow root. Or a slot
+-- that was to be emptied was empty, and nothing changed.
 pub record ChangesLeaf {D : Type 0} (g : Ghosts D) (leaf at : ℕ) (what : Option Puid) (old new : D)
     (space : Kept) : Type 0 where
   pub beside : IsOneLeaf leaf at (g.content old) (final_image g new space)
@@ -95,12 +95,13 @@ IsIndexRefusal g at old new kept (refusals.Disk tried) = HasStopped g tried old 
 IsIndexRefusal g at old new kept (refusals.Damaged damage) = IsDraftDamage g at old new kept damage
 IsIndexRefusal g at old new kept refusals.Memory = ⊥
 
--- One commit is unfinished then, of the index at this block; or a slot that is empty was to be, and none is.
+-- One commit is unfinished then, that of the index at this block. Or a slot that was to be emptied was empty, and
+-- none is.
 abbrev pub LeavesCommit : ℕ → Option Puid → Option LeftCommit → Type 0
 LeavesCommit at what left = ((what ≡ None) × (left ≡ None)) ⊎ (l : LeftCommit) × IsNoted at left l
 
--- Where the store has the index: done, it has this in the slot, and the slot's leaf alone changed. Each image that a
--- crash leaves has it old or new, and no damage is met.
+-- If the store has the index and the call is done, the index has this in the slot, and only the slot's leaf changed.
+-- Each image that a crash leaves has it old or new, and no damage is met.
 pub record FillsIndex {D : Type 0} {g : Ghosts D} {old : D} {before : Kept} {at slot : ℕ}
     (h : HasSlot g old before at slot) (what : Option Puid) (new : D) (after : Kept)
     (result : Result (Unit {0}) Refused) : Type 0 where
@@ -110,7 +111,7 @@ pub record FillsIndex {D : Type 0} {g : Ghosts D} {old : D} {before : Kept} {at 
   pub leaves : Leaves g old new (IsOldOrNew h.view.graph h.view.graph h.view.id (index_with h.index slot what))
   pub sound : IfErr result (λ e. has_met_damage e ≡ false)
 
--- A slot of the index of which this draft was just begun gets this, as one commit, where the index has that root.
+-- A slot of the index whose draft was just begun gets this, as one commit, if the index has that root.
 pub record PutsSlot {D : Type 0} (g : Ghosts D) (draft : Drafting) (slot : ℕ) (what : Option Puid) (old new : D)
     (before after : Kept) (result : Result (Unit {0}) Refused) : Type 0 where
   pub fills : (h : HasSlot g old before draft.at slot) → IsRootBlock (block_at (g.content old) draft.at) draft.own
@@ -120,8 +121,8 @@ pub record PutsSlot {D : Type 0} (g : Ghosts D) (draft : Drafting) (slot : ℕ) 
   pub untried : IfErr result (λ e. e ≡ refusals.Disk false → (after ≡ before) × OnlyReads g 8 old new)
   pub cylinders : length after.free ≡ length before.free
   pub left : OnOk result (LeavesCommit draft.at what after.left)
-  -- where none is, nothing changed
+  -- if no commit is unfinished, nothing changed
   pub still : after.left ≡ None → OnOk result (g.content new ≡ g.content old)
-  -- where it is unfinished, its bit was tried
+  -- if one is unfinished, its bit was tried
   pub bit : OnOk result (IsAtBit g old new after.left)
   pub calls : MakesAtMost g 19 11 old new

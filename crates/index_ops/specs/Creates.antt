@@ -25,12 +25,13 @@ use Rattle.vol_image.specs.Sound.{Holds}
 use Rattle.vol_owners.specs.Account.{Drafts}
 use Rattle.vol_owners.specs.Change.{ChangesOnly, of_owners}
 
--- the objects with a new one, and its identifier in a slot of the index
+-- the objects with a new one, whose identifier is in a slot of the index
 abbrev pub with_made : Graph → Puid → Index → ℕ → Puid → Object → Graph
 with_made graph id i slot new made = with_object (with_object graph new made) id (index_with i slot (Some new))
 
--- The new object is there, and in the slot. Its root is the block that was the least-numbered Free one. No write waits.
--- In the image that is to come nothing changed but blocks of the two objects or such as were Free.
+-- The new object exists, and its identifier is in the slot. Its root is the block that was the least-numbered Free
+-- one. No write waits for a barrier. In the image that is to come nothing changed except blocks of the two objects
+-- and blocks that were Free.
 pub record Creates {D : Type 0} (g : Ghosts D) (graph : Graph) (ds : Drafts) (id : Puid) (i : Index) (slot : ℕ)
     (new : Puid) (made : Object) (old now : D) (space : Kept) : Type 0 where
   pub least : IsLeastFree (g.content old) new.block
@@ -38,13 +39,14 @@ pub record Creates {D : Type 0} (g : Ghosts D) (graph : Graph) (ds : Drafts) (id
   pub settled : IsSettled g now
   pub only : ChangesOnly (λ entry. of_owners (id.block ∷ new.block ∷ []) entry) (g.content old)
       (final_image g now space)
-  -- of the index the slot's leaf alone changed, and its node; both take blocks after the root, and then the commit one
+  -- only the slot's leaf and its node changed in the index; both take blocks after the root, and then the commit
+  -- takes one
   pub beside : IsOneLeaf (slot / 64) id.block (g.content old) (final_image g now space)
   pub takes : TakesEntries (intended places.Root new.block ∷ leaf_and_node (slot / 64) id.block) id.block
       (new.block ∷ [])
       (g.content old) (final_image g now space)
 
--- how a new object and its index are committed together, where the store has the draft of the index
+-- how a new object and its index are committed together, if the store has the draft of the index
 pub record MakeEnds {D : Type 0} (g : Ghosts D) (graph : Graph) (ds : Drafts) (id : Puid) (i : Index) (slot : ℕ)
     (new : Puid) (made : Object) (old now : D) (space : Kept) (result : Result Puid Refused) : Type 0 where
   pub done : OnOk result (Creates g graph ds id i slot new made old now space)
@@ -53,8 +55,8 @@ pub record MakeEnds {D : Type 0} (g : Ghosts D) (graph : Graph) (ds : Drafts) (i
 
 -- ---- the call
 
--- Where the store has the index: done, the new object is there, with this word, and in the slot. Each image has all as
--- it was, or the new object and the index with it, and no damage is met.
+-- If the store has the index and the call is done, the new object exists, with this word, and its identifier is in
+-- the slot. Each image has all as it was, or the new object and the index with it, and no damage is met.
 pub record PlacesIn {D : Type 0} {g : Ghosts D} {old : D} {before : Kept} {at slot : ℕ}
     (h : HasSlot g old before at slot) (made : Object) (word : ℕ) (new : D) (after : Kept)
     (result : Result Puid Refused) : Type 0 where
@@ -64,8 +66,8 @@ pub record PlacesIn {D : Type 0} {g : Ghosts D} {old : D} {before : Kept} {at sl
       × Holds c (with_made h.view.graph h.view.id h.index slot (puid_at b word) made)))
   pub sound : IfErr result (λ e. has_met_damage e ≡ false)
 
--- A slot of the index of which this draft was just begun gets an object that is made, with this word, where the index
--- has that root.
+-- A slot of the index whose draft was just begun gets an object that is made, with this word, if the index has that
+-- root.
 pub record PutsObject {D : Type 0} (g : Ghosts D) (draft : Drafting) (slot : ℕ) (made : Object) (word : ℕ) (old new : D)
     (before after : Kept) (result : Result Puid Refused) : Type 0 where
   pub places : (h : HasSlot g old before draft.at slot) → IsRootBlock (block_at (g.content old) draft.at) draft.own

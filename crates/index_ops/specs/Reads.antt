@@ -1,4 +1,4 @@
--- An index read.
+-- How an index is read.
 use Rattle.std.specs.Prelude.{◌≡◌, ℕ, ◌<◌, false, length, Option, IfErr, IfOk, Result}
 use Rattle.block_tree.specs.Reads.{is_damage}
 use Rattle.cfs_base.specs.declared.identifier.Puid.{Puid}

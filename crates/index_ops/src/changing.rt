@@ -15,7 +15,7 @@ use cyl_alloc::Space;
 use intentions::barrier;
 use special_files::ObjectDraft;
 
-/// Makes a slot of the index of which this draft was just begun hold this, or nothing.
+/// Makes a slot of an index hold `what`, or nothing. The index's draft was just begun.
 fn put<D: Disk>(
     mut draft: ObjectDraft,
     disk: &mut D,
@@ -51,7 +51,7 @@ fn put<D: Disk>(
         .map_err(|trouble| Refused::from(trouble.after_try()))
 }
 
-/// Makes durable what is there.
+/// Makes durable what was written.
 fn settle<D: Disk>(disk: &mut D) -> Result<(), Refused>
     ensures { spec.SettlesDisk D.Disk disk.old disk.new result }
 {
@@ -59,10 +59,11 @@ fn settle<D: Disk>(disk: &mut D) -> Result<(), Refused>
     Ok(())
 }
 
-/// Puts an identifier of an object that the disk holds into a slot of the index of which this draft was just begun,
-/// whatever stood there, as one commit. `Full` where fewer than 3 blocks are Free beside the 4 that are left for
-/// deletes; no device call was made then. `Damaged` names the root block, a node or a map that was read and is none, or
-/// has a pointer past the disk.
+/// Puts an identifier into a slot of the index whose draft was just begun, whatever the slot held, as one commit.
+///
+/// The disk holds the object of this identifier. `Full` if fewer than 3 blocks are Free beside the 4 that are left
+/// for deletes. No device call was made then. `Damaged` names the root block, a node or a map that was read and is
+/// invalid, or has a pointer past the disk.
 pub fn retain<D: Disk>(
     draft: ObjectDraft,
     disk: &mut D,
@@ -77,7 +78,7 @@ pub fn retain<D: Disk>(
     requires left { space.old.left ≡ None }
     requires within { 8 * slot + 8 ≤ draft.own.size }
     requires id { id.block ≢ 0 }
-    // Full exactly where 3 and 4 blocks aren't Free; nothing was done then.
+    // It is full exactly if 3 and 4 blocks aren't Free. Nothing was done then.
     ensures full { sum space.old.free < 3 + 4
         → (result ≡ Err (refused.Full (record { free = sum space.old.free; need = 3 })))
         × (disk.new ≡ disk.old) × (space.new ≡ space.old) }
@@ -88,8 +89,9 @@ pub fn retain<D: Disk>(
     put(draft, disk, space, slot, Some(id))
 }
 
-/// Empties a slot of the index of which this draft was just begun, as one commit. It takes 3 blocks, of those that are
-/// left for it, and is never `Full`. `Damaged` as in `retain`.
+/// Empties a slot of the index whose draft was just begun, as one commit.
+///
+/// It takes 3 blocks, of those that are left for it, and is never `Full`. `Damaged` as in `retain`.
 pub fn delete<D: Disk>(
     draft: ObjectDraft,
     disk: &mut D,

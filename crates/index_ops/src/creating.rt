@@ -25,7 +25,7 @@ use cfs_base::{BlockNo, Disk, Puid, Refused};
 use cyl_alloc::Space;
 use special_files::{ObjectDraft, least};
 
-/// Makes the object with this root at a Free block, fills the slot with it, and commits both.
+/// Makes the object with this root at a Free block, fills the slot with its identifier, and commits both.
 fn make_at<D: Disk>(
     mut draft: ObjectDraft,
     disk: &mut D,
@@ -66,7 +66,7 @@ fn make_at<D: Disk>(
     })
 }
 
-/// Makes an object with this root, and puts its identifier into a slot of the index of which this draft was just begun.
+/// Makes an object with this root, and puts its identifier into a slot of the index whose draft was just begun.
 fn make<D: Disk>(
     draft: ObjectDraft,
     disk: &mut D,
@@ -98,10 +98,12 @@ fn make<D: Disk>(
     make_at(draft, disk, space, slot, block, root)
 }
 
-/// Makes the object with this root, a `bare_root`, and puts its identifier into a slot of the index of which this draft
-/// was just begun, whatever stood there, as one commit. Its block is the least-numbered Free one. `Full` where fewer
-/// than 4 blocks are Free beside the 4 that are left for deletes; no device call was made then. `Damaged` as in
-/// `retain`, and it names block 0, with code 2, where that map is Free by what it says itself.
+/// Makes the object with this root, and puts its identifier into a slot of an index, as one commit.
+///
+/// The root is a `bare_root`, and the index's draft was just begun. The slot may hold anything. The object's root
+/// block is the least-numbered Free block. `Full` if fewer than 4 blocks are Free beside the 4 that are left for
+/// deletes. No device call was made then. `Damaged` as in `retain`, and it names block 0, with code 2, if that map
+/// says that its own block is Free.
 pub fn create<D: Disk>(
     draft: ObjectDraft,
     disk: &mut D,
@@ -116,7 +118,7 @@ pub fn create<D: Disk>(
     requires left { space.old.left ≡ None }
     requires within { 8 * slot + 8 ≤ draft.own.size }
     requires root { IsBare root.now }
-    // Full exactly where 4 and 4 blocks aren't Free; nothing was done then.
+    // It is full exactly if 4 and 4 blocks aren't Free. Nothing was done then.
     ensures full { sum space.old.free < 4 + 4
         → (result ≡ Err (refusals.Full (record { free = sum space.old.free; need = 4 })))
         × (disk.new ≡ disk.old) × (space.new ≡ space.old) }

@@ -1,4 +1,5 @@
 //! What is done to the slots of an index: one is read, filled or emptied, or filled with an object that is made.
+//!
 //! The layer above uses that each call is the model's change of one object, and that a crash leaves it done or not
 //! done.
 #![tactic(auto)]

@@ -39,9 +39,10 @@ fn leaf_content<D: Disk>(
     Ok(content)
 }
 
-/// What a slot of the index with this root holds, which is shown at a block: None where it is empty. The slot is one of
-/// the index. `Damaged` names the block, or a node, with code 4, where the pointer to the slot's leaf leads past the
-/// disk.
+/// Returns what a slot of the index with this root holds, or `None` if it is empty.
+///
+/// The index is shown at block `index`, and the slot is one of its slots. `Damaged` names that block, or a node, with
+/// code 4, if the pointer to the slot's leaf leads past the disk.
 pub fn retrieve<D: Disk>(
     disk: &mut D,
     index: BlockNo,

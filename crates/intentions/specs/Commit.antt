@@ -1,4 +1,4 @@
--- What stands between the steps of a commit.
+-- The states between the steps of a commit.
 use Rattle.std.specs.Prelude.{◌≡◌, ◌≢◌, ◌⊎◌, ℕ, true, List, Some}
 use Rattle.cfs_base.specs.Disk.{Image, block_at}
 use Rattle.cfs_base.specs.declared.identifier.Puid.{Puid}
@@ -15,8 +15,8 @@ use Rattle.vol_image.specs.Sound.{Holds}
 use Rattle.intentions.specs.Course.{IsCopied}
 use Rattle.intentions.specs.Entries.{finished}
 
--- Image c holds these objects. For this one the shadow root s stands alone, and it is read by it, since its commit bit
--- is set.
+-- Image c holds these objects. The shadow root s alone stands for this object, and the object is read by it, since
+-- its commit bit is set.
 pub record IsCommitted (c : Image) (graph : Graph) (id : Puid) (o : Object) (s : ℕ) : Type 0 where
   pub holds : Holds c graph
   pub at : object_at graph id ≡ Some o
@@ -24,13 +24,13 @@ pub record IsCommitted (c : Image) (graph : Graph) (id : Puid) (o : Object) (s :
   pub alone : (n : ℕ) → stands_for id.block (entry_in c n) ≡ true → n ≡ s
   pub stands : stands_for id.block (entry_in c s) ≡ true
 
--- From image a to image c the draft with shadow root s became the object; of the entries only the root's changed.
+-- From image a to image c the draft with shadow root s became the object. Of the entries only the root's changed.
 pub record Commits (a c : Image) (graph : Graph) (id : Puid) (o : Object) (s : ℕ) : Type 0 where
   pub committed : IsCommitted c (with_object graph id o) id o s
   pub tree : tree_in c (block_at c s) ≡ tree_in a (block_at a s)
   pub entries : (n : ℕ) → n ≢ id.block → entry_in c n ≡ entry_in a n
 
--- From image a to image c the root of the object got what its shadow root s has, and no entry changed.
+-- From image a to image c the root of the object got the content of its shadow root s, and no entry changed.
 pub record Copies (a c : Image) (graph : Graph) (id : Puid) (o : Object) (s : ℕ) : Type 0 where
   pub committed : IsCommitted c graph id o s
   pub copied : IsCopied c graph id o s
@@ -45,6 +45,6 @@ pub record IsToFinish (c : Image) (r : ℕ) (root : List ℕ) (n : ℕ) : Type 0
   pub gone : taken.is.state ≡ IntendDeallocate → (path : List ℕ) (h : Held) → (tree_in c root).below path ≡ Some h
       → h.block ≢ n
 
--- this one, or what it is once finished
+-- the entry is this one, or what this one is once finished
 abbrev pub OrFinished : MapEntry → MapEntry → Type 0
 OrFinished e now = (now ≡ e) ⊎ (now ≡ finished e)

@@ -14,8 +14,8 @@ use Rattle.vol_image.specs.Part.{OwnsItself, is_fixed}
 use Rattle.vol_image.specs.Sight.{source}
 use Rattle.vol_image.specs.Sound.{Holds}
 
--- the frame of an image with these objects; or what may differ while one object settles, whose root has in image c what
--- its shadow root s has
+-- The frame of an image with these objects, or what may differ while one object settles, whose root in image c has
+-- the content of its shadow root s.
 pub data Course : Type 0 where
   Frame : (a : Image) (graph : Graph) → Course
   Settling : (c : Image) (graph : Graph) (id : Puid) (o : Object) (s : ℕ) → Course
@@ -41,12 +41,12 @@ abbrev pub IsOn : Course → Image → Type 0
 IsOn (Frame a graph) b = Frames a graph b
 IsOn (Settling c graph id o s) b = Settles c graph id s b
 
--- on the course this entry of block n may come in place of that one
+-- on the course this entry of block n may take the place of the old one
 abbrev pub MayPut : Course → ℕ → MapEntry → MapEntry → Type 0
 MayPut (Frame a graph) n old e = IsEntry e × OwnsItself n e × MayChange a graph n (Some old) (Some e)
 MayPut (Settling c graph id o s) n old e = MaySettle c graph id s n old e
 
--- The disk tells its content, which is on the course, as is all that a crash leaves now.
+-- The disk tells its content. The content is on the course, and so is all that a crash leaves now.
 pub record Keeps {D : Type 0} (g : Ghosts D) (course : Course) (d : D) : Type 0 where
   pub tells : Tells g d
   pub content : IsOn course (g.content d)

@@ -1,4 +1,4 @@
--- The entries that intentions write. Where a call doesn't fit an entry, that stays as it is.
+-- The entries that intentions write. An entry that a call doesn't fit stays as it is.
 use Rattle.std.specs.Prelude.{true, false, Option, Some, None}
 use Rattle.cfs_base.specs.declared.kind.Place.{Place}
 use Rattle.cfs_base.specs.declared.kind.Place.TheVariants.{Root, ShadowRoot, Node, Leaf, Span}
@@ -76,7 +76,7 @@ changed_entry ClearBit e = without_bit e
 changed_entry Finish e = finished e
 changed_entry Undo e = undone e
 
--- what is claimed makes an entry
+-- the entry of a claim is valid
 abbrev pub FitsEntry : EntryChange → Type 0
 FitsEntry (Claim place owner) = IsEntry (intended place owner)
 FitsEntry Release = Unit {0}

@@ -25,12 +25,12 @@ use Rattle.vol_owners.specs.Change.{IsOpenTo, of_owners}
 
 -- ---- what is to come
 
--- the shadow root is given back, all else is carried out
+-- the shadow root is given back, and all else is carried out
 abbrev pub how_for : Bool → EntryChange
 how_for true = Undo
 how_for false = Finish
 
--- what the entry of each block gets that is left
+-- the change of the entry of each block that is left
 abbrev pub how_left : LeftCommit → ℕ → EntryChange
 how_left l n = how_for (n == l.shadow)
 
@@ -42,18 +42,18 @@ abbrev pub copied_if : Bool → LeftCommit → Image → Image
 copied_if true l image = image
 copied_if false l image = set image l.root (block_at image l.shadow)
 
--- what the image is once nothing is left
+-- the image once nothing is left
 abbrev pub coming : Image → Option LeftCommit → Image
 coming image None = image
 coming image (Some l) = mapped (settled l) (copied_if l.copied l image)
 
--- ---- how far it is
+-- ---- how far the commit is carried out
 
 -- The entries of these blocks are open to changes of these owners.
 abbrev pub AreOpen : List ℕ → Image → List ℕ → Type 0
 AreOpen owners image ns = (n : ℕ) → has_number n ns ≡ true → IsOpenTo (λ e. of_owners owners e) (entry_in image n)
 
--- The object's commit bit stands, it is read by its shadow root, and nothing waits for a barrier. Or its root is
+-- The object's commit bit is set, it is read by its shadow root, and no write waits for a barrier. Or its root is
 -- copied, and each image that a crash leaves is one in which it settles. What is left may be done.
 abbrev pub GoesOn : {D : Type 0} → Ghosts D → Bool → Graph → Puid → Object → LeftCommit → D → Type 0
 GoesOn g false graph id o l d = IsSettled g d × IsCommitted (g.content d) graph id o l.shadow
@@ -63,8 +63,8 @@ GoesOn g true graph id o l d = (c : Image) × IsCopied c graph id o l.shadow
     × Keeps g (Settling c graph id o l.shadow) d
     × MayTurn (Settling c graph id o l.shadow) (g.content d) (how_left l) l.rest
 
--- These objects are carried on: one of them, whose commit is past its bit, goes on as far as it is. The Free blocks of
--- the disk as it is are counted.
+-- These objects are carried on: one of them, whose commit is past its bit, as far as that is carried out. The Free
+-- blocks of the disk as it is are counted.
 pub record IsGoing {D : Type 0} (g : Ghosts D) (graph : Graph) (disk : D) (space : Kept) (l : LeftCommit) : Type 0 where
   pub id : Puid
   pub object : Object
@@ -82,7 +82,7 @@ GoesWith g graph disk space (Some l) = IsGoing g graph disk space l
 pub record HasLeft {D : Type 0} (g : Ghosts D) (graph : Graph) (drafts : Drafts) (disk : D) (space : Kept)
     (l : LeftCommit) : Type 0 where
   pub going : IsGoing g graph disk space l
-  -- Of this object, and one that is made with it, is each block that is left, or it is Free; and no draft is theirs.
+  -- Each block that is left is of this object, or of one that is made with it, or it is Free. Neither has a draft.
   pub owners : List ℕ
   pub own : has_number going.id.block owners ≡ true
   pub opens : AreOpen owners (g.content disk) l.rest
@@ -90,7 +90,7 @@ pub record HasLeft {D : Type 0} (g : Ghosts D) (graph : Graph) (drafts : Drafts)
   pub account : Accounts (coming (g.content disk) (Some l)) graph drafts
   pub ordered : rises (ids_of graph) ≡ true
 
--- what stands between two calls, with what is left of one commit or with none
+-- the state between two calls, with what is left of one commit or with nothing left
 abbrev pub StoreWith : {D : Type 0} → Ghosts D → Graph → Drafts → D → Kept → Option LeftCommit → Type 0
 StoreWith g graph drafts disk space None = StoreHas g graph drafts disk space
 StoreWith g graph drafts disk space (Some l) = HasLeft g graph drafts disk space l
@@ -98,14 +98,14 @@ StoreWith g graph drafts disk space (Some l) = HasLeft g graph drafts disk space
 abbrev pub StoreIs : {D : Type 0} → Ghosts D → Graph → Drafts → D → Kept → Type 0
 StoreIs g graph drafts disk space = StoreWith g graph drafts disk space space.left
 
--- the image to which it comes
+-- the image to which the store comes
 abbrev pub final_image : {D : Type 0} → Ghosts D → D → Kept → Image
 final_image g disk space = coming (g.content disk) space.left
 
 -- ---- reads
 
--- The store has this object. The block is that by which it is read: its root, or the shadow root that stands in for it
--- until it is copied.
+-- The store has this object. It is read by this block: its root, or the shadow root that stands in for it until it is
+-- copied.
 pub record IsShownAt {D : Type 0} (g : Ghosts D) (graph : Graph) (drafts : Drafts) (disk : D) (space : Kept)
     (id : Puid) (o : Object) (at : ℕ) : Type 0 where
   pub store : StoreIs g graph drafts disk space

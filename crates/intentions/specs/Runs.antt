@@ -1,4 +1,4 @@
--- Blocks that lie in one map, one after another: their entries are changed by one write of it.
+-- Blocks that lie in one map and follow one another: their entries are changed by one write of it.
 use Rattle.std.specs.Prelude.{◌≡◌, ℕ, ◌+◌, ◌/◌, ◌≤◌, ◌==◌, if◌then◌else◌, Bool, false, true, List, [], ◌∷◌, length}
 use Rattle.std.specs.Prelude.{IfErr, IsTrue, OnOk, Result, set, take}
 use Rattle.std.specs.List.{All}
@@ -38,12 +38,12 @@ IsFirst n (m ∷ ms) = m ≡ n
 
 -- ---- what is done to them
 
--- to the entry of block n
+-- the change of the entry of block n
 abbrev pub how_of : Rule → ℕ → EntryChange
 how_of (Alike how) n = how
 how_of (Settle shadow) n = how_for (n == shadow.0)
 
--- what is claimed makes an entry
+-- the entry of a claim is valid
 abbrev pub AllFit : Rule → Type 0
 AllFit (Alike how) = FitsEntry how
 AllFit (Settle shadow) = Unit {0}
@@ -58,14 +58,14 @@ is_freed was now = if is_free was then false else is_free now
 
 -- ---- in memory
 
--- In the map of block n the entries of the first i of these blocks are changed, which all lie in it.
+-- In the map of block n the entries of the first i of these blocks are changed. All of these are in it.
 pub record FlipsFirst (rule : Rule) (n i freed : ℕ) (ns was now : List ℕ) : Type 0 where
   pub within : i ≤ length ns
   pub here : All (λ m. map_of m ≡ map_of n) (take i ns)
   pub spells : SpellsMap now
   pub changed : (image : Image) → block_at image (map_of n) ≡ was
       → IsMapped (turned (how_of rule) (take i ns)) image (set image (map_of n) now)
-  -- so many of them became Free
+  -- `freed` of them became Free
   pub free : ((m : ℕ) → KeepsFree (how_of rule m)) → (image : Image) → block_at image (map_of n) ≡ was
       → HasMoreFree image n freed (set image (map_of n) now)
 

@@ -1,4 +1,4 @@
--- What stands between two calls of the store.
+-- The state between two calls of the store.
 use Rattle.std.specs.Prelude.{◌≡◌, true}
 use Rattle.cfs_base.specs.declared.disk.Disk.{Ghosts}
 use Rattle.cyl_alloc.specs.Space.{AreCounts, Kept}

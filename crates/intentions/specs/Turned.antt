@@ -1,4 +1,4 @@
--- The entries of some blocks, each changed for itself.
+-- The entries of some blocks, each changed by itself.
 use Rattle.std.specs.Prelude.{◌≡◌, ℕ, Bool, true, false, List, Some}
 use Rattle.cfs_base.specs.Disk.{Image}
 use Rattle.cyl_map.specs.declared.entry.MapEntry.{MapEntry}
@@ -12,7 +12,7 @@ abbrev pub changed_if : Bool → EntryChange → MapEntry → MapEntry
 changed_if false how e = e
 changed_if true how e = changed_entry how e
 
--- the entry of block n, changed where it is one of these
+-- the entry of block n, changed if it is one of these blocks
 abbrev pub turned : (ℕ → EntryChange) → List ℕ → ℕ → MapEntry → MapEntry
 turned how ns n e = changed_if (has_number n ns) (how n) e
 

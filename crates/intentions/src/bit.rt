@@ -25,7 +25,7 @@ use cfs_base::{Block, BlockNo, Disk, Trouble};
 use cyl_alloc::KnownMaps;
 use cyl_map::MapEntry;
 
-/// Makes what was written outlast a crash.
+/// Makes what was written survive a crash.
 pub fn barrier<D: Disk>(disk: &mut D) -> Result<(), Trouble>
     ensures content { D.content disk.new ≡ D.content disk.old }
     ensures told { (n : ℕ) → IsTrue (D.told disk.old n) → IsTrue (D.told disk.new n) }
@@ -39,7 +39,7 @@ pub fn barrier<D: Disk>(disk: &mut D) -> Result<(), Trouble>
     disk.barrier().map_err(|_| Trouble::Disk { tried: true })
 }
 
-/// Puts another entry in place of the one that was read, with a barrier before and one after.
+/// Puts another entry in the place of the one that was read, with a barrier before and one after.
 fn put_between<D: Disk>(
     disk: &mut D,
     known: &mut KnownMaps,
@@ -83,12 +83,14 @@ fn change_bit<D: Disk>(
     put_between(disk, known, root, &mut map, now)
 }
 
-/// Sets the commit bit of a root. The barrier before it makes all durable to which it leads; from the one after it on
-/// the change outlasts a crash. `Damaged` names the map block of the root, with code 2, which is no map.
+/// Sets the commit bit of a root.
+///
+/// The barrier before it makes all to which the root leads durable. From the barrier after it on the change survives
+/// a crash. `Damaged` names the map block of the root, with code 2, if it is no map.
 pub fn commit<D: Disk>(disk: &mut D, known: &mut KnownMaps, root: BlockNo) -> Result<(), Trouble>
     requires { root.0 < D.blocks disk.old }
     ensures changes { spec.ChangesBit D.Disk root.0 (λ e. entries.with_bit e) disk.old disk.new result }
-    // The draft becomes the object. All that a crash leaves besides what it might have left before has it.
+    // The draft becomes the object. All that a crash leaves, besides what it might have left before, has it.
     ensures commits { (graph : Graph) (id : Puid) (was o : Object) (s : ℕ) → id.block ≡ root.0
         → Carries D.Disk graph disk.old
         → object_at graph id ≡ Some was → IsDraft (D.content disk.old) id.block s o
@@ -101,7 +103,9 @@ pub fn commit<D: Disk>(disk: &mut D, known: &mut KnownMaps, root: BlockNo) -> Re
     change_bit(disk, known, root, EntryChange::SetBit)
 }
 
-/// Clears the commit bit of a root. The barrier before it makes durable what was finished. `Damaged` as in `commit`.
+/// Clears the commit bit of a root.
+///
+/// The barrier before it makes durable what was finished. `Damaged` as in `commit`.
 pub fn clear_bit<D: Disk>(disk: &mut D, known: &mut KnownMaps, root: BlockNo) -> Result<(), Trouble>
     requires { root.0 < D.blocks disk.old }
     ensures { spec.ChangesBit D.Disk root.0 (λ e. entries.without_bit e) disk.old disk.new result }
@@ -109,14 +113,16 @@ pub fn clear_bit<D: Disk>(disk: &mut D, known: &mut KnownMaps, root: BlockNo) ->
     change_bit(disk, known, root, EntryChange::ClearBit)
 }
 
-/// Writes to the root this content, which is its shadow root's, and makes that outlast a crash. Never `Damaged`.
+/// Writes this content, which is its shadow root's, into the root, and makes it survive a crash.
+///
+/// Never `Damaged`.
 pub fn copy_root<D: Disk>(disk: &mut D, root: BlockNo, content: &Block) -> Result<(), Trouble>
     requires { root.0 < D.blocks disk.old }
     ensures copied { OnOk result (D.content disk.new ≡ set (D.content disk.old) root.0 content.now) }
     ensures told { OnOk result ((n : ℕ) → IsTrue (D.told disk.old n) → IsTrue (D.told disk.new n)) }
     ensures images { Leaves D.Disk disk.old disk.new (Written (left_now D.Disk disk.old) root.0 content.now) }
     ensures settled { Tells D.Disk disk.old → OnOk result (IsSettled D.Disk disk.new) }
-    // Where the bit is set and nothing waits, all that a crash leaves has the object.
+    // If the bit is set and no write waits for a barrier, all that a crash leaves has the object.
     ensures copies { (graph : Graph) (id : Puid) (o : Object) (s : ℕ) → id.block ≡ root.0 → IsSettled D.Disk disk.old
         → IsCommitted (D.content disk.old) graph id o s → block_at (D.content disk.old) s ≡ content.now
         → OnOk result (Copies (D.content disk.old) (D.content disk.new) graph id o s) }

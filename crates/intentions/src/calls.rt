@@ -10,8 +10,9 @@ use crate::entry::change_entry;
 use cfs_base::{BlockNo, Disk, Place, Trouble};
 use cyl_alloc::KnownMaps;
 
-/// Claims a Free block for an owner's place: its entry is IntendAllocate. `Damaged` names its map block, with code 2,
-/// which is no map.
+/// Claims a Free block for an owner's place: its entry becomes IntendAllocate.
+///
+/// `Damaged` names its map block, with code 2, if it is no map.
 pub fn intend_claim<D: Disk>(
     disk: &mut D,
     block: BlockNo,
@@ -31,7 +32,9 @@ pub fn intend_claim<D: Disk>(
     Ok(())
 }
 
-/// Means to give up a node or leaf: its entry is IntendDeallocate. `Damaged` as in `intend_claim`.
+/// Marks a node or leaf as to be given up: its entry becomes IntendDeallocate.
+///
+/// `Damaged` as in `intend_claim`.
 pub fn intend_release<D: Disk>(disk: &mut D, block: BlockNo) -> Result<(), Trouble>
     requires { block.0 < D.blocks disk.old }
     ensures { spec.ChangesEntry D.Disk block.0 (λ e. entries.released e) disk.old disk.new result }
@@ -40,8 +43,9 @@ pub fn intend_release<D: Disk>(disk: &mut D, block: BlockNo) -> Result<(), Troub
     Ok(())
 }
 
-/// Carries out the intention with a block: it becomes Allocated, or Free. Any other entry stays. `Damaged` as in
-/// `intend_claim`.
+/// Carries out the intention with a block: it becomes Allocated, or Free.
+///
+/// Any other entry stays. `Damaged` as in `intend_claim`.
 pub fn finish<D: Disk>(disk: &mut D, block: BlockNo) -> Result<(), Trouble>
     requires { block.0 < D.blocks disk.old }
     ensures { spec.ChangesEntry D.Disk block.0 (λ e. entries.finished e) disk.old disk.new result }
@@ -50,8 +54,9 @@ pub fn finish<D: Disk>(disk: &mut D, block: BlockNo) -> Result<(), Trouble>
     Ok(())
 }
 
-/// Takes back the intention with a block: it becomes Free, or Allocated. Any other entry stays. `Damaged` as in
-/// `intend_claim`.
+/// Takes back the intention with a block: it becomes Free, or Allocated.
+///
+/// Any other entry stays. `Damaged` as in `intend_claim`.
 pub fn undo<D: Disk>(disk: &mut D, block: BlockNo) -> Result<(), Trouble>
     requires { block.0 < D.blocks disk.old }
     ensures { spec.ChangesEntry D.Disk block.0 (λ e. entries.undone e) disk.old disk.new result }

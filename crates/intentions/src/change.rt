@@ -1,4 +1,4 @@
-//! What is done to an entry.
+//! The changes of an entry.
 ghost use Rattle.std.specs.Prelude.{◌≡◌};
 ghost use Rattle.cyl_map.specs.Entry.{IsEntry};
 ghost use Rattle.intentions.specs.Entries as spec;
@@ -7,7 +7,7 @@ use cfs_base::Place;
 use cyl_alloc::maps::FREE;
 use cyl_map::{BlockState, MapEntry};
 
-/// A change of an entry. Where it doesn't fit an entry, that stays as it is.
+/// A change of an entry. An entry that it doesn't fit stays as it is.
 #[derive(Clone, Copy, Debug, PartialEq, Eq)]
 pub enum EntryChange {
     /// A Free block is claimed for an owner's place.
@@ -24,7 +24,7 @@ pub enum EntryChange {
     Undo,
 }
 
-/// The same entry in another state.
+/// Returns the same entry in another state.
 fn restated(entry: MapEntry, state: BlockState) -> MapEntry
     ensures { result ≡ spec.restated state entry }
 {
@@ -97,7 +97,7 @@ fn undone(entry: MapEntry) -> MapEntry
 }
 
 impl EntryChange {
-    /// The entry after the change.
+    /// Returns the entry after the change.
     pub fn of(self, entry: MapEntry) -> MapEntry
         requires entry { IsEntry entry }
         requires fits { spec.FitsEntry self }

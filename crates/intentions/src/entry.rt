@@ -19,7 +19,7 @@ use cfs_base::{Block, BlockNo, Disk, Trouble};
 use cyl_alloc::KnownMaps;
 use cyl_map::{Map, MapEntry};
 
-/// Reads the entry of a block, and into `map` the map that has it.
+/// Returns the entry of a block, and reads the map that has it into `map`.
 pub(crate) fn read_entry<D: Disk>(
     disk: &mut D,
     known: &KnownMaps,
@@ -41,7 +41,7 @@ pub(crate) fn read_entry<D: Disk>(
     Ok(Map::entry_in(map, (block.0 % 64) as u8))
 }
 
-/// Puts another entry in place of the one that was read.
+/// Puts another entry in the place of the one that was read.
 pub(crate) fn put_entry<D: Disk>(
     disk: &mut D,
     known: &mut KnownMaps,
@@ -68,7 +68,7 @@ pub(crate) fn put_entry<D: Disk>(
         .map_err(|_| Trouble::Disk { tried: true })
 }
 
-/// Changes the entry of a block, and gives the one that it had.
+/// Changes the entry of a block, and returns the one that it had.
 pub fn change_entry<D: Disk>(
     disk: &mut D,
     known: &mut KnownMaps,
@@ -89,7 +89,7 @@ pub fn change_entry<D: Disk>(
     Ok(entry)
 }
 
-/// Changes the entry of a block in its map, which is in memory, and gives the one that it had.
+/// Changes the entry of a block in its map, which is in memory, and returns the one that it had.
 pub fn change_in(map: &mut Block, block: BlockNo, how: EntryChange) -> MapEntry
     requires spells { SpellsMap map.old }
     requires fits { entries.FitsEntry how }

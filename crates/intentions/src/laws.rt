@@ -1,4 +1,4 @@
-//! What is proved of courses and intentions, as contracts. None of these calls does anything.
+//! What is proved of courses and intentions, as contracts of functions that do nothing.
 ghost use Rattle.std.specs.Prelude.{◌≡◌, ◌≢◌, ℕ, false, true, Some};
 ghost use Rattle.cfs_base.specs.Disk.{Image, block_at};
 ghost use Rattle.cfs_base.specs.Run.{IsSettled};
@@ -23,8 +23,10 @@ ghost use Rattle.vol_image.specs.Sound.{Holds};
 
 use cfs_base::Disk;
 
-/// A disk that carries objects keeps to their frame, and the other way round. One on which nothing waits keeps to each
-/// course that its content is on, and carries the objects of each that it has kept to.
+/// A disk that carries objects keeps to their frame, and the other way round.
+///
+/// A disk on which no write waits for a barrier keeps to each course that its content is on, and carries the objects
+/// of each course to which it has kept.
 pub fn a_disk_keeps_to_courses<D: Disk>(disk: &D)
     ensures frame { (graph : Graph) → Carries D.Disk graph disk.now
         → Keeps D.Disk (Frame (D.content disk.now) graph) disk.now }
@@ -41,7 +43,7 @@ pub fn courses_hold()
     ensures { (course : Course) (c : Image) → IsCourse course → IsOn course c → Holds c (graph_of course) }
 {}
 
-/// A block that the objects hold may be given up within their frame, and one that they don't hold may be claimed, and
+/// A block that the objects hold may be given up within their frame. One that they don't hold may be claimed, and
 /// taken back.
 pub fn intentions_keep_the_frame()
     ensures release { (a : Image) (graph : Graph) (n : ℕ) (e : MapEntry) → is_fixed n ≡ false → IsEntry e
@@ -59,7 +61,7 @@ pub fn intentions_keep_the_frame()
 pub fn objects_settle()
     ensures begin { (a c : Image) (graph : Graph) (id : Puid) (o : Object) (s : ℕ) → Copies a c graph id o s
         → Settles c graph id s c }
-    // What of a draft was to be finished still is, once its bit is set and its root copied.
+    // What was to be finished of a draft still is, once its bit is set and its root copied.
     ensures stays { (a c k : Image) (graph : Graph) (id : Puid) (was o : Object) (s n : ℕ) → Holds a graph
         → object_at graph id ≡ Some was → Commits a c graph id o s → Copies c k (with_object graph id o) id o s
         → IsToFinish a id.block (block_at a s) n → IsToFinish k id.block (block_at k id.block) n }

@@ -1,6 +1,7 @@
-//! Intentions: what a draft means to take and to give up, and the commit bit that carries it out.
+//! Intentions: what a draft is to take and to give up, and the commit bit that carries it out.
+//!
 //! The layer above uses which entry each call changes and how, and that a crash leaves the map as it was or with that
-//! entry.
+//! entry changed.
 #![tactic(auto)]
 
 mod bit;

@@ -15,17 +15,17 @@ use cfs_base::{Block, BlockNo, Disk, Trouble};
 use cyl_alloc::KnownMaps;
 use cyl_map::{BlockState, MapEntry};
 
-/// Which change the entry of each of some blocks gets.
+/// The change that the entry of each of some blocks gets.
 #[derive(Clone, Copy, Debug, PartialEq, Eq)]
 pub enum Rule {
-    /// The same to each.
+    /// Each entry gets the same change.
     Alike(EntryChange),
-    /// The intentions are carried out, but that with the shadow root is taken back.
+    /// The intentions are carried out, except that the one with the shadow root is taken back.
     Settle { shadow: BlockNo },
 }
 
 impl Rule {
-    /// The change of the entry of a block.
+    /// Returns the change of the entry of a block.
     fn of(self, block: BlockNo) -> EntryChange
         requires { spec.AllFit self }
         ensures value { result ≡ spec.how_of self block.0 }
@@ -44,10 +44,12 @@ impl Rule {
     }
 }
 
-/// The first of some blocks, which lie in one map: how many they are, and how many of them became Free.
+/// The first of some blocks, which lie in one map.
 #[derive(Clone, Copy, Debug, PartialEq, Eq)]
 pub struct Run {
+    /// How many blocks the run has.
     pub count: usize,
+    /// How many of them became Free.
     pub freed: u32,
 }
 
@@ -57,7 +59,7 @@ fn is_free(entry: MapEntry) -> bool
     matches!(entry.state, BlockState::Free)
 }
 
-/// Whether a block became Free.
+/// Returns whether a block became Free.
 pub fn is_freed(was: MapEntry, now: MapEntry) -> bool
     ensures { result ≡ spec.is_freed was now }
 {
@@ -67,7 +69,7 @@ pub fn is_freed(was: MapEntry, now: MapEntry) -> bool
     is_free(now)
 }
 
-/// Changes the entry of a block in its map, which was read. Answers whether the block became Free.
+/// Changes the entry of a block in its map, which was read, and returns whether the block became Free.
 fn flip_in(map: &mut Block, block: BlockNo, how: EntryChange) -> bool
     requires spells { maps.SpellsMap map.old }
     requires fits { FitsEntry how }
@@ -82,7 +84,7 @@ fn flip_in(map: &mut Block, block: BlockNo, how: EntryChange) -> bool
     is_freed(was, how.of(was))
 }
 
-/// Changes in a map that was read the entries of those of the blocks that lie in it, up to the first that doesn't.
+/// Changes the entries of the first of the blocks in a map that was read, up to the first block that isn't in it.
 pub fn change_first(map: &mut Block, blocks: &[u32], rule: Rule, first: u32) -> Run
     requires spells { maps.SpellsMap map.old }
     requires fits { spec.AllFit rule }

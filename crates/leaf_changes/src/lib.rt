@@ -1,5 +1,7 @@
-//! What a change of an object does to its leaves: the way between an object as a list of bytes or slots, and as 512
-//! bytes a leaf. The layers above use that leaves with the bytes of a change give the changed object.
+//! What a change of an object does to its leaves.
+//!
+//! It relates an object as a list of bytes or slots to its leaves of 512 bytes. The layers above use that leaves with
+//! the bytes of a change give the changed object.
 #![tactic(auto)]
 
 mod parts;

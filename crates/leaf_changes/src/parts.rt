@@ -1,4 +1,4 @@
-//! The bytes of a leaf and those of a part of its file, copied from the one to the other.
+//! The bytes of a leaf and those of a part of its file, copied from one to the other.
 ghost use Rattle.std.specs.Prelude.{◌≡◌, ◌*◌, ◌≤◌, length};
 ghost use Rattle.block_tree.specs.Pointers.{size_limit};
 ghost use Rattle.ufs_model.specs.Object.{leaves_in as leaves_of};
@@ -6,7 +6,7 @@ ghost use Rattle.leaf_changes.specs.Bytes.{overlaid, patched, with_leaf_copied, 
 
 use cfs_base::Block;
 
-/// How many leaves so many bytes take.
+/// Returns how many leaves hold `size` bytes.
 pub fn leaves_in(size: u64) -> u32
     requires { size ≤ size_limit }
     ensures { result ≡ leaves_of size }
@@ -14,7 +14,9 @@ pub fn leaves_in(size: u64) -> u32
     size.div_ceil(512) as u32
 }
 
-/// Lays bytes that stand from `from` on over bytes that stand from `at` on, as far as they meet.
+/// Copies the bytes `above` over the bytes `below`, as far as they overlap.
+///
+/// `above` begins at `from`, and `below` at `at`.
 fn lay_over(below: &mut [u8], at: u64, above: &[u8], from: u64)
     ensures { below.new ≡ overlaid at below.old from above.now }
 {
@@ -29,7 +31,7 @@ fn lay_over(below: &mut [u8], at: u64, above: &[u8], from: u64)
     }
 }
 
-/// Writes bytes that stand at an offset of a file, counted in bytes, into one of its leaves, as far as they lie in it.
+/// Writes bytes at an offset of a file, in bytes, into one of its leaves, as far as they lie in it.
 pub fn patch_leaf(block: &mut Block, leaf: u32, offset: u64, bytes: &[u8])
     ensures patched { block.new ≡ patched leaf offset bytes.now block.old }
     ensures long { length block.old ≡ 512 }
@@ -46,8 +48,9 @@ pub fn read_part(block: &Block, leaf: u32, offset: u64, part: &mut [u8])
     lay_over(part, offset, block.bytes(), 512 * leaf as u64);
 }
 
-/// Puts fill bytes into the leaf in which a file of this size ends, from its end on: into all of it where the size is a
-/// multiple of 512.
+/// Fills the leaf in which a file of this size ends with fill bytes from the file's end on.
+///
+/// If the size is a multiple of 512, all of the leaf is filled.
 pub fn cut_leaf(block: &mut Block, size: u64, fill: u8)
     ensures cut { block.new ≡ cut size fill block.old }
     ensures long { length block.old ≡ 512 }

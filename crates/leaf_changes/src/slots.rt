@@ -5,7 +5,9 @@ ghost use Rattle.leaf_changes.specs.Bytes.{with_slot};
 
 use cfs_base::{Block, Puid};
 
-/// Puts an identifier into a slot of a leaf, or empties it. The leaf's first slot is slot 0.
+/// Puts an identifier into a slot of a leaf, or empties the slot.
+///
+/// Slots are numbered from 0 in each leaf.
 pub fn put_slot(block: &mut Block, slot: usize, what: Option<Puid>)
     requires { slot < 64 }
     ensures put { block.new ≡ with_slot slot what block.old }
@@ -18,7 +20,9 @@ pub fn put_slot(block: &mut Block, slot: usize, what: Option<Puid>)
     block.put_u64(8 * slot, number);
 }
 
-/// What a slot of a leaf holds. The leaf's first slot is slot 0.
+/// Returns what a slot of a leaf holds.
+///
+/// Slots are numbered from 0 in each leaf.
 pub fn slot_at(block: &Block, slot: usize) -> Option<Puid>
     requires { slot < 64 }
     ensures { result ≡ slot_in block.now slot }

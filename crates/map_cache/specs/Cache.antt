@@ -5,17 +5,17 @@ use Rattle.cfs_base.specs.declared.disk.Disk.{Ghosts}
 use Rattle.map_cache.specs.declared.held.Stage.TheVariants.{Waiting, Keeping}
 use Rattle.map_cache.specs.Holding.{Holding, found, held_block, holding}
 
--- the lower disk, what is held of it, and how many calls were made on the cache
+-- the lower disk, what is held of it, and how many calls were made of the cache
 pub record Cache (D : Type 0) : Type 0 where
   pub lower : D
   pub held : Holding
   pub calls : ℕ
 
--- no call was made on it
+-- a cache on which no call was made
 abbrev pub new_cache : {D : Type 0} → D → ℕ → Cache D
 new_cache lower capacity = record { lower = lower; held = holding [] capacity Waiting 0; calls = 0 }
 
--- ---- the lower disk's are the content, what is told, the images, the moment, the tries and the faults
+-- ---- the content, what is told, the images, the moment, the tries and the faults are the lower disk's
 
 module _ {D : Type 0} (g : Ghosts D) where
   abbrev pub blocks_of : Cache D → ℕ
@@ -49,14 +49,14 @@ module _ {D : Type 0} (g : Ghosts D) where
   abbrev pub lower_calls : Cache D → ℕ
   lower_calls c = g.calls c.lower
 
-  -- What is held is what the lower disk holds, where that one tells its content.
+  -- What is held is what the lower disk holds, if that disk tells its content.
   pub record IsMirror (lower : D) (held : Holding) : Type 0 where
     -- while blocks are kept an honest disk tells all of them
     pub told : held.stage ≡ Keeping → IsTrue (g.honest lower) → (n : ℕ) → IsTrue (g.told lower n)
     pub bytes : (n : ℕ) (block : List ℕ) → held_block held n ≡ Some block →
         IsTrue (g.honest lower) → block ≡ block_at (g.content lower) n
 
--- its own count of calls
+-- the cache's own count of calls
 abbrev pub own_calls : {D : Type 0} → Cache D → ℕ
 own_calls c = c.calls
 

@@ -7,12 +7,12 @@ use Rattle.lru.specs.LruCache.{lru_cache, promoted, put_entries}
 use Rattle.map_cache.specs.declared.held.Stage.{Stage}
 use Rattle.map_cache.specs.declared.held.Stage.TheVariants.{Waiting, Keeping, Over}
 
--- blocks by their numbers with their bytes, the last used first
+-- blocks by their numbers, with their bytes, the last used first
 abbrev pub Blocks : Type 0
 Blocks = List (ℕ × List ℕ)
 
--- what is held, how many blocks there may be at most, how far the cache has come, and how often a block wasn't held for
--- want of memory, up to the last number of a u64
+-- what is held, how many blocks there may be at most, how far the cache has come, and how often a block wasn't held
+-- for want of memory, up to the last number of a u64
 pub record Holding : Type 0 where
   pub blocks : Blocks
   pub capacity : ℕ
@@ -35,26 +35,26 @@ has_map h n = is_some (held_block h n)
 pub record IsHolding (h : Holding) : Type 0 where
   pub room : 1 ≤ h.capacity
   pub few : length h.blocks ≤ h.capacity
-  -- map blocks alone are held
+  -- only map blocks are held
   pub maps : (n : ℕ) → IsTrue (has_map h n) → n % 64 ≡ 0
   -- nothing is held before a barrier is done, nor after a write or a barrier that failed
   pub none : h.stage ≢ Keeping → h.blocks ≡ []
 
--- a block was found: where it is held it comes to the front
+-- the cache after a look-up: a block that is held comes to the front
 abbrev pub found : Holding → ℕ → Holding
 found h n = record h { blocks = promoted (nat_eq n) h.blocks }
 
--- this block with these bytes in front; one that is new pushes the last out of a full cache
+-- the blocks with this one in front; a new one pushes the last out of a full cache
 abbrev pub with_front : Holding → ℕ → List ℕ → Blocks
 with_front h n block = put_entries nat_eq (lru_cache h.blocks h.capacity) n block
 
--- It is held with these bytes, in front. Another goes only where it was the last of a full cache.
+-- The block is held with these bytes, in front. Another block is dropped only if it was the last of a full cache.
 pub record IsPutInFront (old new : Holding) (n : ℕ) (block : List ℕ) : Type 0 where
   pub front : new.blocks ≡ with_front old n block
   pub is_held : held_block new n ≡ Some block
   pub no_want : new.wants ≡ old.wants
 
--- For want of memory, which is counted, it isn't held, nor was it. What was held still is.
+-- For want of memory, which is counted, the block isn't held, and wasn't before. What was held still is.
 pub record IsStarved (old new : Holding) (n : ℕ) : Type 0 where
   pub stays : new.blocks ≡ old.blocks
   pub not_held : has_map old n ≡ false
@@ -62,27 +62,27 @@ pub record IsStarved (old new : Holding) (n : ℕ) : Type 0 where
 
 -- A block was read or written with these bytes, and the call of the lower disk is done.
 pub record TakesIn (old new : Holding) (n : ℕ) (block : List ℕ) : Type 0 where
-  -- where blocks are kept a map block is put in front, unless memory was wanted
+  -- while blocks are kept a map block is put in front, unless there was no memory
   pub put : old.stage ≡ Keeping → n % 64 ≡ 0 → IsPutInFront old new n block ⊎ IsStarved old new n
   pub no_map : n % 64 ≢ 0 → new ≡ old
   pub not_kept : old.stage ≢ Keeping → new ≡ old
-  -- the block is held with these bytes, if it is
+  -- if this block is held, it has these bytes
   pub this : (bytes : List ℕ) → held_block new n ≡ Some bytes → bytes ≡ block
-  -- another that is held was held before
+  -- any other block that is held was held before
   pub others : (m : ℕ) (bytes : List ℕ) → m ≢ n → held_block new m ≡ Some bytes → held_block old m ≡ Some bytes
   pub capacity : new.capacity ≡ old.capacity
   pub stage : new.stage ≡ old.stage
 
--- after a barrier that is done
+-- the stage after a barrier that is done
 abbrev pub stage_after_barrier : Stage → Stage
 stage_after_barrier Waiting = Keeping
 stage_after_barrier Keeping = Keeping
 stage_after_barrier Over = Over
 
--- blocks are kept from the first barrier on that is done, but never after a write or a barrier that failed
+-- blocks are kept from the first barrier that is done, but never after a write or a barrier that failed
 abbrev pub after_barrier : Holding → Holding
 after_barrier h = record h { stage = stage_after_barrier h.stage }
 
--- after a write or a barrier that failed nothing is held, for good
+-- after a write or a barrier that failed nothing is held any more
 abbrev pub after_failure : Holding → Holding
 after_failure h = record h { blocks = []; stage = Over }

@@ -14,18 +14,22 @@ use cfs_base::{Block, BlockNo, Disk, Failed};
 use std::alloc::Global;
 use std::marker::Model;
 
-/// There was no memory for a cache. The disk is handed back, and no call was made on it.
+/// There was no memory for a cache.
+///
+/// It hands back the disk, on which no call was made.
 #[derive(Debug, Drop)]
 pub struct CacheFault<D> {
     pub lower: D,
 }
 
-/// A disk over a lower one. It holds map blocks, whose numbers are multiples of 64: those that were read or written
-/// last, up to its capacity. A read of a block that is held makes no call of the lower disk, any other call makes one.
+/// A disk over a lower one, which holds the map blocks that were read or written last, up to its capacity.
 ///
-/// It holds nothing until a barrier made through it is done, because a write may have failed on the lower disk before,
-/// and nothing any more once a write or a barrier made through it fails. A block that isn't held for want of memory is
-/// counted (`wants`), and no call fails from that.
+/// Map blocks are those whose numbers are multiples of 64. A read of a block that is held makes no call of the lower
+/// disk, and any other call makes one.
+///
+/// Nothing is held until a barrier made through the cache is done, because a write may have failed on the lower disk
+/// before. Nothing is held any more once a write or a barrier made through it fails. A block that isn't held for want
+/// of memory is counted (`wants`), and no call fails from that.
 ///
 /// The content, the crash images, the clock, and the counts of tries and faults are the lower disk's. The count of
 /// calls is its own.
@@ -99,7 +103,7 @@ impl<D: Disk> Disk for MapCache<D> {
         ensures counts { CountsRead (moment_of D.Disk) own_calls (tries_of D.Disk) (faults_of D.Disk) self.old self.new
             (IsErr result) }
 
-        // Where the block is held the lower disk isn't called. Else it is, once, and what was read is taken in.
+        // If the block is held the lower disk isn't called. Else it is called once, and what was read is taken in.
         ensures hit { IsTrue (has_map self.old.held at.0) → IsOk result × IsHit self.old self.new at.0 into.new }
         ensures one_call { has_map self.old.held at.0 ≡ false
             → lower_calls D.Disk self.new ≡ count_after (lower_calls D.Disk self.old) }
@@ -135,7 +139,8 @@ impl<D: Disk> Disk for MapCache<D> {
         ensures counts { CountsTry (moment_of D.Disk) own_calls (tries_of D.Disk) (faults_of D.Disk) (is_telling D.Disk)
             self.old self.new (IsErr result) }
 
-        // The lower disk is called once. Done, what was written is taken in; failed, nothing is held any more.
+        // The lower disk is called once. If the write is done, what was written is taken in. If it fails, nothing is
+        // held any more.
         ensures one_call { lower_calls D.Disk self.new ≡ count_after (lower_calls D.Disk self.old) }
         ensures taken_in { OnOk result (TakesIn self.old.held self.new.held at.0 from.now) }
         ensures emptied { OnErr result (self.new.held ≡ after_failure self.old.held) }
@@ -166,8 +171,8 @@ impl<D: Disk> Disk for MapCache<D> {
         ensures counts { CountsTry (moment_of D.Disk) own_calls (tries_of D.Disk) (faults_of D.Disk) (is_telling D.Disk)
             self.old self.new (IsErr result) }
 
-        // The lower disk is called once. Done, a cache that waited for it keeps blocks from then on; failed, nothing is
-        // held any more.
+        // The lower disk is called once. If the barrier is done, a cache that waited for one keeps blocks from then
+        // on. If it fails, nothing is held any more.
         ensures one_call { lower_calls D.Disk self.new ≡ count_after (lower_calls D.Disk self.old) }
         ensures begins { OnOk result (self.new.held ≡ after_barrier self.old.held) }
         ensures emptied { OnErr result (self.new.held ≡ after_failure self.old.held) }
@@ -180,8 +185,9 @@ impl<D: Disk> Disk for MapCache<D> {
 }
 
 impl<D: Disk> MapCache<D> {
-    /// A cache over this disk that may hold so many blocks. It holds none, and the disk isn't called. Refused for want
-    /// of memory alone.
+    /// Makes a cache over this disk that may hold `capacity` blocks.
+    ///
+    /// It holds none yet, and the disk isn't called. Fails only for want of memory.
     pub fn new(alloc: Global, lower: D, capacity: u32) -> Result<MapCache<D>, CacheFault<D>>
         requires { 1 ≤ capacity }
         ensures fresh { IfOk result (λ c. c ≡ new_cache lower capacity) }
@@ -197,24 +203,24 @@ impl<D: Disk> MapCache<D> {
         }
     }
 
-    /// Whether it holds this block, so that a read of it makes no call of the lower disk. Takes no memory.
+    /// Returns whether this block is held, so that a read of it makes no call of the lower disk. Takes no memory.
     pub fn holds(&self, at: BlockNo) -> bool
         ensures holds { result ≡ has_map self.now.held at.0 }
-        // Of every cache:
+        // for every cache:
         ensures valid { IsHolding self.now.held }
         ensures mirror { IsMirror D.Disk self.now.lower self.now.held }
     {
         self.held.holds(at.0)
     }
 
-    /// How often a map block that was read or written wasn't held, for want of memory. Takes none.
+    /// Returns how many map blocks were read or written and weren't held for want of memory. Takes no memory.
     pub fn wants(&self) -> u64
         ensures { result ≡ self.now.held.wants }
     {
         self.held.wants()
     }
 
-    /// The lower disk. Takes no memory.
+    /// Returns the lower disk. Takes no memory.
     pub fn into_lower(self) -> D
         ensures { result ≡ self.lower }
     {

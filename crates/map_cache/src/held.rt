@@ -9,7 +9,7 @@ use std::alloc::{AllocError, Global};
 use std::marker::Model;
 use std::num::NonZeroUsize;
 
-/// The blocks of a volume come in cylinders of so many. The first of each has its map.
+/// How many blocks a cylinder of a volume has. The first of each holds its map.
 const CYLINDER: u32 = 64;
 
 /// How far a cache has come.
@@ -23,7 +23,7 @@ pub(crate) enum Stage {
     Over,
 }
 
-/// Blocks in the order of their last use, how far the cache has come, and how often memory was wanted for one more.
+/// Blocks in the order of their last use, how far the cache has come, and how often there was no memory for one more.
 #[derive(Drop)]
 pub(crate) struct Held {
     blocks: LruCache<u32, Block>,
@@ -42,7 +42,7 @@ impl Model for Held {
 }
 
 impl Held {
-    /// None are held.
+    /// Makes a cache that holds no block.
     pub(crate) fn new(alloc: Global, capacity: u32) -> Result<Held, AllocError>
         requires { 1 ≤ capacity }
         ensures { IfOk result (λ h. h ≡ holding [] capacity Stage.Waiting 0) }
@@ -58,7 +58,7 @@ impl Held {
         })
     }
 
-    /// Whether a block is held.
+    /// Returns whether a block is held.
     pub(crate) fn holds(&self, at: u32) -> bool
         ensures holds { result ≡ has_map self.now at }
         ensures valid { IsHolding self.now }
@@ -66,14 +66,14 @@ impl Held {
         self.blocks.contains(&at)
     }
 
-    /// How often a block wasn't held for want of memory.
+    /// Returns how many times a block wasn't held for want of memory.
     pub(crate) fn wants(&self) -> u64
         ensures { result ≡ self.now.wants }
     {
         self.wants
     }
 
-    /// Copies a held block and brings it to the front. Answers whether it is held.
+    /// Copies a held block and brings it to the front. Returns whether it is held.
     pub(crate) fn find(&mut self, at: u32, into: &mut Block) -> bool
         ensures found { result ≡ has_map self.old at }
         ensures bytes { IsTrue result → held_block self.old at ≡ Some into.new }
@@ -92,13 +92,14 @@ impl Held {
         }
     }
 
-    /// A block was read or written with these bytes.
+    /// Takes in a block that was read or written with these bytes.
     pub(crate) fn take_in(&mut self, at: u32, block: &Block)
         ensures { TakesIn self.old self.new at block.now }
     {
         let keeps = self.stage == Stage::Keeping && at % CYLINDER == 0;
         if keeps {
-            // For want of memory it isn't held, nor an older content: where its number is held no memory is taken.
+            // For want of memory the block isn't held, with an older content neither: putting a number that is held
+            // takes no memory.
             let put = self.blocks.put(at, *block);
             if put.is_err() {
                 self.wants = self.wants.saturating_add(1);
@@ -106,7 +107,7 @@ impl Held {
         }
     }
 
-    /// A barrier is done, or failed.
+    /// Records that a barrier is done, or that it failed.
     pub(crate) fn settle(&mut self, done: bool)
         ensures begins { IsTrue done → self.new ≡ after_barrier self.old }
         ensures emptied { done ≡ false → self.new ≡ after_failure self.old }
@@ -118,7 +119,7 @@ impl Held {
         }
     }
 
-    /// A write or a barrier failed.
+    /// Records that a write or a barrier failed: nothing is held any more.
     pub(crate) fn empty(&mut self)
         ensures { self.new ≡ after_failure self.old }
     {

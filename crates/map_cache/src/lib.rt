@@ -1,4 +1,4 @@
-//! A disk over a disk that holds the map blocks used last, so that a read of one of these makes no call below.
+//! A disk over a disk that holds the map blocks used last, so that a read of one of them makes no call below.
 #![tactic(auto)]
 
 mod cache;

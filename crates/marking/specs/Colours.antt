@@ -26,7 +26,7 @@ is_index Normal = false
 is_index Special = false
 is_index Index = true
 
--- an object that isn't marked is marked, and grey where it is an index
+-- an object that isn't marked is marked, and grey if it is an index
 abbrev pub shaded : Puid → Kind → Colours → Colours
 shaded id kind c =
     if c.marked id.block then c else record {
@@ -55,7 +55,7 @@ all_shaded directory (id ∷ ids) c = all_shaded directory ids (shaded_in direct
 abbrev pub first_grey : Colours → Option Grey
 first_grey c = slice_get c.grey 0
 
--- its cursor moves, or it is read to its end and grey no more
+-- its cursor moves, or it is read to its end and no longer grey
 abbrev pub moved_first : Option ℕ → List Grey → List Grey
 moved_first next [] = []
 moved_first None (e ∷ es) = es
@@ -64,12 +64,12 @@ moved_first (Some cursor) (e ∷ es) = record { id = e.id; cursor = cursor } ∷
 abbrev pub moved : Option ℕ → Colours → Colours
 moved next c = record c { grey = moved_first next c.grey }
 
--- where the reading of an index is, None where it isn't grey
+-- how far an index was read, or None if it isn't grey
 abbrev pub cursor_of : List Grey → Puid → Option ℕ
 cursor_of [] i = None
 cursor_of (e ∷ es) i = if same_puid i e.id then Some e.cursor else cursor_of es i
 
--- it moves there, wherever in the list the index stands first
+-- its cursor moves there, where the index is first in the list
 abbrev pub moved_at : Puid → ℕ → List Grey → List Grey
 moved_at i cursor [] = []
 moved_at i cursor (e ∷ es) = if same_puid i e.id then record e { cursor = cursor } ∷ es else e ∷ moved_at i cursor es
@@ -77,9 +77,9 @@ moved_at i cursor (e ∷ es) = if same_puid i e.id then record e { cursor = curs
 abbrev pub with_cursor : Puid → ℕ → Colours → Colours
 with_cursor i cursor c = record c { grey = moved_at i cursor c.grey }
 
--- ---- a draft ends
+-- ---- how a draft ends
 
--- where it was being read, the reading goes on at the index's own first leaf
+-- if the draft was being read, the reading goes on at the index's own first leaf
 abbrev pub ended_from : Option ℕ → Puid → Colours → Colours
 ended_from None i c = c
 ended_from (Some cursor) i c = if nat_lt cursor own_part then with_cursor i own_part c else c

@@ -16,7 +16,7 @@ use Rattle.marking.specs.Steps.{is_live}
 
 -- ---- what is still to be done
 
--- the rescue of x in this index waits; or of its opening
+-- the rescue of x in this index waits, or that of its opening
 abbrev pub Waits : List Rescue → Option Puid → Puid → Type 0
 Waits [] index x = ⊥
 Waits (r ∷ rs) index x = ((r.index ≡ index) × (r.id ≡ x)) ⊎ Waits rs index x
@@ -41,9 +41,9 @@ pub data IsCovered (c : Colours) (waiting : List Rescue) (from : Option Puid) (l
   IsWaiting : Waits waiting from x → IsCovered c waiting from leaf x
   IsLeft : IsToRead c.grey from leaf → IsCovered c waiting from leaf x
 
--- ---- what was seen to stand at some time since the collection began
+-- ---- what was seen at some time since the collection began
 
--- x was put into this index, or stood there; with no index, it was the root or open
+-- x was put into this index, or was in it; without an index, x was the root or open
 abbrev pub is_remembered : Collection → Option Puid → Puid → Bool
 is_remembered c None x = is_among x (starts c)
 is_remembered c (Some i) x = has_pair (edges c) i x
@@ -54,7 +54,7 @@ is_index_there g (Some i) = is_there g i
 
 -- ---- the invariant
 
--- Within one step: where an object may be found that is still to be shaded in it.
+-- Within one step: where an object may be found that this step still has to shade.
 abbrev pub Owed : Type 1
 Owed = Option Puid → ℕ → Puid → Type 0
 
@@ -63,7 +63,7 @@ OwesNothing from leaf x = ⊥
 
 -- All but what is owed is covered, and what is marked was reached at some time since the collection began.
 pub record IsColoured (s : State) (owed : Owed) (c : Colours) (waiting : List Rescue) : Type 0 where
-  -- what is found in a marked index, or with no index, is marked or will be looked at
+  -- what is found in a marked index, or without an index, is marked or will be looked at
   pub covered : (from : Option Puid) (leaf : ℕ) (x : Puid) → is_found s from leaf x ≡ true → is_live from c ≡ true
       → IsCovered c waiting from leaf x ⊎ owed from leaf x
   -- what is marked is in the graph, and was reached
@@ -73,7 +73,7 @@ pub record IsColoured (s : State) (owed : Owed) (c : Colours) (waiting : List Re
   -- what is grey is a marked index
   pub grey : (i : Puid) → IsGrey c.grey i → (c.marked i.block ≡ true) × (kind_at s.graph i ≡ Some kinds.Index)
   pub once : AreOnce c.grey
-  -- what waits is remembered, and so is all that stands now
+  -- what waits is remembered, and so is all that there is now
   pub rescues : (index : Option Puid) (x : Puid) → Waits waiting index x
       → (is_remembered s.collection index x ≡ true) × (is_index_there s.graph index ≡ true)
   pub stands : (from : Option Puid) (leaf : ℕ) (x : Puid) → is_found s from leaf x ≡ true

@@ -16,14 +16,14 @@ use Rattle.marking.specs.Pace.{read_so_far, unread}
 
 -- ---- any change
 
--- it is found at this place of the index, or at one that is read earlier: a draft becomes the index
+-- it is found at this place of the index, or at one that is read earlier, since a draft becomes the index
 pub record IsFoundBy (s : State) (from : Option Puid) (place : ℕ) (x : Puid) : Type 0 where
   pub before : ℕ
   pub earlier : before ≤ place
   pub there : is_found s from before x ≡ true
 
--- While marks stay, a state may change so that each object that is found somewhere anew has one of these rescues, which
--- are remembered; what is there stays, of its kind, and an index keeps its leaves.
+-- While marks stay, a state may change so that each object that is newly found somewhere has one of these rescues,
+-- which are remembered. What exists stays, with its kind, and an index keeps its leaves.
 pub record Changes (s t : State) (more : List Rescue) : Type 0 where
   pub root : t.graph.root ≡ s.graph.root
   pub kinds : (x : Puid) (kind : Kind) → kind_at s.graph x ≡ Some kind → kind_at t.graph x ≡ Some kind
@@ -38,7 +38,7 @@ pub record Changes (s t : State) (more : List Rescue) : Type 0 where
 
 -- ---- what is asked
 
--- the request was done, and all that it does is its outcome's
+-- the request was done, and its effect is all of its outcome's
 abbrev pub is_carried_out : Reply → Bool
 is_carried_out replies.Done = true
 is_carried_out (replies.Id id) = true

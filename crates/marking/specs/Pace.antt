@@ -1,4 +1,4 @@
--- How many leaves a collection has read: what each scan raises, and the blocks of the graph bound.
+-- How many leaves a collection has read: each scan raises this, and the number of blocks of the graph bounds it.
 use Rattle.std.specs.Prelude.{ℕ, ◌+◌, ◌≤◌, ◌<◌, ◌^◌, ◌-◌, nat_lt, List, [], ◌∷◌, length, count_by, if◌then◌else◌}
 use Rattle.std.specs.Prelude.{Option, Some, None}
 use Rattle.std.specs.Prelude.{◌*◌, nat_le, Bool, is_some}
@@ -15,8 +15,8 @@ use Rattle.marking.specs.declared.memory.Rescue.{Rescue}
 use Rattle.marking.specs.Leaves.{own_part}
 use Rattle.marking.specs.Colours.{Colours, cursor_of}
 
--- the steps made on an index's own leaves, at most: one for each held leaf below its cursor, and one more once it is
--- read to its end
+-- how many steps were made on an index's own leaves at most: one for each held leaf below its cursor, and one more
+-- once it is read to its end
 abbrev pub read_of : Option ℕ → List ℕ → ℕ
 read_of (Some cursor) held = count_by (λ leaf. nat_lt (own_part + leaf) cursor) held
 read_of None held = 1 + length held
@@ -35,19 +35,20 @@ abbrev pub index_leaves : Object → List ℕ
 index_leaves (objects.File f) = []
 index_leaves (objects.Index i) = i.held
 
--- the leaves of a draft, which holds what its index holds; or those that a draft would begin with
+-- the leaves of a draft, which holds what its index holds, or those with which a draft would begin
 abbrev pub drafted_leaves : (draft own : Option Object) → List ℕ
 drafted_leaves (Some d) own = index_leaves d
 drafted_leaves None (Some o) = index_leaves o
 drafted_leaves None None = []
 
--- the steps that may still be made on these: one for each leaf from a cursor on, and one to leave a draft without
+-- how many steps may still be made on these: one for each leaf from a cursor on, and one to leave a draft that has
+-- none
 abbrev pub unread_of : (has_draft : Bool) → Option ℕ → List ℕ → ℕ
 unread_of has_draft None held = 0
 unread_of has_draft (Some cursor) held =
     if nat_lt cursor own_part then count_by (λ leaf. nat_le cursor leaf) held + one_if has_draft else 0
 
--- where the reading of an object is: at its first place while it isn't marked
+-- where the reading of an object is: at its first place if it isn't marked
 abbrev pub reading_at : Colours → Puid → Option ℕ
 reading_at c id = if c.marked id.block then cursor_of c.grey id else Some 0
 
@@ -62,15 +63,15 @@ unread s c = sum_by (unread_at s c) (ids_of s.graph)
 
 -- ---- the steps
 
--- a count of rescues, with these
+-- a count of rescues, with these added
 abbrev pub added_with : List Rescue → ℕ → ℕ
 added_with [] added = added
 added_with (r ∷ rs) added = added_with rs (count_after added)
 
--- The steps made, Began counted, are at most one, and one for each rescue that was taken, and one for each leaf of its
--- own or index that was read, and those on leaves of drafts: of these there were no more than blocks as the collection
--- began, and with each rescue comes one at most. This holds as long as the count of rescues stands below its type's
--- end.
+-- The number of steps, with the beginning, is at most one, plus one for each rescue that was taken, one for each own
+-- leaf of an index that was read, one for each index that was read to its end, and those on leaves of drafts. There
+-- were no more leaves of drafts than blocks as the collection began, and each rescue adds at most one. This holds as
+-- long as the count of rescues is below its type's end.
 abbrev pub IsPaced : State → Colours → List Rescue → (volume steps added : ℕ) → Type 0
 IsPaced s c waiting volume steps added = added < 2 ^ 64 - 1
     → steps + length waiting + unread s c ≤ 1 + volume + 2 * added + read_so_far s.graph c

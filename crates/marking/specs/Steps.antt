@@ -18,7 +18,7 @@ IsDirectoryOf directory g = (id : Puid) → kind_among directory id ≡ kind_at 
 
 -- ---- a rescue is taken
 
--- an object that is found here is looked for: there is no index, or it is marked
+-- an object found here is to be shaded: there is no index, or it is marked
 abbrev pub is_live : Option Puid → Colours → Bool
 is_live None c = true
 is_live (Some i) c = c.marked i.block
@@ -28,19 +28,19 @@ rescued directory r c = if is_live r.index c then shaded_in directory r.id c els
 
 -- ---- the next held leaf of an index is read
 
--- the first held leaf not below a number
+-- the first held leaf that is not below a number
 abbrev pub next_held : ℕ → Index → Option ℕ
 next_held from i = find (nat_le from) i.held
 
--- a place, if the index has a held leaf from one on
+-- a place, if the index has a held leaf from a leaf on
 abbrev pub if_held : Index → (from place : ℕ) → Option ℕ
 if_held i from place = if is_some (next_held from i) then Some place else None
 
--- after a leaf of the draft comes its next, and after its last the first of the index itself
+-- after a leaf of the draft comes the draft's next, and after its last the first of the index itself
 abbrev pub after_draft : (draft i : Index) → ℕ → Option ℕ
 after_draft draft i leaf = if is_some (next_held (leaf + 1) draft) then Some (leaf + 1) else if_held i 0 own_part
 
--- the objects that a step finds, and the place where the next goes on, if one follows
+-- the objects that a step finds, and the place where the next step goes on, if one follows
 abbrev pub draft_step : (draft i : Index) → Option ℕ → List Puid × Option ℕ
 draft_step draft i None = ([], if_held i 0 own_part)
 draft_step draft i (Some leaf) = (leaf_ids draft leaf, after_draft draft i leaf)
@@ -49,7 +49,7 @@ abbrev pub own_step : Index → Option ℕ → List Puid × Option ℕ
 own_step i None = ([], None)
 own_step i (Some leaf) = (leaf_ids i leaf, if_held i (leaf + 1) (own_part + (leaf + 1)))
 
--- the draft of an index, where it has one
+-- the draft of an index, if it has one
 abbrev pub IsDraftIndex : Option Object → Option Index → Type 0
 IsDraftIndex o None = o ≡ None
 IsDraftIndex o (Some d) = o ≡ Some (objects.Index d)
@@ -60,15 +60,15 @@ step_of (Some draft) i cursor =
     if nat_lt cursor own_part then draft_step draft i (next_held cursor draft)
     else own_step i (next_held (cursor - own_part) i)
 
--- The first grey index, which is this one with this draft, is read on from a place: each object in the leaf is shaded.
--- Where no leaf follows it is grey no more.
+-- The first grey index is read on: each object in the leaf that a step found is shaded. If no leaf follows the index
+-- is no longer grey.
 abbrev pub read : List (Puid × Kind) → List Puid × Option ℕ → Colours → Colours
 read directory step c = all_shaded directory step.0 (moved step.1 c)
 
 abbrev pub scanned : List (Puid × Kind) → Option Index → Index → ℕ → Colours → Colours
 scanned directory draft i cursor c = read directory (step_of draft i cursor) c
 
--- ---- what isn't marked goes
+-- ---- what isn't marked is removed
 
 abbrev pub unmarked : Colours → List Puid → List Puid
 unmarked c ids = filter (λ x. not (c.marked x.block)) ids

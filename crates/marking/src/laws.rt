@@ -1,4 +1,4 @@
-//! What is proved of marking, as contracts. None of these calls does anything.
+//! What is proved of marking, as contracts of functions that do nothing.
 ghost use Rattle.std.specs.Prelude.{◌≡◌, ℕ, ◌+◌, ◌*◌, ◌-◌, ◌^◌, ◌<◌, ◌≤◌, List, [], ◌∷◌, ◌++◌, Some, Option};
 ghost use Rattle.std.specs.List.{sum_by};
 ghost use Rattle.cfs_base.specs.Outside.{count_after};
@@ -25,7 +25,7 @@ ghost use Rattle.marking.specs.Meanwhile.{Changes, rescues_of};
 ghost use Rattle.marking.specs.Pace.{IsPaced, added_with, unread};
 ghost use Rattle.marking.specs.Steps.{IsDirectoryOf, IsDraftIndex, rescued, scanned, unmarked};
 
-/// A collection begins, and each of its steps keeps what holds of one that marks.
+/// A collection begins, and each of its steps keeps what holds of a collection that marks.
 pub fn steps_keep_marking()
     ensures begin { (seed : ℕ) (s t : State) (directory : List (Puid × Kind)) (roots : List Puid)
         → next seed s events.Began ≡ Some t → IsState s
@@ -42,8 +42,10 @@ pub fn steps_keep_marking()
         → IsMarking s c waiting → IsMarking s (scanned directory draft i e.cursor c) waiting }
 {}
 
-/// Whatever is asked and answered meanwhile keeps it, where each object that is put into an index or opened is a rescue
-/// from then on; so does a session's end, and any change of which this is true.
+/// Whatever is asked and answered meanwhile keeps what holds of a collection that marks.
+///
+/// Each object that is put into an index or opened must be a rescue from then on. So do a session's end, and any
+/// change of which this is true.
 pub fn requests_keep_marking()
     ensures ask { (seed : ℕ) (s t : State) (who : ℕ) (request : asking.Request) (reply : asked.Reply) (c : Colours)
         (waiting : List rescue.Rescue)
@@ -54,19 +56,21 @@ pub fn requests_keep_marking()
     ensures any { (s t : State) (more waiting : List rescue.Rescue) (c : Colours) → Changes s t more
         → IsMarking s c waiting
         → IsMarking t c (waiting ++ more) }
-    // Where an index has no draft any more, its reading may go on at its own first leaf.
+    // If an index has no draft any more, its reading may go on at its own first leaf.
     ensures ended { (s : State) (c : Colours) (i : Puid) (waiting : List rescue.Rescue) → draft_at s.grants i ≡ None
         → IsMarking s c waiting → IsMarking s (draft_over i c) waiting }
 {}
 
-/// Where nothing is grey and no rescue waits, exactly the objects that aren't marked may vanish.
+/// If nothing is grey and no rescue waits, exactly the objects that aren't marked may vanish.
 pub fn unmarked_may_vanish()
     ensures { (s : State) (c : Colours) → IsState s → c.grey ≡ [] → IsMarking s c []
         → MayVanish s (unmarked c (ids_of s.graph)) }
 {}
 
-/// How many steps a collection makes until nothing is left to read: at most one, two for each rescue, and two for each
-/// block of the volume. As it begins, the leaves of the objects and drafts are no more than the blocks.
+/// How many steps a collection takes until nothing is left to read.
+///
+/// They are at most one, plus two for each rescue and two for each block of the volume. As it begins, the leaves of
+/// the objects and drafts are no more than the blocks.
 pub fn steps_are_bounded()
     ensures begin { (s : State) (c : Colours) (volume : ℕ) → unread s none_marked ≤ volume
         → IsPaced s c [] volume 1 0 }
@@ -79,8 +83,8 @@ pub fn steps_are_bounded()
         → IsDraftIndex (draft_at s.grants e.id) draft → IsMarking s c waiting
         → IsPaced s c waiting volume steps added
         → IsPaced s (scanned directory draft i e.cursor c) waiting volume (count_after steps) added }
-    // A request adds no step, and its rescue; neither does any change that keeps what was read and leaves no more of
-    // drafts.
+    // A request adds no step beside those of its rescue. Neither does any change that keeps what was read and leaves
+    // no more of drafts.
     ensures any { (s t : State) (more waiting : List rescue.Rescue) (c : Colours) (volume steps added : ℕ)
         → Changes s t more
         → IsPaced s c waiting volume steps added → IsPaced t c (waiting ++ more) volume steps (added_with more added) }

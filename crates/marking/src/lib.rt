@@ -1,6 +1,7 @@
 //! Marking: what a collection knows between any two of its steps, as definitions and laws over the model alone.
+//!
 //! The layers above use that each step, and whatever is asked meanwhile, keeps it, and that with nothing left to read
-//! exactly what isn't marked may vanish.
+//! exactly the objects that aren't marked may vanish.
 #![tactic(auto)]
 
 pub mod laws;

@@ -2,16 +2,20 @@
 
 use cfs_base::Puid;
 
-/// An index that is marked and not read to its end: its leaves below the cursor were read.
+/// An index that is marked and not read to its end.
 #[derive(Clone, Copy, Debug, PartialEq, Eq)]
 pub struct Grey {
+    /// The identifier of the index.
     pub id: Puid,
+    /// The number of the leaf at which reading goes on. Those below it were read.
     pub cursor: u32,
 }
 
-/// An object that was put into an index while a collection marks; or that was opened, where there is no index.
+/// A rescue: an object that was put into an index while a collection marks, or that was opened.
 #[derive(Clone, Copy, Debug, PartialEq, Eq)]
 pub struct Rescue {
+    /// The index into which the object was put, or `None` if the object was opened.
     pub index: Option<Puid>,
+    /// The identifier of the object.
     pub id: Puid,
 }

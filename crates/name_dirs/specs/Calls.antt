@@ -44,7 +44,7 @@ FindsTop s t (Err fault) = IsDirFault (due_start (table_in s.graph s.graph.root)
 abbrev pub parts_in : Graph → Puid → List Puid
 parts_in g dir = dir ∷ option_to_list (table_in g dir)
 
--- a name leads to this, or to nothing, once it is done
+-- a name leads to this, or to nothing, once the call is done
 abbrev pub Renames : {A : Type 0} → Ghosts A → (who : ℕ) → Puid → List ℕ → Option Puid → A → A → State → State →
     Type 0
 Renames g who dir w what old new s t =
@@ -56,9 +56,10 @@ Binds cylinders s t dir w id (Ok u) = IfApart s.graph (ChangesNames dir (Put dir
     × ((es : List Entry) × (entries_in s.graph dir ≡ Some es) × (due_place w es ≡ None)
     × (entries_in t.graph dir ≡ Some (bound w id es)))
 Binds cylinders s t dir w id (Err fault) = IfApart s.graph (ChangesNames dir Nothing s.graph t.graph)
-    × IsDirFault (due_of s dir (due_place w)) (IsReadTrouble s dir) (IsChangeTrouble cylinders 4 (Some id) s t dir) fault
+    × IsDirFault (due_of s dir (due_place w)) (IsReadTrouble s dir) (IsChangeTrouble cylinders 4 (Some id) s t dir)
+    fault
 
--- The name is out, and its slot holds what it held.
+-- The name is removed, and its slot holds what it held.
 pub record TakesName (dir : Puid) (w : List ℕ) (g h : Graph) : Type 0 where
   pub names : IfApart g (ChangesNames dir (Put dir w None) g h)
   pub entries : List Entry
@@ -69,14 +70,14 @@ abbrev pub Unbinds : (cylinders : ℕ) → State → State → Puid → List ℕ
 Unbinds cylinders s t dir w (Ok u) = IfApart s.graph (ChangesNames dir (Put dir w None) s.graph t.graph)
     × ((es : List Entry) × (entries_in s.graph dir ≡ Some es) × (due_name w es ≡ None)
     × (entries_in t.graph dir ≡ Some (unbound w es)))
--- the name may be out
+-- the name may be removed
 Unbinds cylinders s t dir w (Err fault) =
     (IfApart s.graph (ChangesNames dir Nothing s.graph t.graph) ⊎ TakesName dir w s.graph t.graph)
     × IsDirFault (due_of s dir (due_name w)) (IsReadTrouble s dir) (IsChangeTrouble cylinders 4 None s t dir) fault
 
 -- ---- calls that make a directory
 
--- A new one of so many entries without names, which wasn't there, nor was its table.
+-- A new directory of `capacity` entries without names. Neither it nor its table existed before.
 pub record IsNewDirectory (capacity : ℕ) (id : Puid) (g h : Graph) : Type 0 where
   pub new : is_there g id ≡ false
   pub entries : entries_in h id ≡ Some (replicate capacity empty_entry)
@@ -92,13 +93,14 @@ MakesIn g who dir w old new s t = Calls g who (NamesNew dir w s.graph) (parts_in
 
 abbrev pub MakesNamed : (cylinders : ℕ) → State → State → Puid → List ℕ → (capacity : ℕ) → Result Puid DirFault → Type 0
 MakesNamed cylinders s t dir w capacity (Ok id) =
-    IfApart s.graph (ChangesNames dir (Put dir w (Some id)) s.graph t.graph) × IsNewDirectory capacity id s.graph t.graph
+    IfApart s.graph (ChangesNames dir (Put dir w (Some id)) s.graph t.graph)
+    × IsNewDirectory capacity id s.graph t.graph
     × ((es : List Entry) × (entries_in s.graph dir ≡ Some es) × (due_new w es ≡ None)
     × (entries_in t.graph dir ≡ Some (bound w id es)))
 MakesNamed cylinders s t dir w capacity (Err fault) = IfApart s.graph (ChangesNames dir Nothing s.graph t.graph)
     × IsDirFault (due_of s dir (due_new w)) (IsReadTrouble s dir) (IsChangeTrouble cylinders 5 None s t dir) fault
 
--- in slot 0 of the root index, which stays but for that
+-- it is put into slot 0 of the root index, which otherwise stays
 abbrev pub ChangesTop : Puid → Graph → Graph → Type 0
 ChangesTop id g h = (i : Index) → index_at g g.root ≡ Some i → index_at h g.root ≡ Some (filled i 0 (Some id))
 

@@ -22,7 +22,7 @@ use Rattle.name_dirs.specs.Directory.{file_at, index_at, is_special}
 use Rattle.name_dirs.specs.Text.{row_size}
 use Rattle.name_dirs.specs.Faults.{IsMissing, IsTooFull, after_fault, fault_told}
 
--- ---- what is due of a reply, or its fault
+-- ---- the reply that is expected, or its fault
 
 abbrev pub done_told : Reply → Result (Unit {0}) DirFault
 done_told replies.Done = Ok tt
@@ -32,7 +32,7 @@ abbrev pub id_told : Reply → Result Puid DirFault
 id_told (replies.Id id) = Ok id
 id_told reply = Err (fault_told reply)
 
--- ---- a call that makes one object another, and what it tells
+-- ---- a call that makes one object another, and what it reports
 
 -- the graph stays, or is one that the request makes of it
 abbrev pub OneOf : {E : Type 0} → Graph → (E → Graph → Type 0) → Graph → Type 0
@@ -49,7 +49,8 @@ pub record Alters {A E : Type 0} (g : Ghosts A) (who : ℕ) (s : State) (x : Pui
   pub calls : Calls g who (OneOf s.graph Made) (x ∷ []) old new s after
   pub told : TellsChange s Made Cause result after
 
--- of an object that is there, and is what is wanted; `also` is what else may be missing
+-- the fault of a change of an object that exists and is of the kind that is wanted; `also` is what else may be
+-- missing
 abbrev pub IsAlterFault : (cylinders most : ℕ) (also : Option Puid) → State → Puid → State → DirFault → Type 0
 IsAlterFault cylinders most also s x t faults.Memory = Unit {0}
 IsAlterFault cylinders most also s x t (faults.Asked replies.NoObject) = IsMissing s also
@@ -60,7 +61,7 @@ IsAlterFault cylinders most also s x t fault = ⊥
 
 -- ---- each request
 
--- an identifier that is there put into a slot
+-- an identifier of an object that exists is put into a slot
 abbrev pub Retains : {A : Type 0} → Ghosts A → ℕ → Puid → ℕ → Puid → A → A → Result (Unit {0}) DirFault → Type 0
 Retains g who index slot id old new result = (s : State) (i : Index) → g.stands old s → is_running s ≡ true
     → index_at s.graph index ≡ Some i → slot < length i.slots
@@ -68,14 +69,14 @@ Retains g who index slot id old new result = (s : State) (i : Index) → g.stand
     (λ u h. (is_there s.graph id ≡ true) × (h ≡ with_object s.graph index (objects.Index (filled i slot (Some id)))))
     (IsAlterFault (g.cylinders old) 4 (Some id) s index) old new result
 
--- a slot emptied that holds something
+-- a slot that holds something is emptied
 abbrev pub Empties : {A : Type 0} → Ghosts A → ℕ → Puid → ℕ → A → A → Result (Unit {0}) DirFault → Type 0
 Empties g who index slot old new result = (s : State) (i : Index) → g.stands old s → is_running s ≡ true
     → index_at s.graph index ≡ Some i → slot < length i.slots → is_some (slot_of i slot) ≡ true
     → Alters g who s index (λ u h. h ≡ with_object s.graph index (objects.Index (filled i slot None)))
     (IsAlterFault (g.cylinders old) 4 None s index) old new result
 
--- a row of a special file written
+-- a row of a special file is written
 abbrev pub WritesRow : {A : Type 0} → Ghosts A → ℕ → Puid → ℕ → List ℕ → A → A → Result (Unit {0}) DirFault → Type 0
 WritesRow g who file place row old new result = (s : State) (f : File) → g.stands old s → is_running s ≡ true
     → file_at s.graph file ≡ Some f → is_special f.kind ≡ true → row_size * place + row_size ≤ length f.bytes
@@ -83,7 +84,7 @@ WritesRow g who file place row old new result = (s : State) (f : File) → g.sta
     → Alters g who s file (λ u h. h ≡ with_object s.graph file (objects.File (written f (row_size * place) row)))
     (IsAlterFault (g.cylinders old) 4 None s file) old new result
 
--- a special file of no bytes, which are zeros where none was written, made so long
+-- a special file of no bytes is given a size; bytes that were never written are zero
 abbrev pub new_table : File
 new_table = new_file kinds.Special 0
 
@@ -93,7 +94,7 @@ Lengthens g who file size old new result = (s : State) → g.stands old s → is
     → Alters g who s file (λ u h. h ≡ with_object s.graph file (objects.File (resized new_table size)))
     (IsAlterFault (g.cylinders old) 4 None s file) old new result
 
--- a new object, and its identifier in a slot
+-- a new object is made, and its identifier is put into a slot
 abbrev pub IsPutNew : Graph → Puid → Index → ℕ → Object → Puid → Graph → Type 0
 IsPutNew g index i slot o id h = (is_there g id ≡ false)
     × (h ≡ with_object (with_object g id o) index (objects.Index (filled i slot (Some id))))

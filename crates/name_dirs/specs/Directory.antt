@@ -38,14 +38,14 @@ file_at g t = file_in (object_at g t)
 abbrev pub row_at : List ℕ → ℕ → List ℕ
 row_at bytes s = take row_size (drop (row_size * s) bytes)
 
--- the places of entries: the slots of an index but its first
+-- the places of entries: the slots of an index except its first
 abbrev pub places : (slots : ℕ) → List ℕ
 places slots = range_with_len 1 (slots - 1)
 
 abbrev pub row_names : List ℕ → (slots : ℕ) → List (Option (List ℕ))
 row_names bytes slots = map (λ s. name_in (row_at bytes s)) (places slots)
 
--- one row a slot: the header, and rows whose names differ
+-- one row for each slot: the header, and rows whose names differ
 abbrev pub are_rows : List ℕ → (slots : ℕ) → Bool
 are_rows bytes slots =
     (length bytes == row_size * slots) && bytes_eq (row_at bytes 0) header
@@ -55,7 +55,7 @@ abbrev pub is_special : FileKind → Bool
 is_special kinds.Special = true
 is_special kinds.Normal = false
 
--- the file is the table of an index with so many slots
+-- the file is the table of an index with this number of slots
 abbrev pub is_table : (slots : ℕ) → File → Bool
 is_table slots f = is_special f.kind && are_rows f.bytes slots
 
@@ -75,20 +75,20 @@ table_entry i f s = record { name = name_in (row_at f.bytes s); id = slot_of i s
 abbrev pub table_entries : Index → File → List Entry
 table_entries i f = map (table_entry i f) (places (length i.slots))
 
--- of an index with this file in slot 0, if that is its table
+-- the entries of an index with this file in slot 0, if that is its table
 abbrev pub entries_with : Index → File → Option (List Entry)
 entries_with i f = if is_table (length i.slots) f then Some (table_entries i f) else None
 
 abbrev pub entries_of_index : Graph → Index → Option (List Entry)
 entries_of_index g i = option_and_then (entries_with i) (option_and_then (file_at g) (slot_of i 0))
 
--- the entries of a directory; nothing where it is none
+-- the entries of a directory, or None if the object is no directory
 abbrev pub entries_in : Graph → Puid → Option (List Entry)
 entries_in g d = option_and_then (entries_of_index g) (index_at g d)
 
 abbrev pub is_directory : Graph → Puid → Bool
 is_directory g d = is_some (entries_in g d)
 
--- what stands in slot 0 of an index
+-- what slot 0 of an index holds
 abbrev pub table_in : Graph → Puid → Option Puid
 table_in g d = option_and_then (λ i. slot_of i 0) (index_at g d)

@@ -20,7 +20,8 @@ use Rattle.name_dirs.specs.Names.{id_under, place_for}
 
 -- ---- by the names
 
--- The fault that names and entries of an object have for a call. Of one that isn't there nothing is known.
+-- The fault that the names and entries of an object have for a call. Nothing is known of an object that doesn't
+-- exist.
 abbrev pub due_with : Option (List Entry) → (List Entry → Option DirFault) → Option DirFault
 due_with None by = Some faults.NotDirectory
 due_with (Some es) by = by es
@@ -40,19 +41,19 @@ due_place w es = if is_none (place_for w es) then Some (faults.DirFull (length e
 abbrev pub due_new : List ℕ → List Entry → Option DirFault
 due_new w es = if is_some (id_under w es) then Some faults.Exists else due_place w es
 
--- for a new directory in slot 0 of the root index, of what is there
+-- the fault for a new directory in slot 0 of the root index, by what is there
 abbrev pub due_top : Option (List Entry) → Option DirFault
 due_top None = None
 due_top (Some es) = Some faults.Exists
 
--- for where the paths begin, of what slot 0 of the root index holds
+-- the fault for the beginning of paths, by what slot 0 of the root index holds
 abbrev pub due_start : Option Puid → Option DirFault
 due_start None = Some faults.NotDirectory
 due_start (Some id) = None
 
 -- ---- by a request
 
--- on the object, or on the file in its slot 0, a grant stands that has the test
+-- a grant that passes the test is on the object, or on the file in its slot 0
 abbrev pub IsBarred : (State → Puid → Bool) → State → Puid → Type 0
 IsBarred bars s dir = (bars s dir ≡ true) ⊎ ((t : Puid) × (table_in s.graph dir ≡ Some t) × (bars s t ≡ true))
 
@@ -64,14 +65,15 @@ IsReadTrouble s dir (replies.Disk doubt) = Unit {0}
 IsReadTrouble s dir (replies.Stopped moment) = s.stopped ≡ Some moment
 IsReadTrouble s dir reply = ⊥
 
--- in reading where the paths begin: of the root index alone
+-- the same when it reads where the paths begin, for which only the root index counts
 abbrev pub IsStartTrouble : State → Reply → Type 0
 IsStartTrouble s replies.Locked = is_open_for_writing s s.graph.root ≡ true
 IsStartTrouble s (replies.Disk doubt) = Unit {0}
 IsStartTrouble s (replies.Stopped moment) = s.stopped ≡ Some moment
 IsStartTrouble s reply = ⊥
 
--- in making a directory in slot 0 of the root index: of that, and of what is in the slot
+-- the same when it makes a directory in slot 0 of the root index: what counts is the root index and what is in that
+-- slot
 abbrev pub IsTopTrouble : State → Reply → Type 0
 IsTopTrouble s replies.Locked = (is_open_for_writing s s.graph.root ≡ true)
     ⊎ ((x : Puid) × (table_in s.graph s.graph.root ≡ Some x) × IsBarred is_open_for_writing s x)
@@ -79,7 +81,7 @@ IsTopTrouble s (replies.Disk doubt) = Unit {0}
 IsTopTrouble s (replies.Stopped moment) = s.stopped ≡ Some moment
 IsTopTrouble s reply = ⊥
 
--- A Full names what is Free, which is too few: at least the room at the end, where nothing sweeps.
+-- A Full names what is Free, which is too few: at least the room at the end, if no sweep goes on.
 pub record IsTooFull (cylinders most : ℕ) (t : State) (n : Need) : Type 0 where
   pub few : n.free < n.need + reserve
   pub within : n.need ≤ most
@@ -89,7 +91,7 @@ abbrev pub IsMissing : State → Option Puid → Type 0
 IsMissing s None = ⊥
 IsMissing s (Some id) = is_there s.graph id ≡ false
 
--- and by one that changes it, from one state to another; `also` is what else may be missing
+-- the same for a call that changes the directory, from one state to another; `also` is what else may be missing
 abbrev pub IsChangeTrouble : (cylinders most : ℕ) (also : Option Puid) → State → State → Puid → Reply → Type 0
 IsChangeTrouble cylinders most also s t dir replies.NoObject = IsMissing s also
 IsChangeTrouble cylinders most also s t dir replies.Locked = IsBarred is_open s dir
@@ -99,13 +101,14 @@ IsChangeTrouble cylinders most also s t dir reply = ⊥
 
 -- ---- a fault
 
--- The fault that is due by the names; or a request's, in reading, or where none is due. Want of memory is free.
+-- The fault is the one that is due by the names, or that of a request: in reading, or if none is due. Want of memory
+-- may always come.
 abbrev pub IsDirFault : (due : Option DirFault) (Reads Changes : Reply → Type 0) → DirFault → Type 0
 IsDirFault due Reads Changes faults.Memory = Unit {0}
 IsDirFault due Reads Changes (faults.Asked reply) = Reads reply ⊎ ((due ≡ None) × Changes reply)
 IsDirFault due Reads Changes fault = due ≡ Some fault
 
--- of a reply where another was due: what names no index leads to no directory
+-- the fault of a reply that isn't the one expected: what names no index leads to no directory
 abbrev pub fault_told : Reply → DirFault
 fault_told replies.Memory = faults.Memory
 fault_told replies.NotIndex = faults.NotDirectory
@@ -118,7 +121,7 @@ abbrev pub after_fault : DirFault → State → State
 after_fault (faults.Asked (replies.Disk (Some moment))) s = stopped_at moment s
 after_fault fault s = s
 
--- one that had stopped tells that, or want of memory
+-- an asker that had stopped reports that, or want of memory
 abbrev pub TellsStopAt : (moment : ℕ) → DirFault → Type 0
 TellsStopAt moment (faults.Asked (replies.Stopped told)) = told ≡ moment
 TellsStopAt moment faults.Memory = Unit {0}
@@ -127,7 +130,7 @@ TellsStopAt moment fault = ⊥
 abbrev pub TellsHalt : State → DirFault → Type 0
 TellsHalt s fault = (moment : ℕ) → s.stopped ≡ Some moment → TellsStopAt moment fault
 
--- a fault by the names is told before any change
+-- a fault by the names is reported before any change
 abbrev pub StaysAfter : DirFault → State → State → Type 0
 StaysAfter faults.Memory s t = Unit {0}
 StaysAfter (faults.Asked reply) s t = Unit {0}
@@ -146,7 +149,7 @@ TellsFault g old new (faults.Asked reply) =
     TellsTrouble (g.failed old) (g.failed new) (g.damaged old) (g.damaged new) reply
 TellsFault g old new fault = Unit {0}
 
--- No count falls, and at most so many words are drawn.
+-- No count falls, and at most `most` words are drawn.
 pub record NoneFalls {A : Type 0} (g : Ghosts A) (most : ℕ) (old new : A) : Type 0 where
   pub failed : g.failed old ≤ g.failed new
   pub damaged : g.damaged old ≤ g.damaged new
@@ -155,7 +158,7 @@ pub record NoneFalls {A : Type 0} (g : Ghosts A) (most : ℕ) (old new : A) : Ty
   pub kept : g.words old ≤ g.words new
   pub drawn : g.words new ≤ g.words old + most
 
--- What any call does, whatever it asks of: trouble that it tells was met in it.
+-- What any call does on any asker: trouble that it reports was met in it.
 pub record OnAnyAsker {A E : Type 0} (g : Ghosts A) (most : ℕ) (old new : A) (result : Result E DirFault) : Type 0 where
   pub told : (fault : DirFault) → result ≡ Err fault → TellsFault g old new fault
   pub later : NoneFalls g most old new

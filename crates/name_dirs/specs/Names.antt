@@ -10,7 +10,7 @@ use Rattle.ufs_model.specs.Identifier.{same_puid}
 use Rattle.name_dirs.specs.Directory.{Entry, empty_entry, entries_in, is_directory, table_in}
 use Rattle.name_dirs.specs.Text.{is_text}
 
--- ---- the names of one
+-- ---- the names of one directory
 
 abbrev pub is_called : List ℕ → Option (List ℕ) → Bool
 is_called w name = option_map_or (bytes_eq w) name false
@@ -21,7 +21,7 @@ has_name w e = is_called w e.name
 abbrev pub is_nameless : Entry → Bool
 is_nameless e = is_none e.name
 
--- A name leads to the identifier in its slot, unless that is empty.
+-- A name leads to the identifier in its slot, unless the slot is empty.
 abbrev pub id_under : List ℕ → List Entry → Option Puid
 id_under w [] = None
 id_under w (e ∷ es) = if has_name w e then e.id else id_under w es
@@ -32,7 +32,7 @@ name_at g d w = option_and_then (id_under w) (entries_in g d)
 
 -- ---- entries after a change
 
--- where the entry with that name stands, and else the first without one
+-- the place of the entry with that name, or else of the first without one
 abbrev pub place_or : Option ℕ → List Entry → Option ℕ
 place_or (Some k) es = Some k
 place_or None es = position is_nameless es
@@ -44,14 +44,14 @@ abbrev pub entries_put : Option ℕ → Entry → List Entry → List Entry
 entries_put None e es = es
 entries_put (Some k) e es = slice_set es k e
 
--- the entries with the name bound to this, and with it taken out
+-- the entries with the name bound to this, and with the name unbound
 abbrev pub bound : List ℕ → Puid → List Entry → List Entry
 bound w id es = entries_put (place_for w es) (record { name = Some w; id = Some id }) es
 
 abbrev pub unbound : List ℕ → List Entry → List Entry
 unbound w es = entries_put (position (has_name w) es) empty_entry es
 
--- the name alone taken out: its slot holds what it held
+-- the entries with only the name removed: its slot holds what it held
 abbrev pub unnamed : List ℕ → List Entry → List Entry
 unnamed w es = entries_put (position (has_name w) es) (record { name = None; id = id_under w es }) es
 
@@ -71,22 +71,22 @@ pub record HasNames (change : Change) (g h : Graph) : Type 0 where
   pub names : (d : Puid) (w : List ℕ) → is_text w ≡ true → name_at h d w ≡ changed_name change (name_at g d w) d w
   pub stay : (d : Puid) → is_directory g d ≡ true → is_directory h d ≡ true
 
--- no two directories have one table, and the root index is none
+-- no two directories have one table, and the root index is no directory
 pub record AreApart (g : Graph) : Type 0 where
   pub apart : (d e t : Puid) → is_directory g d ≡ true → is_directory g e ≡ true → table_in g d ≡ Some t
       → table_in g e ≡ Some t → d ≡ e
   pub root : is_directory g g.root ≡ false
 
--- The names are those of before with the change, made in this object: the entries of all others stay.
+-- The names are those of before with the change, which is made in this object: the entries of all others stay.
 pub record ChangesNames (d : Puid) (change : Change) (g h : Graph) : Type 0 where
   pub apart : AreApart h
   pub names : HasNames change g h
   pub others : (x : Puid) → is_there g x ≡ true → x ≢ d → entries_in h x ≡ entries_in g x
 
--- where no two directories have one table, and the root index is none
+-- it holds if no two directories have one table, and the root index is no directory
 abbrev pub IfApart : Graph → Type 0 → Type 0
 IfApart g Holds = AreApart g → Holds
 
--- they are old, or old with the change
+-- the names are old, or old with the change
 abbrev pub OldOrNew : Puid → Change → Graph → Graph → Type 0
 OldOrNew d change g h = IfApart g (ChangesNames d Nothing g h ⊎ ChangesNames d change g h)

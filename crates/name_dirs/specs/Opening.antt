@@ -1,4 +1,4 @@
--- A directory that is read whole.
+-- How a directory is read whole.
 use Rattle.std.specs.Prelude.{◌≡◌, ◌≢◌, ℕ, ◌-◌, ◌<◌, ◌≤◌, true, List, length, Result, Some, if◌then◌else◌, nat_lt}
 use Rattle.cfs_base.specs.declared.identifier.Puid.{Puid}
 use Rattle.ufs_model.specs.declared.asker.Asker.{Ghosts}
@@ -25,7 +25,7 @@ pub record IsFirstRow (bytes : List ℕ) (slots : ℕ) (row : List ℕ) (place :
   pub here : row_at bytes place ≡ row
   pub before : (k : ℕ) → 1 ≤ k → k < place → row_at bytes k ≢ row
 
--- more entries than a number of 32 bits tells are told as the largest
+-- a number of entries that is too large for 32 bits is reported as the largest
 abbrev pub capacity_told : (slots : ℕ) → ℕ
 capacity_told slots = if nat_lt (slots - 1) 4294967296 then slots - 1 else 4294967295
 
@@ -40,7 +40,7 @@ ReadsWhole g who file size old new result = (s : State) (f : File) → g.stands 
     → file_at s.graph file ≡ Some f → size ≡ length f.bytes
     → Looks g who s (λ bytes. bytes ≡ f.bytes) (IsLookFault s file) old new result
 
--- what was read is the directory's
+-- the table that was read is the directory's
 pub record IsTableOf (g : Graph) (dir : Puid) (table : Table) : Type 0 where
   pub index : Index
   pub file : File

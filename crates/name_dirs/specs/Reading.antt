@@ -17,7 +17,7 @@ use Rattle.name_dirs.specs.Calls.{ReadsOn}
 use Rattle.name_dirs.specs.Directory.{file_at, index_at, is_table}
 use Rattle.name_dirs.specs.Faults.{IsDirFault, IsReadTrouble, TellsHalt, after_fault, due_of, fault_told, none_due}
 
--- ---- what is due of a reply, or its fault
+-- ---- the reply that is expected, or its fault
 
 abbrev pub number_told : Reply → Result ℕ DirFault
 number_told (replies.Number n) = Ok n
@@ -32,9 +32,9 @@ abbrev pub content_told : Reply → Result (List ℕ) DirFault
 content_told (replies.Content bytes) = Ok bytes
 content_told reply = Err (fault_told reply)
 
--- ---- a call that reads, and what it tells
+-- ---- a call that reads, and what it reports
 
--- what is told is so, and the state stays; or there is a cause
+-- what is reported is so, and the state stays, or there is a cause
 abbrev pub TellsRead : {E : Type 0} → State → (E → Type 0) → (DirFault → Type 0) → Result E DirFault → State → Type 0
 TellsRead s Is Cause (Ok e) t = (t ≡ s) × (is_running s ≡ true) × Is e
 TellsRead s Is Cause (Err fault) t = (t ≡ after_fault fault s) × TellsHalt s fault × Cause fault
@@ -45,7 +45,7 @@ pub record Looks {A E : Type 0} (g : Ghosts A) (who : ℕ) (s : State) (Is : E �
   pub calls : ReadsOn g who old new s after
   pub told : TellsRead s Is Cause result after
 
--- of an object that is there, and is what is wanted
+-- the fault of a read of an object that exists and is of the kind that is wanted
 abbrev pub IsLookFault : State → Puid → DirFault → Type 0
 IsLookFault s x faults.Memory = Unit {0}
 IsLookFault s x (faults.Asked replies.Locked) = is_open_for_writing s x ≡ true
@@ -53,7 +53,7 @@ IsLookFault s x (faults.Asked (replies.Disk doubt)) = Unit {0}
 IsLookFault s x (faults.Asked (replies.Stopped moment)) = s.stopped ≡ Some moment
 IsLookFault s x fault = ⊥
 
--- in reading a directory
+-- the fault of a read of a directory
 abbrev pub IsReadFault : State → Puid → DirFault → Type 0
 IsReadFault s dir fault = IsDirFault (due_of s dir none_due) (IsReadTrouble s dir) (λ reply. ⊥) fault
 
@@ -76,7 +76,7 @@ abbrev pub LooksAtFile : {A : Type 0} → Ghosts A → ℕ → Puid → A → A 
 LooksAtFile g who file old new result = (s : State) (f : File) → g.stands old s → file_at s.graph file ≡ Some f
     → Looks g who s (λ n. n ≡ length f.bytes) (IsLookFault s file) old new result
 
--- some of its bytes, or all
+-- some bytes of a file, or all
 abbrev pub LooksAtBytes : {A : Type 0} → Ghosts A → ℕ → Puid → (from to : ℕ) → A → A → Result (List ℕ) DirFault → Type 0
 LooksAtBytes g who file from to old new result = (s : State) (f : File) → g.stands old s
     → file_at s.graph file ≡ Some f → to ≤ length f.bytes

@@ -8,7 +8,7 @@ use Rattle.std.specs.Str.{byte, bytes_eq}
 
 -- ---- names
 
--- the bytes of the longest name
+-- the number of bytes of the longest name
 abbrev pub longest_name : ℕ
 longest_name = 63
 
@@ -16,7 +16,7 @@ longest_name = 63
 abbrev pub is_name_byte : ℕ → Bool
 is_name_byte c = nat_lt 32 c && nat_lt c 127 && not (c == byte "/")
 
--- 1 to 63 of them
+-- 1 to 63 such bytes
 abbrev pub is_text : List ℕ → Bool
 is_text w = nat_lt 0 (length w) && nat_le (length w) longest_name && list_all is_name_byte w
 
@@ -26,7 +26,7 @@ is_text w = nat_lt 0 (length w) && nat_le (length w) longest_name && list_all is
 abbrev pub is_below : List ℕ → List ℕ → Bool
 is_below a b = is_lt (slice_cmp nat_cmp a b)
 
--- each is below all that follow
+-- each name is below all that follow
 abbrev pub names_rise : List (List ℕ) → Bool
 names_rise [] = true
 names_rise (w ∷ ws) = list_all (is_below w) ws && names_rise ws
@@ -34,18 +34,18 @@ names_rise (w ∷ ws) = list_all (is_below w) ws && names_rise ws
 abbrev pub has_text : List ℕ → List (List ℕ) → Bool
 has_text w ws = list_any (bytes_eq w) ws
 
--- a name more, unless it was there
+-- one more name, unless it was there
 pub record AddsText (old new : List (List ℕ)) (name : List ℕ) (was_new : Bool) : Type 0 where
   pub told : was_new ≡ not (has_text name old)
   pub has : (w : List ℕ) → has_text w new ≡ (bytes_eq w name || has_text w old)
 
 -- ---- rows
 
--- the bytes of a row
+-- the number of bytes of a row
 abbrev pub row_size : ℕ
 row_size = 64
 
--- A row is spelled by the length of its name, the name, and zeros; so one without a name has zeros alone.
+-- A row is spelled by the length of its name, the name, and zeros. So a row without a name has only zeros.
 abbrev pub spelled : List ℕ → List ℕ
 spelled name = length name ∷ name ++ replicate (longest_name - length name) 0
 
@@ -62,7 +62,7 @@ name_or_none (c ∷ letters) = Some (c ∷ letters)
 abbrev pub name_in : List ℕ → Option (List ℕ)
 name_in row = name_or_none (letters_in row)
 
--- these bytes are a row
+-- these bytes are a valid row
 abbrev pub is_row : List ℕ → Bool
 is_row row = bytes_eq row (spelled (letters_in row)) && list_all is_name_byte (letters_in row)
 
@@ -70,7 +70,7 @@ is_row row = bytes_eq row (spelled (letters_in row)) && list_all is_name_byte (l
 abbrev pub header : List ℕ
 header = codes "CFSDIR01" ++ replicate 56 0
 
--- no name stands twice
+-- no name is there twice
 abbrev pub is_other : Option (List ℕ) → Option (List ℕ) → Bool
 is_other None other = true
 is_other (Some name) None = true

@@ -37,7 +37,9 @@ fn content(reply: Reply) -> Result<Bytes, DirFault>
     }
 }
 
-/// How many slots an index has. `NotDirectory` where it is none.
+/// Returns how many slots an index has.
+///
+/// `NotDirectory` if the object is no index.
 pub(crate) fn slots_of<A: Asker>(
     asker: &mut A,
     alloc: Global,
@@ -57,7 +59,7 @@ pub(crate) fn slots_of<A: Asker>(
     ))
 }
 
-/// What a slot of an index holds.
+/// Returns what a slot of an index holds.
 pub(crate) fn slot_of<A: Asker>(
     asker: &mut A,
     alloc: Global,
@@ -79,7 +81,7 @@ pub(crate) fn slot_of<A: Asker>(
     ))
 }
 
-/// How many bytes a file has.
+/// Returns how many bytes a file has.
 pub(crate) fn size_of<A: Asker>(
     asker: &mut A,
     alloc: Global,
@@ -99,7 +101,7 @@ pub(crate) fn size_of<A: Asker>(
     ))
 }
 
-/// 1 to 4,096 bytes of a file.
+/// Reads 1 to 4,096 bytes of a file.
 pub(crate) fn bytes_of<A: Asker>(
     asker: &mut A,
     alloc: Global,

@@ -1,4 +1,4 @@
-//! Names bound and taken out.
+//! Names bound and unbound.
 ghost use Rattle.std.specs.Prelude.{◌≡◌, ◌<◌, Some, None};
 ghost use Rattle.name_dirs.specs.Calls as spec;
 ghost use Rattle.name_dirs.specs.Faults.{OnAnyAsker, StopsWith};
@@ -15,8 +15,10 @@ use std::alloc::Global;
 use std::marker::Model;
 use ufs_model::Asker;
 
-/// Lets a name lead to an object. An entry with the name gets it by one retain; else the first without a name is taken:
-/// first the retain, then the name, so that what its slot held never appears under it.
+/// Binds a name to an object.
+///
+/// A row with the name gets the object by one retain. If there is none, the first row without a name is taken: first
+/// comes the retain, then the name, so that what the row's slot held never appears under it.
 pub fn bind<A: Asker>(
     asker: &mut A,
     alloc: Global,
@@ -43,7 +45,7 @@ pub fn bind<A: Asker>(
     write_row(asker, alloc, who, table.file, place, &row)
 }
 
-/// Takes a name out: first the name, then what its slot holds.
+/// Unbinds a name: first the name is removed, then what its slot holds.
 pub fn unbind<A: Asker>(
     asker: &mut A,
     alloc: Global,

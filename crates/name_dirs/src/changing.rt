@@ -104,7 +104,7 @@ pub(crate) fn write_row<A: Asker>(
     ))
 }
 
-/// Lengthens a table of no bytes.
+/// Sets the size of a table of no bytes.
 pub(crate) fn lengthen<A: Asker>(
     asker: &mut A,
     alloc: Global,

@@ -6,20 +6,22 @@ use cfs_base::NoMemory;
 use std::alloc::AllocError;
 use ufs_model::Reply;
 
-/// Why a call is refused. The first that holds is told, but `Asked` comes first where the names can't be read.
+/// Why a call is refused.
+///
+/// It is the first fault that holds, but `Asked` comes first if the names can't be read.
 #[derive(Debug, Drop)]
 pub enum DirFault {
     /// The object is no directory.
     NotDirectory,
     /// The directory has no such name.
     NoName,
-    /// The directory has the name, or the root index has a directory.
+    /// The directory already has the name, or the root index already has a directory.
     Exists,
-    /// A new entry is wanted, and each of the directory, so many as it has, has a name.
+    /// A new row is needed, and each of the directory's `capacity` rows has a name.
     DirFull { capacity: u32 },
-    /// A request was answered so: `NoObject`, `Locked`, `Full`, `Disk`, `Damaged` or `Stopped`.
+    /// A request was answered with this reply: `NoObject`, `Locked`, `Full`, `Disk`, `Damaged` or `Stopped`.
     Asked(Reply),
-    /// Want of memory, in a request or in the call itself.
+    /// There was no memory, in a request or in the call itself.
     Memory,
 }
 
@@ -43,7 +45,9 @@ impl From<AllocError> for DirFault {
     }
 }
 
-/// The fault of a reply where another was due. What names no index leads to no directory.
+/// Returns the fault of a reply that isn't the one expected.
+///
+/// What names no index leads to no directory.
 pub(crate) fn fault_told(reply: Reply) -> DirFault
     ensures { result ≡ spec.fault_told reply }
 {

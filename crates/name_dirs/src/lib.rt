@@ -1,5 +1,7 @@
-//! Directories of names over any asker: an index of identifiers, whose first slot holds a table of names. The layers above
-//! use that each call leaves the names old, or old with its one change, after each request that it makes.
+//! Directories of names over any asker: an index of identifiers, whose first slot holds a table of names.
+//!
+//! The layers above use that each call leaves the names old, or old with its one change, after each request that it
+//! makes.
 #![tactic(auto)]
 
 mod asking;

@@ -1,4 +1,4 @@
-//! Names looked up and listed, and where their paths begin.
+//! How names are looked up and listed, and where their paths begin.
 ghost use Rattle.std.specs.Prelude.{◌≡◌, ◌<◌};
 ghost use Rattle.name_dirs.specs.Calls as spec;
 ghost use Rattle.name_dirs.specs.Faults.{OnAnyAsker, StopsWith};
@@ -14,7 +14,7 @@ use std::alloc::Global;
 use std::marker::Model;
 use ufs_model::Asker;
 
-/// What a name leads to.
+/// Returns what a name leads to.
 pub fn look<A: Asker>(
     asker: &mut A,
     alloc: Global,
@@ -34,7 +34,7 @@ pub fn look<A: Asker>(
     slot_of(asker, alloc, who, dir, place)?.ok_or(DirFault::NoName)
 }
 
-/// The names that lead to something, in the order of their bytes.
+/// Returns the names that lead to something, in the order of their bytes.
 pub fn list<A: Asker>(
     asker: &mut A,
     alloc: Global,
@@ -59,7 +59,9 @@ pub fn list<A: Asker>(
     Ok(names)
 }
 
-/// What slot 0 of the root index holds, where the paths of names begin. `NotDirectory` where it is empty.
+/// Returns what slot 0 of the root index holds, where the paths of names begin.
+///
+/// `NotDirectory` if the slot is empty.
 pub fn top<A: Asker>(asker: &mut A, alloc: Global, who: Session) -> Result<Puid, DirFault>
     requires words { A.words asker.old < 4294967290 }
     ensures went { (s : State) → A.stands asker.old s → (t : State) × spec.ReadsOn A.Asker who asker.old asker.new s t

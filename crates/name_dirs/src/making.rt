@@ -1,4 +1,4 @@
-//! Directories made.
+//! How directories are made.
 ghost use Rattle.std.specs.Prelude.{◌≡◌, ◌<◌, ◌≤◌, IfOk};
 ghost use Rattle.name_dirs.specs.Calls as spec;
 ghost use Rattle.name_dirs.specs.Faults.{OnAnyAsker, StopsWith};
@@ -20,7 +20,9 @@ use ufs_model::Asker;
 /// The most entries that a new directory may have.
 pub const MOST_CAPACITY: u32 = 4095;
 
-/// Makes a directory of so many entries under a new name, and answers its identifier. The name is written last.
+/// Makes a directory of `capacity` entries under a new name, and returns its identifier.
+///
+/// The name is written last.
 pub fn make<A: Asker>(
     asker: &mut A,
     alloc: Global,
@@ -44,8 +46,9 @@ pub fn make<A: Asker>(
     Ok(made)
 }
 
-/// Makes a directory of so many entries in slot 0 of the root index, and answers its identifier. What else was there is
-/// replaced.
+/// Makes a directory of `capacity` entries in slot 0 of the root index, and returns its identifier.
+///
+/// Anything there that is no directory is replaced.
 pub fn make_root<A: Asker>(
     asker: &mut A,
     alloc: Global,
@@ -66,7 +69,7 @@ pub fn make_root<A: Asker>(
     make_directory(asker, alloc, who, root, 0, capacity)
 }
 
-/// Whether slot 0 of the root index holds a directory.
+/// Returns whether slot 0 of the root index holds a directory.
 fn has_top<A: Asker>(
     asker: &mut A,
     alloc: Global,
@@ -87,7 +90,7 @@ fn has_top<A: Asker>(
     }
 }
 
-/// What is no directory may be replaced.
+/// Returns false if the fault says that something is no directory, which may be replaced.
 fn if_other(fault: DirFault) -> Result<bool, DirFault>
     ensures { result ≡ if_other fault }
 {
@@ -97,7 +100,9 @@ fn if_other(fault: DirFault) -> Result<bool, DirFault>
     }
 }
 
-/// Where a new directory with this row goes. A row with the name whose slot is empty is emptied, and taken.
+/// Returns where a new directory with this row goes.
+///
+/// A row with the name whose slot is empty loses its name, and is taken.
 fn place_for<A: Asker>(
     asker: &mut A,
     alloc: Global,
@@ -121,7 +126,9 @@ fn place_for<A: Asker>(
     Ok(place)
 }
 
-/// Makes a directory of so many entries in a slot. The header is written last, and until then it is none.
+/// Makes a directory of `capacity` entries in a slot.
+///
+/// The header is written last, and until then it is no directory.
 fn make_directory<A: Asker>(
     asker: &mut A,
     alloc: Global,

@@ -1,4 +1,4 @@
-//! Tables, read whole.
+//! How tables are read whole.
 ghost use Rattle.std.specs.Prelude.{◌≡◌, ◌*◌, ◌<◌, IfOk};
 ghost use Rattle.name_dirs.specs.Directory.{are_rows};
 ghost use Rattle.name_dirs.specs.Faults.{OnAnyAsker};
@@ -14,7 +14,7 @@ use std::alloc::Global;
 use std::marker::Model;
 use ufs_model::{Asker, MOST_AT_ONCE};
 
-/// The bytes of a file of this size.
+/// Reads the bytes of a file of this size.
 fn read_bytes<A: Asker>(
     asker: &mut A,
     alloc: Global,
@@ -37,7 +37,7 @@ fn read_bytes<A: Asker>(
     Ok(Bytes::new(bytes))
 }
 
-/// Whether these are the rows of a table of so many slots.
+/// Returns whether these are the rows of a table of `slots` slots.
 fn are_rows(alloc: Global, bytes: &[u8], slots: u64) -> Result<bool, NoMemory>
     requires { 64 * slots < 18446744073709551616 }
     ensures { IfOk result (λ b. b ≡ are_rows bytes.now slots) }
@@ -60,7 +60,9 @@ fn are_rows(alloc: Global, bytes: &[u8], slots: u64) -> Result<bool, NoMemory>
     Ok(true)
 }
 
-/// Reads the table of a directory. `NotDirectory` where it is none.
+/// Reads the table of a directory.
+///
+/// `NotDirectory` if the object is none.
 pub(crate) fn open<A: Asker>(
     asker: &mut A,
     alloc: Global,

@@ -1,4 +1,4 @@
-//! The rows of a table: a name each, or none.
+//! The rows of a table, each with a name or with none.
 ghost use Rattle.std.specs.Prelude.{◌≡◌, ◌+◌, ◌*◌, ◌≤◌, ◌==◌, length, false, true, MatchOption};
 ghost use Rattle.std.specs.List.{list_all};
 ghost use Rattle.name_dirs.specs.Directory.{row_at};
@@ -6,13 +6,13 @@ ghost use Rattle.name_dirs.specs.Text.{header, is_row, letters_in, longest_name,
 
 use crate::text::{LONGEST_NAME, has_name_bytes};
 
-/// The bytes of a row.
+/// The number of bytes of a row.
 pub(crate) const ROW: usize = 64;
 
 /// The row of no name.
 pub(crate) const NO_NAME: [u8; ROW] = [0; ROW];
 
-/// The first row of a table, which names nothing.
+/// Returns the first row of a table, which names nothing.
 pub(crate) fn header() -> [u8; ROW]
     ensures { result ≡ header }
 {
@@ -21,7 +21,7 @@ pub(crate) fn header() -> [u8; ROW]
     row
 }
 
-/// The row of a name.
+/// Returns the row of a name.
 pub(crate) fn row_of(name: &[u8]) -> [u8; ROW]
     requires { length name.now ≤ longest_name }
     ensures { result ≡ spelled name.now }
@@ -32,7 +32,7 @@ pub(crate) fn row_of(name: &[u8]) -> [u8; ROW]
     row
 }
 
-/// The letters of a row's name, none where it has none; or nothing where these bytes are no row.
+/// Returns the letters of a row's name, which are none if it has no name, or `None` if these bytes are no row.
 pub(crate) fn letters_of(row: &[u8]) -> Option<&[u8]>
     requires { length row.now ≡ row_size }
     ensures { MatchOption result (is_row row.now ≡ false)
@@ -55,7 +55,7 @@ fn are_zeros(bytes: &[u8]) -> bool
     bytes.iter().all(|byte| *byte == 0)
 }
 
-/// A row of these bytes.
+/// Returns the row at a place of these bytes.
 pub(crate) fn row_at(bytes: &[u8], place: usize) -> &[u8]
     requires { row_size * place + row_size ≤ length bytes.now }
     ensures row { result.now ≡ row_at bytes.now place }

@@ -8,7 +8,7 @@ use cfs_base::{Bytes, Puid};
 use std::alloc::{AllocError, Global};
 use std::marker::Model;
 
-/// A directory as it was read: its table, how many rows that has, and their bytes.
+/// A directory as it was read: its table, how many rows the table has, and their bytes.
 #[derive(Drop)]
 pub(crate) struct Table {
     pub file: Puid,
@@ -24,7 +24,7 @@ impl Table {
     ghost use Rattle.name_dirs.specs.Opening as spec;
     ghost use Rattle.name_dirs.specs.Text.{is_row, name_in};
 
-    /// Where this row first stands, beside the header.
+    /// Returns the first place of this row, after the header.
     pub(crate) fn place_of(&self, row: &[u8; ROW]) -> Option<u64>
         ensures { MatchOption result (spec.HasNoRow self.now.bytes self.now.slots row.now)
             (spec.IsFirstRow self.now.bytes self.now.slots row.now) }
@@ -37,7 +37,7 @@ impl Table {
         None
     }
 
-    /// The name of a row, nothing where it has none.
+    /// Returns the name of a row, or `None` if it has none.
     pub(crate) fn name_at(&self, alloc: Global, place: u64) -> Result<Option<Text>, AllocError>
         requires { place < self.now.slots }
         ensures { IfOk result (λ name. is_row (row_at self.now.bytes place) ≡ true
@@ -49,7 +49,7 @@ impl Table {
         }
     }
 
-    /// Each row but the header has a name.
+    /// Returns the fault of a table in which each row but the header has a name.
     pub(crate) fn full(&self) -> DirFault
         ensures { result ≡ spec.full_of self.now.slots }
     {

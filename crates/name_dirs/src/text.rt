@@ -11,10 +11,10 @@ use std::alloc::{AllocError, Global};
 use std::cmp::Ordering;
 use std::marker::Model;
 
-/// The bytes of the longest name.
+/// The number of bytes of the longest name.
 pub(crate) const LONGEST_NAME: usize = 63;
 
-/// Whether each is a graphic byte other than `/`.
+/// Returns whether each byte is a graphic one other than `/`.
 pub(crate) fn has_name_bytes(bytes: &[u8]) -> bool
     ensures { result ≡ list_all spec.is_name_byte bytes.now }
 {
@@ -23,7 +23,7 @@ pub(crate) fn has_name_bytes(bytes: &[u8]) -> bool
         .all(|byte| matches!(*byte, 0x21..=0x7e) && *byte != b'/')
 }
 
-/// Whether these are 1 to 63 graphic bytes without `/`.
+/// Returns whether these are 1 to 63 graphic bytes without `/`.
 pub fn is_text(bytes: &[u8]) -> bool
     ensures { result ≡ spec.is_text bytes.now }
 {
@@ -48,7 +48,7 @@ impl Model for Text {
 }
 
 impl Text {
-    /// The name of these bytes, where they are one. Takes no memory.
+    /// Returns the name of these bytes, if they are one. Takes no memory.
     pub fn new(bytes: Vec<u8>) -> Option<Text>
         ensures { MatchOption result (spec.is_text bytes.items ≡ false)
             (λ text. (spec.is_text bytes.items ≡ true) × (text ≡ bytes.items)) }
@@ -59,7 +59,7 @@ impl Text {
         Some(Text { bytes })
     }
 
-    /// The same of a copy.
+    /// Returns the name of a copy of these bytes, if they are one.
     pub fn copied(alloc: Global, bytes: &[u8]) -> Result<Option<Text>, AllocError>
         ensures { IfOk result (λ text. MatchOption text (spec.is_text bytes.now ≡ false)
             (λ text. (spec.is_text bytes.now ≡ true) × (text ≡ bytes.now))) }
@@ -67,6 +67,7 @@ impl Text {
         Ok(Text::new(Vec::from_slice(alloc, bytes)?))
     }
 
+    /// Returns the bytes of the name.
     pub fn as_slice(&self) -> &[u8]
         ensures bytes { result.now ≡ self.now }
         ensures text { IsTrue (spec.is_text self.now) }
@@ -74,7 +75,7 @@ impl Text {
         self.bytes.as_slice()
     }
 
-    /// Takes no memory.
+    /// Returns the vector inside. Takes no memory.
     pub fn into_vec(self) -> Vec<u8>
         ensures { result.items ≡ self }
     {
@@ -83,7 +84,7 @@ impl Text {
     }
 }
 
-/// Names in the order of their bytes, none twice.
+/// Names in the order of their bytes, none of them twice.
 #[derive(Debug, Drop)]
 pub struct Texts {
     texts: Vec<Text>,
@@ -101,7 +102,7 @@ impl Model for Texts {
 }
 
 impl Texts {
-    /// No name. Takes no memory.
+    /// Makes a list of no names. Takes no memory.
     pub fn new(alloc: Global) -> Texts
         ensures { result ≡ [] }
     {
@@ -110,6 +111,7 @@ impl Texts {
         }
     }
 
+    /// Returns the names as a slice.
     pub fn as_slice(&self) -> &[Text]
         ensures texts { result.now ≡ self.now }
         ensures rise { IsTrue (names_rise self.now) }
@@ -117,7 +119,7 @@ impl Texts {
         self.texts.as_slice()
     }
 
-    /// Puts a name in its place, and tells whether it wasn't there yet.
+    /// Puts a name in its place, and returns whether it was new.
     pub fn add(&mut self, text: Text) -> Result<bool, NoMemory>
         ensures added { IfOk result (AddsText self.old self.new text) }
         ensures memory { OnErr result (self.new ≡ self.old) }

@@ -17,7 +17,7 @@ use Rattle.name_lines.specs.declared.line.Line.{Line}
 use Rattle.name_lines.specs.declared.line.Line.TheVariants as lines
 use Rattle.name_lines.specs.Paths.{due, led_from_top}
 
--- ---- where a line was done
+-- ---- if a line was done
 
 -- the directory to which a path leads, and its entries
 pub record IsAtName (g : Graph) (path : List (List ℕ)) (dir : Puid) (entries : List Entry) : Type 0 where
@@ -46,10 +46,10 @@ Does (lines.Unbind place) answers.Done g h =
 Does (lines.ListDir path) (answers.Names names) g h = (h ≡ g) × At g path (λ d es. AreListed es names)
 Does line answer g h = ⊥
 
--- ---- where it was refused
+-- ---- if a line was refused
 
--- The names stay, but for one that an `unbind` took out. A `mkdir` may have added a directory without names, and
--- entries without a name that leads somewhere may differ.
+-- The names stay, except one that an `unbind` may have removed. A `mkdir` may have added a directory without names,
+-- and entries without a name that leads somewhere may differ.
 abbrev pub LeavesNames : Line → Graph → Graph → Type 0
 LeavesNames (lines.Unbind place) g h = IfApart g (HasNames Nothing g h)
     ⊎ ((d : Puid) × (led_from_top g place.above ≡ Ok d) × TakesName d place.name g h)
@@ -60,7 +60,7 @@ abbrev pub id_bound : Line → Option Puid
 id_bound (lines.Bind place id) = Some id
 id_bound line = None
 
--- the most blocks that one request takes, of a line that changes something
+-- the most blocks that one request takes, for a line that changes something
 abbrev pub most_need : Line → Option ℕ
 most_need (lines.MakeTop capacity) = Some 5
 most_need (lines.MakeDir place capacity) = Some 5

@@ -1,4 +1,4 @@
--- Where paths lead in a graph, and what is due to a line by the names.
+-- Where paths lead in a graph, and which fault a line has by the names.
 use Rattle.std.specs.Prelude.{ℕ, List, [], ◌∷◌, Option, Some, None, Result, Ok, Err, option_and_then}
 use Rattle.cfs_base.specs.declared.identifier.Puid.{Puid}
 use Rattle.ufs_model.specs.Graph.{Graph}
@@ -16,7 +16,7 @@ abbrev pub id_or_none : Option Puid → Result Puid DirFault
 id_or_none None = Err faults.NoName
 id_or_none (Some id) = Ok id
 
--- what a name leads to, or why it doesn't
+-- what a name leads to, or why it leads to nothing
 abbrev pub looked_in : List ℕ → Option (List Entry) → Result Puid DirFault
 looked_in w None = Err faults.NotDirectory
 looked_in w (Some es) = id_or_none (id_under w es)
@@ -25,7 +25,7 @@ abbrev pub after_name : Graph → List ℕ → Result Puid DirFault → Result P
 after_name g w (Err fault) = Err fault
 after_name g w (Ok d) = looked_in w (entries_in g d)
 
--- and names, one after the other
+-- the same for names, one after another
 abbrev pub led : Graph → Result Puid DirFault → List (List ℕ) → Result Puid DirFault
 led g at [] = at
 led g at (w ∷ path) = led g (after_name g w at) path
@@ -34,17 +34,17 @@ abbrev pub start_of : Option Puid → Result Puid DirFault
 start_of None = Err faults.NotDirectory
 start_of (Some id) = Ok id
 
--- from slot 0 of the root index on
+-- the same from slot 0 of the root index on
 abbrev pub led_from_top : Graph → List (List ℕ) → Result Puid DirFault
 led_from_top g path = led g (start_of (table_in g g.root)) path
 
--- ---- what is due
+-- ---- the fault that is due
 
 abbrev pub due_at : Graph → Result Puid DirFault → (List Entry → Option DirFault) → Option DirFault
 due_at g (Err fault) by = Some fault
 due_at g (Ok d) by = due_with (entries_in g d) by
 
--- by the names alone, which line and graph tell
+-- the fault by the names alone, which line and graph determine
 abbrev pub due : Graph → Line → Option DirFault
 due g (lines.MakeTop capacity) = due_top (option_and_then (entries_in g) (table_in g g.root))
 due g (lines.MakeDir place capacity) = due_at g (led_from_top g place.above) (due_new place.name)

@@ -1,4 +1,4 @@
--- Answers as they are written, and what they tell of the disk and of memory.
+-- Answers as they are written, and what they report of the disk and of memory.
 use Rattle.std.specs.Prelude.{ℕ, Bool, true, false, List, [], ◌∷◌, codes}
 use Rattle.std.specs.Fmt.{decimal}
 use Rattle.std.specs.List.{flat_map}
@@ -30,7 +30,7 @@ answer_line (answers.Refused fault) = dir_fault_line fault
 abbrev pub printed_answers : List Answer → List ℕ
 printed_answers told = flat_map answer_line told
 
--- ---- what is told
+-- ---- what is reported
 
 abbrev pub is_disk_answer : Answer → Bool
 is_disk_answer (answers.Refused (faults.Asked (replies.Disk doubt))) = true
@@ -46,7 +46,7 @@ abbrev pub is_content : Reply → Bool
 is_content (replies.Content bytes) = true
 is_content reply = false
 
--- Its line may be longer than REPLY_ROOM: one of names, or of a content, which no fault tells.
+-- Its line may be longer than REPLY_ROOM: that of names, or of a content, which no fault has.
 abbrev pub may_be_long : Answer → Bool
 may_be_long (answers.Names names) = true
 may_be_long (answers.Refused (faults.Asked reply)) = is_content reply

@@ -23,7 +23,7 @@ use Rattle.name_lines.specs.Spoken.{line_in}
 
 -- ---- a run
 
--- From a state to the next. No grant comes or goes, nothing that is there goes, and no block is given back.
+-- From a state to the next. No grant is added or removed, no object is removed, and no block is given back.
 pub record FollowsLine (cylinders : ℕ) (line : Option Line) (answer : Answer) (s t : State) : Type 0 where
   pub told : IsLineAnswer cylinders line answer s t
   pub grants : t.grants ≡ s.grants
@@ -51,8 +51,8 @@ HasChange (lines.Unbind place) g h =
     (d : Puid) × (led_from_top g place.above ≡ Ok d) × HasNames (Put d place.name None) g h
 HasChange line g h = ⊥
 
--- A line that changes something leaves the names old, or with its change, after each of its requests. All others leave
--- the graph.
+-- A line that changes something leaves the names old, or with its change, after each of its requests. Any other line
+-- leaves the graph as it was.
 abbrev pub IsWithinLine : Option Line → Graph → Graph → Type 0
 IsWithinLine None g h = h ≡ g
 IsWithinLine (Some (lines.Look place)) g h = h ≡ g
@@ -73,9 +73,9 @@ abbrev pub ServesLine : {A : Type 0} → Ghosts A → (who : ℕ) → Option Lin
 ServesLine g who line old new answer =
     (s : State) → g.stands old s → s.grants ≡ [] → (t : State) × ServesFrom g who line answer old new s t
 
--- Whatever asker it is: no count falls, at most two words are drawn, and trouble that is told was met.
+-- On any asker: no count falls, at most two words are drawn, and trouble that is reported was met.
 pub record SpendsLine {A : Type 0} (g : Ghosts A) (old new : A) (answer : Answer) : Type 0 where
   pub told : (fault : DirFault) → answer ≡ answers.Refused fault → TellsFault g old new fault
-  -- a failed call that is told counts as one at least
+  -- a failed call that is reported counts as at least one
   pub failed : (if is_disk_answer answer then count_after (g.failed old) else g.failed old) ≤ g.failed new
   pub later : NoneFalls g 2 old new

@@ -89,6 +89,6 @@ line_of_words (verb ∷ path ∷ []) = one_word verb path
 line_of_words (verb ∷ path ∷ word ∷ []) = two_words verb path word
 line_of_words words = None
 
--- what a line asks; nothing where it has none of the forms
+-- what a line asks, or None if it has none of the forms
 abbrev pub line_in : List ℕ → Option Line
 line_in text = if is_readable text then line_of_words (words_of text) else None

@@ -50,6 +50,6 @@ AnswersLine g who line old new result = ServesLine g who line old new (answer_fo
 abbrev pub SpendsIn : {A : Type 0} → Ghosts A → A → A → Result Answer DirFault → Type 0
 SpendsIn g old new result = SpendsLine g old new (answer_for result)
 
--- an answer that may be long becomes want of memory where its line has no room
+-- an answer that may be long becomes a want of memory if its line has no room
 abbrev pub IsWrittenAs : Answer → Answer → Type 0
 IsWrittenAs answer told = (told ≡ answer) ⊎ ((may_be_long answer ≡ true) × (told ≡ answers.Refused faults.Memory))

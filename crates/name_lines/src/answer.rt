@@ -9,27 +9,27 @@ use ufs_model::Reply;
 /// The answer to a line.
 #[derive(Debug, Drop)]
 pub enum Answer {
-    /// The name was bound, or taken out.
+    /// The name was bound, or unbound.
     Done,
-    /// To what a name leads, or a directory that was made.
+    /// What a name leads to, or a directory that was made.
     Id(Puid),
     /// The names of a directory.
     Names(Texts),
     /// The line has none of the forms.
     Syntax,
-    /// It was refused.
+    /// The line was refused.
     Refused(DirFault),
 }
 
 impl Answer {
-    /// Whether it tells that a call of the disk failed.
+    /// Returns whether the answer reports that a call of the disk failed.
     pub fn tells_disk(&self) -> bool
         ensures { result ≡ spec.is_disk_answer self.now }
     {
         matches!(self, Answer::Refused(DirFault::Asked(Reply::Disk { .. })))
     }
 
-    /// Whether it tells a want of memory.
+    /// Returns whether the answer reports a want of memory.
     pub fn wants_memory(&self) -> bool
         ensures { result ≡ spec.is_memory_answer self.now }
     {

@@ -1,6 +1,7 @@
-//! Lines that ask for directories of names, over any asker: each is read, done and answered. The layers above use that
-//! the names of the state before and after allow the answer, and that each request of a line leaves the names old, or old
-//! with the line's one change.
+//! Lines that ask for directories of names, over any asker: each is read, done and answered.
+//!
+//! The layers above use that the names of the state before and after allow the answer, and that each request of a
+//! line leaves the names old, or old with the line's one change.
 #![tactic(auto)]
 
 mod answer;

@@ -8,7 +8,7 @@ use name_dirs::{MOST_CAPACITY, Text};
 use std::alloc::Global;
 use std::marker::Model;
 
-/// Names that lead from the directory in slot 0 of the root index on.
+/// Names that lead on from the directory in slot 0 of the root index.
 #[derive(Debug, Drop)]
 pub struct Pathname {
     names: Vec<Text>,
@@ -25,11 +25,13 @@ impl Model for Pathname {
 /// A name in the directory to which a path leads.
 #[derive(Debug, Drop)]
 pub struct NameAt {
+    /// The path of the directory.
     pub above: Pathname,
+    /// The name in it.
     pub name: Text,
 }
 
-/// The entries of a new directory: 1 to 4,095.
+/// The number of entries of a new directory: 1 to 4,095.
 #[derive(Debug, Drop)]
 pub struct Capacity {
     entries: u32,
@@ -64,19 +66,21 @@ pub enum Line {
 }
 
 impl Pathname {
+    /// Makes the path of these names.
     pub fn new(names: Vec<Text>) -> Pathname
         ensures { result ≡ names.items }
     {
         Pathname { names }
     }
 
+    /// Returns the names.
     pub fn as_slice(&self) -> &[Text]
         ensures { result.now ≡ self.now }
     {
         self.names.as_slice()
     }
 
-    /// Its last name, in the directory to which the others lead. Nothing where it has none. Takes no memory.
+    /// Returns the last name, in the directory to which the others lead, or `None` if there is none. Takes no memory.
     pub fn into_place(self) -> Option<NameAt>
         ensures { result ≡ spec.place_at self }
     {
@@ -90,6 +94,7 @@ impl Pathname {
 }
 
 impl Capacity {
+    /// Returns the capacity of this number of entries, if it is 1 to 4,095.
     pub fn new(entries: u64) -> Option<Capacity>
         ensures { result ≡ spec.capacity_of entries }
     {
@@ -101,6 +106,7 @@ impl Capacity {
         })
     }
 
+    /// Returns the number of entries.
     pub fn get(&self) -> u32
         ensures value { result ≡ self.now }
         ensures some { 1 ≤ self.now }

@@ -25,14 +25,14 @@ fn print_names(names: &Texts, into: &mut Vec<u8>) -> Result<(), NoMemory>
     Ok(())
 }
 
-/// Whether it tells bytes of a file, which no fault does.
+/// Returns whether the reply has bytes of a file, which that of no fault has.
 fn is_content(reply: &Reply) -> bool
     ensures { result ≡ spec.is_content reply.now }
 {
     matches!(reply, Reply::Content(_))
 }
 
-/// Appends the line of a fault. It takes no memory.
+/// Appends the line of a fault. Takes no memory.
 fn print_fault(fault: &DirFault, into: &mut Vec<u8>) -> Result<(), NoMemory>
     requires { vec_len into.old + REPLY_ROOM ≤ vec_capacity into.old }
     ensures line { OnOk result (into.new.items ≡ into.old.items ++ spec.dir_fault_line fault.now) }
@@ -51,7 +51,7 @@ fn print_fault(fault: &DirFault, into: &mut Vec<u8>) -> Result<(), NoMemory>
     Ok(())
 }
 
-/// Appends the line of an answer. Only names may want memory.
+/// Appends the line of an answer. Only names may need memory.
 fn print_answer(answer: &Answer, into: &mut Vec<u8>) -> Result<(), NoMemory>
     requires { vec_len into.old + REPLY_ROOM ≤ vec_capacity into.old }
     ensures line { OnOk result (into.new.items ≡ into.old.items ++ spec.answer_line answer.now) }
@@ -68,8 +68,9 @@ fn print_answer(answer: &Answer, into: &mut Vec<u8>) -> Result<(), NoMemory>
     Ok(())
 }
 
-/// Makes the text the line of an answer, and hands the answer back as it was written: names for which there is no room
-/// become want of memory.
+/// Makes `reply` the line of an answer, and returns the answer as it was written.
+///
+/// Names for which there is no room become a want of memory.
 pub(crate) fn write_answer(answer: Answer, reply: &mut Vec<u8>) -> Answer
     requires { REPLY_ROOM ≤ vec_capacity reply.old }
     ensures kept { IsWrittenAs answer result }

@@ -16,7 +16,7 @@ fn parts_of(alloc: Global, text: &[u8]) -> Result<Vec<&[u8]>, AllocError>
     text.split(|byte| *byte == b'/').collect(alloc)
 }
 
-/// The names of these parts, where each is one.
+/// Returns the names of these parts, if each is a name.
 fn names_of(alloc: Global, parts: &[&[u8]]) -> Result<Option<Pathname>, NoMemory>
     ensures { IfOk result (λ path. path ≡ spec.if_texts (map (λ part. part.now) parts.now)) }
 {
@@ -30,7 +30,7 @@ fn names_of(alloc: Global, parts: &[&[u8]]) -> Result<Option<Pathname>, NoMemory
     Ok(Some(Pathname::new(names)))
 }
 
-/// The path of a word: `/`, or names with `/` before each.
+/// Returns the path of a word: `/`, or names with `/` before each.
 fn path_in(alloc: Global, word: &[u8]) -> Result<Option<Pathname>, NoMemory>
     ensures { IfOk result (λ path. path ≡ spec.path_in word.now) }
 {
@@ -41,7 +41,7 @@ fn path_in(alloc: Global, word: &[u8]) -> Result<Option<Pathname>, NoMemory>
     }
 }
 
-/// The same, but not `/` itself.
+/// Returns the name and the directory of a path that isn't `/` itself.
 fn place_in(alloc: Global, word: &[u8]) -> Result<Option<NameAt>, NoMemory>
     ensures { IfOk result (λ place. place ≡ spec.place_in word.now) }
 {
@@ -57,7 +57,7 @@ fn capacity_in(word: &[u8]) -> Option<Capacity>
     Capacity::new(number_of(word)?)
 }
 
-/// What `mkdir` of a path asks.
+/// Returns what `mkdir` of a path asks.
 fn mkdir(path: Pathname, capacity: Capacity) -> Line
     ensures { result ≡ spec.mkdir path capacity }
 {
@@ -99,7 +99,9 @@ fn two_words(alloc: Global, verb: &[u8], path: &[u8], word: &[u8]) -> Result<Opt
     }
 }
 
-/// What a line asks, nothing where it has none of the forms. `NoMemory` may stand in place of either.
+/// Returns what a line asks, or `None` if it has none of the forms.
+///
+/// `NoMemory` may come in the place of either.
 pub fn read_line(alloc: Global, text: &[u8]) -> Result<Option<Line>, NoMemory>
     ensures { IfOk result (λ line. line ≡ spec.line_in text.now) }
 {

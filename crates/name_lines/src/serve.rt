@@ -1,4 +1,4 @@
-//! Lines that are served.
+//! How lines are served.
 ghost use Rattle.std.specs.Prelude.{◌≡◌, ◌<◌, ◌≤◌, Some};
 ghost use Rattle.std.specs.Vec.{vec_capacity};
 ghost use Rattle.name_lines.specs.Printed.{answer_line};
@@ -39,7 +39,8 @@ fn make_at<A: Asker>(
     capacity: &Capacity,
 ) -> Result<Answer, DirFault>
     requires words { A.words asker.old < 4294967290 }
-    ensures went { spec.AnswersLine A.Asker who (Some (Line.MakeDir place.now capacity.now)) asker.old asker.new result }
+    ensures went { spec.AnswersLine A.Asker who (Some (Line.MakeDir place.now capacity.now)) asker.old asker.new
+        result }
     ensures spends { spec.SpendsIn A.Asker asker.old asker.new result }
 {
     let dir = walk(asker, alloc, who, &place.above)?;
@@ -146,9 +147,10 @@ fn answer_line<A: Asker>(
     do_line(asker, alloc, who, &line)
 }
 
-/// Does what a line asks, and makes `reply` the line of its answer, whatever it held. No grant may stand. The room for
-/// an answer is in `reply` before the first request, so a change that was done is told. Only the names of a directory may
-/// have no room, and then nothing was changed.
+/// Does what a line asks, and makes `reply` the line of its answer, whatever it held.
+///
+/// No session may have a grant. The room for an answer is in `reply` before the first request, so a change that was
+/// done is reported. Only the names of a directory may find no room, and then nothing was changed.
 pub fn serve_line<A: Asker>(
     asker: &mut A,
     alloc: Global,

@@ -10,7 +10,7 @@ use std::alloc::Global;
 use std::marker::Model;
 use ufs_model::Asker;
 
-/// What a path leads to: `/` to what is in slot 0 of the root index.
+/// Returns what a path leads to. `/` leads to what is in slot 0 of the root index.
 pub(crate) fn walk<A: Asker>(
     asker: &mut A,
     alloc: Global,

@@ -6,7 +6,7 @@ use cfs_script::number_of;
 use name_dirs::{DirFault, Text};
 use std::alloc::Global;
 
-/// The first word of a line, and what follows it.
+/// Returns the first word of a line, and what follows it.
 fn split(line: &str) -> (&str, &str) {
     match line.split_once(' ') {
         Some((word, rest)) => (word, rest),
@@ -19,13 +19,13 @@ fn small(word: &str) -> Result<u32, Fault> {
     u32::try_from(number).map_err(|_| Fault::Syntax)
 }
 
-/// A path without its last name, and that name.
+/// Returns a path without its last name, and that name.
 fn cut(alloc: Global, path: &str) -> Result<(&str, Text), Fault> {
     let (above, last) = path.rsplit_once('/').ok_or(Fault::Syntax)?;
     Ok((above, text(alloc, last)?))
 }
 
-/// The path of a directory, with no name for `/`.
+/// Returns the path of a directory, with no name for `/`.
 fn names_of(path: &str) -> &str {
     match path {
         "/" => "",
@@ -69,7 +69,7 @@ fn list(served: &mut Slow, alloc: Global, path: &str) -> Result<String, Fault> {
     listed(alloc, &served.list(alloc, dir)?)
 }
 
-/// A call with a path.
+/// Makes a call with a path.
 fn called(served: &mut Slow, alloc: Global, verb: &str, rest: &str) -> Result<String, Fault> {
     let (path, word) = split(rest);
     if !path.starts_with('/') {
@@ -85,7 +85,7 @@ fn called(served: &mut Slow, alloc: Global, verb: &str, rest: &str) -> Result<St
     }
 }
 
-/// Of a refusal that hands a reply on, that reply.
+/// Returns the answer. For a refusal that hands a reply on, that is the text of the reply.
 fn told(alloc: Global, answer: Result<String, Fault>) -> Result<String, Fault> {
     match answer {
         Err(Fault::Refused(DirFault::Asked(reply))) => replied(alloc, &reply),
@@ -93,7 +93,7 @@ fn told(alloc: Global, answer: Result<String, Fault>) -> Result<String, Fault> {
     }
 }
 
-/// Makes the call of a line: its answer.
+/// Makes the call of a line, and returns its answer.
 pub fn answer(served: &mut Option<Slow>, alloc: Global, line: &str) -> Result<String, Fault> {
     let (verb, rest) = split(line);
     if verb == "new" {

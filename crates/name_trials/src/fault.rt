@@ -1,4 +1,4 @@
-//! Why a call answers nothing of what it was to.
+//! Why a call is refused, or isn't made.
 use cfs_base::NoMemory;
 use name_dirs::DirFault;
 use std::alloc::{AllocError, AllocFailed};
@@ -15,7 +15,7 @@ pub enum Fault {
     Spent,
     /// A reply has no line.
     Long,
-    /// Want of memory, outside of the call.
+    /// There was no memory, outside of the call.
     Memory,
     /// The call was refused.
     Refused(DirFault),

@@ -1,10 +1,11 @@
-//! Rows of calls on directories of names, over the slow server. A line `CALL => ANSWER` is written anew, with what the
-//! call answers now; comments and blank lines stay. So rows that come out as they went in are tests that were passed.
-//! The calls:
+//! Rows of calls on directories of names, over the slow server.
+//!
+//! A line `CALL => ANSWER` is written anew, with what the call answers now. Comments and blank lines stay. So rows
+//! that come out as they went in are tests that were passed. The calls are:
 //!
 //! - `new`: a fresh slow server, of an empty root index.
-//! - `mkdir PATH CAPACITY`, `bind PATH ID`, `look PATH`, `unbind PATH`, `list PATH`: a call of session 0. A path leads
-//!   from slot 0 of the root index on, and `/` is what is there. An identifier is spelled as in request lines.
+//! - `mkdir PATH CAPACITY`, `bind PATH ID`, `look PATH`, `unbind PATH`, `list PATH`: a call of session 0. A path
+//!   leads on from slot 0 of the root index, and `/` is what is there. An identifier is spelled as in request lines.
 //! - `ask S LINE`: session S says the request line. All sessions have the same names for identifiers and grants.
 #![tactic(auto)]
 
@@ -17,7 +18,7 @@ use call::answer;
 use served::Slow;
 use std::io;
 
-/// A line of the rows.
+/// Writes a line of the rows anew.
 fn tell(rt: &HostRuntime, served: &mut Option<Slow>, line: &str) -> io::Result<()> {
     let Some((call, _)) = line.split_once(" => ") else {
         return println!(rt; "{line}");

@@ -9,7 +9,7 @@ use name_dirs::Texts;
 use std::alloc::Global;
 use ufs_model::{MOST_AT_ONCE, Reply, Unread};
 
-/// Whether a reply line has room for it.
+/// Returns whether a reply line has room for it.
 fn fits(reply: &Reply) -> bool
     ensures { IsTrue result → FitsLine reply.now }
 {
@@ -19,7 +19,7 @@ fn fits(reply: &Reply) -> bool
     }
 }
 
-/// The text of a line.
+/// Returns the text of a line.
 fn text_of(alloc: Global, line: &[u8]) -> Result<String, Fault> {
     let mut text = String::new(alloc);
     for byte in line {
@@ -30,7 +30,7 @@ fn text_of(alloc: Global, line: &[u8]) -> Result<String, Fault> {
     Ok(text)
 }
 
-/// A reply.
+/// Returns the text of a reply.
 pub fn replied(alloc: Global, reply: &Reply) -> Result<String, Fault> {
     if !fits(reply) {
         return Err(Fault::Long);
@@ -40,24 +40,24 @@ pub fn replied(alloc: Global, reply: &Reply) -> Result<String, Fault> {
     text_of(alloc, line.as_slice())
 }
 
-/// A line that is no request.
+/// Returns the text for a line that is no request.
 pub fn unread(alloc: Global, why: Unread) -> Result<String, Fault> {
     let mut line = Vec::with_capacity(alloc, REPLY_ROOM)?;
     print_unread(why, &mut line);
     text_of(alloc, line.as_slice())
 }
 
-/// A call that was done.
+/// Returns the text for a call that was done.
 pub fn done(alloc: Global) -> Result<String, Fault> {
     replied(alloc, &Reply::Done)
 }
 
-/// An identifier.
+/// Returns the text for an identifier.
 pub fn found(alloc: Global, id: Puid) -> Result<String, Fault> {
     replied(alloc, &Reply::Id(id))
 }
 
-/// Names, each after a space.
+/// Returns the text for names, each after a space.
 pub fn listed(alloc: Global, names: &Texts) -> Result<String, Fault> {
     let mut text = done(alloc)?;
     for name in names.as_slice() {

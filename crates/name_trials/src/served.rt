@@ -10,10 +10,10 @@ use ufs_model::{Asker, Bound, Plain, Ref, Reply, Request, Unread};
 /// The session that makes the calls.
 const WHO: Session = 0;
 
-/// So many words may be drawn before a call.
+/// How many words may have been drawn before a call.
 const MOST_DRAWN: u32 = 4_294_967_289;
 
-/// A server, and what the names in request lines stand for.
+/// A server, and what the names in request lines are bound to.
 #[derive(Drop)]
 pub struct Served<A: Asker + Drop> {
     server: A,
@@ -23,7 +23,9 @@ pub struct Served<A: Asker + Drop> {
 /// The slow server.
 pub type Slow = Served<Plain>;
 
-/// A fresh slow server. The word of its root index is the first that seed 0 gives.
+/// Makes a fresh slow server.
+///
+/// The word of its root index is the first that seed 0 gives.
 pub fn fresh(alloc: Global) -> Result<Slow, Fault> {
     let root = Puid {
         block: 2,
@@ -36,12 +38,12 @@ pub fn fresh(alloc: Global) -> Result<Slow, Fault> {
     })
 }
 
-/// A name.
+/// Returns the name of a word.
 pub fn text(alloc: Global, word: &str) -> Result<Text, Fault> {
     Text::copied(alloc, word.as_bytes())?.ok_or(Fault::Syntax)
 }
 
-/// Lets the name of a request that was answered so stand for what is in the answer.
+/// Binds the name of a request to what is in this answer.
 fn let_stand(names: &mut Names, name: Option<Name>, reply: &Reply) -> Result<(), Fault> {
     let Some(name) = name else {
         return Ok(());
@@ -56,7 +58,7 @@ fn let_stand(names: &mut Names, name: Option<Name>, reply: &Reply) -> Result<(),
 }
 
 impl<A: Asker + Drop> Served<A> {
-    /// The answer to a request.
+    /// Returns the answer to a request.
     fn reply(&mut self, alloc: Global, who: Session, request: &Request) -> Result<Reply, Fault> {
         if self.server.drawn() > MOST_DRAWN {
             return Err(Fault::Spent);
@@ -64,7 +66,7 @@ impl<A: Asker + Drop> Served<A> {
         Ok(self.server.ask(alloc, who, request))
     }
 
-    /// A session says a request line.
+    /// Lets a session say a request line, and returns the answer.
     pub fn ask(&mut self, alloc: Global, who: Session, line: &str) -> Result<String, Fault> {
         match read_line(alloc, &all_verbs(), line.as_bytes(), &self.names) {
             Ok(Spoken { request, name }) => {
@@ -78,7 +80,7 @@ impl<A: Asker + Drop> Served<A> {
         }
     }
 
-    /// The identifier that a word spells in a request line.
+    /// Returns the identifier that a word spells in a request line.
     pub fn id_of(&self, alloc: Global, word: &str) -> Result<Puid, Fault> {
         let line = format!(in alloc; "slots {word}")?;
         match read_line(alloc, &all_verbs(), line.as_bytes(), &self.names) {
@@ -94,7 +96,7 @@ impl<A: Asker + Drop> Served<A> {
         }
     }
 
-    /// What slot 0 of the root index holds.
+    /// Returns what slot 0 of the root index holds.
     fn top(&mut self, alloc: Global) -> Result<Puid, Fault> {
         let request = Request::Retrieve {
             index: Ref::Direct(self.server.root()),
@@ -107,7 +109,7 @@ impl<A: Asker + Drop> Served<A> {
         }
     }
 
-    /// What a path of names, each after a `/`, leads to.
+    /// Returns what a path of names, each after a `/`, leads to.
     pub fn walk(&mut self, alloc: Global, path: &str) -> Result<Puid, Fault> {
         let mut at = self.top(alloc)?;
         for name in path.split('/').skip(1) {
@@ -117,7 +119,7 @@ impl<A: Asker + Drop> Served<A> {
         Ok(at)
     }
 
-    /// What a name leads to.
+    /// Returns what a name leads to.
     pub fn look(&mut self, alloc: Global, dir: Puid, name: &Text) -> Result<Puid, Fault> {
         if self.server.drawn() > MOST_DRAWN {
             return Err(Fault::Spent);
@@ -125,7 +127,7 @@ impl<A: Asker + Drop> Served<A> {
         Ok(look(&mut self.server, alloc, WHO, dir, name)?)
     }
 
-    /// The names of a directory.
+    /// Returns the names of a directory.
     pub fn list(&mut self, alloc: Global, dir: Puid) -> Result<Texts, Fault> {
         if self.server.drawn() > MOST_DRAWN {
             return Err(Fault::Spent);
@@ -133,7 +135,7 @@ impl<A: Asker + Drop> Served<A> {
         Ok(list(&mut self.server, alloc, WHO, dir)?)
     }
 
-    /// Lets a name lead to an object.
+    /// Binds a name to an object.
     pub fn bind(&mut self, alloc: Global, dir: Puid, name: &Text, id: Puid) -> Result<(), Fault> {
         if self.server.drawn() > MOST_DRAWN {
             return Err(Fault::Spent);
@@ -141,7 +143,7 @@ impl<A: Asker + Drop> Served<A> {
         Ok(bind(&mut self.server, alloc, WHO, dir, name, id)?)
     }
 
-    /// Takes a name out.
+    /// Unbinds a name.
     pub fn unbind(&mut self, alloc: Global, dir: Puid, name: &Text) -> Result<(), Fault> {
         if self.server.drawn() > MOST_DRAWN {
             return Err(Fault::Spent);

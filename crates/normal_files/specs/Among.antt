@@ -11,7 +11,7 @@ use Rattle.vol_image.specs.Reading.{leaf_content}
 use Rattle.normal_files.specs.Laid.{leaf_of, leaves_of, node_of}
 use Rattle.block_tree.specs.declared.root.Root as roots
 
--- each held leaf, told by its number, has bytes with P
+-- each held leaf, given by its number, has bytes with P
 pub record IsAmong (a : Image) (graph : Graph) (id : Puid) (root : roots.Root) (P : ℕ → List ℕ → Type 0)
     (c : Image) : Type 0 where
   pub frames : Frames a (without graph (id ∷ [])) c

@@ -1,4 +1,4 @@
--- What a call that changes a file is handed, and what it did.
+-- What a call that changes a file is given, and what it did.
 use Rattle.std.specs.Prelude.{◌≡◌, ℕ, ◌+◌, ◌≤◌, false, true, List, None, Some, Result, IfErr, OnOk, length, sum}
 use Rattle.cfs_base.specs.Run.{IsSettled, Leaves}
 use Rattle.cfs_base.specs.declared.disk.Disk.{Ghosts}
@@ -30,10 +30,10 @@ pub record Handed {D : Type 0} (g : Ghosts D) (at : ℕ) (disk : D) (space : Kep
   pub no_draft : drafts id ≡ None
   pub here : id.block ≡ at
 
--- A write of bytes at an offset. Done, the store has the file with them, and that outlasts a crash. Each touched leaf
--- that wasn't held took the least Free block, and after it its node: in increasing order. Done or not, each image that
--- is left has each leaf old or new. It is Full exactly where fewer blocks are Free than the write needs, with the
--- floor; where a write was tried so many were Free.
+-- A write of bytes at an offset. If it is done, the store has the file with them, and that survives a crash. Each
+-- touched leaf that wasn't held took the least Free block, and after it its node, in increasing order. Done or not,
+-- in each image that is left each leaf is old or new. It is Full exactly if fewer blocks are Free than the write
+-- needs, plus the floor. If a write was tried so many were Free.
 pub record WritesFile {D : Type 0} {g : Ghosts D} {at : ℕ} {disk : D} {space : Kept} (h : Handed g at disk space)
     (offset : ℕ) (bytes : List ℕ) (floor : ℕ) (new : D) (after : Kept)
     (result : Result (Unit {0}) Refused) : Type 0 where
@@ -46,9 +46,9 @@ pub record WritesFile {D : Type 0} {g : Ghosts D} {at : ℕ} {disk : D} {space :
   pub full : IfErr result (TellsNeed (needs h.file offset (length bytes)))
   pub begun : IfErr result (λ e. e ≡ refusals.Disk true → needs h.file offset (length bytes) + floor ≤ sum space.free)
 
--- A size set. Done, the store has the file of this size, and no block was taken. A resize to less ends in writes of
--- maps that no barrier follows: they free what the file had. Done or not, each image that is left has the size and each
--- leaf old or new.
+-- A size that is set. If it is done, the store has the file of this size, and no block was taken. A resize to less
+-- ends in writes of maps that no barrier follows: they free what the file had. Done or not, in each image that is
+-- left the size and each leaf are old or new.
 pub record ResizesFile {D : Type 0} {g : Ghosts D} {at : ℕ} {disk : D} {space : Kept} (h : Handed g at disk space)
     (size : ℕ) (new : D) (after : Kept) (result : Result (Unit {0}) Refused) : Type 0 where
   pub done : OnOk result (BecomesFile g h.graph h.drafts h.id (resized h.file size) disk new after)

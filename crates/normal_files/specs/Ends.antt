@@ -1,4 +1,4 @@
--- How calls end that take blocks, on any disk.
+-- How calls that take blocks end, on any disk.
 use Rattle.std.specs.Prelude.{◌≡◌, ℕ, ◌<◌, ◌≤◌, Bool, true, false, if◌then◌else◌, Ok, Err, Result, Some, sum}
 use Rattle.cfs_base.specs.Calls.{HasStopped}
 use Rattle.cfs_base.specs.Codes.{no_entry, other_count}
@@ -12,7 +12,7 @@ use Rattle.cyl_alloc.specs.Space.{IsBadMap, IsMiscounted, Kept, TakesAtMost}
 use Rattle.cyl_map.specs.Volume.{map_of}
 use Rattle.cfs_base.specs.declared.refusal.Refused.TheVariants as refusals
 
--- no Free block was found: a map is none, or has none where some were counted
+-- no Free block was found: a map block is no map, or has none though some were counted
 pub data IsNoSpace {D : Type 0} (g : Ghosts D) (old new : D) (kept : Kept) (damage : Damage) : Type 0 where
   NoMap : damage.code ≡ no_entry → damage.block ≡ map_of damage.block → damage.block < g.blocks new
       → (Tells g old → IsBadMap (g.content new) damage.block)
@@ -20,7 +20,7 @@ pub data IsNoSpace {D : Type 0} (g : Ghosts D) (old new : D) (kept : Kept) (dama
   OtherCount : damage.code ≡ other_count → IsMiscounted (Tells g old) (g.content new) kept damage.block
       → IsNoSpace g old new kept damage
 
--- a device call failed, or no Free block was found where there are some
+-- a device call failed, or no Free block was found though some were counted
 abbrev pub IsStop : {D : Type 0} → Ghosts D → D → D → Kept → Refused → Type 0
 IsStop g old new kept (refusals.Full need) = ⊥
 IsStop g old new kept (refusals.Disk tried) = HasStopped g tried old new
@@ -37,13 +37,13 @@ is_damaged refusals.Memory = false
 abbrev pub refused_after : Bool → Refused → Refused
 refused_after tried e = if tried then after_try e else e
 
--- The same of a run that takes so many blocks at most. Where so many were Free it isn't refused for want of them.
+-- The end of a run that takes at most k blocks. If so many were Free it isn't refused for want of them.
 abbrev pub TakingWent : {D : Type 0} → Ghosts D → (n t k : ℕ) → D → D → Kept → Kept → Result Bool Refused → Type 0
 TakingWent g n t k old new before after result =
     Went g n t n old new before after (TakesAtMost k before after) (λ e. k ≤ sum before.free → IsStop g old new after e)
     (λ e. e ≡ refusals.Disk false) Some result
 
--- it is done
+-- the run is done
 abbrev pub HasGone : {D : Type 0} → Ghosts D → (n t k : ℕ) → (tried : Bool) → D → D → Kept → Kept → Type 0
 HasGone g n t k tried start now before after = TakingWent g n t k start now before after (Ok tried)
 
@@ -51,7 +51,7 @@ HasGone g n t k tried start now before after = TakingWent g n t k start now befo
 abbrev pub Halts : {D : Type 0} → Ghosts D → (n t k : ℕ) → D → D → Kept → Kept → Refused → Type 0
 Halts g n t k old new before after e = TakingWent g n t k old new before after (Err e)
 
--- how a call ends; what it gives tells whether a write was tried
+-- how a call ends; what it gives says whether a write was tried
 abbrev pub Finishes : {D A : Type 0} → Ghosts D → (n t k : ℕ) → D → D → Kept → Kept → Result A Refused → (A → Bool)
     → Type 0
 Finishes g n t k old new before after (Ok x) tried = HasGone g n t k (tried x) old new before after

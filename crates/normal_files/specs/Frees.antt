@@ -38,7 +38,7 @@ use Rattle.block_tree.specs.declared.root.Root as roots
 
 -- ---- on any disk
 
--- what is wrong: the map of a block is none, or a block of the file is damaged, as the disk is then
+-- what is wrong: the map block of a block is no map, or a block of the file is damaged, on the disk as it is then
 pub data IsDropDamage {D : Type 0} (g : Ghosts D) (at : Top) (start new : D) (damage : Damage) : Type 0 where
   NoMap : damage.code ≡ no_entry → damage.block ≡ map_of damage.block
       → (Tells g start → IsBadMap (g.content new) damage.block) → IsDropDamage g at start new damage
@@ -50,7 +50,7 @@ abbrev pub IsDropTrouble : {D : Type 0} → Ghosts D → Top → D → D → Tro
 IsDropTrouble g at start new (trouble.Disk tried) = HasStopped g tried start new
 IsDropTrouble g at start new (trouble.Damaged damage) = IsDropDamage g at start new damage
 
--- the same, or a block that was read before any write is
+-- the same, or a block that was read before any write is damaged
 abbrev pub IsShrinkTrouble : {D : Type 0} → Ghosts D → Top → D → D → Trouble → Type 0
 IsShrinkTrouble g at old new (trouble.Disk tried) = HasStopped g tried old new
 IsShrinkTrouble g at old new (trouble.Damaged damage) = IsDamage g at old damage ⊎ IsDropDamage g at old new damage
@@ -61,12 +61,12 @@ pub record HasBegun {D : Type 0} (g : Ghosts D) (start now : D) : Type 0 where
   pub t : ℕ
   pub went : HasCome g n t true start now
 
--- as many cylinders, and the same that is left of a commit
+-- there are as many cylinders, and the same is left of a commit
 pub record StaysCounted (before after : Kept) : Type 0 where
   pub cylinders : length after.free ≡ length before.free
   pub left : after.left ≡ before.left
 
--- the trouble of a call that follows such a start, once it is told as one after a try
+-- the trouble of a call that follows such a start, once it is reported as one after a try
 abbrev pub FollowsTrouble : {D : Type 0} → Ghosts D → Top → D → D → Trouble → Type 0
 FollowsTrouble {D = D} g at old new e =
     (start : D) → HasBegun g start old → IsDropTrouble g at start new (trouble_after_try e)
@@ -78,7 +78,7 @@ FollowsStart g at n t old new before after result =
     Went g n t n old new before after (StaysCounted before after) (FollowsTrouble g at old new)
     (λ e. ⊥) (λ done. None) result
 
--- one block becomes Free; 0 is none
+-- one block becomes Free; block 0 is no block
 pub record FreesBlock {D : Type 0} (g : Ghosts D) (block : ℕ) (old new : D) (before after : Kept)
     (result : Result (Unit {0}) Trouble) : Type 0 where
   pub none : block ≡ 0 → (new ≡ old) × (after ≡ before)
@@ -91,12 +91,12 @@ pub record FreesBlock {D : Type 0} (g : Ghosts D) (block : ℕ) (old new : D) (b
 
 -- ---- what the file had
 
--- the block is the owner's at this place in image b, which reads as a graph that has no use for it
+-- the block has this owner and place in image b, which reads as a graph that doesn't use it
 pub record IsDropped (b : Image) (graph : Graph) (owner : ℕ) (place : Place) (block : ℕ) : Type 0 where
   pub part : BelongsTo owner place (part_at b block)
   pub loose : IsLoose b graph block
 
--- Image b, where the file has a new root that keeps its first leaves. In image a, before, it had the old one.
+-- Image b has the file with a new root that keeps its first leaves. Image a, before it, has the old root.
 pub record Drops (a b : Image) (graph : Graph) (id : Puid) (root next : roots.Root) (keep : ℕ) : Type 0 where
   pub holds : Holds b graph
   pub size : length b ≡ length a
@@ -107,7 +107,7 @@ pub record Drops (a b : Image) (graph : Graph) (id : Puid) (root next : roots.Ro
       → leaves_at b (node_of root q) ≡ leaves_at a (node_of root q)
   pub near : (q : ℕ) → IsNear (length a) a (node_of root q)
 
--- the leaves from `keep` on that lie before one, and the nodes before one to which the new root doesn't lead
+-- the leaves from `keep` on that are before `leaf`, and the nodes before `node` to which the new root doesn't lead
 pub data IsFreed (a : Image) (root next : roots.Root) (keep leaf node block : ℕ) : Type 0 where
   FreedLeaf : (q k : ℕ) → k < leaf_pointers.count → keep ≤ leaf_pointers.count * q + k
       → leaf_pointers.count * q + k < leaf → leaf_of a root q k ≢ 0
@@ -115,7 +115,7 @@ pub data IsFreed (a : Image) (root next : roots.Root) (keep leaf node block : �
   FreedNode : (q : ℕ) → q < node → node_of root q ≢ 0 → node_of next q ≡ 0 → block ≡ node_of root q
       → IsFreed a root next keep leaf node block
 
--- These are Free, and all else is as it was in image b.
+-- These blocks are Free, and all else is as it was in image b.
 pub record IsFreeing {D : Type 0} (g : Ghosts D) (a b : Image) (graph : Graph) (id : Puid) (root next : roots.Root)
     (keep leaf node : ℕ) (start now : D) (kept : Kept) : Type 0 where
   pub within : Within g b graph start now
@@ -153,12 +153,12 @@ GivesLeaves root leaves number from a next keep =
 abbrev pub GivesNode : (number : ℕ) → Image → roots.Root → ℕ → Type 0
 GivesNode number a next keep = (node_of next number ≡ 0) × (keep ≤ leaf_pointers.count * number)
 
--- so are all from this one on
+-- all nodes from this one on are dropped so
 abbrev pub GivesNodes : (from : ℕ) → Image → roots.Root → ℕ → Type 0
 GivesNodes from a next keep =
     ((q : ℕ) → from ≤ q → q < node_pointers.count → node_of next q ≡ 0) × (keep ≤ leaf_pointers.count * from)
 
--- the last node is as it was read, and the root leads to it where it is kept, and to none past it
+-- the last node is as it was read, and the root leads to it if it is kept, and to none past it
 abbrev pub GivesEnd : roots.Root → (size : ℕ) → End → Image → roots.Root → ℕ → Type 0
 GivesEnd root size end a next keep =
     (keep ≡ leaves_in size) × (way_leaves end.way ≡ leaves_at a (node_of root (last_node size)))

@@ -1,4 +1,4 @@
--- A file as its blocks lie on a disk: its root, the nodes to which that points, and the leaves to which these point.
+-- A file as its blocks are on a disk: its root, the nodes to which that points, and the leaves to which these point.
 use Rattle.std.specs.Prelude.{◌≡◌, ◌≢◌, ℕ, ◌+◌, ◌*◌, ◌<◌, false, length, get_or, slice_index, Option}
 use Rattle.block_tree.specs.Reads.{leaves_at}
 use Rattle.block_tree.specs.Pointers.{leaf_pointers}
@@ -14,7 +14,7 @@ use Rattle.vol_image.specs.Reading.{leaf_in, object_with}
 use Rattle.vol_image.specs.Seen.{Held, tree_in}
 use Rattle.block_tree.specs.declared.root.Root as roots
 
--- the block of a node, and of a leaf of it; 0 where it is absent
+-- the block of a node, and of a leaf of it, or 0 if it is absent
 abbrev pub node_of : roots.Root → ℕ → ℕ
 node_of root n = slice_index root.nodes n
 
@@ -28,7 +28,7 @@ leaves_of image root = leaf_in (tree_in image (root_spelling root))
 abbrev pub object_laid : Image → roots.Root → Object
 object_laid image root = object_with root (leaves_of image root)
 
--- the block is one of the disk, and of this owner at this place
+-- the block is one of the disk, and has this owner and place
 pub record IsAt (image : Image) (owner : ℕ) (place : Place) (block : ℕ) : Type 0 where
   pub below : block < length image
   pub part : BelongsTo owner place (part_at image block)

@@ -2,7 +2,7 @@
 use Rattle.std.specs.Prelude.{ℕ, ◌+◌, ◌*◌}
 use Rattle.block_tree.specs.Pointers.{leaf_pointers, node_pointers}
 
--- a block that becomes Free: its map is read and written
+-- one block that becomes Free: its map is read and written
 abbrev pub free_calls : ℕ
 free_calls = 2
 
@@ -30,7 +30,7 @@ free_nodes_calls = node_pointers.count * free_node_calls
 abbrev pub free_nodes_tries : ℕ
 free_nodes_tries = node_pointers.count * free_node_tries
 
--- what lies past the end of a file: the leaves of its last node, that node, and the nodes past it
+-- what is past the end of a file: the leaves of its last node, that node, and the nodes past it
 abbrev pub free_past_calls : ℕ
 free_past_calls = free_leaves_calls + free_calls + free_nodes_calls
 
@@ -44,7 +44,7 @@ shrink_calls = 2 + 5 + free_past_calls
 abbrev pub shrink_tries : ℕ
 shrink_tries = 5 + free_past_tries
 
--- a file of which the root is read before
+-- a file whose root is read before
 abbrev pub in_place_resize_calls : ℕ
 in_place_resize_calls = 1 + shrink_calls
 

@@ -1,4 +1,4 @@
--- Pointers to leaves that were taken: in a node that stood, or to a new node in the root.
+-- Pointers to leaves that were taken: in a node that there was, or to a new node in the root.
 use Rattle.std.specs.Prelude.{ℕ, ◌==◌, if◌then◌else◌, set}
 use Rattle.cfs_base.specs.Disk.{Image}
 use Rattle.block_tree.specs.Node.{node_spelling}

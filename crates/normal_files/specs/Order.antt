@@ -1,4 +1,4 @@
--- Which leaves and nodes of a file take blocks where they are written, and in what order.
+-- Which leaves and nodes of a file take blocks when they are written, and in what order.
 use Rattle.std.specs.Prelude.{◌≡◌, ℕ, zero, suc, ◌+◌, ◌-◌, ◌/◌, Bool, not, ◌==◌, List, [], ◌∷◌, if◌then◌else◌}
 use Rattle.block_tree.specs.Pointers.{leaf_pointers}
 use Rattle.cfs_base.specs.declared.kind.Place.TheVariants.{Leaf, Node}
@@ -11,8 +11,8 @@ use Rattle.normal_files.specs.Parts.{absent_in}
 use Rattle.block_tree.specs.Along.{way_leaves}
 use Rattle.normal_files.specs.declared.part.Part.{Part}
 
--- So many leaves, one after another from one on, with these leaves and nodes held: each that isn't takes a block, and
--- after it its node, where that isn't. The node is held then.
+-- What `count` leaves take, one after another from `leaf` on, if these leaves and nodes are held: each leaf that
+-- isn't held takes a block, and after it its node, if that isn't held. The node is held then.
 abbrev pub claims_from : (owner : ℕ) → (leaves nodes : List ℕ) → (leaf count : ℕ) → List MapEntry
 claims_from owner leaves nodes leaf zero = []
 claims_from owner leaves nodes leaf (suc n) =
@@ -21,14 +21,14 @@ claims_from owner leaves nodes leaf (suc n) =
     else allocated (Node (leaf / leaf_pointers.count)) owner
     ∷ claims_from owner leaves (leaf / leaf_pointers.count ∷ nodes) (leaf + 1) n)
 
--- the leaves that so many bytes at an offset touch
+-- what the leaves take that `count` bytes at an offset touch
 abbrev pub claims_of : (owner : ℕ) → File → (offset count : ℕ) → List MapEntry
 claims_of owner f offset count = claims_from owner f.held (parents f.held) (offset / 512)
     (leaves_in (offset + count) - offset / 512)
 
 -- ---- the leaves of one node
 
--- what was read tells which of them are held, and whether the node is
+-- what was read shows which leaves are held, and whether the node is
 pub record TellsHeld (part : Part) (had : ℕ) (leaves nodes : List ℕ) : Type 0 where
   pub leaf : (l : ℕ) → l / leaf_pointers.count ≡ part.number
       → has_number l leaves ≡ not (absent_in (way_leaves part.way) l)

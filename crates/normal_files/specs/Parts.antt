@@ -12,21 +12,21 @@ use Rattle.block_tree.specs.Along.{way_leaves}
 use Rattle.normal_files.specs.declared.part.Part.{Part}
 use Rattle.block_tree.specs.declared.root.Root as roots
 
--- all that is known of them on any disk
+-- all that is known of a part on any disk
 pub record IsReadPart (size : ℕ) (part : Part) : Type 0 where
   pub number : part.number < node_pointers.count
   pub from : leaf_pointers.count * part.number ≤ part.leaves.from
   pub to : part.leaves.to ≤ leaf_pointers.count * part.number + leaf_pointers.count
   pub some : part.leaves.from ≤ part.leaves.to
   pub within : IsWayWithin size part.way
-  -- the way leads to the first of them
+  -- the way leads to the first of its leaves
   pub leads : part.leaves.from < part.leaves.to → IsTo part.leaves.from part.way
 
--- the node that was read is the root's, where any of its leaves is touched
+-- the node that was read is the root's, if any of its leaves is touched
 pub record IsPart (image : Image) (root : roots.Root) (part : Part) : Type 0 where
   pub own : part.leaves.from < part.leaves.to → way_leaves part.way ≡ leaves_at image (node_of root part.number)
 
--- the two parts that bytes touch at most, first the low one and then the high one
+-- the two parts that bytes touch at most, the low one and the high one
 pub record AreParts (size offset count : ℕ) (low high : Part) : Type 0 where
   pub low_read : IsReadPart size low
   pub high_read : IsReadPart size high
@@ -36,14 +36,14 @@ pub record AreParts (size offset count : ℕ) (low high : Part) : Type 0 where
   pub apart : high.leaves.from < high.leaves.to → low.number ≢ high.number
   pub some : low.leaves.from < low.leaves.to
 
--- of these leaves those whose pointers lead nowhere
+-- those of these leaves whose pointers lead nowhere
 abbrev pub absent_in : (leaves : List ℕ) → ℕ → Bool
 absent_in leaves l = get_or leaves (l % leaf_pointers.count) 0 == 0
 
 abbrev pub lacking_to : (leaves : List ℕ) → (from to : ℕ) → ℕ
 lacking_to leaves from to = length (filter (absent_in leaves) (range_with_len from (to - from)))
 
--- how many blocks the touched leaves of a part take, and their node
+-- how many blocks the touched leaves of a part and their node take
 abbrev pub part_need : roots.Root → Part → ℕ
 part_need root part =
     lacking_to (way_leaves part.way) part.leaves.from part.leaves.to

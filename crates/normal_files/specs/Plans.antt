@@ -6,12 +6,12 @@ use Rattle.block_tree.specs.Along.{way_node}
 use Rattle.normal_files.specs.declared.next.Next.{Next}
 
 pub record Plan : Type 0 where
-  -- its block, and 0 where it has none yet
+  -- its block, or 0 if it has none yet
   pub block : ℕ
   pub node : Node
   -- whether a leaf was taken
   pub grown : Bool
 
--- that of the node with this number, by the root and the way to it as they are to be
+-- the plan of the node with this number, by the root and the way to it as they are to be
 abbrev pub plan_of : ℕ → Next → Plan
 plan_of n next = record { block = node_of next.root n; node = way_node next.way; grown = next.grown }

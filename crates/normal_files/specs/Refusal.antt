@@ -16,8 +16,8 @@ use Rattle.cfs_base.specs.declared.refusal.Refused.TheVariants as refusals
 use Rattle.cfs_base.specs.declared.refusal.Trouble.TheVariants as trouble
 use Rattle.block_tree.specs.declared.root.Root as roots
 
--- What is wrong with the block that is named: the root block is none, or a pointer of the root that the call goes down
--- from, or of a node, leads past the disk.
+-- What is wrong with the block that is named: the root block is no root, or a pointer of a node, or of the root from
+-- which the call goes down, leads past the disk.
 pub data IsDamage {D : Type 0} (g : Ghosts D) (at : Top) (old : D) (damage : Damage) : Type 0 where
   NoRoot : damage.code ≡ no_root → damage.block ≡ at.block
       → (Tells g old → (root : roots.Root) → ¬ IsRootBlock (block_at (g.content old) at.block) root)
@@ -31,7 +31,8 @@ abbrev pub IsTrouble : {D : Type 0} → Ghosts D → Top → D → D → Trouble
 IsTrouble g at old new (trouble.Disk tried) = HasStopped g tried old new
 IsTrouble g at old new (trouble.Damaged damage) = IsDamage g at old damage
 
--- fewer blocks are Free than are needed beside the floor, a device call failed, or a block that was read is damaged, so
+-- fewer blocks are Free than are needed plus the floor, a device call failed, or a block that was read is damaged in
+-- this way
 abbrev pub IsRefusal : {D : Type 0} → Ghosts D → (Damage → Type 0) → (floor : ℕ) → D → D → Kept → Refused → Type 0
 IsRefusal g IsSo floor old new kept (refusals.Full need) =
     (need.free ≡ sum kept.free) × (sum kept.free < need.need + floor)

@@ -1,4 +1,4 @@
--- A file as it stands on a disk.
+-- A file as it is on a disk.
 use Rattle.std.specs.Prelude.{◌≡◌, ◌⊎◌, ℕ, true, length, OnOk, Result}
 use Rattle.cfs_base.specs.Disk.{Image, block_at}
 use Rattle.cfs_base.specs.declared.disk.Disk.{Ghosts}
@@ -30,27 +30,27 @@ pub record IsFileAt (image : Image) (at : ℕ) (f : File) : Type 0 where
 abbrev pub IsRootAt : Image → (at : ℕ) → roots.Root → Type 0
 IsRootAt image at root = IsRootBlock (block_at image at) root
 
--- The store has this file in the place of the old one, and nothing changed but blocks of it or such as were Free.
+-- The store has this file in the place of the old one. Nothing changed except blocks of it and blocks that were Free.
 pub record BecomesFile {D : Type 0} (g : Ghosts D) (graph : Graph) (ds : Drafts) (id : Puid) (f : File)
     (old new : D) (space : Kept) : Type 0 where
   pub store : StoreHas g (with_object graph id (objects.File f)) ds new space
   pub only : ChangesOnly (λ entry. of_owner id.block entry) (g.content old) (g.content new)
 
--- the file holds no leaf but such as the old one or the new one holds
+-- the file holds only leaves that the old one or the new one holds
 pub record HoldsOfEither (old new f : File) : Type 0 where
   pub rising : numbers_rise f.held ≡ true
   pub each : (leaf : ℕ) → has_number leaf f.held ≡ true → (has_number leaf old.held ≡ true)
       ⊎ (has_number leaf new.held ≡ true)
 
--- the image holds all other objects, and of this file each leaf and the size are old or new
+-- the image holds all other objects, and each leaf and the size of this file are old or new
 pub record IsPartly (image : Image) (graph : Graph) (id : Puid) (old new : File) : Type 0 where
   pub file : File
   pub holds : Holds image (with_object graph id (objects.File file))
   pub between : IsBetween old new file
   pub either : HoldsOfEither old new file
 
--- how a call ends that changes a file into another: done, the store has that; done or not, a crash leaves what is
--- between
+-- How a call ends that changes a file into another. If it is done, the store has the new file. Done or not, a crash
+-- leaves a file between the two.
 pub record Becomes {D E : Type 0} {g : Ghosts D} {block : ℕ} {root : roots.Root} {disk : D} {kept : Kept}
     (v : FileView g block root disk kept) (to : File) (new : D) (after : Kept)
     (result : Result (Unit {0}) E) : Type 0 where

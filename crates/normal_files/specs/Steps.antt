@@ -19,7 +19,7 @@ use Rattle.block_tree.specs.declared.root.Root as roots
 
 -- ---- single calls
 
--- a trouble of a call that had tried a write before, or hadn't
+-- the trouble of a call that had tried a write before, or hadn't
 abbrev pub told_after : Bool → Trouble → Trouble
 told_after tried t = if tried then trouble_after_try t else t
 
@@ -35,13 +35,13 @@ pub record WritesBlock {D : Type 0} (g : Ghosts D) (n block : ℕ) (content : Li
 
 -- ---- runs of calls
 
--- How a run of calls went that takes no block. Done, it tells whether a write was tried; where none was all are reads.
--- Refused, a device call failed.
+-- How a run of calls went that takes no block. If it is done, it says whether a write was tried; if none was, all
+-- calls are reads. If it is refused, a device call failed.
 abbrev pub RunWent : {D : Type 0} → Ghosts D → (n t : ℕ) → D → D → Result Bool Trouble → Type 0
 RunWent g n t old new result =
     Went g n t n old new (tt {0}) (tt {0}) (Unit {0}) (HasStoppedBy g old new) (λ e. e ≡ trouble.Disk false) Some result
 
--- it is done
+-- the run is done
 abbrev pub HasCome : {D : Type 0} → Ghosts D → (n t : ℕ) → (tried : Bool) → D → D → Type 0
 HasCome g n t tried start now = RunWent g n t start now (Ok tried)
 
@@ -49,14 +49,14 @@ HasCome g n t tried start now = RunWent g n t start now (Ok tried)
 abbrev pub Stops : {D : Type 0} → Ghosts D → (n t : ℕ) → D → D → Trouble → Type 0
 Stops g n t old new e = RunWent g n t old new (Err e)
 
--- how a call ends; what it gives tells whether a write was tried
+-- how a call ends; what it gives says whether a write was tried
 abbrev pub ComesOrStops : {D A : Type 0} → Ghosts D → (n t : ℕ) → D → D → Result A Trouble → (A → Bool) → Type 0
 ComesOrStops g n t old new (Ok x) tried = HasCome g n t (tried x) old new
 ComesOrStops g n t old new (Err e) tried = Stops g n t old new e
 
 -- ---- a file on its way
 
--- the held leaves before one have their new bytes, and all others their old
+-- the held leaves before `upto` have their new bytes, and all others their old ones
 abbrev pub IsWrittenTo : Image → roots.Root → (offset : ℕ) → (bytes : List ℕ) → (upto : ℕ) → ℕ → List ℕ → Type 0
 IsWrittenTo a root offset bytes upto leaf content =
     (leaf < upto → content ≡ leaf_after a root offset bytes leaf) × (upto ≤ leaf → content ≡ leaf_before a root leaf)
@@ -67,7 +67,7 @@ abbrev pub MayLeave : {D : Type 0} {g : Ghosts D} {block : ℕ} → Way g block 
 MayLeave {g = g} {block = block} w offset bytes =
     let a = g.content w.start in IsAmong a w.graph (id_at block w.word) w.root (IsEither a w.root offset bytes)
 
--- the disk has come from the start of the way, and its content has the file's held leaves written up to one
+-- the disk has come from the start of the way, and in its content the file's held leaves before `upto` are written
 pub record IsAmid {D : Type 0} {g : Ghosts D} {block : ℕ} (w : Way g block) (offset : ℕ) (bytes : List ℕ) (upto : ℕ)
     (now : D) (kept : Kept) : Type 0 where
   pub tells : Tells g now
@@ -78,7 +78,7 @@ pub record IsAmid {D : Type 0} {g : Ghosts D} {block : ℕ} (w : Way g block) (o
   pub only : ChangesOnly (λ entry. of_owner block entry) (g.content w.start) (g.content now)
   pub counts : AreCounts (g.content now) kept
 
--- how a call ends that writes the held leaves of a part up to one
+-- how a call ends that writes the held leaves of a part before `upto`
 abbrev pub Puts : {D : Type 0} {g : Ghosts D} {block : ℕ} → Way g block → (offset : ℕ) → (bytes : List ℕ) → (upto : ℕ)
     → D → D → Kept → Result Bool Trouble → Type 0
 Puts {g = g} w offset bytes upto old new kept (Ok tried) =

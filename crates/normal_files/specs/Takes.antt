@@ -1,4 +1,4 @@
--- Blocks that a write takes for leaves which were absent, and for their node.
+-- Blocks that a write takes for absent leaves, and for their node.
 use Rattle.std.specs.Prelude.{◌≡◌, ◌≢◌, ◌⊎◌, ◌==◌, ◌&&◌, if◌then◌else◌, ℕ, ◌+◌, ◌*◌, ◌/◌, ◌%◌, ◌<◌, ◌≤◌, Bool, true}
 use Rattle.std.specs.Prelude.{false, List, length, get_or, replicate, Some, Result, Ok, Err}
 use Rattle.block_tree.specs.Reads.{leaves_at}
@@ -27,26 +27,26 @@ use Rattle.normal_files.specs.declared.next.Next.{Next}
 use Rattle.normal_files.specs.Plans.{Plan}
 use Rattle.normal_files.specs.declared.part.Part.{Part}
 
--- a block that was Free in image a is an owner's in image c
+-- a block that was Free in image a has an owner in image c
 pub record IsNew (a c : Image) (owner : ℕ) (place : Place) (block : ℕ) : Type 0 where
   pub free : is_free_in a block ≡ true
   pub no_map : block % 64 ≢ 0
   pub below : block < length c
   pub entry : entry_in c block ≡ Some (allocated place owner)
 
--- what wasn't Free stays
+-- a block that wasn't Free stays as it is
 pub record KeepsTaken (a c : Image) : Type 0 where
   pub size : length c ≡ length a
   pub entries : (m : ℕ) → is_free_in a m ≡ false → entry_in c m ≡ entry_in a m
   pub contents : (m : ℕ) → m % 64 ≢ 0 → is_free_in a m ≡ false → block_at c m ≡ block_at a m
 
--- what is Free was Free
+-- a block that is Free was Free before
 abbrev pub FreesNone : Image → Image → Type 0
 FreesNone a c = (m : ℕ) → is_free_in c m ≡ true → is_free_in a m ≡ true
 
 -- ---- one leaf
 
--- where the node has this block already nothing is done; else the least-numbered Free block becomes it
+-- if the node has this block already nothing is done, else the least-numbered Free block becomes its block
 pub data GetsNode {D : Type 0} (g : Ghosts D) (n owner : ℕ) (held : Bool) (block : ℕ) (old new : D)
     (before after : Kept) (result : Result BlockNo Refused) : Type 0 where
   Had : held ≡ true → new ≡ old → after ≡ before → result ≡ Ok (record { 0 = block })
@@ -72,7 +72,7 @@ pub record TakesLeaf (a c : Image) (owner leaf : ℕ) (held : Bool) (block x y :
 abbrev pub fresh_content : (fill leaf offset : ℕ) → (bytes : List ℕ) → List ℕ
 fresh_content fill leaf offset bytes = patched leaf offset bytes (replicate 512 fill)
 
--- the k-th leaf of a part was absent, and is one of those that are taken up to one
+-- the k-th leaf of a part was absent, and is one of those before `upto` that are taken
 pub record IsTakenTo (part : Part) (upto k : ℕ) : Type 0 where
   pub small : k < leaf_pointers.count
   pub from : part.leaves.from ≤ leaf_pointers.count * part.number + k
@@ -83,18 +83,18 @@ pub record IsTakenTo (part : Part) (upto k : ℕ) : Type 0 where
 abbrev pub is_held : (had : ℕ) → (grown : Bool) → Bool
 is_held had grown = if had == 0 then grown else true
 
--- with one leaf more
+-- the plan with one more leaf
 abbrev pub with_taken : Plan → (k x y : ℕ) → Plan
 with_taken next k x y = record { block = y; node = with_leaf next.node k x; grown = true }
 
--- a block is a leaf's that was taken, or the node's
+-- a block is one of a leaf that was taken, or the node's
 abbrev pub IsOneOf : Part → (had upto : ℕ) → Plan → ℕ → Type 0
 IsOneOf part had upto next m =
     ((k : ℕ) × IsTakenTo part upto k × (m ≡ get_or next.node.leaves k 0))
     ⊎ ((had ≡ 0) × (next.grown ≡ true) × (m ≡ next.block))
 
--- From image a to image c the absent leaves of a part up to one were taken, and are written; `had` is the node's old
--- block.
+-- From image a to image c the absent leaves of a part before `upto` were taken, and are written. `had` is the node's
+-- old block.
 pub record HasTaken (a c : Image) (owner fill offset : ℕ) (bytes : List ℕ) (part : Part) (had upto : ℕ)
     (next : Plan) : Type 0 where
   pub count : length next.node.leaves ≡ leaf_pointers.count
@@ -120,15 +120,15 @@ pub record HasTaken (a c : Image) (owner fill offset : ℕ) (bytes : List ℕ) (
 abbrev pub IsWhole : Image → (had : ℕ) → Plan → Type 0
 IsWhole c had next = had ≡ 0 → next.grown ≡ true → leaves_at c next.block ≡ next.node.leaves
 
--- how many blocks a leaf takes, with its node where that isn't held
+-- how many blocks a leaf takes, with its node if that isn't held
 abbrev pub leaf_takes : Bool → ℕ
 leaf_takes held = if held then 1 else 2
 
--- of these one for the node, once a leaf of it was taken
+-- how many of these are for the node, once a leaf of it was taken
 abbrev pub node_takes : (had : ℕ) → (grown : Bool) → ℕ
 node_takes had grown = if had == 0 && grown then 1 else 0
 
--- how a call ends that passes one leaf: it is held, and nothing is done, or it is taken
+-- how a call ends that passes one leaf: if it is held nothing is done, else it is taken
 abbrev pub Passes : {D : Type 0} → Ghosts D → (had : ℕ) → (own : List ℕ) → (leaf : ℕ) → Next → D → D → Kept → Kept
     → Result Next Refused → Type 0
 Passes g had own leaf next old new before after (Ok more) =
@@ -140,14 +140,14 @@ Passes g had own leaf next old new before after (Err e) =
 
 -- ---- runs
 
--- The held leaves are written, and a block is Free only where it was at the start: blocks may be taken.
+-- The held leaves are written, and a block is Free only if it was at the start: blocks may be taken.
 pub record MayTake {D : Type 0} {g : Ghosts D} {block : ℕ} (w : Way g block) (offset : ℕ) (bytes : List ℕ) (now : D)
     (kept : Kept) : Type 0 where
   pub amid : IsAmid w offset bytes (leaves_in (offset + length bytes)) now kept
   pub frees : FreesNone (g.content w.start) (g.content now)
 
--- How a call ends on the way. Done, blocks may be taken on, and P holds of the image before it and after; else a crash
--- leaves what a write may leave, and nothing was damaged.
+-- How a call ends on the way. If it is done, more blocks may be taken, and P holds of the image before it and after
+-- it. Else a crash leaves what a write may leave, and nothing was damaged.
 abbrev pub Took : {D A : Type 0} {g : Ghosts D} {block : ℕ} → Way g block → (offset : ℕ) → (bytes : List ℕ) → D → D
     → Kept
     → Result A Refused → (Image → Image → A → Type 0) → Type 0
@@ -156,7 +156,7 @@ Took {g = g} w offset bytes old new after (Ok x) P =
 Took {g = g} w offset bytes old new after (Err e) P =
     Leaves g w.start new (MayLeave w offset bytes) × (is_damaged e ≡ false)
 
--- so it ends wherever blocks may be taken
+-- it ends so whenever blocks may be taken
 abbrev pub TakesBlocks : {D A : Type 0} → Ghosts D → (block offset : ℕ) → (bytes : List ℕ) → D → D → Kept → Kept
     → Result A Refused → (Image → Image → A → Type 0) → Type 0
 TakesBlocks g block offset bytes old new before after result P =
@@ -164,7 +164,8 @@ TakesBlocks g block offset bytes old new before after result P =
 
 -- ---- both parts
 
--- from image a to image c the leaves of two parts were taken, first of the low one, and their new nodes are written
+-- from image a to image c the leaves of two parts were taken, those of the low part first, and their new nodes are
+-- written
 pub record TakesBoth (a c : Image) (owner fill offset : ℕ) (bytes : List ℕ) (low : Part) (low_had : ℕ) (low_next : Plan)
     (high : Part) (high_had : ℕ) (high_next : Plan) : Type 0 where
   pub mid : Image

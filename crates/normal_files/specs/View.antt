@@ -1,4 +1,4 @@
--- What a call on a file is handed: the store that has it, and how it stands.
+-- What a call on a file is given: the store that has it, and how the file is there.
 use Rattle.std.specs.Prelude.{◌≡◌, ℕ, None, Some}
 use Rattle.cfs_base.specs.Disk.{AreBlocks, Image}
 use Rattle.cfs_base.specs.declared.disk.Disk.{Ghosts}
@@ -35,7 +35,7 @@ pub record FileView {D : Type 0} (g : Ghosts D) (block : ℕ) (root : roots.Root
   pub has : HasFile (g.content disk) graph (id_at block word) file root
   pub no_draft : drafts (id_at block word) ≡ None
 
--- a change of a file in place is on its way: the disk at its start holds the file, with its root in this block
+-- A change of a file in place is on its way. At its start the disk holds the file, with its root in this block.
 pub record Way {D : Type 0} (g : Ghosts D) (block : ℕ) : Type 0 where
   pub graph : Graph
   pub word : ℕ

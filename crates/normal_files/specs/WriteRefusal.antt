@@ -12,13 +12,13 @@ use Rattle.normal_files.specs.Refusal.{IsDamage, IsRefusal}
 use Rattle.cfs_base.specs.declared.refusal.Refused.TheVariants as refusals
 use Rattle.ufs_model.specs.declared.object.Object.TheVariants as objects
 
--- of a write; `after` is what was counted Free at its end
+-- the refusal of a write; `after` is what was counted Free at its end
 abbrev pub IsWriteRefusal : {D : Type 0} → Ghosts D → Top → (floor : ℕ) → D → D → (before after : Kept) → Refused
     → Type 0
 IsWriteRefusal g at floor old new before after =
     IsRefusal g (λ damage. IsDamage g at old damage ⊎ IsNoSpace g old new after damage) floor old new before
 
--- nothing was tried, and no damage met
+-- nothing was tried, and no damage was met
 abbrev pub is_untried : Refused → Bool
 is_untried (refusals.Full need) = true
 is_untried (refusals.Disk tried) = if tried then false else true
@@ -27,11 +27,11 @@ is_untried refusals.Memory = true
 
 -- ---- how many blocks a write takes
 
--- one for each leaf that it touches and that isn't held, and one for each of their nodes that isn't
+-- one for each leaf that it touches and that isn't held, and one for each of their nodes that isn't held
 abbrev pub needs : File → (offset count : ℕ) → ℕ
 needs f offset count = missing (branches 1 (touched offset count)) (held_levels (objects.File f))
 
--- where the refusal is Full it tells this need
+-- if the refusal is Full it gives this need
 abbrev pub TellsNeed : ℕ → Refused → Type 0
 TellsNeed n (refusals.Full need) = need.need ≡ n
 TellsNeed n (refusals.Disk tried) = Unit {0}

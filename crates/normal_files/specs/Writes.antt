@@ -14,7 +14,7 @@ use Rattle.normal_files.specs.View.{FileView}
 use Rattle.normal_files.specs.declared.part.Part.{Part}
 use Rattle.block_tree.specs.declared.root.Root as roots
 
--- the bytes lie within the file, and these parts are of it
+-- the bytes are within the file, and these parts are of it
 pub record IsWritable {D : Type 0} {g : Ghosts D} {block : ℕ} {root : roots.Root} {disk : D} {kept : Kept}
     (v : FileView g block root disk kept) (offset : ℕ) (bytes : List ℕ) (low high : Part) : Type 0 where
   pub inside : offset + length bytes ≤ length v.file.bytes

@@ -21,7 +21,7 @@ use cfs_base::{Block, BlockNo, Disk, Place, Refused};
 use cyl_alloc::Space;
 use leaf_changes::patch_leaf;
 
-/// Bytes that are written into the file with this root, from an offset on.
+/// Bytes that are written into the file with this root, at an offset.
 #[derive(Clone, Copy)]
 pub(crate) struct Patch<'a> {
     pub at: BlockNo,
@@ -37,14 +37,14 @@ pub(crate) struct Taken {
     pub node: u32,
 }
 
-/// The same refusal of a call that may have tried a write before.
+/// Returns the same refusal, as of a call that may have tried a write before.
 pub(crate) fn refused(tried: bool, error: Refused) -> Refused
     ensures { result ≡ refused_after tried error }
 {
     if tried { error.after_try() } else { error }
 }
 
-/// The block of a node, which is taken where it has none.
+/// Returns the block of a node, and takes one if the node has none.
 fn take_node<D: Disk>(
     disk: &mut D,
     space: &mut Space,
@@ -65,7 +65,7 @@ fn take_node<D: Disk>(
 }
 
 impl Patch<'_> {
-    /// Takes a block for an absent leaf, and after it one for its node where that has none, and writes the leaf.
+    /// Takes a block for an absent leaf, and after it one for its node if that has none, and writes the leaf.
     fn take_leaf<D: Disk>(
         &self,
         disk: &mut D,
@@ -101,7 +101,7 @@ impl Patch<'_> {
 }
 
 impl Part {
-    /// Takes one of the leaves, where it is absent.
+    /// Takes one of the leaves, if it is absent.
     fn take_one<D: Disk>(
         &self,
         disk: &mut D,
@@ -146,8 +146,9 @@ impl Part {
         Ok(next.with(leaf, taken))
     }
 
-    /// Takes each of the leaves that is absent, in increasing order. The root that is to lead to them leads to the node
-    /// as the file's own does.
+    /// Takes each of the leaves that is absent, in increasing order.
+    ///
+    /// The root that is to lead to them leads to the node as the file's own does.
     fn take_leaves<D: Disk>(
         &self,
         disk: &mut D,
@@ -192,7 +193,9 @@ impl Part {
         Ok(next)
     }
 
-    /// The same, and writes the node where it is new. Nothing leads to it yet.
+    /// Takes each of the leaves that is absent, and writes the node if it is new.
+    ///
+    /// Nothing leads to that node yet.
     pub fn take<D: Disk>(
         &self,
         disk: &mut D,

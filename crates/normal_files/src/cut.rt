@@ -21,7 +21,7 @@ use block_tree::{LEAVES, Node, Root, Way, node_of, read_block};
 use cfs_base::{Block, BlockNo, Disk, Trouble};
 use leaf_changes::{cut_leaf, leaves_in};
 
-/// The last leaf that a file of this size may keep, and the first where it may keep none.
+/// Returns the last leaf that a file of this size may keep, or leaf 0 if it may keep none.
 fn last_leaf(size: u64) -> u32
     requires { size ≤ size_limit }
     ensures leaf { result ≡ spec.last_leaf size }
@@ -30,7 +30,7 @@ fn last_leaf(size: u64) -> u32
     leaves_in(size).saturating_sub(1)
 }
 
-/// The node of that leaf.
+/// Returns the node of that leaf.
 pub(crate) fn last_node(size: u64) -> u32
     requires { size ≤ size_limit }
     ensures node { result ≡ spec.last_node size }
@@ -39,7 +39,7 @@ pub(crate) fn last_node(size: u64) -> u32
     node_of(last_leaf(size))
 }
 
-/// The place in that node from which on a file of this size has no leaf.
+/// Returns the place in that node from which on a file of this size has no leaf.
 pub(crate) fn cut_place(size: u64) -> u32
     requires { size ≤ size_limit }
     ensures place { result ≡ spec.cut_place size }
@@ -48,22 +48,22 @@ pub(crate) fn cut_place(size: u64) -> u32
     leaves_in(size) - LEAVES as u32 * last_node(size)
 }
 
-/// How a file is to end.
+/// The end of a file, as it is and as it is to be.
 #[derive(Clone, Copy)]
 pub(crate) struct End {
-    /// The way to the last leaf that it may keep, as it stands.
+    /// The way to the last leaf that it may keep, as it is.
     pub way: Way,
     /// That way, and the root, as they are to be.
     pub next: Way,
     pub root: Root,
-    /// The block of the lowest node on it, and 0 where that is not kept.
+    /// The block of the lowest node on the way, or 0 if that node is not kept.
     pub kept: u32,
-    /// The block of the leaf that is cut, and 0 where none is; and what it is to hold.
+    /// The block of the leaf that is cut, or 0 if none is, and what it is to hold.
     pub cut: u32,
     pub content: Block,
 }
 
-/// The block of a node, if it has a leaf before a place.
+/// Returns the block of a node if it has a leaf before a place, else 0.
 fn kept_block(node: &Node, place: u32, block: u32) -> u32
     requires { place ≤ leaf_pointers.count }
     ensures { spec.IsKeptNode node.now.leaves place block result }
@@ -76,7 +76,7 @@ fn kept_block(node: &Node, place: u32, block: u32) -> u32
     0
 }
 
-/// The block of the leaf within which a file of this size ends, whose last leaf has this one.
+/// Returns the block of the leaf within which a file of this size ends, given the block of the file's last leaf.
 fn cut_block(size: u64, block: u32) -> u32
     ensures block { result ≡ spec.cut_block size block }
     ensures near { (blocks : ℕ) → block < blocks → result < blocks }
@@ -87,7 +87,7 @@ fn cut_block(size: u64, block: u32) -> u32
     block
 }
 
-/// What that leaf is to hold.
+/// Returns what that leaf is to hold.
 fn cut_content<D: Disk>(disk: &mut D, block: u32, size: u64, fill: u8) -> Result<Block, Trouble>
     requires { block < D.blocks disk.old }
     ensures content { Tells D.Disk disk.old
@@ -101,7 +101,9 @@ fn cut_content<D: Disk>(disk: &mut D, block: u32, size: u64, fill: u8) -> Result
     Ok(content)
 }
 
-/// How the file with this root is to end where it has this size. `Damaged` as in `Way::get`.
+/// Reads the end of the file with this root, as it is and as it is to be with this size.
+///
+/// `Damaged` as in `Way::get`.
 pub(crate) fn read_end<D: Disk>(
     disk: &mut D,
     at: BlockNo,
@@ -155,7 +157,7 @@ fn put_at<D: Disk>(disk: &mut D, block: u32, content: &Block) -> Result<(), Trou
     write_block(disk, block, content)
 }
 
-/// Cuts the leaf in which a file is to end, and writes the last node that it keeps. Both outlast a crash then.
+/// Cuts the leaf in which a file is to end, and writes the last node that it keeps. Both survive a crash then.
 pub(crate) fn trim<D: Disk>(disk: &mut D, end: &End) -> Result<(), Trouble>
     requires cut { end.now.cut < D.blocks disk.old }
     requires kept { end.now.kept < D.blocks disk.old }

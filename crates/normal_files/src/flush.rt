@@ -1,4 +1,4 @@
-//! Writes made to outlast a crash.
+//! A barrier after writes.
 ghost use Rattle.std.specs.Prelude.{◌≡◌, ℕ, IfErr, IsTrue, OnOk, true};
 ghost use Rattle.cfs_base.specs.Disk.{Nothing};
 ghost use Rattle.cfs_base.specs.Run.{IsSettled, Leaves as LeavesOf};
@@ -7,7 +7,7 @@ ghost use Rattle.normal_files.specs.Steps.{ComesOrStops};
 
 use cfs_base::{Disk, Trouble};
 
-/// Makes what was written outlast a crash.
+/// Makes what was written survive a crash.
 pub(crate) fn flush<D: Disk>(disk: &mut D) -> Result<(), Trouble>
     ensures settled { OnOk result (IsTrue (D.honest disk.old) → IsSettled D.Disk disk.new) }
     ensures content { D.content disk.new ≡ D.content disk.old }

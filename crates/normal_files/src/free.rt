@@ -54,7 +54,9 @@ fn free_leaves<D: Disk>(
     Ok(())
 }
 
-/// Frees a node that is there, with all its leaves. `Damaged` as in `read_node`.
+/// Frees a node that is held, with all its leaves.
+///
+/// `Damaged` as in `read_node`.
 fn free_node<D: Disk>(
     disk: &mut D,
     space: &mut Space,
@@ -77,7 +79,7 @@ fn free_node<D: Disk>(
     free(disk, space, block)
 }
 
-/// Frees the nodes from one on, with their leaves.
+/// Frees the nodes from `from` on, with their leaves.
 fn free_nodes<D: Disk>(
     disk: &mut D,
     space: &mut Space,
@@ -99,7 +101,7 @@ fn free_nodes<D: Disk>(
     Ok(())
 }
 
-/// The block of the last node, if it isn't kept.
+/// Returns the block of the last node if that isn't kept, else 0.
 fn gone_block(end: &End, block: u32) -> u32
     ensures { result ≡ (if end.now.kept == 0 then block else 0) }
 {
@@ -109,7 +111,9 @@ fn gone_block(end: &End, block: u32) -> u32
     0
 }
 
-/// Frees what a file of this size has past its end, which was read. `Damaged` as in `read_node`.
+/// Frees what a file of this size has past its end. The end was read.
+///
+/// `Damaged` as in `read_node`.
 pub(crate) fn free_past<D: Disk>(
     disk: &mut D,
     space: &mut Space,

@@ -1,4 +1,4 @@
-//! A greater size, set.
+//! A size set to no less than it is.
 ghost use Rattle.std.specs.Prelude.{◌≡◌, ◌<◌, ◌≤◌, true, length, OnOk};
 ghost use Rattle.block_tree.specs.Pointers.{size_limit};
 ghost use Rattle.cfs_base.specs.Run.{IsSettled};
@@ -14,7 +14,7 @@ use crate::in_place::write_block;
 use block_tree::Root;
 use cfs_base::{BlockNo, Disk, Trouble};
 
-/// Sets the size of a file to its size or more, and makes it outlast a crash.
+/// Sets the size of a file to no less than it is, and makes it survive a crash.
 pub(crate) fn grow<D: Disk>(
     disk: &mut D,
     at: BlockNo,

@@ -30,7 +30,9 @@ pub(crate) fn write_block<D: Disk>(disk: &mut D, block: u32, content: &Block) ->
         .map_err(|_| Trouble::Disk { tried: true })
 }
 
-/// A leaf with the bytes that are written into it. It is read only where they leave some of it.
+/// Returns a leaf with the bytes that are written into it.
+///
+/// The leaf is read only if the bytes leave some of it as it was.
 fn patched<D: Disk>(
     disk: &mut D,
     block: u32,
@@ -88,14 +90,14 @@ fn put_leaf<D: Disk>(
     write_block(disk, block, &content)
 }
 
-/// The same trouble of a call that may have tried a write before.
+/// Returns the same trouble, as of a call that may have tried a write before.
 pub(crate) fn after(tried: bool, trouble: Trouble) -> Trouble
     ensures { result ≡ told_after tried trouble }
 {
     if tried { trouble.after_try() } else { trouble }
 }
 
-/// Whether one of two calls tried a write.
+/// Returns whether one of two calls tried a write.
 pub(crate) fn either(tried: bool, now: bool) -> bool
     ensures { result ≡ (tried || now) }
 {
@@ -103,7 +105,7 @@ pub(crate) fn either(tried: bool, now: bool) -> bool
 }
 
 impl Part {
-    /// Writes bytes into one of the leaves, where it is held. Gives whether a write was tried.
+    /// Writes bytes into one of the leaves, if it is held, and returns whether a write was tried.
     fn put_one<D: Disk>(
         &self,
         disk: &mut D,
@@ -131,7 +133,7 @@ impl Part {
         Ok(true)
     }
 
-    /// Writes bytes into each of the leaves that is held. Gives whether a write was tried.
+    /// Writes bytes into each of the leaves that is held, and returns whether a write was tried.
     pub fn put<D: Disk>(&self, disk: &mut D, offset: u64, bytes: &[u8]) -> Result<bool, Trouble>
         requires read { IsReadPart (D.blocks disk.old) self.now }
         requires inside { offset + length bytes.now ≤ size_limit }

@@ -1,4 +1,4 @@
-//! What is proved of files as they stand, as a contract. This call does nothing.
+//! What is proved of files as they are, as the contract of a function that does nothing.
 ghost use Rattle.std.specs.Prelude.{◌≡◌, Some};
 ghost use Rattle.cfs_base.specs.Disk.{Image};
 ghost use Rattle.cfs_base.specs.declared.identifier.Puid.{Puid};

@@ -1,6 +1,7 @@
-//! Normal files, which are changed where they lie. The layer above uses that the bytes which `read` gives are the
-//! file's, and that after `write` and `resize` the store has the changed file, or of it each leaf and the size old or
-//! new.
+//! Normal files, which are changed in place.
+//!
+//! The layer above uses that the bytes which `read` gives are the file's, and that after `write` and `resize` the
+//! store has the changed file, or else each of its leaves and its size are old or new.
 #![tactic(auto)]
 
 mod absent;

@@ -15,7 +15,7 @@ use crate::next::Next;
 use block_tree::Root;
 use cfs_base::{Block, BlockNo, Disk, Trouble};
 
-/// Writes a block, and makes it outlast a crash.
+/// Writes a block, and makes it survive a crash.
 pub(crate) fn write_through<D: Disk>(
     disk: &mut D,
     block: u32,
@@ -40,8 +40,9 @@ pub(crate) fn write_through<D: Disk>(
     }
 }
 
-/// Leads to the leaves of a node that were taken: it is written, or the root leads to it where it is new. Gives the
-/// root.
+/// Makes the file lead to the leaves of a node that were taken, and returns the root.
+///
+/// The node is written, or if it is new the root is made to lead to it.
 pub(crate) fn link<D: Disk>(
     disk: &mut D,
     at: BlockNo,

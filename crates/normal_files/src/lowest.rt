@@ -8,7 +8,7 @@ use block_tree::{NODE_LEVELS, Node, Way};
 /// The depth of the lowest nodes below a root.
 const LOWEST: usize = NODE_LEVELS as usize - 1;
 
-/// The lowest node along a way.
+/// Returns the lowest node along a way.
 pub(crate) fn way_node(way: &Way) -> &Node
     ensures node { result.now ≡ specs.way_node way.now }
     ensures count { length (specs.way_leaves way.now) ≡ leaf_pointers.count }

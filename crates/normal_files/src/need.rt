@@ -8,7 +8,7 @@ use crate::part::Part;
 use block_tree::Root;
 
 impl Part {
-    /// How many of the leaves are not held.
+    /// Returns how many of the leaves are not held.
     pub fn lacking(&self) -> u32
         requires { self.now.leaves.from ≤ self.now.leaves.to }
         ensures count { result ≡ spec.lacking_to (way_leaves self.now.way) self.now.leaves.from self.now.leaves.to }
@@ -23,7 +23,7 @@ impl Part {
         count
     }
 
-    /// How many blocks they take: one for each leaf that is not held, and one for the node where it isn't.
+    /// Returns how many blocks they take: one for each leaf that is not held, and one for the node if it isn't.
     pub fn need(&self, root: &Root) -> u32
         requires number { self.now.number < node_pointers.count }
         requires some { self.now.leaves.from ≤ self.now.leaves.to }

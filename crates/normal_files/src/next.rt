@@ -10,19 +10,19 @@ ghost use Rattle.normal_files.specs.Ways.{IsToNode};
 use crate::absent::Taken;
 use block_tree::{Root, Way};
 
-/// The node of a part with the leaves that a write takes.
+/// A node as it is to be, with the leaves that a write takes.
 #[derive(Clone, Copy)]
 pub(crate) struct Next {
-    /// The way to it, as it is to be.
+    /// The way to the node, as it is to be.
     pub way: Way,
-    /// The root that is to lead to it.
+    /// The root that is to lead to the node.
     pub root: Root,
     /// Whether a leaf was taken.
     pub grown: bool,
 }
 
 impl Next {
-    /// The block of the node with this number, and 0 where it has none yet.
+    /// Returns the block of the node with this number, or 0 if it has none yet.
     pub fn block(&self, number: u32) -> u32
         requires { number < node_pointers.count }
         ensures { result ≡ node_of self.now.root number }
@@ -30,21 +30,21 @@ impl Next {
         self.root.nodes[number as usize]
     }
 
-    /// Whether the node has a block: it had one, or one was taken.
+    /// Returns whether the node has a block: it had one, or one was taken.
     pub fn is_held(&self, had: u32) -> bool
         ensures { result ≡ is_held had self.now.grown }
     {
         had != 0 || self.grown
     }
 
-    /// Whether the node is new, and has a leaf.
+    /// Returns whether the node is new and has a leaf.
     pub fn is_new(&self, had: u32) -> bool
         ensures { result ≡ (had == 0 && self.now.grown) }
     {
         had == 0 && self.grown
     }
 
-    /// The same with a leaf that was taken.
+    /// Returns the same with a leaf that was taken.
     pub fn with(self, leaf: u32, taken: Taken) -> Next
         requires below { leaf < leaf_limit }
         requires way { IsToNode leaf self.way }

@@ -23,12 +23,12 @@ use cfs_base::{BlockNo, Disk, Trouble};
 pub(crate) struct Part {
     pub number: u32,
     pub leaves: Leaves,
-    /// The way to the first of them, if there is one, as it stands.
+    /// The way to the first of these leaves, if there is one, as it is.
     pub way: Way,
 }
 
 impl Part {
-    /// The block of one of the leaves, as it stands, and 0 where it is absent.
+    /// Returns the block of one of the leaves as it is, or 0 if it is absent.
     pub fn block(&self, leaf: u32) -> u32
         ensures block { result ≡ slice_index (way_leaves self.now.way) (leaf % leaf_pointers.count) }
         ensures near { (size : ℕ) → spec.IsReadPart size self.now → self.now.leaves.from < self.now.leaves.to
@@ -37,8 +37,9 @@ impl Part {
         way_node(&self.way).leaves[leaf as usize % LEAVES]
     }
 
-    /// Reads the way to the first touched leaf of the node with this number, unless none of them is. `Damaged` as in
-    /// `Way::get`.
+    /// Reads the way to the first touched leaf of the node with this number, unless none is touched.
+    ///
+    /// `Damaged` as in `Way::get`.
     pub fn read<D: Disk>(
         disk: &mut D,
         at: BlockNo,

@@ -1,4 +1,4 @@
-//! Which leaves bytes touch.
+//! The leaves that bytes touch.
 ghost use Rattle.std.specs.Prelude.{◌≡◌, ◌+◌, ◌/◌, ◌<◌, ◌≤◌, ◌*◌, min, max, length};
 ghost use Rattle.block_tree.specs.Pointers.{leaf_pointers, node_pointers, size_limit};
 ghost use Rattle.ufs_model.specs.Object.{leaves_in as leaves_of};
@@ -6,7 +6,7 @@ ghost use Rattle.ufs_model.specs.Object.{leaves_in as leaves_of};
 use block_tree::LEAVES;
 use leaf_changes::leaves_in;
 
-/// Leaves from one on, up to another.
+/// The leaves from one up to but not including another.
 #[derive(Clone, Copy)]
 pub(crate) struct Leaves {
     pub from: u32,
@@ -14,7 +14,7 @@ pub(crate) struct Leaves {
 }
 
 impl Leaves {
-    /// Those that bytes at an offset touch.
+    /// Returns the leaves that `count` bytes at an offset touch.
     pub fn touched(offset: u64, count: u64) -> Leaves
         requires { offset + count ≤ size_limit }
         ensures from { result.from ≡ offset / 512 }
@@ -26,7 +26,7 @@ impl Leaves {
         }
     }
 
-    /// Those of them that lie in a node.
+    /// Returns those of the leaves that are in a node.
     pub fn of_node(self, number: u32) -> Leaves
         requires { number < node_pointers.count }
         ensures from { result.from ≡ max self.from (leaf_pointers.count * number) }

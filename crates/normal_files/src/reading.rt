@@ -16,8 +16,10 @@ use block_tree::{Root, Way, read_block};
 use cfs_base::{BlockNo, Disk, Trouble};
 use leaf_changes::read_part;
 
-/// Reads bytes of a file with this root, from an offset on. The range lies within the size. `Damaged` names a block
-/// with a pointer past the disk, with code 4. Nothing is written.
+/// Reads bytes of the file with this root, beginning at an offset.
+///
+/// The range lies within the size. `Damaged` names a block with a pointer past the disk, with code 4. Nothing is
+/// written.
 pub fn read<D: Disk>(
     disk: &mut D,
     at: BlockNo,
@@ -35,7 +37,7 @@ pub fn read<D: Disk>(
     ensures untried { IfErr result (λ trouble. trouble_had_tried trouble ≡ false) }
     ensures sound { (f : files.File) → Tells D.Disk disk.old → IsFileAt (D.content disk.old) at.0 f
         → IsRootAt (D.content disk.old) at.0 root.now → IfErr result (λ trouble. is_damage trouble ≡ false) }
-    // one read a node, and one a leaf
+    // one read for each node, and one for each leaf
     ensures reads { OnlyReads D.Disk (nodes_touched offset (length into.old) + leaves_touched offset (length into.old))
         disk.old disk.new }
 {

@@ -15,11 +15,15 @@ use block_tree::read_root;
 use cfs_base::{BlockNo, Disk, Refused};
 use cyl_alloc::Space;
 
-/// Sets the size of a file, in bytes. It takes no block. Set to its size or more, it outlasts a crash once this is
-/// done; set to less, its root does, and the blocks that it no longer has become Free.
-/// `Full` where fewer blocks are Free than the floor. `Damaged` names the root block, with code 3, which is none; a
-/// block with a pointer past the disk, with code 4; or a map, with code 2, that is none. Where a `Disk` was tried the
-/// size and each leaf, read as fill bytes past the end, are old or new; else all is as it was.
+/// Sets the size of a file, in bytes. It takes no block.
+///
+/// If the size is set to no less than it is, it survives a crash once this is done. If it is set to less, the root
+/// does, and the blocks that the file no longer has become Free.
+///
+/// `Full` if fewer blocks are Free than the floor. `Damaged` names a root block that is none, with code 3, a block
+/// with a pointer past the disk, with code 4, or a map block that is no map, with code 2. After a `Disk` that was
+/// tried the size and each leaf, read as fill bytes past the end, are old or new. After any other error all is as it
+/// was.
 pub fn resize<D: Disk>(
     disk: &mut D,
     space: &mut Space,
@@ -32,14 +36,14 @@ pub fn resize<D: Disk>(
     requires allowed { size ≤ size_limit }
     ensures resizes { (h : Handed D.Disk at.0 disk.old space.old)
         → ResizesFile h size disk.new space.new result }
-    // Full exactly where fewer blocks are Free than the floor: a resize needs none.
+    // It is full exactly if fewer blocks are Free than the floor: a resize needs none.
     ensures room { OnOk result (floor ≤ sum space.old.free) }
     ensures full { IfErr result (TellsNeed 0) }
-    // Where a write was tried so many were Free.
+    // If a write was tried so many were Free.
     ensures begun { IfErr result (λ e. e ≡ refusals.Disk true → floor ≤ sum space.old.free) }
     ensures refused { IfErr result (IsResizeRefusal D.Disk (disk_top D.Disk at.0 disk.old) floor disk.old disk.new
         space.old) }
-    // Where nothing was tried, all is as it was.
+    // If nothing was tried, all is as it was.
     ensures untried { IfErr result (λ e. is_untried e ≡ true → (space.new ≡ space.old)
         × OnlyReads D.Disk 3 disk.old disk.new) }
     ensures cylinders { length space.new.free ≡ length space.old.free }

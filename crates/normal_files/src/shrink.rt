@@ -18,9 +18,12 @@ use block_tree::Root;
 use cfs_base::{BlockNo, Disk, Trouble};
 use cyl_alloc::Space;
 
-/// Sets the size of a file to less. First the leaf in which it ends and the last node that it keeps outlast a crash,
-/// then its root, and then what it no longer has becomes Free, which no barrier follows. `Damaged` as in `read_node`,
-/// or it names a map, with code 2, that is none.
+/// Sets the size of a file to less.
+///
+/// First the leaf in which the file ends and the last node that it keeps are made to survive a crash, then its root.
+/// Then what the file no longer has becomes Free, and no barrier follows.
+///
+/// `Damaged` as in `read_node`, or it names a map block, with code 2, if it is no map.
 pub(crate) fn shrink<D: Disk>(
     disk: &mut D,
     space: &mut Space,

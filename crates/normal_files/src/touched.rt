@@ -17,7 +17,7 @@ use crate::range::Leaves;
 use block_tree::{Root, node_of};
 use cfs_base::{BlockNo, Disk, Trouble};
 
-/// The two nodes of a file that bytes touch at most.
+/// The at most two nodes of a file that bytes touch.
 #[derive(Clone, Copy)]
 pub(crate) struct Touched {
     pub low: Part,
@@ -25,7 +25,9 @@ pub(crate) struct Touched {
 }
 
 impl Touched {
-    /// Reads them below the root of the file. `Damaged` as in `Way::get`.
+    /// Reads the nodes below the root of the file.
+    ///
+    /// `Damaged` as in `Way::get`.
     pub fn read<D: Disk>(
         disk: &mut D,
         at: BlockNo,

@@ -1,4 +1,4 @@
-//! The two nodes that bytes touch at most.
+//! The at most two nodes that bytes touch.
 ghost use Rattle.std.specs.Prelude.{◌≡◌, ◌≢◌, ◌⊎◌, ◌||◌, ◌+◌, ◌-◌, ◌*◌, ◌<◌, true, length, IfOk, OnOk};
 ghost use Rattle.block_tree.specs.Pointers.{node_pointers};
 ghost use Rattle.cfs_base.specs.Run.{IsSettled, Leaves as LeavesOf};
@@ -26,7 +26,7 @@ pub(crate) struct Both {
     pub high: Next,
 }
 
-/// Takes the absent leaves of two nodes, the low one's first.
+/// Takes the absent leaves of two nodes, the low node's first.
 pub(crate) fn take_both<D: Disk>(
     disk: &mut D,
     space: &mut Space,
@@ -86,7 +86,7 @@ pub(crate) fn take_both<D: Disk>(
     }
 }
 
-/// Leads to what was taken, from the low node first.
+/// Makes the file lead to what was taken, the low node first.
 pub(crate) fn link_both<D: Disk>(
     disk: &mut D,
     at: BlockNo,

@@ -30,7 +30,7 @@ use block_tree::Root;
 use cfs_base::{BlockNo, Disk, Refused, Trouble};
 use cyl_alloc::Space;
 
-/// Writes bytes into the leaves of two nodes that are held. Gives whether a write was tried.
+/// Writes bytes into those leaves of two nodes that are held, and returns whether a write was tried.
 fn put_both<D: Disk>(
     disk: &mut D,
     low: &Part,
@@ -58,7 +58,7 @@ fn put_both<D: Disk>(
     }
 }
 
-/// Makes what was written outlast a crash, and then leads to what was taken.
+/// Makes what was written survive a crash, and then makes the file lead to what was taken.
 fn end_write<D: Disk>(
     disk: &mut D,
     at: BlockNo,
@@ -95,8 +95,9 @@ fn end_write<D: Disk>(
     }
 }
 
-/// Writes bytes into the leaves that they touch in two nodes. Those that are absent are taken, and so many blocks are
-/// Free.
+/// Writes bytes into the leaves that they touch in two nodes.
+///
+/// Absent leaves are taken. As many blocks as that needs are Free.
 pub(crate) fn write_parts<D: Disk>(
     disk: &mut D,
     space: &mut Space,
@@ -137,11 +138,14 @@ pub(crate) fn write_parts<D: Disk>(
     }
 }
 
-/// Writes bytes into a file with this root, from an offset on. The range lies within the size. Each leaf that it
-/// touches and that is absent takes the least-numbered Free block, in increasing order, and after it its node where
-/// that is absent too. `Full` where fewer blocks are Free than it takes, with the floor. `Damaged` names a block with a
-/// pointer past the disk, with code 4; or a map, with code 2, that is none, or with code 12, that has no Free block
-/// where some were counted. Where a `Disk` was tried each leaf is old or new; else all is as it was.
+/// Writes bytes into the file with this root, at an offset.
+///
+/// The range lies within the size. Each leaf that it touches and that is absent takes the least-numbered Free block,
+/// in increasing order, and after it its node if that is absent too.
+///
+/// `Full` if fewer blocks are Free than it takes, plus the floor. `Damaged` names a block with a pointer past the
+/// disk, with code 4, or a map block that is no map, with code 2, or that has no Free block though some were counted,
+/// with code 12. After a `Disk` that was tried each leaf is old or new. After any other error all is as it was.
 pub fn write<D: Disk>(
     disk: &mut D,
     space: &mut Space,
@@ -162,7 +166,7 @@ pub fn write<D: Disk>(
         → WritesFile h offset bytes.now floor disk.new space.new result }
     ensures refused { IfErr result (IsWriteRefusal D.Disk (root_top at.0 root.now) floor disk.old disk.new
         space.old space.new) }
-    // Where nothing was tried, all is as it was.
+    // If nothing was tried, all is as it was.
     ensures untried { IfErr result (λ e. is_untried e ≡ true → (space.new ≡ space.old)
         × OnlyReads D.Disk 72 disk.old disk.new) }
     ensures cylinders { length space.new.free ≡ length space.old.free }

@@ -12,7 +12,7 @@ use Rattle.open_table.specs.declared.grant.OpenGrant.{OpenGrant}
 use Rattle.open_table.specs.declared.fault.AcquireFault.{AcquireFault}
 use Rattle.open_table.specs.declared.fault.AcquireFault.TheVariants as faults
 
--- the grants in the order of acquiring, and whether there is room for one more, whoever it is for
+-- the grants in the order in which they were acquired, and whether there is room for one more, of any session
 pub record Table : Type 0 where
   pub grants : List OpenGrant
   pub has_room : Bool
@@ -22,7 +22,7 @@ pub record Table : Type 0 where
 abbrev pub is_session_grant : ℕ → Tuid → OpenGrant → Bool
 is_session_grant who t g = (g.session == who) && same_tuid g.tuid t
 
--- the session's grant of that identifier
+-- the session's grant with that identifier
 abbrev pub session_grant : List OpenGrant → ℕ → Tuid → Option OpenGrant
 session_grant grants who t = find (is_session_grant who t) grants
 
@@ -30,7 +30,7 @@ session_grant grants who t = find (is_session_grant who t) grants
 abbrev pub grants_of : List OpenGrant → ℕ → List OpenGrant
 grants_of grants who = filter (λ g. g.session == who) grants
 
--- the first of them
+-- the first of these grants
 abbrev pub first_grant : List OpenGrant → ℕ → Option OpenGrant
 first_grant grants who = find (λ g. g.session == who) grants
 
@@ -48,7 +48,7 @@ without_session grants who = filter (λ g. not (g.session == who)) grants
 
 -- ---- the interlock
 
--- a writer conflicts with any other, readers with none but a writer
+-- a writer conflicts with any other grant, and readers only with a writer
 abbrev pub conflicts : Mode → Mode → Bool
 conflicts modes.Reading modes.Reading = false
 conflicts modes.Reading modes.Writing = true
@@ -58,7 +58,7 @@ conflicts modes.Writing modes.Writing = true
 abbrev pub collides : OpenGrant → OpenGrant → Bool
 collides a b = same_puid a.id b.id && conflicts a.mode b.mode
 
--- the mode of those that stand on its object and conflict with it
+-- the mode of the grants on its object that conflict with it
 abbrev pub mode_against : List OpenGrant → OpenGrant → Option Mode
 mode_against grants g = option_map (λ h. h.mode) (find (collides g) grants)
 
@@ -72,17 +72,17 @@ fault_of grants g = fault_by (mode_against grants g) (length (grants_of grants g
 
 -- ---- what holds of all grants together
 
--- no grant stands beside one that it conflicts with
+-- no grant is beside one with which it conflicts
 abbrev pub none_collide : List OpenGrant → Bool
 none_collide [] = true
 none_collide (g ∷ grants) = list_all (λ h. not (collides g h)) grants && none_collide grants
 
--- each has a temporary identifier of its own
+-- each grant has a temporary identifier of its own
 abbrev pub tuids_differ : List OpenGrant → Bool
 tuids_differ [] = true
 tuids_differ (g ∷ grants) = list_all (λ h. not (same_tuid g.tuid h.tuid)) grants && tuids_differ grants
 
--- no session has more than it may have
+-- no session has more grants than it may have
 abbrev pub few_each : List OpenGrant → Bool
 few_each grants = list_all (λ g. nat_le (length (grants_of grants g.session)) MOST_GRANTS) grants
 

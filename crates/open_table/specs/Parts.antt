@@ -20,11 +20,11 @@ Own = HashMap ℕ (Vec OpenGrant Global) (BuildHasherDefault FoldHasher)
 abbrev pub own_in : Own → ℕ → List OpenGrant
 own_in own who = unwrap_or (option_map (λ v. v.items) (get nat_eq own who)) []
 
--- these without the one of that identifier
+-- these grants without the one with that identifier
 abbrev pub without_tuid : List OpenGrant → Tuid → List OpenGrant
 without_tuid grants t = filter (λ g. not (same_tuid g.tuid t)) grants
 
--- each session has seats for all the grants that it may have
+-- each session has room for all the grants that it may have
 abbrev pub HaveSeats : Own → Type 0
 HaveSeats own = (who : ℕ) (v : Vec OpenGrant Global) → get nat_eq own who ≡ Some v → MOST_GRANTS ≤ vec_capacity v
 
@@ -38,8 +38,9 @@ same_key a b = (a.0 == b.0) && (a.1 == b.1)
 abbrev pub mode_at : Modes → Puid → Option Mode
 mode_at m id = get same_key m (id.block, id.word)
 
--- the tables tell what the list tells. No two grants collide or have one identifier, and no session has too many
-pub record IsTied (grants : List OpenGrant) (sessions : ℕ → List OpenGrant) (objects : Puid → Option Mode) : Type 0 where
+-- The tables agree with the list. No two grants collide or have one identifier, and no session has too many.
+pub record IsTied (grants : List OpenGrant) (sessions : ℕ → List OpenGrant) (objects : Puid → Option Mode)
+    : Type 0 where
   pub own : (who : ℕ) → sessions who ≡ grants_of grants who
   pub modes : (id : Puid) → objects id ≡ open_mode grants id
   pub few : (who : ℕ) → length (grants_of grants who) ≤ MOST_GRANTS

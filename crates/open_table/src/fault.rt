@@ -4,7 +4,7 @@ use cfs_base::Mode;
 /// Why a grant can't be acquired.
 #[derive(Clone, Copy, Debug, PartialEq, Eq)]
 pub enum AcquireFault {
-    /// A grant that conflicts with it stands on the object, in this mode.
+    /// A grant that conflicts with it is on the object, in this mode.
     Locked { mode: Mode },
     /// The session has as many grants as it may have.
     Grants,

@@ -15,8 +15,10 @@ use std::alloc::Global;
 use std::marker::Model;
 use ufs_model::MOST_GRANTS;
 
-/// The grants of all sessions, in the order of acquiring. A grant is found among its own session's grants, and how an
-/// object is open by one look-up. Only `reserve` takes memory.
+/// The grants of all sessions, in the order in which they were acquired.
+///
+/// A grant is found among its own session's grants, and how an object is open by one look-up. Only `reserve` takes
+/// memory.
 #[derive(Drop)]
 pub struct Grants {
     grants: Vec<OpenGrant>,
@@ -45,7 +47,7 @@ impl Model for Grants {
 }
 
 impl Grants {
-    /// No grants. Takes no memory.
+    /// Makes a table of no grants. Takes no memory.
     pub fn new(alloc: Global) -> Grants
         ensures { result ≡ record { grants = []; has_room = false } }
     {
@@ -56,7 +58,7 @@ impl Grants {
         }
     }
 
-    /// Makes room for one more, whoever it is for. Where memory is wanting the grants stay as they were.
+    /// Makes room for one more grant, of any session. On an error nothing is changed.
     pub fn reserve(&mut self) -> Result<(), NoMemory>
         ensures grants { self.new.grants ≡ self.old.grants }
         ensures room { OnOk result (self.new.has_room ≡ true) }
@@ -72,8 +74,9 @@ impl Grants {
         Ok(())
     }
 
-    /// Adds a grant, whose temporary identifier must be new. Takes no memory, and uses up the room that was made.
-    /// Where it is refused all stays as it was.
+    /// Adds a grant. Its temporary identifier must be new.
+    ///
+    /// Takes no memory, and uses up the room that was made. On an error nothing is changed.
     pub fn acquire(&mut self, grant: OpenGrant) -> Result<(), AcquireFault>
         requires room { self.old.has_room ≡ true }
         requires new { list_any (λ g. same_tuid g.tuid grant.tuid) self.old.grants ≡ false }
@@ -91,7 +94,7 @@ impl Grants {
         Ok(())
     }
 
-    /// Why a grant can't be acquired, if it can't.
+    /// Returns why a grant can't be acquired, or `None` if it can.
     pub fn fault(&self, grant: OpenGrant) -> Option<AcquireFault>
         ensures { result ≡ fault_of self.now.grants grant }
     {
@@ -104,7 +107,7 @@ impl Grants {
         None
     }
 
-    /// The mode of those that stand on the object and conflict with this grant.
+    /// Returns the mode of the grants on the object that conflict with this one.
     fn standing_against(&self, grant: OpenGrant) -> Option<Mode>
         ensures { result ≡ mode_against self.now.grants grant }
     {
@@ -112,15 +115,16 @@ impl Grants {
         conflict(grant.mode, mode).then_some(mode)
     }
 
-    /// The session's grant with this temporary identifier.
+    /// Returns the session's grant with this temporary identifier.
     pub fn find(&self, who: Session, tuid: Tuid) -> Option<OpenGrant>
         ensures { result ≡ session_grant self.now.grants who tuid }
     {
         self.sessions.find(who, tuid)
     }
 
-    /// Takes the session's grant with this temporary identifier out, which goes over the list. Where there is none all
-    /// stays as it was. Takes no memory.
+    /// Removes the session's grant with this temporary identifier, and returns it.
+    ///
+    /// It goes through the list. If there is no such grant nothing is changed. Takes no memory.
     pub fn close(&mut self, who: Session, tuid: Tuid) -> Result<OpenGrant, NoGrant>
         ensures found { IfOk result (λ grant. session_grant self.old.grants who tuid ≡ Some grant) }
         ensures grants { OnOk result (self.new.grants ≡ without_grant self.old.grants who tuid) }
@@ -138,21 +142,23 @@ impl Grants {
         Ok(closed)
     }
 
-    /// How an object is open. Grants on one object are all in one mode.
+    /// Returns how an object is open.
+    ///
+    /// The grants on one object are all in one mode.
     pub fn mode_on(&self, id: Puid) -> Option<Mode>
         ensures { result ≡ open_mode self.now.grants id }
     {
         self.objects.mode_on(id)
     }
 
-    /// The first of the session's grants.
+    /// Returns the first of the session's grants.
     pub fn next_of(&self, who: Session) -> Option<OpenGrant>
         ensures { result ≡ first_grant self.now.grants who }
     {
         self.sessions.of(who).first().copied()
     }
 
-    /// Takes all grants of the session out, one after the other. Takes no memory.
+    /// Removes all grants of the session, one after another. Takes no memory.
     pub fn drop_session(&mut self, who: Session)
         ensures grants { self.new.grants ≡ without_session self.old.grants who }
         ensures room { self.old.has_room ≡ true → self.new.has_room ≡ true }
@@ -163,7 +169,7 @@ impl Grants {
         self.sessions.forget(who);
     }
 
-    /// The number of grants.
+    /// Returns the number of grants.
     pub fn len(&self) -> u32
         ensures len { result ≡ length self.now.grants }
         ensures held { IsTrue (is_grant_table self.now.grants) }
@@ -171,7 +177,9 @@ impl Grants {
         self.grants.len() as u32
     }
 
-    /// The grant at a place, in the order of acquiring from 0.
+    /// Returns the grant at a place.
+    ///
+    /// Places are counted from 0, in the order in which the grants were acquired.
     pub fn at(&self, place: u32) -> OpenGrant
         requires { place < length self.now.grants }
         ensures { slice_get self.now.grants place ≡ Some result }
@@ -180,14 +188,14 @@ impl Grants {
     }
 }
 
-/// Whether one of these grants is on the object.
+/// Returns whether one of these grants is on the object.
 fn is_open(grants: &[OpenGrant], id: Puid) -> bool
     ensures { result ≡ list_any (λ g. same_puid g.id id) grants.now }
 {
     grants.iter().any(|g| g.id == id)
 }
 
-/// Whether two grants on one object in these modes can't stand together.
+/// Returns whether two grants on one object in these modes conflict.
 fn conflict(wanted: Mode, standing: Mode) -> bool
     ensures { result ≡ conflicts wanted standing }
 {

@@ -1,4 +1,4 @@
-//! That the table tells what the model asks of its grants, as contracts. None of these calls does anything.
+//! The table gives what the model asks of its grants, as the contract of a function that does nothing.
 ghost use Rattle.std.specs.Prelude.{◌≡◌, ℕ, ◌+◌, ◌++◌, [], ◌∷◌, Bool, true, is_some, nat_le, length, option_map};
 ghost use Rattle.cfs_base.specs.declared.identifier.Puid.{Puid};
 ghost use Rattle.cfs_base.specs.declared.identifier.Tuid.{Tuid};
@@ -15,8 +15,9 @@ ghost use Rattle.open_table.specs.Grants.{without_session};
 ghost use Rattle.open_table.specs.Grants.{none_collide};
 ghost use Rattle.open_table.specs.Model.{shown, table_of, is_writing};
 
-/// A table of the model's grants, without their drafts: what is found in it, when an opening is refused, and what
-/// a closing and a leave make of it.
+/// The laws of a table of the model's grants, without their drafts.
+///
+/// They say what is found in it, when an opening is refused, and what a closing and a leave make of it.
 pub fn table_follows_the_model()
     ensures found { (s : State) (who : ℕ) (t : Tuid)
         → session_grant (table_of s.grants) who t ≡ option_map shown (grant_of s who t) }

@@ -1,6 +1,7 @@
 //! The grants of all sessions: which object each has open, and how.
-//! The layers above use that `Grants` is a list in the order of acquiring, and each call the same operation of that
-//! list.
+//!
+//! The layers above use that `Grants` is a list in the order of acquiring, and that each call is the same operation
+//! on that list.
 #![tactic(auto)]
 
 mod fault;

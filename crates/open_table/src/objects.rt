@@ -9,14 +9,15 @@ use cfs_base::{Mode, NoMemory, Puid};
 use std::alloc::Global;
 use std::collections::HashMap;
 
-/// The mode of each object that is open, by its identifier's block and word.
+/// The mode of each object that is open.
 #[derive(Drop)]
 pub struct Objects {
+    /// The modes, by the block and the word of the object's identifier.
     pub modes: HashMap<(u32, u32), Mode>,
 }
 
 impl Objects {
-    /// None is open. Takes no memory.
+    /// Makes a table in which no object is open. Takes no memory.
     pub fn new(alloc: Global) -> Objects
         ensures { (q : Puid) → mode_at result.modes q ≡ None }
     {
@@ -25,7 +26,7 @@ impl Objects {
         }
     }
 
-    /// Makes room for one more.
+    /// Makes room for one more object.
     pub fn reserve(&mut self) -> Result<(), NoMemory>
         ensures modes { (q : Puid) → mode_at self.new.modes q ≡ mode_at self.old.modes q }
         ensures room { OnOk result (0 < spare self.new.modes) }
@@ -36,14 +37,14 @@ impl Objects {
         Ok(())
     }
 
-    /// How an object is open.
+    /// Returns how an object is open.
     pub fn mode_on(&self, id: Puid) -> Option<Mode>
         ensures { result ≡ mode_at self.now.modes id }
     {
         self.modes.get(&(id.block, id.word)).copied()
     }
 
-    /// Notes that an object is open. Takes no memory.
+    /// Records that an object is open. Takes no memory.
     pub fn open(&mut self, id: Puid, mode: Mode)
         requires { 0 < spare self.old.modes }
         ensures { (q : Puid) → mode_at self.new.modes q
@@ -52,7 +53,7 @@ impl Objects {
         let _ = self.modes.insert((id.block, id.word), mode);
     }
 
-    /// Notes that an object isn't open any more. Takes no memory.
+    /// Records that an object isn't open any more. Takes no memory.
     pub fn close(&mut self, id: Puid)
         ensures modes { (q : Puid) → mode_at self.new.modes q
             ≡ (if same_puid q id then None else mode_at self.old.modes q) }

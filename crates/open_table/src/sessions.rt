@@ -12,19 +12,20 @@ use std::collections::HashMap;
 use std::mem;
 use ufs_model::MOST_GRANTS;
 
-/// Each session's own grants, in the order of acquiring.
+/// Each session's own grants.
 #[derive(Drop)]
 pub struct Sessions {
     alloc: Global,
+    /// The grants of each session, in the order in which they were acquired.
     pub own: HashMap<Session, Vec<OpenGrant>>,
-    /// Of the next session that comes: empty, with room for all the grants that it may have.
+    /// The list for the next new session: empty, with room for all the grants that it may have.
     pub fresh: Vec<OpenGrant>,
     ghost seats: { HaveSeats own },
     ghost empty: { fresh.items ≡ [] },
 }
 
 impl Sessions {
-    /// No session has a grant. Takes no memory.
+    /// Makes a table in which no session has a grant. Takes no memory.
     pub fn new(alloc: Global) -> Sessions
         ensures { (q : ℕ) → own_in result.own q ≡ [] }
     {
@@ -35,7 +36,7 @@ impl Sessions {
         }
     }
 
-    /// Makes room for one grant more of any session that has fewer than it may have.
+    /// Makes room for one more grant of any session that has fewer than it may have.
     pub fn reserve(&mut self) -> Result<(), NoMemory>
         ensures own { (q : ℕ) → own_in self.new.own q ≡ own_in self.old.own q }
         ensures room { OnOk result (0 < spare self.new.own) }
@@ -49,7 +50,7 @@ impl Sessions {
         Ok(())
     }
 
-    /// A session's own grants.
+    /// Returns a session's own grants.
     pub fn of(&self, who: Session) -> &[OpenGrant]
         ensures { result.now ≡ own_in self.now.own who }
     {
@@ -59,7 +60,7 @@ impl Sessions {
         }
     }
 
-    /// The one of a session's own with this temporary identifier.
+    /// Returns the one of a session's own grants with this temporary identifier.
     pub fn find(&self, who: Session, tuid: Tuid) -> Option<OpenGrant>
         ensures { result ≡ find (λ g. same_tuid g.tuid tuid) (own_in self.now.own who) }
     {
@@ -83,7 +84,7 @@ impl Sessions {
         let _ = self.own.insert(grant.session, own);
     }
 
-    /// Takes a grant out of its session's own. Takes no memory.
+    /// Removes a grant from its session's own. Takes no memory.
     pub fn remove(&mut self, who: Session, tuid: Tuid)
         ensures own { (q : ℕ) → own_in self.new.own q
             ≡ (if q == who then without_tuid (own_in self.old.own q) tuid else own_in self.old.own q) }

@@ -15,7 +15,7 @@ pub record Stays {T : Type 0} (g : Ghosts T) (old new : T) : Type 0 where
   pub same : IsSameDisk g.blocks g.honest g.tells_images old new
   pub faults : g.faults old ≤ g.faults new
 
--- a block is written, done or not, and perhaps a barrier made
+-- a block is written, done or not, and a barrier may be made
 pub record PutsBelow {T : Type 0} (g : Ghosts T) (at : ℕ) (old new : T) : Type 0 where
   pub put : IsTrue (g.honest old) → (bytes : List ℕ) × (g.content new ≡ set (g.content old) at bytes)
   pub told_others : (k : ℕ) → k ≢ at → IsTrue (g.told old k) → IsTrue (g.told new k)
@@ -25,8 +25,8 @@ pub record PutsBelow {T : Type 0} (g : Ghosts T) (at : ℕ) (old new : T) : Type
   pub faults : g.faults old ≤ g.faults new
   pub clock : Rose (g.moment old) (g.moment new)
 
--- A write of block n of the pair disk, or a part of it: it shows what it showed, or an image that has P, and so does
--- what a crash leaves.
+-- A write of block n of the pair disk, or a part of it: the pair disk shows what it showed, or an image that has P,
+-- and so does what a crash leaves.
 pub record ChangesPair {T : Type 0} (g : Ghosts T) (n : ℕ) (P : Image → Type 0) (old new : T) : Type 0 where
   pub content : IsTrue (g.honest old) →
       (pairs_in (g.content new) ≡ pairs_in (g.content old)) ⊎ P (pairs_in (g.content new))
@@ -37,7 +37,7 @@ pub record ChangesPair {T : Type 0} (g : Ghosts T) (n : ℕ) (P : Image → Type
   pub faults : g.faults old ≤ g.faults new
   pub clock : Rose (g.moment old) (g.moment new)
 
--- a call failed: the count of faults rose, and the clock
+-- a call failed: the count of faults and the clock rose
 pub record FailedBelow {T : Type 0} (g : Ghosts T) (old new : T) : Type 0 where
   pub cause : Rose (g.faults old) (g.faults new)
   pub clock : Rose (g.moment old) (g.moment new)

@@ -15,7 +15,7 @@ torn_state_at h t = replayed_writes (unwritten h.first.items) t h.kept.items
 abbrev pub torn_now : History → TornState
 torn_now h = torn_state_at h h.moment
 
--- a crash at some moment since t may leave it
+-- an image that a crash at some moment since t may leave
 abbrev pub history_left : History → ℕ → Image → Type 0
 history_left h t c = Left IsTornImage (torn_state_at h) h.moment t c
 

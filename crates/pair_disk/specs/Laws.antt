@@ -1,4 +1,4 @@
--- What the pair disk shows of an image is a third as long, and of blocks where the image is.
+-- What the pair disk shows of an image has a third of its blocks, and has blocks of 512 bytes if the image has.
 use Rattle.std.proofs.Common.{◌≡◌, ℕ, ◌/◌, ◌<◌, Bool, IsTrue, if◌then◌else◌, List, [], length}
 use Rattle.std.proofs.Common.{sym, ◌∙◌, ap, subst, arith}
 use Rattle.std.proofs.lemmas.List.FromFn.{length-map-range_with_len, get_or-map-range_with_len}
@@ -23,7 +23,7 @@ half_on Second n size le = omega arith
 a_third : (below : Image) (size blocks : ℕ) → length below ≡ size → blocks ≡ size / 3 → length (pairs_in below) ≡ blocks
 a_third below size blocks long third = length-pairs below ∙ ap (λ (k : ℕ). k / 3) long ∙ sym third
 
--- of a disk that tells its content
+-- for a disk that tells its content
 module _ (honest : Bool) (tells : IsTrue honest) where
   told_content : (P : Image → Type 0) (c : Image) → P c → P (if honest then c else [])
   told_content P c p = subst (λ (b : Bool). P (if b then c else [])) (sym tells) p

@@ -11,7 +11,7 @@ torn_content d = d.content.items
 abbrev pub history_of : TornMemory → History
 history_of d = d.history
 
--- no call was made on it, and a crash leaves its content alone
+-- no call was made on it, and a crash leaves only its content
 pub record IsUncalledMemory (d : TornMemory) (image : Image) (calls : List ℕ) : Type 0 where
   pub content : torn_content d ≡ image
   pub only : (c : Image) → history_left (history_of d) (history_clock (history_of d)) c → c ≡ torn_content d

@@ -13,7 +13,7 @@ pub record TornState : Type 0 where
   pub base : Image
   pub torn : ℕ → Bool
 
--- nothing was written yet
+-- the state before anything was written
 abbrev pub unwritten : Image → TornState
 unwritten image = record { base = image; torn = λ n. false }
 
@@ -32,18 +32,19 @@ torn_by kept s = torn_next kept.call s
 abbrev pub replayed_writes : TornState → ℕ → List KeptCall → TornState
 replayed_writes s t kept = calls.replay call_moment torn_by s t kept
 
--- a crash may leave it: each block that was written since the barrier has any bytes, each other block those of then
+-- an image that a crash may leave: each block that was written since the barrier has any bytes, each other block
+-- those of then
 pub record IsTornImage (s : TornState) (c : Image) : Type 0 where
   pub size : length c ≡ length s.base
   pub whole : (n : ℕ) → s.torn n ≡ false → block_at c n ≡ block_at s.base n
   pub torn : (n : ℕ) → n < length c → s.torn n ≡ true → IsBlock (block_at c n)
 
--- the content at the barrier is of so many blocks
+-- the content at the barrier has this number of blocks
 pub record IsOfBlocks (count : ℕ) (s : TornState) : Type 0 where
   pub size : length s.base ≡ count
   pub blocks : AreBlocks s.base
 
--- a kept barrier has so many blocks
+-- a kept barrier has this number of blocks
 abbrev pub HasSize : ℕ → Call → Type 0
 HasSize count (Write at) = Unit {0}
 HasSize count (Barrier blocks) = (length blocks.items ≡ count) × AreBlocks blocks.items

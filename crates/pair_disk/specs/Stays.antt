@@ -4,7 +4,7 @@ use Rattle.cfs_base.specs.Disk.{Image, AreBlocks, block_at}
 use Rattle.pair_disk.specs.declared.history.History.{History}
 use Rattle.pair_disk.specs.History.{history_clock, history_left, count_of, torn_now}
 
--- where it holds in each block that isn't torn what that held at the last barrier
+-- if it holds, in each block that isn't torn, what that block held at the last barrier
 pub stays_image : (h : History) (content : Image) (t : ℕ) →
     t ≤ history_clock h → count_of h ≡ length content → AreBlocks content →
     ((n : ℕ) → (torn_now h).torn n ≡ false → block_at content n ≡ block_at (torn_now h).base n) →

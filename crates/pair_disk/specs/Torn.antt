@@ -2,7 +2,7 @@
 use Rattle.std.specs.Prelude.{◌≡◌, ℕ, List, set}
 use Rattle.cfs_base.specs.Disk.{Image, IsBlock}
 
--- c is the image but for this block, which has any bytes
+-- c is the image except for this block, which has any bytes
 abbrev pub TornAt : ℕ → Image → Image → Type 0
 TornAt at image c = (bytes : List ℕ) × IsBlock bytes × (c ≡ set image at bytes)
 

@@ -9,7 +9,7 @@ use crate::TornDisk;
 use crate::half::{Half, gate_of};
 use cfs_base::{Block, BlockNo, Failed};
 
-/// Reads the gate of a block.
+/// Reads the gate of a block, and returns the half that it shows.
 pub fn shown_half<T: TornDisk>(lower: &mut T, at: BlockNo) -> Result<Half, Failed>
     requires on_disk { gate_at at.0 < T.blocks lower.old }
     requires room { gate_at at.0 < 2 ^ 32 }
@@ -24,7 +24,7 @@ pub fn shown_half<T: TornDisk>(lower: &mut T, at: BlockNo) -> Result<Half, Faile
     Ok(Half::shown_by(&gate))
 }
 
-/// Writes a block below, and makes it outlast a crash.
+/// Writes a block below, and makes it survive a crash by a barrier.
 fn write_through<T: TornDisk>(lower: &mut T, at: BlockNo, from: &Block) -> Result<(), Failed>
     requires { at.0 < T.blocks lower.old }
     ensures writes { PutsBelow T.TornDisk at.0 lower.old lower.new }
@@ -39,7 +39,7 @@ fn write_through<T: TornDisk>(lower: &mut T, at: BlockNo, from: &Block) -> Resul
     lower.barrier()
 }
 
-/// Writes the half that isn't shown, and then the gate, so that it is.
+/// Writes the half that isn't shown, and then the gate, so that this half is shown.
 pub fn replace<T: TornDisk>(
     lower: &mut T,
     at: BlockNo,

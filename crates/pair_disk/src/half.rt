@@ -1,17 +1,20 @@
-//! The three blocks below that keep a block: two halves, and a gate that says which of them is shown.
+//! The three blocks below that keep one block: two halves, and a gate that says which of them is shown.
 ghost use Rattle.std.specs.Prelude.{◌≡◌, ◌<◌, ◌^◌};
 ghost use Rattle.pair_disk.specs.Pair.{gate_at, gate_for, half_at, other_half, shown_by};
 
 use cfs_base::{Block, BlockNo};
 
-/// Where the content of a block lies.
+/// The half that holds the content of a block.
 #[derive(Clone, Copy)]
 pub enum Half {
+    /// The block `3n` below, for block `n`.
     First,
+    /// The block `3n + 1` below, for block `n`.
     Second,
 }
 
 impl Half {
+    /// Returns the half that isn't this one.
     pub fn other(self) -> Half
         ensures { result ≡ other_half self }
     {
@@ -21,7 +24,7 @@ impl Half {
         }
     }
 
-    /// Where this half of block n is.
+    /// Returns where this half of block `n` is.
     pub fn at(self, n: BlockNo) -> BlockNo
         requires { gate_at n.0 < 2 ^ 32 }
         ensures { result.0 ≡ half_at self n.0 }
@@ -32,7 +35,7 @@ impl Half {
         }
     }
 
-    /// The gate that shows this half.
+    /// Returns the gate that shows this half.
     pub fn gate(self) -> Block
         ensures { result ≡ gate_for self }
     {
@@ -44,7 +47,7 @@ impl Half {
         Block::of(bytes)
     }
 
-    /// The half that this gate shows.
+    /// Returns the half that this gate shows.
     pub fn shown_by(gate: &Block) -> Half
         ensures { result ≡ shown_by gate.now }
     {
@@ -56,7 +59,7 @@ impl Half {
     }
 }
 
-/// Where the gate of block n is.
+/// Returns where the gate of block `n` is.
 pub fn gate_of(n: BlockNo) -> BlockNo
     requires { gate_at n.0 < 2 ^ 32 }
     ensures { result.0 ≡ gate_at n.0 }

@@ -12,7 +12,7 @@ use crate::store::copy;
 use cfs_base::Block;
 use std::alloc::{AllocError, Global};
 
-/// Counts the calls of a disk, and keeps those that a crash sees.
+/// Counts the calls of a disk, and keeps those that a crash image depends on.
 #[derive(Drop)]
 pub struct History {
     /// The content before all calls.
@@ -29,7 +29,7 @@ impl History {
     ghost use Rattle.cfs_base.specs.Disk.{Image, Nothing, LeavesOnly, KeepsLeft};
     ghost use Rattle.pair_disk.specs.History.{history_clock, history_left, count_of, torn_state_at, torn_now};
 
-    /// Nothing was called yet. Takes no memory.
+    /// Makes a history in which nothing was called yet. Takes no memory.
     pub fn new(alloc: Global, first: Vec<Block>) -> History
         requires { AreBlocks first.items }
         ensures first { result.first ≡ first }
@@ -43,13 +43,14 @@ impl History {
         }
     }
 
+    /// Returns the clock.
     pub fn moment(&self) -> u64
         ensures { result ≡ history_clock self.now }
     {
         self.moment
     }
 
-    /// A call that changes nothing is made.
+    /// Counts a call that changes nothing.
     pub fn pass(&mut self)
         ensures clock { history_clock self.new ≡ count_after (history_clock self.old) }
         ensures rose { Rose (history_clock self.old) (history_clock self.new) }
@@ -61,8 +62,9 @@ impl History {
         self.moment = self.moment.saturating_add(1);
     }
 
-    /// A call is made that changes the disk or tried to. For want of memory, and once the clock has come to its end,
-    /// it isn't kept.
+    /// Counts and keeps a call that changes the disk or tries to.
+    ///
+    /// It isn't kept for want of memory, nor once the clock has reached its end.
     pub fn keep(&mut self, call: Call) -> Result<(), AllocError>
         requires { HasSize (count_of self.old) call }
         ensures clock { history_clock self.new ≡ count_after (history_clock self.old) }
@@ -93,7 +95,7 @@ impl History {
         Ok(())
     }
 
-    /// The content at the last barrier before this moment.
+    /// Returns the content at the last barrier before this moment.
     pub fn base(&self, at: u64) -> Result<Vec<Block>, AllocError>
         ensures { IfOk result (λ v. v.items ≡ (torn_state_at self.now at).base) }
     {
@@ -104,7 +106,7 @@ impl History {
         copy(base)
     }
 
-    /// Whether a block was written since that barrier, done or not.
+    /// Returns whether a write of this block, done or not, was made since that barrier.
     pub fn is_torn(&self, at: u64, block: u32) -> bool
         ensures { result ≡ (torn_state_at self.now at).torn block }
     {
@@ -115,7 +117,7 @@ impl History {
         torn
     }
 
-    /// Whether all these blocks were.
+    /// Returns whether all these blocks were written since then.
     pub fn may_tear(&self, at: u64, picks: &[TornPick]) -> bool
         ensures { result ≡ may_tear (torn_state_at self.now at) picks.now }
     {

@@ -1,12 +1,12 @@
-//! The calls that a disk in memory keeps, and which bytes a crash leaves.
+//! The calls that a disk in memory keeps, and the bytes that a crash leaves.
 use cfs_base::Block;
 
 /// A call that changed the disk or tried to.
 #[derive(Drop)]
 pub enum Call {
-    /// A write to this block, done or not.
+    /// A write of this block, done or not.
     Write(u32),
-    /// A barrier that was done, and the content of the disk then.
+    /// A barrier that was done, and the content of the disk at that time.
     Barrier(Vec<Block>),
 }
 
@@ -17,9 +17,11 @@ pub struct KeptCall {
     pub call: Call,
 }
 
-/// These bytes a crash leaves of a block that was written since the last barrier.
+/// The bytes that a crash leaves of a block that was written since the last barrier.
 #[derive(Clone, Copy, Debug, PartialEq, Eq)]
 pub struct TornPick {
+    /// The number of the block.
     pub block: u32,
+    /// The bytes that the crash leaves.
     pub content: Block,
 }

@@ -1,6 +1,7 @@
 //! Atomic blocks on a disk whose writes may tear.
-//! The layer above uses that a pair disk over an honest disk that may tear its blocks is a `Disk`, its crash images
-//! included: of each block a crash leaves the old content or the new one.
+//!
+//! The layer above uses that a pair disk over an honest disk that may tear its blocks is a `Disk`, crash images
+//! included: after a crash each block has its old content or the new one.
 #![tactic(auto)]
 
 mod below;

@@ -4,8 +4,8 @@ ghost use Rattle.std.specs.Prelude.{OnErr, OnOk, set};
 ghost use Rattle.cfs_base.specs.Disk.{Nothing, Only, Written, block_at};
 ghost use Rattle.cfs_base.specs.Run.{Leaves};
 ghost use Rattle.pair_disk.specs.Pair.{IsFlushed, PairLeft, gate_at, pair_content, tells_both, tells_pair};
-ghost use Rattle.pair_disk.specs.Calls.{IsRead, IsTry, KeepsImages, MakesBelow, StaysDisk, StopsWrite, TellsOn, WritesPair};
-ghost use Rattle.pair_disk.specs.Calls.{barriers_first};
+ghost use Rattle.pair_disk.specs.Calls.{IsRead, IsTry, KeepsImages, MakesBelow, StaysDisk, StopsWrite, TellsOn};
+ghost use Rattle.pair_disk.specs.Calls.{WritesPair, barriers_first};
 ghost use Rattle.pair_disk.specs.Laws.{pairs_of_blocks, pairs_sized, shown_sized};
 ghost use Rattle.std.proofs.lemmas.Bool.{and_parts};
 ghost use Rattle.pair_disk.specs.Below.{FailedBelow, Stays};
@@ -14,9 +14,11 @@ use crate::TornDisk;
 use crate::below::{replace, shown_half};
 use cfs_base::{Block, BlockNo, Disk, Failed};
 
-/// A disk whose blocks are atomic, over one that may tear them. Block n is kept in three blocks below: the halves 3n
-/// and 3n + 1, and the gate 3n + 2. It is the second half where the gate's byte 0 is 1, and else the first. A write
-/// puts the other half first, and then turns the gate, with a barrier after each of the two.
+/// A disk of atomic blocks over a disk that may tear its blocks.
+///
+/// Three blocks below keep block `n`: the halves `3n` and `3n + 1`, and the gate `3n + 2`. The second half is shown
+/// if the gate's byte 0 is 1, else the first. A write puts its block into the half that isn't shown, and then turns
+/// the gate, with a barrier after each of the two.
 #[derive(Drop)]
 pub struct PairDisk<T: TornDisk> {
     lower: T,
@@ -30,8 +32,10 @@ pub struct PairDisk<T: TornDisk> {
     ghost flushed: { unsure ≡ false → IsFlushed T.TornDisk lower },
 }
 
-/// It tells its content where the disk below does, and its crash images where that tells both. Clock and count of
-/// faults are those of the disk below, so that a call fails only where one below did; calls and tries are its own.
+/// It tells its content if the disk below does, and its crash images if that disk tells both.
+///
+/// The clock and the count of faults are those of the disk below, so that a call fails only if one below did. Calls
+/// and tries are its own.
 impl<T: TornDisk> Disk for PairDisk<T> {
     ghost blocks = { λ d. d.blocks };
 
@@ -114,7 +118,7 @@ impl<T: TornDisk> Disk for PairDisk<T> {
         ensures same { StaysDisk ⟦<PairDisk<T> as Disk>⟧ self.old self.new }
         ensures counts { IsTry ⟦<PairDisk<T> as Disk>⟧ self.old self.new (IsErr result) }
 
-        // Below, a barrier is made first only where it is unsure.
+        // Below, a barrier comes first only if the disk is unsure.
         ensures made { OnOk result (WritesPair T.TornDisk self.old.unsure self.old.lower self.new.lower) }
         ensures sure { OnOk result (self.new.unsure ≡ false) }
         ensures stopped { OnErr result (StopsWrite T.TornDisk self.old.unsure self.new.unsure
@@ -157,8 +161,10 @@ impl<T: TornDisk> Disk for PairDisk<T> {
 }
 
 impl<T: TornDisk> PairDisk<T> {
-    /// The disk of a third of the blocks below. Takes no memory. Nothing waits for a barrier on the disk below: of its
-    /// blocks none is untold, and where it tells its images, a crash as this is called leaves its content alone.
+    /// Makes the pair disk of a disk below, with a third of its blocks. Takes no memory.
+    ///
+    /// Nothing waits for a barrier on the disk below: each of its blocks is told, and if it tells its images, a crash
+    /// as this is called leaves its content alone.
     pub fn new(lower: T) -> PairDisk<T>
         requires { IsFlushed T.TornDisk lower }
         ensures lower { result.lower ≡ lower }
@@ -176,7 +182,7 @@ impl<T: TornDisk> PairDisk<T> {
         }
     }
 
-    /// The disk below.
+    /// Returns the disk below.
     pub fn into_lower(self) -> T
         ensures { result ≡ self.lower }
     {
@@ -184,7 +190,7 @@ impl<T: TornDisk> PairDisk<T> {
         lower
     }
 
-    /// Makes a barrier where a write or barrier has failed since the last one that was done.
+    /// Makes a barrier if a write or barrier has failed since the last one that was done.
     fn settle(&mut self) -> Result<(), Failed>
         ensures stays { Stays T.TornDisk self.old.lower self.new.lower }
         ensures settled { OnOk result (self.new.unsure ≡ false) }
@@ -192,8 +198,8 @@ impl<T: TornDisk> PairDisk<T> {
         ensures blocks { self.new.blocks ≡ self.old.blocks }
         ensures calls { self.new.calls ≡ self.old.calls }
         ensures tries { self.new.tries ≡ self.old.tries }
-        ensures made { OnOk result (MakesBelow T.TornDisk (barriers_first self.old.unsure) (barriers_first self.old.unsure)
-            self.old.lower self.new.lower) }
+        ensures made { OnOk result (MakesBelow T.TornDisk (barriers_first self.old.unsure)
+            (barriers_first self.old.unsure) self.old.lower self.new.lower) }
         ensures stopped { OnErr result ((self.old.unsure ≡ true) × (self.new.unsure ≡ true)
             × MakesBelow T.TornDisk 1 1 self.old.lower self.new.lower) }
     {

@@ -1,4 +1,4 @@
-//! KeptCall calls, made again up to a crash.
+//! Kept calls, made again up to a crash.
 ghost use Rattle.std.specs.Prelude.{◌≡◌, ◌<◌, IsTrue, length, set};
 ghost use Rattle.cfs_base.specs.Disk.{AreBlocks, IsBlock};
 ghost use Rattle.cfs_base.specs.Replay.{after_before};
@@ -8,7 +8,7 @@ use crate::kept::{Call, KeptCall, TornPick};
 use crate::store::put;
 use cfs_base::Block;
 
-/// The content at the last barrier, after this call where it was made before the moment.
+/// Returns the content at the last barrier, after this call if it was made before the moment.
 pub fn base_after<'a>(base: &'a Vec<Block>, kept: &'a KeptCall, at: u64) -> &'a Vec<Block>
     ensures { (s : TornState) → base.now.items ≡ s.base
         → result.now.items ≡ (after_before call_moment torn_by at kept.now s).base }
@@ -19,7 +19,7 @@ pub fn base_after<'a>(base: &'a Vec<Block>, kept: &'a KeptCall, at: u64) -> &'a 
     }
 }
 
-/// Whether a block was written since that barrier.
+/// Returns whether a block was written since the last barrier, after this call if it was made before the moment.
 pub fn torn_after(torn: bool, kept: &KeptCall, at: u64, block: u32) -> bool
     ensures { (s : TornState) → torn ≡ s.torn block
         → result ≡ (after_before call_moment torn_by at kept.now s).torn block }
@@ -33,7 +33,7 @@ pub fn torn_after(torn: bool, kept: &KeptCall, at: u64, block: u32) -> bool
     }
 }
 
-/// Puts one pick, where its block is on the disk.
+/// Puts one pick into the content, if its block is on the disk.
 fn put_pick(content: &mut Vec<Block>, pick: &TornPick)
     ensures put { content.new.items ≡ set content.old.items pick.now.block pick.now.content }
     ensures block { pick.now.block < length content.old.items → IsBlock pick.now.content }
@@ -43,7 +43,9 @@ fn put_pick(content: &mut Vec<Block>, pick: &TornPick)
     }
 }
 
-/// Puts the picks into the content at the last barrier. Of two picks of a block the later one counts.
+/// Puts the picks into the content at the last barrier.
+///
+/// Of two picks of a block the later one counts.
 pub fn tear(content: &mut Vec<Block>, picks: &[TornPick])
     ensures picked { content.new.items ≡ picked content.old.items picks.now }
     ensures allowed { (s : TornState) → IsTornImage s content.old.items → IsTrue (may_tear s picks.now)

@@ -5,14 +5,14 @@ ghost use Rattle.cfs_base.specs.Disk.{IsBlock};
 use cfs_base::Block;
 use std::alloc::AllocError;
 
-/// The same blocks.
+/// Returns a copy of the blocks.
 pub fn copy(blocks: &Vec<Block>) -> Result<Vec<Block>, AllocError>
     ensures { IfOk result (λ v. v.items ≡ blocks.now.items) }
 {
     blocks.clone()
 }
 
-/// Puts bytes in place of a block.
+/// Replaces the content of block `n`.
 pub fn put(blocks: &mut Vec<Block>, n: u32, bytes: &[u8; 512])
     requires { n < length blocks.old.items }
     ensures put { blocks.new.items ≡ set blocks.old.items n bytes.now }

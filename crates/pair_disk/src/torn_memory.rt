@@ -15,9 +15,11 @@ use crate::store::{copy, put};
 use cfs_base::{Block, BlockNo, Failed, NoMemory};
 use std::alloc::Global;
 
-/// A disk in memory. It tells its content and its crash images. It fails at the calls that are listed, by their
-/// moments, and writes nothing then, though a crash may leave any bytes of a block whose write failed. It also fails
-/// at a write or barrier that it can't keep for want of memory, and at each of them once its clock is at its end.
+/// A disk in memory whose blocks a crash may tear. It tells its content and its crash images.
+///
+/// The calls at the listed moments fail, and write nothing, though a crash may leave any bytes of a block whose write
+/// failed. The disk also fails at a write or barrier that it can't keep for want of memory, and at each of them once
+/// its clock has reached its end.
 #[derive(Drop)]
 pub struct TornMemory {
     count: u32,
@@ -33,7 +35,7 @@ pub struct TornMemory {
         → block_at content.items n ≡ block_at (torn_now history).base n },
 }
 
-/// Counts a call that fails.
+/// Counts a call that fails, and returns its error.
 fn failed(faults: &mut u64) -> Failed
     ensures rose { Rose faults.old faults.new }
     ensures no_fewer { faults.old ≤ faults.new }
@@ -131,7 +133,7 @@ impl TornDisk for TornMemory {
 impl TornMemory {
     ghost use Rattle.pair_disk.specs.Memory.{IsUncalledMemory, torn_content, history_of};
 
-    /// Zero blocks. The call at each of these moments fails.
+    /// Makes a disk of zero blocks. The call at each of these moments fails.
     pub fn new(alloc: Global, blocks: u32, calls: Vec<u64>) -> Result<TornMemory, NoMemory>
         ensures { IfOk result (λ d. IsUncalledMemory d (replicate blocks (replicate 512 0)) calls.items) }
     {
@@ -139,15 +141,19 @@ impl TornMemory {
         TornMemory::made(alloc, blocks, content, calls)
     }
 
-    /// Whether all these blocks were written since the last barrier before this moment, by a write that failed too.
+    /// Returns whether all these blocks were written since the last barrier before this moment.
+    ///
+    /// A write that failed counts too.
     pub fn may_tear(&self, at: u64, picks: &[TornPick]) -> bool
         ensures { result ≡ may_tear (torn_state_at (history_of self.now) at) picks.now }
     {
         self.history.may_tear(at, picks)
     }
 
-    /// The disk after a crash at this moment, which leaves these bytes of the blocks that were picked, and of each
-    /// other block those at the last barrier. Of two picks of a block the later one counts. Its calls don't fail.
+    /// Returns the disk after a crash at this moment.
+    ///
+    /// The crash leaves the picked bytes of the blocks that were picked, and of each other block those at the last
+    /// barrier. Of two picks of a block the later one counts. The calls of the new disk don't fail.
     pub fn image(&self, alloc: Global, at: u64, picks: &[TornPick]) -> Result<TornMemory, NoMemory>
         requires in_time { at ≤ history_clock (history_of self.now) }
         requires written { IsTrue (may_tear (torn_state_at (history_of self.now) at) picks.now) }
@@ -160,7 +166,7 @@ impl TornMemory {
         TornMemory::made(alloc, self.count, content, Vec::new(alloc))
     }
 
-    // no call was made on it
+    // the disk on which no call was made yet
     fn made(
         alloc: Global,
         count: u32,
@@ -183,7 +189,7 @@ impl TornMemory {
         })
     }
 
-    // the next call fails
+    // whether the next call fails
     fn is_listed(&self) -> bool {
         self.listed.contains(&self.history.moment())
     }

@@ -1,5 +1,5 @@
-//! The pair disk tried on disks that tear their blocks: which calls a write makes below, and what a crash leaves.
-//! Nothing stands above this crate; its use is its tests.
+//! The pair disk tried on disks that tear their blocks: which calls a write makes below, and what a crash leaves. No
+//! crate is above this one: it is made for its tests.
 #![tactic(auto)]
 
 #[cfg(test)]

@@ -8,12 +8,12 @@ fn filled(byte: u8) -> Block {
     Block::of([byte; 512])
 }
 
-/// Whether a write of a block of this byte is done.
+/// Writes a block of this byte, and returns whether that was done.
 fn write<D: Disk>(disk: &mut D, n: u32, byte: u8) -> bool {
     n < disk.blocks() && disk.write(BlockNo(n), &filled(byte)).is_ok()
 }
 
-/// What a block begins with.
+/// Returns the byte with which a block begins.
 fn read<D: Disk>(disk: &mut D, n: u32) -> Option<u8> {
     if n >= disk.blocks() {
         return None;
@@ -23,8 +23,9 @@ fn read<D: Disk>(disk: &mut D, n: u32) -> Option<u8> {
     Some(block.bytes()[0])
 }
 
-/// The disk below after these writes of blocks of one byte, and how many of them were done. The calls below at these
-/// moments fail.
+/// Returns the disk below after these writes of blocks of one byte, and how many of them were done.
+///
+/// The calls below at these moments fail.
 fn written(
     alloc: Global,
     blocks: u32,
@@ -41,7 +42,7 @@ fn written(
     Ok((pair.into_lower(), done))
 }
 
-/// The first block below that a crash at this moment may tear.
+/// Returns the first block below that a crash at this moment may tear.
 fn torn_at(disk: &TornMemory, at: u64) -> Option<u32> {
     for block in 0..disk.blocks() {
         let pick = TornPick {
@@ -55,7 +56,7 @@ fn torn_at(disk: &TornMemory, at: u64) -> Option<u32> {
     None
 }
 
-/// The same at this moment and the next six.
+/// Returns the same for this moment and the next six.
 fn torn_from(disk: &TornMemory, first: u64) -> [Option<u32>; 7] {
     let mut torn = [None; 7];
     for i in 0..7usize {
@@ -64,7 +65,9 @@ fn torn_from(disk: &TornMemory, first: u64) -> [Option<u32>; 7] {
     torn
 }
 
-/// What block n begins with after a crash at this moment that leaves these bytes. None where it can't leave them.
+/// Returns the byte with which block `n` begins after a crash at this moment that leaves these bytes.
+///
+/// It is `None` if a crash can't leave them.
 fn left(alloc: Global, disk: &TornMemory, at: u64, picks: &[TornPick], n: u32) -> Option<u8> {
     if at > disk.moment() || !disk.may_tear(at, picks) {
         return None;
@@ -75,8 +78,10 @@ fn left(alloc: Global, disk: &TornMemory, at: u64, picks: &[TornPick], n: u32) -
     read(&mut PairDisk::new(image), n)
 }
 
-/// A write reads the gate, which is block 2 below, writes the half 1, makes a barrier, writes the gate, makes a
-/// barrier: so the block that may be torn is none, none, 1, none, 2, none, from moment 0 on, and none after them.
+/// A write reads the gate, which is block 2 below, writes half 1, makes a barrier, writes the gate, and makes a
+/// barrier.
+///
+/// So the block that may be torn is none, none, 1, none, 2, none, from moment 0 on, and none after them.
 #[test]
 fn a_write_puts_the_other_half_and_then_turns_the_gate(rt: HostRuntime) -> Result<(), Fail> {
     let alloc = rt.alloc();
@@ -101,8 +106,9 @@ fn a_write_puts_the_other_half_and_then_turns_the_gate(rt: HostRuntime) -> Resul
     Ok(())
 }
 
-/// The call at moment 3 is the write of the gate. The next write makes a barrier at moment 4, reads the gate, and goes
-/// on as the first did.
+/// The call at moment 3 is the write of the gate.
+///
+/// The next write makes a barrier at moment 4, reads the gate, and goes on as the first did.
 #[test]
 fn a_write_after_one_that_failed_begins_with_a_barrier(rt: HostRuntime) -> Result<(), Fail> {
     let alloc = rt.alloc();
@@ -115,11 +121,12 @@ fn a_write_after_one_that_failed_begins_with_a_barrier(rt: HostRuntime) -> Resul
     Ok(())
 }
 
-/// What blocks 0 and 1 begin with after each of the writes.
+/// The bytes with which blocks 0 and 1 begin after each of the writes.
 const STATES: [[u8; 2]; 4] = [[0, 0], [1, 0], [1, 2], [3, 2]];
 
-/// Each write makes five calls below. So at a moment both blocks are as before the write under way, or as after it;
-/// and at its first moment as before.
+/// Returns whether both blocks are as before the write under way, or as after it, and at its first moment as before.
+///
+/// Each write makes five calls below.
 fn is_old_or_new(at: u64, found: [Option<u8>; 2]) -> bool {
     let before = (at / 5) as usize;
     let after = (at.saturating_add(4) / 5) as usize;
@@ -138,8 +145,9 @@ fn first_two(alloc: Global, disk: &TornMemory, at: u64, picks: &[TornPick]) -> [
     [first, second]
 }
 
-/// What blocks 0 and 1 begin with after a crash at this moment, which leaves this byte all over the block that it
-/// tears.
+/// Returns the bytes with which blocks 0 and 1 begin after a crash at this moment.
+///
+/// The crash fills the block that it tears with this byte.
 fn after_crash(alloc: Global, disk: &TornMemory, at: u64, byte: u8) -> [Option<u8>; 2] {
     let Some(block) = torn_at(disk, at) else {
         return first_two(alloc, disk, at, &[]);

@@ -11,14 +11,14 @@ use puid_space::Directory;
 use std::test::Fail;
 use ufs_model::Event;
 
-/// An identifier whose object has this root block.
+/// Returns an identifier whose object has this root block.
 const fn named(block: u32) -> Puid
     ensures { result ≡ record { block = block; word = 9 } }
 {
     Puid { block, word: 9 }
 }
 
-/// Takes out all but the object of one block: a closure's answers are the test that the contract speaks of.
+/// Removes all but the object of one block. A closure's answers are the test of which the contract speaks.
 fn keep_only(directory: &mut Directory, kept: u32, gone: &mut Vec<Puid>)
     requires { vec_len gone.old + length directory.old.named ≤ vec_capacity gone.old }
     ensures { directory.new.named ≡ kept_by (λ block. block == kept) directory.old.named }

@@ -41,7 +41,7 @@ fn read<D: Disk>(disk: &mut D, at: u32) -> Result<u64, Failed> {
     Ok(block.u64_at(0))
 }
 
-/// Makes the calls, and gives the moments of those that failed.
+/// Makes the calls, and returns the moments of those that failed.
 fn make(alloc: Global, disk: &mut MemoryDisk, calls: &[Call]) -> Result<Vec<u64>, Fail> {
     let mut failed = Vec::new(alloc);
     for call in calls {
@@ -58,7 +58,7 @@ fn make(alloc: Global, disk: &mut MemoryDisk, calls: &[Call]) -> Result<Vec<u64>
     Ok(failed)
 }
 
-/// What block 0 holds after a crash at this moment that leaves this choice of it.
+/// Returns what block 0 holds after a crash at this moment that leaves this choice of it.
 fn left(alloc: Global, disk: &MemoryDisk, at: u64, choice: u32) -> Option<u64> {
     if !disk.is_recording() || at > disk.moment() {
         return None;
@@ -68,7 +68,7 @@ fn left(alloc: Global, disk: &MemoryDisk, at: u64, choice: u32) -> Option<u64> {
     read(&mut image, 0).ok()
 }
 
-/// At each of these moments the block is left as these choices of it say.
+/// Checks that at each of these moments the block is left as these choices of it say.
 fn expect_images(rt: &impl Abort, alloc: Global, disk: &MemoryDisk, rows: &[(u64, [u64; 5])]) {
     for (at, wanted) in rows {
         for choice in 0..5u32 {
@@ -106,7 +106,7 @@ fn a_crash_leaves_the_last_barrier_or_a_write_since(rt: HostRuntime) -> Result<(
     Ok(())
 }
 
-/// Failed are the write of B at moment 2 and the barrier at moment 4.
+/// The write of B at moment 2 and the barrier at moment 4 fail.
 #[test]
 fn a_failed_write_may_be_chosen_and_a_failed_barrier_is_none(rt: HostRuntime) -> Result<(), Fail> {
     let alloc = rt.alloc();

@@ -44,7 +44,7 @@ enum Act {
     Create,
 }
 
-/// A request: through the writer's grant, where it has one.
+/// A request, through the writer's grant if there is one.
 #[derive(Clone, Copy)]
 struct Turn {
     session: Session,
@@ -54,7 +54,7 @@ struct Turn {
     grant: Option<Tuid>,
 }
 
-/// The next number below a limit of a stream.
+/// Returns the next number of a stream below a limit.
 fn below(stream: &mut u64, limit: u64) -> u64
     requires { 0 < limit }
     ensures { result < limit }
@@ -102,11 +102,16 @@ fn draw(stream: &mut u64, indices: &[Index; INDICES]) -> Turn
     }
 }
 
-fn request_of(turn: Turn, id: Puid) -> Request {
-    let index = match turn.grant {
+/// Returns the index of an identifier as a request names it: through the grant if there is one.
+fn named(grant: Option<Tuid>, id: Puid) -> Ref {
+    match grant {
         Some(grant) => Ref::Through(grant),
         None => Ref::Direct(id),
-    };
+    }
+}
+
+fn request_of(turn: Turn, id: Puid) -> Request {
+    let index = named(turn.grant, id);
     let slot = turn.slot as u64;
     match turn.act {
         Act::Open => Request::OpenFor {
@@ -129,7 +134,7 @@ fn request_of(turn: Turn, id: Puid) -> Request {
     }
 }
 
-/// Whether the slots have this answer; changes them as it was answered.
+/// Returns whether the slots allow this answer, and changes them as it was answered.
 fn slots_follow(shown: &mut Shown, act: Act, slot: usize, reply: &Reply) -> bool
     requires { slot < 4 }
 {
@@ -144,7 +149,7 @@ fn slots_follow(shown: &mut Shown, act: Act, slot: usize, reply: &Reply) -> bool
     true
 }
 
-/// Whether the index has this answer; changes it as it was answered.
+/// Returns whether the index allows this answer, and changes it as it was answered.
 fn follows(index: &mut Index, turn: Turn, reply: &Reply) -> bool
     requires { turn.slot < 4 }
 {
@@ -174,7 +179,7 @@ fn follows(index: &mut Index, turn: Turn, reply: &Reply) -> bool
     follows
 }
 
-/// A request is asked of the slow server, and its answer followed.
+/// Asks the slow server a request, and follows its answer.
 fn ask(
     rt: &impl Abort,
     alloc: Global,

@@ -1,5 +1,5 @@
 //! What no clause says of the slow server, the formats, the fakes and the small containers: spellings worked by hand,
-//! and that calls which may want memory are done where there is enough. Nothing stands above this crate; its use is its
+//! and that calls which may want memory are done if there is enough. No crate is above this one: it is made for its
 //! tests.
 #![tactic(auto)]
 

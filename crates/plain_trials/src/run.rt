@@ -8,7 +8,7 @@ const ROOT: Puid = Puid {
     word: 0xade0_b876,
 };
 
-/// The index that is made first, and the file that is made then.
+/// The index that is made first, and the file that is made next.
 const INDEX: Puid = Puid {
     block: 3,
     word: 0x903d_f1a0,
@@ -25,7 +25,7 @@ const GRANT: Tuid = Tuid {
     word: 0x28bd_8653,
 };
 
-/// What a reply tells. Bytes are told as one number.
+/// What a reply says. Bytes are given as one number.
 #[derive(Clone, Copy, Debug, PartialEq, Eq)]
 enum Told {
     Done,
@@ -61,7 +61,7 @@ fn number_of(bytes: &[u8]) -> u64 {
     number
 }
 
-/// Requests of one session in their order, and what is told. Only the write's bytes lie on the heap.
+/// Requests of one session in their order, and what they are answered. Only the write's bytes are on the heap.
 fn rows(bytes: Bytes) -> [(Request, Told); 15] {
     let root = Ref::Direct(ROOT);
     let index = Ref::Direct(INDEX);

@@ -45,7 +45,7 @@ fn numbers_are_big_endian(rt: HostRuntime) {
     assert_eq!(rt; read, (0x0506, 0x0102_0304, 0x0708_090a_0b0c_0d0e));
 }
 
-/// Eight bytes are read as this entry, and spelled so again, or refused at this place.
+/// Checks that eight bytes are read as this entry, and spelled so again, or refused at this place.
 fn expect_entry(rt: &impl Abort, bytes: u64, wanted: Result<MapEntry, BadEntry>) {
     let read = MapEntry::decode(&bytes.to_be_bytes());
     assert_eq!(rt; read, wanted, "{bytes:#018x}");
@@ -117,7 +117,7 @@ fn entries_of_a_small_volume_are_read_and_spelled(rt: HostRuntime) {
     }
 }
 
-/// The label of a volume of so many cylinders, whose words are drawn from seed 0.
+/// Returns the label of a volume of `cylinders` cylinders, whose words are drawn from seed 0.
 fn label_of(cylinders: u32) -> Label {
     let word = WORDS[0];
     Label {
@@ -127,7 +127,7 @@ fn label_of(cylinders: u32) -> Label {
     }
 }
 
-/// The label of a volume of one cylinder, byte by byte.
+/// Returns the label of a volume of one cylinder, byte by byte.
 fn small_label() -> Block {
     let mut block = Block::zero();
     block.put_u64(0, 0x4346_5331_0000_0002);
@@ -136,7 +136,7 @@ fn small_label() -> Block {
     block
 }
 
-/// That label, with this number somewhere in it.
+/// Returns that label, with this number at a place in it.
 fn changed_label(at: usize, number: u32) -> Block
     requires { at ≤ 508 }
 {

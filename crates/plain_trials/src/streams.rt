@@ -7,7 +7,7 @@ use std::alloc::Global;
 use std::process::Abort;
 use std::test::Fail;
 
-/// Gives its bytes, some at a call. One of its calls, counted from 1, fails.
+/// Gives its bytes, a few at a call. One of its calls, counted from 1, fails.
 #[derive(Drop)]
 struct Drip<'a> {
     left: &'a [u8],
@@ -34,7 +34,7 @@ impl Source for Drip<'_> {
     }
 }
 
-/// Takes bytes, some at a call. One of its calls, counted from 1, fails.
+/// Takes bytes, a few at a call. One of its calls, counted from 1, fails.
 #[derive(Drop)]
 struct Slow {
     taken: Vec<u8>,
@@ -59,7 +59,7 @@ impl Sink for Slow {
     }
 }
 
-/// The answer to reading "hello" whole at this pace, and how many bytes are left of it.
+/// Returns the answer to reading "hello" whole at this pace, and how many bytes are left of it.
 fn reading(
     alloc: Global,
     pace: usize,
@@ -102,7 +102,7 @@ fn a_source_is_read_whole_or_to_one_byte_past_the_limit(rt: HostRuntime) {
     }
 }
 
-/// A text is written at this pace, so much of it is taken, and by so many calls.
+/// Checks that `taken` is what is taken of a text that is written at this pace, by `calls` calls.
 fn expect_written(
     rt: &impl Abort,
     alloc: Global,

@@ -4,14 +4,14 @@ use Rattle.cfs_base.specs.declared.identifier.Puid.{Puid}
 use Rattle.cfs_base.specs.declared.kind.Kind.{Kind}
 use Rattle.puid_space.specs.declared.directory.Cell.{Cell}
 
--- the identifiers in these cells, the first of which is this block's
+-- the identifiers in these cells; the first cell is this block's
 abbrev pub listed : ℕ → List (Option Cell) → List (Puid × Kind)
 listed block [] = []
 listed block (None ∷ cells) = listed (block + 1) cells
 listed block (Some cell ∷ cells) =
     (record { block = block; word = cell.word }, cell.kind) ∷ listed (block + 1) cells
 
--- the table holds as many identifiers as are counted, each of them fits its number, and so does the room
+-- the table holds as many identifiers as are counted, each of them fits its type, and so does the room
 pub record IsTable (cells : List (Option Cell)) (count : ℕ) : Type 0 where
   pub counted : count ≡ length (listed 0 cells)
   pub room : length cells < 2 ^ 32

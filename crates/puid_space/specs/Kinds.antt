@@ -6,7 +6,7 @@ use Rattle.ufs_model.specs.declared.object.Object.{Object}
 use Rattle.ufs_model.specs.Graph.{Graph}
 pub use Rattle.ufs_model.specs.Kinds.{object_kind}
 
--- the identifiers of these objects, in their order, each with what its object is
+-- the identifiers of these objects, in their order, each with the kind of its object
 abbrev pub kinds_in : List (Puid × Object) → List (Puid × Kind)
 kinds_in objects = map (λ e. (e.0, object_kind e.1)) objects
 

@@ -19,8 +19,10 @@ struct Cell {
     kind: Kind,
 }
 
-/// The identifiers of a volume's objects, each with the kind of its object. No two have the same root block.
-/// A look-up costs the same whatever the number of objects, and only `reserve` takes memory.
+/// The identifiers of a volume's objects, each with the kind of its object.
+///
+/// No two have the same root block. A look-up takes the same time for any number of objects, and only `reserve` takes
+/// memory.
 #[derive(Debug, Drop)]
 pub struct Directory {
     /// A cell for each block number that there is room for.
@@ -42,7 +44,7 @@ impl Model for Directory {
 }
 
 impl Directory {
-    /// No identifiers, and room for none. Takes no memory.
+    /// Makes a directory of no identifiers, with room for none. Takes no memory.
     pub fn new(alloc: Global) -> Directory
         ensures { result ≡ record { named = []; room = 0 } }
     {
@@ -52,7 +54,7 @@ impl Directory {
         }
     }
 
-    /// Makes room for the identifiers of so many blocks. Where memory is wanting all stays as it was.
+    /// Makes room for the identifiers of `blocks` blocks. On an error nothing is changed.
     pub fn reserve(&mut self, blocks: u32) -> Result<(), NoMemory>
         ensures named { self.new.named ≡ self.old.named }
         ensures room { OnOk result (self.new.room ≡ max self.old.room blocks) }
@@ -66,7 +68,7 @@ impl Directory {
         Ok(())
     }
 
-    /// Each identifier must have a root block below this number.
+    /// Returns the number below which each identifier's root block must be.
     pub fn room(&self) -> u32
         ensures room { result ≡ self.now.room }
         ensures listing { IsTrue (is_listing self.now) }
@@ -74,7 +76,7 @@ impl Directory {
         self.cells.len() as u32
     }
 
-    /// The number of identifiers.
+    /// Returns the number of identifiers.
     pub fn len(&self) -> u32
         ensures len { result ≡ length self.now.named }
         ensures listing { IsTrue (is_listing self.now) }
@@ -82,7 +84,7 @@ impl Directory {
         self.len
     }
 
-    /// Adds an identifier, of whose block none is there yet. Takes no memory.
+    /// Adds an identifier. No other has its root block yet. Takes no memory.
     pub fn add(&mut self, id: Puid, kind: Kind)
         requires room { id.block < self.old.room }
         requires free { has_root_in self.old.named id.block ≡ false }
@@ -96,7 +98,7 @@ impl Directory {
         self.len += 1;
     }
 
-    /// Takes an identifier out, and says whether it was there. Takes no memory.
+    /// Removes an identifier, and returns whether it was there. Takes no memory.
     pub fn remove(&mut self, id: Puid) -> bool
         ensures there { result ≡ is_some (directory_kind self.old.named id) }
         ensures named { self.new.named ≡ without_id self.old.named id }
@@ -110,7 +112,7 @@ impl Directory {
         there
     }
 
-    /// The kind of the object with this identifier.
+    /// Returns the kind of the object with this identifier.
     pub fn kind(&self, id: Puid) -> Option<Kind>
         ensures { result ≡ directory_kind self.now.named id }
     {
@@ -118,7 +120,7 @@ impl Directory {
         (cell.word == id.word).then_some(cell.kind)
     }
 
-    /// The identifier with this root block, and the kind of its object.
+    /// Returns the identifier with this root block, and the kind of its object.
     pub fn at(&self, block: u32) -> Option<(Puid, Kind)>
         ensures there { is_some result ≡ has_root_in self.now.named block }
         ensures listed { (id : Puid) (kind : Kind) → directory_kind self.now.named id ≡ Some kind → id.block ≡ block
@@ -128,14 +130,14 @@ impl Directory {
         Some((Puid { block, word }, kind))
     }
 
-    /// Whether an identifier has this root block.
+    /// Returns whether an identifier has this root block.
     pub fn has_root(&self, block: u32) -> bool
         ensures { result ≡ has_root_in self.now.named block }
     {
         cell_of(&self.cells, block).is_some()
     }
 
-    /// The least identifier whose number is not below this one.
+    /// Returns the least identifier whose number is not below this one.
     pub fn first_from(&self, number: u64) -> Option<Puid>
         ensures { result ≡ first_in self.now.named number }
     {
@@ -154,7 +156,8 @@ impl Directory {
         None
     }
 
-    /// Takes out all identifiers whose root block fails the test, and adds them to `gone` in rising order.
+    /// Removes all identifiers whose root block fails the test, and appends them to `gone` in increasing order.
+    ///
     /// Takes no memory: `gone` must have room for as many as there are.
     pub fn take_unless<F: Fn(u32) -> bool>(&mut self, is_kept: F, gone: &mut Vec<Puid>)
         requires callable { F.IsAlwaysCallable is_kept }
@@ -183,7 +186,7 @@ impl Directory {
     }
 }
 
-/// The cell of a block, where there is one and it is filled.
+/// Returns the cell of a block, if there is one and it is filled.
 fn cell_of(cells: &[Option<Cell>], block: u32) -> Option<Cell>
     ensures { result ≡ slice_index_or cells.now block None }
 {

@@ -40,7 +40,7 @@ impl Model for Draw {
 }
 
 impl Draw {
-    /// The words of a seed, of which none is drawn yet.
+    /// Begins the words of a seed, with none drawn.
     #[tactic(auto, unfolding(ufs_model::specs::Word::word))]
     pub fn new(seed: u64) -> Draw
         ensures { result ≡ record { seed = seed; drawn = 0 } }
@@ -55,14 +55,16 @@ impl Draw {
         }
     }
 
-    /// How many words were drawn.
+    /// Returns how many words were drawn.
     pub fn drawn(&self) -> u32
         ensures { result ≡ self.now.drawn }
     {
         self.drawn
     }
 
-    /// Draws the next word. The number of draws must not have reached its type's end.
+    /// Draws the next word.
+    ///
+    /// The number of draws must be below the greatest of its type.
     #[tactic(auto, unfolding(ufs_model::specs::Word::word))]
     pub fn next(&mut self) -> Drawn
         requires { self.old.drawn < 4294967295 }
@@ -79,7 +81,7 @@ impl Draw {
         }
     }
 
-    /// The word of the next draw, which isn't drawn yet.
+    /// Returns the word of the next draw, and doesn't draw it.
     pub fn ahead(&self) -> u32
         ensures { result ≡ word self.now.seed (self.now.drawn + 1) }
     {
@@ -87,14 +89,14 @@ impl Draw {
     }
 }
 
-/// The word of the root identifier.
+/// Returns the word of the root identifier.
 pub fn root_word(seed: u64) -> u32
     ensures { result ≡ word seed 0 }
 {
     word_of(seed, 0)
 }
 
-/// The generator of a seed, keyed, before its first draw.
+/// Returns the generator of a seed, before its first draw.
 fn first_draw(seed: u64) -> ChaCha20Rng
     ensures { result ≡ stream_at seed 1 }
 {

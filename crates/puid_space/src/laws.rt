@@ -1,4 +1,4 @@
-//! How the kinds of a graph's objects change with the graph, as contracts. None of these calls does anything.
+//! How the kinds of a graph's objects change with the graph, as contracts of functions that do nothing.
 ghost use Rattle.std.specs.Prelude.{◌≡◌, ℕ, Bool, not, List, filter, option_map, IsTrue, Some};
 ghost use Rattle.std.specs.BTreeMap.{insert_entry};
 ghost use Rattle.std.specs.Map.{keys_of};
@@ -19,7 +19,7 @@ pub fn kinds_follow_the_graph()
     ensures root { (g : Graph) (block : ℕ) → has_root_in (kinds_of g) block ≡ has_block g.objects block }
     ensures added { (g : Graph) (id : Puid) (o : Object)
         → kinds_of (with_object g id o) ≡ insert_entry puid_cmp (kinds_of g) id (object_kind o) }
-    // An object of the same kind in the place of one.
+    // An object may be replaced by one of the same kind.
     ensures replaced { (g : Graph) (id : Puid) (o : Object) → IsTrue (rises (ids_of g))
         → directory_kind (kinds_of g) id ≡ Some (object_kind o)
         → kinds_of (with_object g id o) ≡ kinds_of g }
@@ -27,13 +27,13 @@ pub fn kinds_follow_the_graph()
         → kinds_of (without g ids) ≡ filter (λ e. not (is_among e.0 ids)) (kinds_of g) }
 {}
 
-/// What is left where those are taken out whose root block fails a test.
+/// What is left if those whose root block fails a test are removed.
 pub fn taken_are_left_out()
     ensures { (test : ℕ → Bool) (named : List (Puid × Kind))
         → filter (λ e. not (is_among e.0 (taken_by test named))) named ≡ kept_by test named }
 {}
 
-/// A directory lists its identifiers in their order, each with a root block that there is room for.
+/// A directory lists its identifiers in their order, each with a root block for which there is room.
 pub fn directories_are_listings(directory: &Directory)
     ensures { IsTrue (is_listing directory.now) }
 {

@@ -1,4 +1,4 @@
--- A draft begun.
+-- How a draft begins.
 use Rattle.std.specs.Prelude.{◌≡◌, ℕ, ◌+◌, ◌<◌, ◌≤◌, true, false, [], length, sum, None, Some, IfErr, IfOk}
 use Rattle.std.specs.Prelude.{Result}
 use Rattle.block_tree.specs.Root.{IsRootBlock}
@@ -24,31 +24,31 @@ use Rattle.vol_owners.specs.Account.{Drafts, with_opened}
 abbrev pub equal_to : Object → Draft
 equal_to o = record { object = o; fresh = [] }
 
--- the drafts that stand once this one is begun
+-- the drafts that there are once this one has begun
 abbrev pub drafts_begun : {D : Type 0} {g : Ghosts D} {old : D} {before : Kept} {at : ℕ} → ObjectView g old before at
     → Drafting → Drafts
 drafts_begun v draft = with_opened v.id (opened_as draft (equal_to v.object)) v.ds
 
--- The store has this draft besides, which equals the object. The block that was the least Free one is its shadow root.
+-- The store also has this draft, which equals the object. The block that was the least Free one is its shadow root.
 pub record OpensDraft {D : Type 0} {g : Ghosts D} {old : D} {before : Kept} {at : ℕ}
     (v : ObjectView g old before at) (new : D) (after : Kept) (draft : Drafting) : Type 0 where
   pub steps : Steps g v.graph v.id (drafts_begun v draft) old new after
   pub least : (s : ℕ) × (draft.shadow ≡ Some s) × IsLeastFree (g.content old) s
 
--- of an object that has none yet
+-- the same for an object that has no draft yet
 abbrev pub BeginsDraft : {D : Type 0} {g : Ghosts D} {old : D} {before : Kept} {at : ℕ} → ObjectView g old before at → D
     → Kept → Drafting → Type 0
 BeginsDraft v new after draft = IsShut v → OpensDraft v new after draft
 
--- the store has a draft without a shadow root besides, of the root that the block holds
+-- the store also has a draft without a shadow root, of the root that the block holds
 abbrev pub BeginsDirect : {D : Type 0} {g : Ghosts D} {old : D} {before : Kept} {at : ℕ} → ObjectView g old before at
     → D → Kept → Drafting → Type 0
 BeginsDirect {g = g} v new after draft = IsShut v → StoreHas g v.graph (drafts_begun v draft) new after
 
--- how it ends on any disk: Full where fewer blocks are Free than 1 and the floor, and nothing was done then
+-- how it ends on any disk: it is Full if fewer blocks are Free than 1 plus the floor, and nothing was done then
 pub record BeginCall {D : Type 0} (g : Ghosts D) (at floor : ℕ) (old new : D) (before after : Kept)
     (result : Result Drafting Refused) : Type 0 where
-  -- it equals its object, and has a shadow root
+  -- the draft equals its object, and has a shadow root
   pub begun : IfOk result (λ draft. (s : ℕ) × (draft ≡ begun_at at (Some s) draft.own))
   pub root : Tells g old → IfOk result (λ draft. IsRootBlock (block_at (g.content old) at) draft.own)
   pub room : IfOk result (λ draft. 1 + floor ≤ sum before.free)

@@ -25,7 +25,7 @@ pub record WritesDraftBlock {D : Type 0} (g : Ghosts D) (n : ℕ) (block : List 
   pub stopped : OnErr result (HasStopped g true old new)
   pub calls : MakesAtMost g 1 1 old new
 
--- where the draft has a node of its own nothing is done; else a block is claimed for it
+-- if the draft has a node of its own nothing is done, else a block is claimed for it
 pub data GetsDraftNode {D : Type 0} (g : Ghosts D) (n : ℕ) (old new : D) (before after : Kept) (drafting : Drafting)
     (result : Result BlockNo Refused) : Type 0 where
   Had : is_fresh_node drafting n ≡ true → new ≡ old → after ≡ before
@@ -39,13 +39,13 @@ pub record SetsFresh (leaf : ℕ) (was now : Drafting) : Type 0 where
   pub leaves : now.leaves ≡ set was.leaves leaf true
   pub nodes : now.nodes ≡ set was.nodes (leaf / leaf_pointers.count) true
 
--- the same on any disk, where a leaf that was fresh may have stood below a node that wasn't
+-- the same on any disk, on which a leaf that was fresh may have been below a node that wasn't
 pub record SetsFlags (leaf : ℕ) (was now : Drafting) : Type 0 where
   pub leaves : now.leaves ≡ set was.leaves leaf true
   pub nodes : ((is_fresh_leaf was leaf ≡ true) × (now.nodes ≡ was.nodes))
       ⊎ (now.nodes ≡ set was.nodes (leaf / leaf_pointers.count) true)
 
--- so they are, and the draft has this root
+-- the leaf and its node are fresh, and the draft has this root
 pub record Adopts (leaf : ℕ) (next : roots.Root) (was now : Drafting) : Type 0 where
   pub fresh : SetsFresh leaf was now
   pub root : now.root ≡ next
@@ -54,7 +54,7 @@ pub record Adopts (leaf : ℕ) (next : roots.Root) (was now : Drafting) : Type 0
   pub own : now.own ≡ was.own
   pub created : now.created ≡ was.created
 
--- so they are, the node at this block
+-- the leaf and its node are fresh, and the node is at this block
 pub record Adds (leaf block : ℕ) (was now : Drafting) : Type 0 where
   pub fresh : SetsFresh leaf was now
   pub root : now.root ≡ record was.root { nodes = set was.root.nodes (leaf / leaf_pointers.count) block }

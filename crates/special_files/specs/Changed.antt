@@ -14,8 +14,8 @@ use Rattle.block_tree.specs.Reads.{leaves_at}
 
 -- ---- what the two lists are
 
--- taken are those blocks of the draft's tree that are meant for the object, each once: all that are, but the shadow
--- root
+-- `taken` has those blocks of the draft's tree that are meant for the object, each once. These are all that are meant
+-- for it, except the shadow root.
 pub record AreTaken (image : Image) (id : Puid) (d : Opened) (taken : List ℕ) : Type 0 where
   pub stands : (n : ℕ) → has_number n taken ≡ true → StandsIn (tree_in image (content_of d)) n
   pub meant : (n : ℕ) → has_number n taken ≡ true → is_meant_for image id.block n ≡ true
@@ -23,7 +23,7 @@ pub record AreTaken (image : Image) (id : Puid) (d : Opened) (taken : List ℕ) 
   pub all : (n : ℕ) → is_meant_for image id.block n ≡ true → (d.shadow ≡ Some n) ⊎ (has_number n taken ≡ true)
   pub once : numbers_differ taken ≡ true
 
--- dropped are those blocks of the object's tree that the draft's tree doesn't have, each once
+-- `dropped` has those blocks of the object's tree that the draft's tree doesn't have, each once.
 pub record AreDropped (image : Image) (id : Puid) (d : Opened) (dropped : List ℕ) : Type 0 where
   pub stands : (n : ℕ) → has_number n dropped ≡ true → StandsIn (tree_in image (root_spelling d.own)) n
   pub had : (n : ℕ) → has_number n dropped ≡ true → is_owned_by is_had id.block (entry_in image n) ≡ true
@@ -36,34 +36,34 @@ pub record IsChanged (image : Image) (id : Puid) (d : Opened) (taken dropped : L
   pub takes : AreTaken image id d taken
   pub drops : AreDropped image id d dropped
   pub apart : (n : ℕ) → has_number n taken ≡ true → has_number n dropped ≡ false
-  -- the root of an object that the draft makes is among neither
+  -- neither has the root of an object that the draft makes
   pub no_created : (c : ℕ) → d.created ≡ Some c → (has_number c taken ≡ false) × (has_number c dropped ≡ false)
 
--- on any disk of this size they are blocks of it, and none is block 0
+-- they are blocks of a disk of this size, and none is block 0
 abbrev pub AreOnDisk : ℕ → List ℕ → Type 0
 AreOnDisk size ns = All (λ n. (n ≢ 0) × (n < size)) ns
 
--- ---- how they are found
+-- ---- how the lists are found
 
--- a pointer that leads to a block, where the other at its place is not the same
+-- a pointer that leads to a block, if the other at its place is not the same
 abbrev pub unlike : ℕ → ℕ → List ℕ
 unlike n m = if (n == 0) || (n == m) then [] else n ∷ []
 
--- of the first so many pointers of one table those that are unlike the other's
+-- those of the first pointers of one table that are unlike the other's
 unfoldable pub all_unlike : (ℕ → ℕ) → (ℕ → ℕ) → ℕ → List ℕ
 all_unlike f g zero = []
 all_unlike f g (suc k) = all_unlike f g k ++ unlike (f k) (g k)
 
--- the pointers to a node and to its leaves: one table
+-- the pointers to a node and to its leaves, as one table
 abbrev pub pointer_table : ℕ → List ℕ → ℕ → ℕ
 pointer_table block leaves zero = block
 pointer_table block leaves (suc k) = get_or leaves k 0
 
--- the same of the node at a block
+-- the same table for the node at a block
 abbrev pub in_node : Image → ℕ → ℕ → ℕ
 in_node image block = pointer_table block (leaves_at image block)
 
--- so many blocks at most are more on a list, and they are on a disk of this size
+-- at most `most` more blocks are on a list, and they are on a disk of this size
 pub record Adds (size most : ℕ) (old new : List ℕ) : Type 0 where
   pub room : length new ≤ length old + most
   pub on_disk : AreOnDisk size old → AreOnDisk size new

@@ -1,4 +1,4 @@
--- Entries that are changed one after another, as a commit and an abort do.
+-- Entries that are changed one after another, as a commit and an abort change them.
 use Rattle.std.specs.Prelude.{◌≡◌, ◌⊎◌, ℕ, ◌+◌, ◌≤◌, ◌≢◌, ◌==◌, ◌%◌, true, false, List, [], ◌∷◌, ◌++◌, IfErr, OnOk}
 use Rattle.std.specs.Prelude.{Ok, Err, Result, IsSome, Option, Some, None, drop, length, option_to_list, take}
 use Rattle.cfs_base.specs.Codes.{past_disk}
@@ -45,7 +45,7 @@ use Rattle.special_files.specs.Refusal.{IsDraftDamage, IsDraftTrouble}
 
 -- ---- entries changed
 
--- a device call failed, where a write or barrier was tried, or a block that was read is damaged
+-- a device call failed after a write or barrier was tried, or a block that was read is damaged
 abbrev pub CommitFails : {D : Type 0} → Ghosts D → Top → D → D → Kept → Trouble → Type 0
 CommitFails g at old new kept (trouble.Disk tried) = (tried ≡ true) × HasFailed g old new
 CommitFails g at old new kept (trouble.Damaged damage) = IsDraftDamage g at old new kept damage
@@ -54,7 +54,7 @@ CommitFails g at old new kept (trouble.Damaged damage) = IsDraftDamage g at old 
 pub record Flips {D : Type 0} (g : Ghosts D) (n t : ℕ) (how : EntryChange) (ns : List ℕ) (old new : D)
     (result : Result (Unit {0}) Trouble) : Type 0 where
   pub tells : Tells g old → OnOk result (Tells g new)
-  -- where they may be on a course
+  -- if they may be changed on a course
   pub put : (course : Course) → IsCourse course → Keeps g course old → MayTurn course (g.content old) (λ m. how) ns
       → OnOk result (IsMapped (turned (λ m. how) ns) (g.content old) (g.content new))
   -- a run stays on its course, and each image that a crash leaves is on it
@@ -62,14 +62,14 @@ pub record Flips {D : Type 0} (g : Ghosts D) (n t : ℕ) (how : EntryChange) (ns
       → OnOk result (Keeps g course new)
   pub leaves : (course : Course) → IsCourse course → Keeps g course old → MayTurn course (g.content old) (λ m. how) ns
       → Leaves g old new (IsOn course)
-  -- on it no damage is met
+  -- no damage is met on it
   pub sound : (course : Course) → IsCourse course → Keeps g course old → MayTurn course (g.content old) (λ m. how) ns
       → IfErr result (λ t. is_damage t ≡ false)
   pub fails : (at : ℕ) (kept : Kept) → IfErr result (CommitFails g (still_top at) old new kept)
   pub calls : MakesAtMost g n t old new
 
--- The same of the first of these blocks, which lie in one map, by one read and one write of it. How many they are is
--- told.
+-- The same for the first of these blocks, which lie in one map, by one read and one write of it. The result says how
+-- many they are.
 abbrev pub FlipsRun : {D : Type 0} → Ghosts D → EntryChange → List ℕ → D → D → Result ℕ Trouble → Type 0
 FlipsRun g how ns old new (Ok i) = (i ≤ length ns) × (1 + runs (drop i ns) ≡ runs ns)
     × Flips g 2 1 how (take i ns) old new (Ok tt)
@@ -84,9 +84,9 @@ given_all kept (n ∷ ns) = given_all (after_giving kept n 1) ns
 
 -- ---- a commit
 
--- The image holds these objects. The draft of one stands with its root in the shadow root s. These blocks of its tree
--- are those that are meant for the object, and those are the blocks of the object's own tree that the draft's doesn't
--- have. The root of the object that is made with the commit, if one is, is there.
+-- The image holds these objects. One of them has a draft whose root is in the shadow root s. `taken` has those blocks
+-- of the draft's tree that are meant for the object, and `dropped` those of the object's own tree that the draft's
+-- doesn't have. The root of the object that is made with the commit, if one is, exists.
 pub record IsReady (a : Image) (graph : Graph) (id : Puid) (was o : Object) (s : ℕ) (taken dropped : List ℕ)
     (created : Option ℕ) : Type 0 where
   pub holds : Holds a graph
@@ -104,7 +104,7 @@ pub record IsReady (a : Image) (graph : Graph) (id : Puid) (was o : Object) (s :
   pub dropped_once : numbers_differ dropped ≡ true
   pub made : (c : ℕ) → created ≡ Some c → IsMadeRoot a c
 
--- an image with these blocks released and the commit bit of root r set
+-- an image in which these blocks are released and the commit bit of root r is set
 abbrev pub bit_set : Image → ℕ → List ℕ → Image
 bit_set a r dropped = mapped (λ n e. changed_if (n == r) SetBit (turned (λ m. Release) dropped n e)) a
 
@@ -116,7 +116,7 @@ puid_at block word = record { block = block; word = word }
 abbrev pub IsOldOrNew : (graph full : Graph) → Puid → Object → Image → Type 0
 IsOldOrNew graph full id o c = Holds c graph ⊎ Holds c (with_object full id o)
 
--- From image a to image b the root of an object that is made became Allocated; it is all that has this owner.
+-- From image a to image b the root of an object that is made became Allocated. It is all that has this owner.
 pub record IsEntered (a b : Image) (c : ℕ) : Type 0 where
   pub had : is_owned_by is_had c (entry_in b c) ≡ true
   pub alone : (n : ℕ) → is_owned_by is_taken c (entry_in b n) ≡ true → n ≡ c
@@ -128,14 +128,14 @@ pub record IsNoted (at : ℕ) (kept : Option LeftCommit) (l : LeftCommit) : Type
   pub root : l.root ≡ at
   pub uncopied : l.copied ≡ false
 
--- Where a commit is unfinished now, its bit was tried in this call, and no write waits.
+-- If a commit is unfinished now, its bit was tried in this call, and no write waits for a barrier.
 pub record IsAtBit {D : Type 0} (g : Ghosts D) (old new : D) (left : Option LeftCommit) : Type 0 where
   pub tried : IsSome left → HasTried g old new
   pub settled : IsSome left → Tells g old → IsSettled g new
 
--- The draft of an object is its object from its commit bit on, which is durable: what is left of the commit is kept. In
--- the image that is to come no block of the object waits for anything, and the root of the one that is made with it is
--- there.
+-- From its commit bit on, which is durable, the draft of an object is the object, and what is left of the commit is
+-- kept. In the image that is to come no block of the object waits for anything, and the root of the object that is
+-- made with it exists.
 pub record Decided {D : Type 0} (g : Ghosts D) (graph : Graph) (id : Puid) (o : Object) (s : ℕ) (created : Option ℕ)
     (old new : D) (after : Kept) : Type 0 where
   pub left : LeftCommit
@@ -155,8 +155,8 @@ pub record Decided {D : Type 0} (g : Ghosts D) (graph : Graph) (id : Puid) (o : 
   pub copied : block_at (final_image g new after) id.block ≡ block_at (g.content old) s
   pub given_back : is_free_in (final_image g new after) s ≡ true
 
--- A draft that stands ready becomes its object. Each image that a crash leaves on the way has all old, or all new, and
--- no damage is met.
+-- A draft that is ready becomes its object. Each image that a crash leaves on the way has all old, or all new, and no
+-- damage is met.
 pub record FinishesCommit {D : Type 0} (g : Ghosts D) (at s : ℕ) (taken dropped : List ℕ) (created : Option ℕ)
     (old new : D)
     (before after : Kept) (result : Result (Unit {0}) Trouble) : Type 0 where
@@ -183,7 +183,7 @@ pub record Making : Type 0 where
   pub id : Puid
   pub object : Object
 
--- its root block, if one is made
+-- the root block of the object that is made, if one is
 abbrev pub making_root : Option Making → Option ℕ
 making_root None = None
 making_root (Some m) = Some m.id.block
@@ -192,29 +192,29 @@ abbrev pub with_making : Graph → Option Making → Graph
 with_making graph None = graph
 with_making graph (Some m) = with_object graph m.id m.object
 
--- The draft makes no object; or this one, whose root is written, and leads to nothing.
+-- The draft makes no object, or this one, whose root is written and leads to nothing.
 abbrev pub Makes : Image → Option ℕ → Option Making → Type 0
 Makes image created None = created ≡ None
 Makes image created (Some m) = (created ≡ Some m.id.block) × ((root : roots.Root) × IsBareRoot image m.id root
     × (bare_object root ≡ m.object))
 
--- The least Free block of image a was taken for a shadow root of the object with this root block. In image b it is Free
--- again, and has what was copied from it to the root block.
+-- The least Free block of image a was taken for a shadow root of the object with this root block. In image b it is
+-- Free again, and has the content that was copied from it to the root block.
 pub record TakesShadow (at : ℕ) (a b : Image) : Type 0 where
   pub shadow : ℕ
   pub least : IsLeastFree a shadow
   pub given_back : is_free_in b shadow ≡ true
   pub copied : block_at b shadow ≡ block_at b at
 
--- The store has this object in place of its draft, and the one that is made with it. Nothing waits. In the image that
--- is to come only blocks of these and Free ones changed.
+-- The store has this object in the place of its draft, and the object that is made with it. No write waits for a
+-- barrier. In the image that is to come only blocks of these objects and Free blocks changed.
 pub record Committed {D : Type 0} (g : Ghosts D) (graph : Graph) (ds : Drafts) (id : Puid) (o : Object)
     (made : Option Making) (old new : D) (space : Kept) : Type 0 where
   pub store : StoreIs g (with_object (with_making graph made) id o) (without_draft id ds) new space
   pub settled : IsSettled g new
   pub only : ChangesOnly (λ entry. of_owners (id.block ∷ option_to_list (making_root made)) entry) (g.content old)
       (final_image g new space)
-  -- the object's tree is the draft's: each node and leaf stands where it stood, in the same block, with its part and
+  -- the object's tree is the draft's: each node and leaf is where it was, in the same block, with its part and
   -- content
   pub tree : (d : Opened) → ds id ≡ Some d → tree_in (final_image g new space)
       (block_at (final_image g new space) id.block) ≡ tree_in (g.content old) (content_of d)
@@ -225,14 +225,15 @@ pub record Committed {D : Type 0} (g : Ghosts D) (graph : Graph) (ds : Drafts) (
   pub root : (d : Opened) → ds id ≡ Some d
       → block_at (final_image g new space) id.block ≡ root_spelling d.root
 
--- how a commit ends where the store has the draft
+-- how a commit ends if the store has the draft
 pub record CommitEnds {D : Type 0} (g : Ghosts D) (graph : Graph) (ds : Drafts) (id : Puid) (o : Object)
     (made : Option Making) (old new : D) (space : Kept) (result : Result (Unit {0}) Trouble) : Type 0 where
   pub done : OnOk result (Committed g graph ds id o made old new space)
   pub leaves : Leaves g old new (IsOldOrNew graph (with_making graph made) id o)
   pub sound : IfErr result (λ t. is_damage t ≡ false)
 
--- of a draft as the layers above see it: where its root and its shadow root are, its two roots, and what it makes
+-- the parts of a draft as the layers above see it: where its root and its shadow root are, its two roots, and what it
+-- makes
 pub record AreDraftParts (was : Drafting) (at : ℕ) (shadow : Option ℕ) (own root : roots.Root)
     (created : Option ℕ) : Type 0 where
   pub at_is : was.at ≡ at
@@ -241,7 +242,7 @@ pub record AreDraftParts (was : Drafting) (at : ℕ) (shadow : Option ℕ) (own 
   pub root_is : was.root ≡ root
   pub created_is : was.created ≡ created
 
--- the same result of a call that takes blocks
+-- the same result as that of a call that takes blocks
 abbrev pub as_refused : {A : Type 0} → Result A Trouble → Result A Refused
 as_refused (Ok x) = Ok x
 as_refused (Err t) = Err (refused_by t)
@@ -252,15 +253,15 @@ as_refused (Err t) = Err (refused_by t)
 abbrev pub undoing : List ℕ → Option ℕ → Option ℕ → List ℕ
 undoing taken shadow made = taken ++ (option_to_list shadow ++ option_to_list made)
 
--- The store has no draft of the object any more. Only blocks that were meant for it changed, and the root of the object
--- that was to be made with it, which is Free.
+-- The store no longer has a draft of the object. Only blocks that were meant for it changed, and the root of the
+-- object that was to be made with it, which is Free.
 pub record Dropped {D : Type 0} (g : Ghosts D) (graph : Graph) (ds : Drafts) (id : Puid) (created : Option ℕ)
     (old new : D) (space : Kept) : Type 0 where
   pub store : StoreHas g graph (without_draft id ds) new space
   pub freed : (c : ℕ) → created ≡ Some c → is_free_in (g.content new) c ≡ true
   pub only : ChangesOnly (λ entry. of_drafts (id.block ∷ option_to_list created) entry) (g.content old) (g.content new)
 
--- how an abort ends where the store has the draft
+-- how an abort ends if the store has the draft
 pub record AbortEnds {D : Type 0} (g : Ghosts D) (graph : Graph) (ds : Drafts) (id : Puid) (created : Option ℕ)
     (old new : D) (space : Kept) (result : Result (Unit {0}) Trouble) : Type 0 where
   pub done : OnOk result (Dropped g graph ds id created old new space)
@@ -269,13 +270,14 @@ pub record AbortEnds {D : Type 0} (g : Ghosts D) (graph : Graph) (ds : Drafts) (
 
 -- ---- a draft that leads past the disk
 
--- there is such a block, and it lies past a disk of this size
+-- there is such a block, and it is past a disk of this size
 pub record IsFar (size : ℕ) (block : Option ℕ) : Type 0 where
   pub n : ℕ
   pub is : block ≡ Some n
   pub far : size ≤ n
 
--- a node of its object's root or of its own does, its shadow root, or the root that is made with it
+-- a node of its object's root or of its own root is past the disk, or its shadow root, or the root that is made with
+-- it
 pub data IsFarPart (size : ℕ) (shadow : Option ℕ) (own root : roots.Root) (created : Option ℕ) : Type 0 where
   FarRoots : IsFarRoot size own ⊎ IsFarRoot size root → IsFarPart size shadow own root created
   FarShadow : IsFar size shadow → IsFarPart size shadow own root created
@@ -294,8 +296,8 @@ draft_top was = parts_top was.at was.shadow was.own was.root was.created
 
 -- ---- how they end on any disk
 
--- A commit: it had tried something where it is done. Past its bit no write waits, of whatever disk that tells its
--- content, and what is left of it is kept.
+-- A commit. If it is done it had tried something. Past its bit no write waits for a barrier, on any disk that tells
+-- its content, and what is left of it is kept.
 pub record CommitsSo {D : Type 0} (g : Ghosts D) (at : Top) (n t : ℕ) (old new : D) (before after : Kept)
     (result : Result (Unit {0}) Trouble) : Type 0 where
   pub refused : IfErr result (IsDraftTrouble g at old new after)
@@ -305,21 +307,21 @@ pub record CommitsSo {D : Type 0} (g : Ghosts D) (at : Top) (n t : ℕ) (old new
   pub left : OnOk result ((l : LeftCommit) × IsNoted at.block after.left l)
   pub calls : MakesAtMost g n t old new
 
--- of a draft
+-- a commit of a draft
 pub record CommitCall {D : Type 0} (g : Ghosts D) (was : Drafting) (old new : D) (before after : Kept)
     (result : Result (Unit {0}) Trouble) : Type 0 where
   pub ends : CommitsSo g (draft_top was) commit_calls commit_tries old new before after result
-  -- of one that has a shadow root, where a device call failed a write or a barrier was tried
+  -- if the draft has a shadow root and a device call failed, a write or a barrier was tried
   pub tried : was.shadow ≢ None → IfErr result (λ t. t ≢ trouble.Disk false)
-  -- where one failed before the first try, only reads were made
+  -- if a call failed before the first try, only reads were made
   pub untried : IfErr result (λ t. t ≡ trouble.Disk false → (after ≡ before) × OnlyReads g (1 + changed_reads) old new)
 
--- of one that equalled its object until one slot was filled
+-- a commit of a draft that equalled its object until one slot was filled
 abbrev pub SwapCall : {D : Type 0} → Ghosts D → Drafting → D → D → Kept → Kept → Result (Unit {0}) Trouble → Type 0
 SwapCall g was old new before after result =
     CommitsSo g (made_top was.at was.created) 11 7 old new before after result
 
--- an abort: where a device call failed a write or a barrier was tried
+-- an abort: if a device call failed, a write or a barrier was tried
 pub record AbortCall {D : Type 0} (g : Ghosts D) (was : Drafting) (old new : D) (before after : Kept)
     (result : Result (Unit {0}) Trouble) : Type 0 where
   pub refused : IfErr result (IsDraftTrouble g (draft_top was) old new after)

@@ -1,4 +1,4 @@
--- An object made beside a draft of an index: its root claimed and written, and its identifier put into a slot.
+-- An object made beside a draft of an index: its root is claimed and written, and its identifier is put into a slot.
 use Rattle.std.specs.Prelude.{◌≡◌, ℕ, ◌+◌, ◌/◌, ◌%◌, ◌≤◌, [], ◌∷◌, false, replicate, set, Some, sum, true}
 use Rattle.std.specs.Prelude.{IfErr, IfOk, OnOk, Result}
 use Rattle.block_tree.specs.Pointers.{node_pointers, pointers_of, size_limit}
@@ -50,13 +50,13 @@ made_of kinds.Normal fill size = objects.File (new_file file_kinds.Normal fill)
 made_of kinds.Special fill size = objects.File (new_file file_kinds.Special fill)
 made_of kinds.Index fill size = objects.Index (new_index (size / 8))
 
--- a file is made without bytes; an index has a slot or more, of 8 bytes each, and no fill byte
+-- a file is made without bytes; an index has at least one slot, of 8 bytes each, and no fill byte
 abbrev pub MayBeMade : Kind → (fill size : ℕ) → Type 0
 MayBeMade kinds.Normal fill size = size ≡ 0
 MayBeMade kinds.Special fill size = size ≡ 0
 MayBeMade kinds.Index fill size = (fill ≡ 0) × (8 ≤ size) × (size ≤ size_limit) × (size % 8 ≡ 0)
 
--- such a root is written as it is, and leads to nothing
+-- such a root is valid as it is, and leads to nothing
 pub record IsBare (root : Root) : Type 0 where
   pub good : IsRoot root
   pub no_node : root.nodes ≡ replicate node_pointers.count 0
@@ -73,17 +73,17 @@ pub record IsOpenMap {D : Type 0} (g : Ghosts D) (old : D) (space : Kept) (e : R
   pub is : e ≡ refusals.Damaged (record { block = 0; code = no_entry })
   pub free : Tells g old → AreCounts (g.content old) space → is_free_in (g.content old) 0 ≡ true
 
--- the root is entered at a block that was Free, meant for itself, and written
+-- the root has an entry at a block that was Free, is meant for itself, and is written
 abbrev pub with_root : Image → ℕ → Root → Image
 with_root image n root = set (with_entry image n (intended places.Root n)) n (root_spelling root)
 
--- the disk has this image, and carries these objects, and the Free blocks are counted
+-- the disk has this image and carries these objects, and the Free blocks are counted
 pub record HasImage {D : Type 0} (g : Ghosts D) (graph : Graph) (now : D) (space : Kept) (image : Image) : Type 0 where
   pub carries : Carries g graph now
   pub counts : AreCounts (g.content now) space
   pub content : g.content now ≡ image
 
--- so it ends, and each image on the way holds all objects as they were
+-- it ends so, and each image on the way holds all objects as they were
 pub record RootEnds {D : Type 0} (g : Ghosts D) (graph : Graph) (old now : D) (space : Kept) (image : Image)
     (result : Result (Unit {0}) Refused) : Type 0 where
   pub done : OnOk result (HasImage g graph now space image)
@@ -96,13 +96,13 @@ pub record RootEnds {D : Type 0} (g : Ghosts D) (graph : Graph) (old now : D) (s
 abbrev pub making_of : ℕ → Root → Making
 making_of block root = record { id = puid_at block root.word; object = bare_object root }
 
--- the draft of the model with its identifier in the slot
+-- the draft of the model with the object's identifier in the slot
 abbrev pub created_draft : Index → (slot block : ℕ) → Root → Draft → Draft
 created_draft i slot block root d = filled_draft i slot (Some (puid_at block root.word)) d
 
--- The draft has the new object's identifier in the slot, and makes the object: its root stands at the block, meant for
+-- The draft has the new object's identifier in the slot, and makes the object: its root is in the block, is meant for
 -- itself, and leads to nothing. The block was claimed first, and then the draft's leaf and node as for any slot.
--- Nothing changed but this, what is meant for the index, and Free blocks.
+-- Nothing else changed except what is meant for the index, and Free blocks.
 pub record CreatesBeside {D : Type 0} {g : Ghosts D} {old : D} {before : Kept} {was : Drafting}
     (v : DraftView g old before was) (i : Index) (slot block : ℕ) (root : Root) (new : D) (after : Kept)
     (now : Drafting) (swap : Swap) : Type 0 where
@@ -116,16 +116,16 @@ pub record CreatesBeside {D : Type 0} {g : Ghosts D} {old : D} {before : Kept} {
   pub beside : SameBeside (slot / 64) (tree_in (g.content old) (root_spelling was.root))
       (tree_in (g.content new) (root_spelling now.root))
   pub only : ChangesOnly (λ entry. of_drafts (v.id.block ∷ block ∷ []) entry) (g.content old) (g.content new)
-  -- where the draft was its object
+  -- if the draft was its object
   pub swaps : was.root ≡ was.own → IsSwapped (g.content new) v.id now (created_draft i slot block root v.draft) swap
 
--- of an index
+-- the same for an index
 abbrev pub CreatesIfIndex : {D : Type 0} {g : Ghosts D} {old : D} {before : Kept} {was : Drafting}
     → DraftView g old before was → (slot block : ℕ) → Root → D → Kept → Drafting → Swap → Type 0
 CreatesIfIndex v slot block root new after now swap = (i : Index) → v.draft.object ≡ objects.Index i
     → CreatesBeside v i slot block root new after now swap
 
--- the draft that makes it
+-- the draft that makes the object
 abbrev pub adopting : Drafting → ℕ → Drafting
 adopting was block = record was { created = Some block }
 
@@ -137,5 +137,5 @@ pub record MakesBesideCall {D : Type 0} (g : Ghosts D) (slot block : ℕ) (old n
   pub ends : EndsCall g (top_of was) 0 11 6 (1 + draft_takes was (slot / 64)) old new before after result
   pub tried : OnOk result (HasTried g old new)
   pub untried : IfErr result (λ e. e ≡ refusals.Disk false → (after ≡ before) × OnlyReads g 3 old new)
-  -- never Full where the blocks that it takes are Free
+  -- it is never Full if the blocks that it takes are Free
   pub room : 1 + draft_takes was (slot / 64) ≤ sum before.free → IfErr result (λ e. is_full_refusal e ≡ false)

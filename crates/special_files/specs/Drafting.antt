@@ -27,11 +27,11 @@ abbrev pub number_if : Option BlockNo → Option ℕ
 number_if None = None
 number_if (Some block) = Some block.0
 
--- so many flags, none of which is set
+-- `count` flags, none of which is set
 unfoldable pub none_of : ℕ → List Bool
 none_of count = replicate count false
 
--- a draft that was just begun, as its object
+-- a draft that has just begun, equal to its object
 abbrev pub begun_at : ℕ → Option ℕ → roots.Root → Drafting
 begun_at at shadow root =
     record {
@@ -54,7 +54,7 @@ set_in flags = filter (λ n. get_or flags n false) (range_with_len 0 (length fla
 abbrev pub fresh_of : Drafting → List (List ℕ)
 fresh_of drafting = set_in drafting.leaves ∷ set_in drafting.nodes ∷ []
 
--- the same as a draft on a disk, which is this draft of the model
+-- the same as a draft on a disk, for this draft of the model
 abbrev pub opened_as : Drafting → Draft → Opened
 opened_as drafting d =
     record {
@@ -65,7 +65,8 @@ opened_as drafting d =
       created = drafting.created;
     }
 
--- among these drafts it is the one of the object with this identifier, and has the model's fresh blocks, level by level
+-- it is the draft, among these drafts, of the object with this identifier, and has the model's fresh blocks, level by
+-- level
 pub record IsOpen (ds : Drafts) (id : Puid) (drafting : Drafting) (d : Draft) : Type 0 where
   pub at : id.block ≡ drafting.at
   pub alone : ds id ≡ Some (opened_as drafting d)
@@ -73,9 +74,9 @@ pub record IsOpen (ds : Drafts) (id : Puid) (drafting : Drafting) (d : Draft) : 
   pub node_flags : length drafting.nodes ≡ node_pointers.count
   pub fresh : (k : ℕ) → get_or d.fresh k [] ≡ get_or (fresh_of drafting) k []
 
--- ---- what it takes
+-- ---- how many blocks it takes
 
--- the pointer to a node, 0 where it is absent
+-- the pointer to a node, or 0 if it is absent
 abbrev pub pointer_to_node : roots.Root → ℕ → ℕ
 pointer_to_node root n = slice_index root.nodes n
 
@@ -85,7 +86,7 @@ is_fresh_leaf drafting leaf = get_or drafting.leaves leaf false
 abbrev pub is_fresh_node : Drafting → ℕ → Bool
 is_fresh_node drafting n = get_or drafting.nodes n false
 
--- no block of it is fresh, as of a draft that was just begun
+-- no block of it is fresh, as for a draft that has just begun
 pub record HasNoneFresh (drafting : Drafting) : Type 0 where
   pub leaves : (leaf : ℕ) → is_fresh_leaf drafting leaf ≡ false
   pub nodes : (n : ℕ) → is_fresh_node drafting n ≡ false
@@ -93,12 +94,12 @@ pub record HasNoneFresh (drafting : Drafting) : Type 0 where
 abbrev pub one_unless : Bool → ℕ
 one_unless b = if b then 0 else 1
 
--- a leaf that isn't fresh takes a block, and one for its node where that isn't fresh
+-- a leaf that isn't fresh takes a block, and one for its node if that isn't fresh
 abbrev pub draft_takes : Drafting → ℕ → ℕ
 draft_takes drafting leaf =
     if is_fresh_leaf drafting leaf then 0 else 1 + one_unless (is_fresh_node drafting (leaf / leaf_pointers.count))
 
--- those of the flags from one on and before another that aren't set
+-- those of the flags from `from` up to `to` that aren't set
 unfoldable pub unset_in : List Bool → ℕ → ℕ → List ℕ
 unset_in flags from to = filter (λ n. not (get_or flags n false)) (range_with_len from (to - from))
 
@@ -113,7 +114,7 @@ shadow_need drafting = one_unless (is_some drafting.shadow)
 abbrev pub need_beside : Change → Draft → Drafting → ℕ
 need_beside c d drafting = missing (written_anew c d.object d.fresh) d.fresh + shadow_need drafting
 
--- the same as the flags have it, of leaves from one on and before another that are written
+-- the same by the flags, if the leaves from `from` up to `to` are written
 abbrev pub leaves_take : Drafting → ℕ → ℕ → ℕ
 leaves_take drafting from to =
     length (unset_in drafting.leaves from to)

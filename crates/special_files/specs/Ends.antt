@@ -8,8 +8,9 @@ use Rattle.cyl_alloc.specs.Space.{Kept, TakesAtMost}
 use Rattle.leaf_changes.specs.Tops.{Top}
 use Rattle.special_files.specs.Refusal.{IsDraftRefusal}
 
--- At most n device calls are made, t of them writes and barriers, and k blocks taken. What the disk told it tells where
--- the call is done. Where it is refused before anything was tried, and no damage was met, the counts are as they were.
+-- At most n device calls are made, t of them writes and barriers, and k blocks taken. If the call is done, the disk
+-- tells each block that it told before. If it is refused before anything was tried, and no damage was met, the counts
+-- are as they were.
 abbrev pub EndsCall : {D A : Type 0} → Ghosts D → (at : Top) → (floor n t k : ℕ) → (old new : D) → (before after : Kept)
     → Result A Refused → Type 0
 EndsCall g at floor n t k old new before after result =

@@ -28,21 +28,22 @@ use Rattle.special_files.specs.Refusal.{is_full_refusal, top_of}
 use Rattle.special_files.specs.View.{DraftView}
 use Rattle.special_files.specs.declared.fill.Swap.{Swap}
 
--- a slot that is empty is to be emptied
+-- a slot that is to be emptied is empty
 abbrev pub is_empty_already : Index → ℕ → Option Puid → Bool
 is_empty_already i slot what = is_none what && is_none (slot_of i slot)
 
--- The draft with this in the slot, as the model has it. Where the slot is empty and is to be, nothing is written, and
--- so nothing is fresh that wasn't.
+-- The draft with this in the slot, as the model has it. If the slot is to be emptied and is empty, nothing is
+-- written, and so no more is fresh than before.
 abbrev pub filled_draft : Index → ℕ → Option Puid → Draft → Draft
 filled_draft i slot what d = record {
   object = changed_object (Fill slot what) d.object;
   fresh = if is_empty_already i slot what then d.fresh else fresh_after (Fill slot what) d.object d.fresh;
 }
 
--- ---- what was put, where the draft was its object before
+-- ---- what was put, if the draft was its object before
 
--- the blocks that a commit takes then: the leaf, and the node above it; and those that stood there, which it drops
+-- the blocks that a commit takes then, the leaf and the node above it, and those that were there before, which it
+-- drops
 abbrev pub swap_takes : Drafting → Swap → List ℕ
 swap_takes w s =
     unlike (pointer_to_node w.root (s.leaf / leaf_pointers.count))
@@ -56,7 +57,7 @@ dropped_by w s =
 abbrev pub IsSwapped : Image → Puid → Drafting → Draft → Swap → Type 0
 IsSwapped image id w d s = IsChanged image id (opened_as w d) (swap_takes w s) (dropped_by w s)
 
--- on any disk of this size they lie on it
+-- on any disk of this size these blocks are on it
 pub record IsNearSwap (size : ℕ) (w : Drafting) (s : Swap) : Type 0 where
   pub leaf : s.leaf < leaf_limit
   pub was : s.was < size
@@ -66,9 +67,9 @@ pub record IsNearSwap (size : ℕ) (w : Drafting) (s : Swap) : Type 0 where
 
 -- ---- the call
 
--- The draft is that of the model with this in the slot. Its leaf took the least Free block where it wasn't fresh, and
--- after it its node; of the draft's tree that leaf and its node alone are others then. Where the draft was its object,
--- its commit takes the leaf and the node that are put, and drops those that stood.
+-- The draft is that of the model with this in the slot. If its leaf wasn't fresh it took the least Free block, and
+-- after it its node. In the draft's tree only that leaf and its node differ then. If the draft was its object, its
+-- commit takes the leaf and the node that are put, and drops those that were there.
 pub record FillsDraft {D : Type 0} {g : Ghosts D} {old : D} {before : Kept} {was : Drafting}
     (v : DraftView g old before was) (i : Index) (slot : ℕ) (what : Option Puid) (new : D) (after : Kept)
     (now : Drafting) (put : Option Swap) : Type 0 where
@@ -79,7 +80,7 @@ pub record FillsDraft {D : Type 0} {g : Ghosts D} {old : D} {before : Kept} {was
       (tree_in (g.content new) (root_spelling now.root))
   pub swaps : was.root ≡ was.own → IfSome put (IsSwapped (g.content new) v.id now (filled_draft i slot what v.draft))
 
--- of an index
+-- the same for an index
 abbrev pub FillsIfIndex : {D : Type 0} {g : Ghosts D} {old : D} {before : Kept} {was : Drafting}
     → DraftView g old before was → ℕ → Option Puid → D → Kept → Drafting → Option Swap → Type 0
 FillsIfIndex v slot what new after now put = (i : Index) → v.draft.object ≡ objects.Index i
@@ -92,9 +93,9 @@ pub record FillCall {D : Type 0} (g : Ghosts D) (slot : ℕ) (what : Option Puid
   pub near : was.root ≡ was.own → IfOk result (λ put. IfSome put (IsNearSwap (g.blocks new) now))
   pub ends : EndsCall g (top_of was) 0 8 4 (draft_takes was (slot / 64)) old new before after result
   pub tried : IfOk result (λ put. is_some put ≡ true → HasTried g old new)
-  -- where nothing is put all is as it was
+  -- if nothing is put all is as it was
   pub spared : IfOk result (λ put. put ≡ None → (now ≡ was) × (after ≡ before) × OnlyReads g 2 old new)
   pub empty : IfOk result (λ put. put ≡ None → what ≡ None)
   pub kept : IfErr result (λ e. e ≡ refusals.Disk false → now ≡ was)
-  -- never Full where the blocks that it takes are Free
+  -- it is never Full if the blocks that it takes are Free
   pub room : draft_takes was (slot / 64) ≤ sum before.free → IfErr result (λ e. is_full_refusal e ≡ false)

@@ -1,4 +1,4 @@
--- The leaves of a draft on a disk, and one of them put.
+-- The leaves of a draft on a disk, and how one of them is put.
 use Rattle.std.specs.Prelude.{◌≡◌, ◌≢◌, ℕ, ◌/◌, ◌%◌, List, [], ◌∷◌, Option, Some}
 use Rattle.block_tree.specs.Pointers.{leaf_pointers}
 use Rattle.cfs_base.specs.Disk.{Image}
@@ -18,12 +18,12 @@ leaves_below image root = leaf_in (tree_in image (root_spelling root))
 abbrev pub object_below : Image → roots.Root → Object
 object_below image root = object_with root (leaves_below image root)
 
--- one leaf is held and has these bytes; all others are as they were
+-- one leaf is held and has these bytes, and all others are as they were
 pub record PutsAt (leaf : ℕ) (content : List ℕ) (old new : ℕ → Option Held) : Type 0 where
   pub here : bytes_held (new leaf) ≡ Some content
   pub others : (m : ℕ) → m ≢ leaf → bytes_held (new m) ≡ bytes_held (old m)
 
--- but for one leaf and its node, each node and leaf stands where it stood, in the same block, with its part and content
+-- except for one leaf and its node, each node and leaf is where it was, in the same block, with its part and content
 abbrev pub SameBeside : ℕ → Tree → Tree → Type 0
 SameBeside leaf old new = (path : List ℕ) → path ≢ leaf / leaf_pointers.count ∷ []
     → path ≢ leaf / leaf_pointers.count ∷ leaf % leaf_pointers.count ∷ []

@@ -8,7 +8,7 @@ use Rattle.block_tree.specs.Pointers.{leaf_limit, leaf_pointers, node_pointers}
 abbrev pub node_blocks : ℕ
 node_blocks = 1 + leaf_pointers.count
 
--- the nodes and leaves that an object may have
+-- how many nodes and leaves an object may have
 abbrev pub blocks_limit : ℕ
 blocks_limit = node_pointers.count + leaf_limit
 
@@ -29,7 +29,7 @@ begun_calls = changed_reads + 2 * blocks_limit + 5
 abbrev pub begun_tries : ℕ
 begun_tries = blocks_limit + 4
 
--- one that claims it before
+-- a commit that claims its shadow root before
 abbrev pub commit_calls : ℕ
 commit_calls = begun_calls + 2
 

@@ -1,4 +1,4 @@
--- A draft read.
+-- How a draft is read.
 use Rattle.std.specs.Prelude.{◌≡◌, ℕ, ◌+◌, false, List, length, slice_range, Option, IfErr, IfOk, OnOk, Result}
 use Rattle.block_tree.specs.Reads.{is_damage}
 use Rattle.cfs_base.specs.Calls.{OnlyReads}
@@ -15,7 +15,7 @@ use Rattle.ufs_model.specs.declared.object.File.{File}
 use Rattle.ufs_model.specs.declared.object.Index.{Index}
 use Rattle.ufs_model.specs.declared.object.Object.TheVariants as objects
 
--- The part has the bytes of the draft of the model. No damage is met where the disk holds the object.
+-- The part has the bytes of the draft of the model. No damage is met if the disk holds the object.
 pub record ReadsDraft {D : Type 0} {g : Ghosts D} {disk : D} {was : Drafting} (v : DraftSeen g disk was) (offset : ℕ)
     (old new : List ℕ) (result : Result (Unit {0}) Trouble) : Type 0 where
   pub bytes : (f : File) → v.draft.object ≡ objects.File f

@@ -24,18 +24,18 @@ pub record HasNode (number : ℕ) (way : Way) : Type 0 where
   pub number_is : node_number way ≡ number
   pub some : 0 < way.read
 
--- what was read are nodes of the draft
+-- the nodes that were read are those of the draft
 abbrev pub IsRead : Image → Drafting → Way → Type 0
 IsRead image drafting way = IsWay image drafting.root way
 
--- on any disk they and their pointers lead to blocks of a disk of this size
+-- on any disk these nodes and their pointers lead to blocks of a disk of this size
 abbrev pub IsSafeIn : ℕ → roots.Root → Way → Type 0
 IsSafeIn size root way = IsWayWithin size way × IsTopWithin size root way
 
 abbrev pub IsSafe : ℕ → Drafting → Way → Type 0
 IsSafe size drafting way = IsSafeIn size drafting.root way
 
--- A call turned to a leaf of the draft, and made at most n device calls, all of them reads.
+-- A call turned to a leaf of the draft. It made at most n device calls, all of them reads.
 pub record TurnsTo {D A : Type 0} (g : Ghosts D) (was : Drafting) (leaf n : ℕ) (old new : D) (before after : Way)
     (result : Result A Trouble) : Type 0 where
   pub node : Tells g old → IsRead (g.content old) was before → OnOk result (IsRead (g.content old) was after)
@@ -43,6 +43,6 @@ pub record TurnsTo {D A : Type 0} (g : Ghosts D) (was : Drafting) (leaf n : ℕ)
   pub to : OnOk result (IsTo leaf after)
   pub refused : (kept : Kept) → IfErr result (IsDraftTrouble g (top_of was) old new kept)
   pub untried : IfErr result (λ t. trouble_had_tried t ≡ false)
-  -- no damage where the disk holds its tree
+  -- no damage if the disk holds its tree
   pub sound : HasTree g old was → IsRead (g.content old) was before → IfErr result (λ t. is_damage t ≡ false)
   pub reads : OnlyReads g n old new

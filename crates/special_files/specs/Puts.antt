@@ -1,4 +1,4 @@
--- One leaf put into a draft that stands.
+-- How one leaf is put into a draft.
 use Rattle.std.specs.Prelude.{◌≡◌, ℕ, ◌+◌, ◌*◌, ◌/◌, ◌<◌, ◌≤◌, false, List, get_or, sum, IfErr, OnOk, Result}
 use Rattle.cfs_base.specs.Calls.{HasTried}
 use Rattle.cfs_base.specs.Disk.{Image}
@@ -29,7 +29,7 @@ use Rattle.special_files.specs.Refusal.{is_full_refusal, top_of}
 use Rattle.special_files.specs.Store.{Steps}
 use Rattle.vol_owners.specs.Account.{Drafts, with_opened}
 
--- of a draft only its root's pointers and what is fresh may have changed
+-- only the root's pointers and what is fresh may have changed in a draft
 pub record StaysBut (was now : Drafting) : Type 0 where
   pub at : now.at ≡ was.at
   pub shadow : now.shadow ≡ was.shadow
@@ -38,12 +38,12 @@ pub record StaysBut (was now : Drafting) : Type 0 where
   pub word : now.root.word ≡ was.root.word
   pub root : SetsSize was.root.size was.root now.root
 
--- the leaf lies within the size, and past it the content has fill bytes
+-- the leaf is within the size, and past the size the content has fill bytes
 pub record FitsLeaf (root : roots.Root) (leaf : ℕ) (content : List ℕ) : Type 0 where
   pub within : leaf < leaves_in root.size
   pub filled : (i : ℕ) → i < 512 → root.size ≤ 512 * leaf + i → get_or content i 0 ≡ root.fill
 
--- the drafts that stand afterwards
+-- the drafts that there are afterwards
 abbrev pub drafts_with : Image → Drafts → Puid → Drafting → Drafts
 drafts_with image ds id now = with_opened id (opened_as now (draft_in image now)) ds
 
@@ -67,17 +67,17 @@ CutsLeaf g graph ds id size old new after was now way =
     (cut size was.root.fill (leaf_content was.root.fill (leaves_below (g.content old) was.root (size / 512))))
     old new after was now way
 
--- What a call did, on any disk, that puts a leaf into a draft: it made at most n device calls.
+-- What a call that puts a leaf into a draft did, on any disk: it made at most n device calls.
 pub record LeafCall {D : Type 0} (g : Ghosts D) (n leaf : ℕ) (old new : D) (before after : Kept) (was now : Drafting)
     (way : Way) (result : Result (Unit {0}) Refused) : Type 0 where
   pub stays : StaysBut was now
   pub flags : OnOk result (SetsFlags leaf was now)
   pub to : OnOk result (IsTo leaf way)
   pub safe : OnOk result (IsSafe (g.blocks new) now way)
-  -- each pointer of the root that leads past the disk did before
+  -- each pointer of the root that leads past the disk did so before
   pub near : IsFarRoot (g.blocks new) now.root → IsFarRoot (g.blocks new) was.root
   pub ends : EndsCall g (top_of was) 0 n 4 (draft_takes was leaf) old new before after result
   pub tried : OnOk result (HasTried g old new)
-  -- where nothing was tried yet the draft is as it was
+  -- if nothing was tried yet the draft is as it was
   pub kept : IfErr result (λ e. e ≡ refusals.Disk false → now ≡ was)
   pub room : draft_takes was leaf ≤ sum before.free → IfErr result (λ e. is_full_refusal e ≡ false)

@@ -20,17 +20,17 @@ use Rattle.cyl_alloc.specs.Space.{IsBadMap, IsMiscounted, Kept}
 use Rattle.leaf_changes.specs.Tops.{IsFarRoot, Top, root_top}
 use Rattle.special_files.specs.Drafting.{Drafting}
 
--- ---- the roots that a call goes down from
+-- ---- the roots from which a call goes down
 
 -- a draft's
 abbrev pub top_of : Drafting → Top
 top_of was = root_top was.at was.root
 
--- an object's, and the one that its draft is to get
+-- an object's root, and the root that its draft is to get
 abbrev pub roots_top : ℕ → (own root : roots.Root) → Top
 roots_top at own root = record { block = at; IsFar = λ size. IsFarRoot size own ⊎ IsFarRoot size root }
 
--- those that lead to these nodes
+-- roots that lead to these nodes
 abbrev pub nodes_top : (at own new : ℕ) → Top
 nodes_top at own new = record { block = at; IsFar = λ size. IsPast size own ⊎ IsPast size new }
 
@@ -42,7 +42,7 @@ IsFarNode size image block = (k : ℕ) × (size ≤ get_or (pointers_of leaf_poi
 
 pub data IsDraftDamage {D : Type 0} (g : Ghosts D) (at : Top) (old new : D) (kept : Kept)
     (damage : Damage) : Type 0 where
-  -- a map is none
+  -- a map block is no map
   NoMap : damage.code ≡ no_entry → damage.block ≡ map_of damage.block → damage.block < g.blocks new
       → (Tells g old → IsBadMap (g.content new) damage.block)
       → IsDraftDamage g at old new kept damage
@@ -52,23 +52,23 @@ pub data IsDraftDamage {D : Type 0} (g : Ghosts D) (at : Top) (old new : D) (kep
   -- no block is Free in a map in which some were counted
   OtherCount : damage.code ≡ other_count → IsMiscounted (Tells g old) (g.content new) kept damage.block
       → IsDraftDamage g at old new kept damage
-  -- the root block is none
+  -- the root block is no root
   NoRoot : damage.code ≡ no_root → damage.block ≡ at.block → (Tells g old → (root : roots.Root)
       → ¬ IsRootBlock (block_at (g.content new) at.block) root) → IsDraftDamage g at old new kept damage
-  -- a node has a pointer past the disk, or the root that the call goes down from has
+  -- a node has a pointer past the disk, or the root has from which the call goes down
   FarNode : damage.code ≡ past_disk → (Tells g old → IsFarNode (g.blocks new) (g.content new) damage.block)
       → IsDraftDamage g at old new kept damage
   FarRoot : damage.code ≡ past_disk → damage.block ≡ at.block → at.IsFar (g.blocks new)
       → IsDraftDamage g at old new kept damage
 
--- ---- why a call ends
+-- ---- why a call is refused
 
 -- a device call failed, or a block that was read is damaged
 abbrev pub IsDraftTrouble : {D : Type 0} → Ghosts D → Top → D → D → Kept → Trouble → Type 0
 IsDraftTrouble g at old new kept (trouble.Disk tried) = HasStopped g tried old new
 IsDraftTrouble g at old new kept (trouble.Damaged damage) = IsDraftDamage g at old new kept damage
 
--- the same, or as many blocks as it tells are counted Free, too few beside the floor
+-- the same; or as many blocks are counted Free as it says, which is too few beside the floor
 abbrev pub IsDraftRefusal : {D : Type 0} → Ghosts D → Top → ℕ → D → D → Kept → Refused → Type 0
 IsDraftRefusal g at floor old new kept (refused.Full need) =
     (need.free ≡ sum kept.free) × (need.free < need.need + floor)
@@ -76,7 +76,7 @@ IsDraftRefusal g at floor old new kept (refused.Disk tried) = HasStopped g tried
 IsDraftRefusal g at floor old new kept (refused.Damaged damage) = IsDraftDamage g at old new kept damage
 IsDraftRefusal g at floor old new kept refused.Memory = ⊥
 
--- ---- which it is
+-- ---- which refusal it is
 
 abbrev pub has_met_damage : Refused → Bool
 has_met_damage (refused.Full need) = false

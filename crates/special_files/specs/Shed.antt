@@ -1,4 +1,4 @@
--- Leaves dropped from a draft, from one on, with the nodes that have no leaf before it.
+-- Leaves dropped from a draft, from one leaf on, with the nodes that have no leaf before it.
 use Rattle.std.specs.Prelude.{◌≡◌, ◌≢◌, ◌⊎◌, ℕ, zero, suc, Bool, not, ◌&&◌, ◌||◌, ◌++◌, get_or, ◌+◌, ◌-◌, ◌*◌, ◌/◌, ◌%◌}
 use Rattle.std.specs.Prelude.{◌<◌, ◌≤◌, true, false, if◌then◌else◌, ◌==◌, List, [], ◌∷◌, length, None, slice_index, sum}
 use Rattle.std.specs.Prelude.{IfErr, OnOk, Result, Ok, Err}
@@ -59,24 +59,24 @@ pub record IsShed (image : Image) (id : Puid) (d : Opened) (from n : ℕ) : Type
   pub past : IsPathPast from path
   pub there : tree_of image (content_of d) path ≡ n
 
--- these are all of them, each once
+-- these are all such blocks, each once
 pub record AreShed (image : Image) (id : Puid) (d : Opened) (from : ℕ) (ns : List ℕ) : Type 0 where
   pub each : (n : ℕ) → has_number n ns ≡ true → IsShed image id d from n
   pub all : (n : ℕ) → IsShed image id d from n → has_number n ns ≡ true
   pub once : numbers_differ ns ≡ true
 
--- how they are listed: a block, if it is to be
+-- how they are listed: a block, if `b` is set
 abbrev pub list_if : Bool → ℕ → List ℕ
 list_if b n = if b then n ∷ [] else []
 
--- of a node's pointers those of fresh leaves, so many from a place on
+-- those of a node's pointers that are of fresh leaves, `count` of them beginning at a place
 unfoldable pub fresh_in : (flags : List Bool) (leaves : List ℕ) (node from count : ℕ) → List ℕ
 fresh_in flags leaves node from zero = []
 fresh_in flags leaves node from (suc k) = fresh_in flags leaves node from k
     ++ list_if (get_or flags (leaf_pointers.count * node + (from + k)) false) (slice_index leaves (from + k))
 
--- From which leaf on a draft drops its leaves that is to keep those before `to`, where that lies in a node with these
--- leaves, or at its end: where that is within the node, the node keeps a leaf and drops one.
+-- The leaf from which a draft drops its leaves, if it is to keep those before `to`. `to` is in a node with these
+-- leaves, or at its end. If `from` is within the node, the node keeps a leaf and drops one.
 pub record IsBorder (leaves : List ℕ) (node to from : ℕ) : Type 0 where
   pub low : leaf_pointers.count * node ≤ from
   pub high : from ≤ leaf_pointers.count * node + leaf_pointers.count
@@ -88,7 +88,7 @@ pub record IsBorder (leaves : List ℕ) (node to from : ℕ) : Type 0 where
   pub drops : from % leaf_pointers.count ≢ 0
       → (j : ℕ) × (j < leaf_pointers.count) × (to ≤ leaf_pointers.count * node + j) × (slice_index leaves j ≢ 0)
 
--- a root that leads to none of them; where the first lies within a node, it leads to this block at that place
+-- a root that leads to none of them; if the first is within a node, it leads to this block at that place
 pub record CutsRootAt (from block : ℕ) (old new : roots.Root) : Type 0 where
   pub kind : new.kind ≡ old.kind
   pub fill : new.fill ≡ old.fill
@@ -99,7 +99,7 @@ pub record CutsRootAt (from block : ℕ) (old new : roots.Root) : Type 0 where
   pub past : (m : ℕ) → from ≤ leaf_pointers.count * m → slice_index new.nodes m ≡ 0
   pub here : from % leaf_pointers.count ≢ 0 → slice_index new.nodes (from / leaf_pointers.count) ≡ block
 
--- The draft has none of them. Where the first lies within a node, this node is at the block, and fresh.
+-- The draft has none of them. If the first is within a node, that node is at the block, and fresh.
 pub record Forgets (from block : ℕ) (was now : Drafting) : Type 0 where
   pub stays : StaysBut was now
   pub long_leaves : length now.leaves ≡ length was.leaves
@@ -115,12 +115,12 @@ pub record Forgets (from block : ℕ) (was now : Drafting) : Type 0 where
       → (is_fresh_node now (from / leaf_pointers.count) ≡ true)
       × (pointer_to_node now.root (from / leaf_pointers.count) ≡ block)
 
--- what it claims: a block for the node of the first leaf dropped, where that lies within one and isn't fresh
+-- what it claims: a block for the node of the first leaf that is dropped, if that is within a node that isn't fresh
 abbrev pub border_claims : Drafting → ℕ → List MapEntry
 border_claims was from =
     if from % leaf_pointers.count == 0 then [] else node_claims was.at was.nodes (from / leaf_pointers.count)
 
--- the same of the store, and of the draft that the model has then
+-- the same for the store, and for the draft that the model has then
 pub record DropsFrom {D : Type 0} (g : Ghosts D) (graph : Graph) (ds : Drafts) (id : Puid) (from : ℕ)
     (old new : D) (after : Kept) (was now : Drafting) : Type 0 where
   pub steps : Steps g graph id (drafts_with (g.content new) ds id now) old new after
@@ -131,7 +131,7 @@ pub record DropsFrom {D : Type 0} (g : Ghosts D) (graph : Graph) (ds : Drafts) (
   pub kept : (l : ℕ) → l < from → leaves_below (g.content new) now.root l ≡ leaves_below (g.content old) was.root l
   pub order : ClaimsAndDrops id.block (border_claims was from) (g.content old) (g.content new)
 
--- what it takes: a block for the node, where it isn't fresh
+-- how many blocks it takes: one for the node, if that isn't fresh
 abbrev pub border_takes : Drafting → ℕ → ℕ
 border_takes was from =
     if from % leaf_pointers.count == 0 then 0 else one_unless (is_fresh_node was (from / leaf_pointers.count))
@@ -148,14 +148,14 @@ abbrev pub as_tried : Result (Unit {0}) Trouble → Result (Unit {0}) Trouble
 as_tried (Ok t) = Ok t
 as_tried (Err t) = Err (trouble_after_try t)
 
--- ---- the node of the first leaf written
+-- ---- how the node of the first leaf is written
 
 -- a block that spells a node with these leaves before a place, and none from there on
 pub record IsShortNode (leaves : List ℕ) (place : ℕ) (block : List ℕ) : Type 0 where
   pub before : (j : ℕ) → j < place → slice_index (pointers_of leaf_pointers block) j ≡ slice_index leaves j
   pub past : (j : ℕ) → place ≤ j → j < leaf_pointers.count → slice_index (pointers_of leaf_pointers block) j ≡ 0
 
--- it is written so, into a block of the draft's own, which is claimed where the draft has none
+-- the node is written so, into a block of the draft's own, which is claimed if the draft has none
 pub data PutsShort {D : Type 0} (g : Ghosts D) (from : ℕ) (leaves : List ℕ) (was : Drafting) (old new : D)
     (before after : Kept) (result : Result BlockNo Refused) : Type 0 where
   NoBlock : (e : Refused) → GetsDraftNode g (from / leaf_pointers.count) old new before after was (Err e)
@@ -172,7 +172,7 @@ pub data PutsShort {D : Type 0} (g : Ghosts D) (from : ℕ) (leaves : List ℕ) 
       → result ≡ Ok y
       → PutsShort g from leaves was old new before after result
 
--- It is written so where the first leaf dropped lies within it; else nothing is done.
+-- The node is written so if the first leaf that is dropped is within it. Else nothing is done.
 pub data PutsWithin {D : Type 0} (g : Ghosts D) (from : ℕ) (leaves : List ℕ) (was : Drafting) (old new : D)
     (before after : Kept) (result : Result BlockNo Refused) : Type 0 where
   Whole : (y : BlockNo) → from % leaf_pointers.count ≡ 0 → new ≡ old → after ≡ before → result ≡ Ok y
@@ -180,17 +180,17 @@ pub data PutsWithin {D : Type 0} (g : Ghosts D) (from : ℕ) (leaves : List ℕ)
   Within : from % leaf_pointers.count ≢ 0 → PutsShort g from leaves was old new before after result
       → PutsWithin g from leaves was old new before after result
 
--- the node that was read keeps a leaf, where it is to be written
+-- the node that was read keeps a leaf, if it is to be written
 abbrev pub KeepsOne : ℕ → Way → Type 0
 KeepsOne from way = from % leaf_pointers.count ≢ 0
     → (j : ℕ) × (j < from % leaf_pointers.count) × (slice_index (way_leaves way) j ≢ 0)
 
--- what a call did, on any disk, that drops leaves from one on
+-- what a call that drops leaves from one on did, on any disk
 pub record DropCall {D : Type 0} (g : Ghosts D) (from : ℕ) (old new : D) (before after : Kept) (was now : Drafting)
     (result : Result (Unit {0}) Refused) : Type 0 where
   pub stays : StaysBut was now
   pub forgets : OnOk result ((block : ℕ) × Forgets from block was now)
-  -- something was tried where a node is written; else, where no node is fresh, nothing was done to the disk
+  -- something was tried if a node is written; else, if no node is fresh, nothing was done to the disk
   pub tried : from % leaf_pointers.count ≢ 0 → OnOk result (HasTried g old new)
   pub untried : from % leaf_pointers.count ≡ 0 → ((n : ℕ) → is_fresh_node was n ≡ false)
       → (new ≡ old) × (after ≡ before)
@@ -206,7 +206,7 @@ pub record IsCutHere (size : ℕ) (leaves : List ℕ) (cut : Bool) : Type 0 wher
   pub is : cut ≡ true → (size % 512 ≢ 0) × (slice_index leaves ((size / 512) % leaf_pointers.count) ≢ 0)
   pub none : cut ≡ false → size % 512 ≢ 0 → slice_index leaves ((size / 512) % leaf_pointers.count) ≡ 0
 
--- The leaf within which the size ends is cut, where it is to be; else nothing is done.
+-- The leaf within which the size ends is cut, if it is to be. Else nothing is done.
 pub data CutsIf {D : Type 0} (g : Ghosts D) (size : ℕ) (cut : Bool) (old new : D) (before after : Kept)
     (was now : Drafting) (way next : Way) (result : Result (Unit {0}) Refused) : Type 0 where
   Spares : cut ≡ false → result ≡ Ok tt → new ≡ old → after ≡ before → now ≡ was → next ≡ way
@@ -216,45 +216,47 @@ pub data CutsIf {D : Type 0} (g : Ghosts D) (size : ℕ) (cut : Bool) (old new :
       → LeafCall g 8 (size / 512) old new before after was now next result
       → CutsIf g size cut old new before after was now way next result
 
--- the leaf within which the size ends takes its blocks where it is cut
+-- the leaf within which the size ends takes its blocks if it is cut
 abbrev pub cut_takes : Drafting → Bool → ℕ → ℕ
 cut_takes was cut leaf = if cut then draft_takes was leaf else 0
 
--- whether the leaf takes one
+-- whether that leaf takes a block
 abbrev pub is_stale_cut : Drafting → Bool → ℕ → Bool
 is_stale_cut was cut leaf = cut && not (is_fresh_leaf was leaf)
 
--- what it takes: one for the leaf where it is cut and isn't fresh, one for its node where that changes and isn't fresh
+-- how many blocks it takes: one for the leaf if it is cut and isn't fresh, and one for its node if that changes and
+-- isn't fresh
 abbrev pub shrink_takes : Drafting → (cut : Bool) → (from leaf node : ℕ) → ℕ
 shrink_takes was cut from leaf node =
     (if is_stale_cut was cut leaf then 1 else 0)
     + (if is_stale_cut was cut leaf || not (from % leaf_pointers.count == 0) then one_unless (is_fresh_node was node)
     else 0)
 
--- a draft of another size
+-- the draft with another size
 abbrev pub sized : Drafting → ℕ → Drafting
 sized was size = record was { root = record was.root { size = size } }
 
--- only its root's pointers and what is fresh may have changed, and the size, where the resize is done
+-- only the root's pointers and what is fresh may have changed, and the size if the resize is done
 abbrev pub Resizes : ℕ → Drafting → Drafting → Result (Unit {0}) Refused → Type 0
 Resizes size was now (Ok t) = StaysBut (sized was size) now
 Resizes size was now (Err e) = StaysBut was now
 
--- Of a draft that had no fresh block a resize tried something exactly where a node is fresh then; else it read a node
--- at most.
+-- If a draft had no fresh block, a resize of it tried something exactly if a node is fresh then. Else it read at most
+-- one node.
 pub record IsToldByNodes {D : Type 0} (g : Ghosts D) (old new : D) (before after : Kept) (now : Drafting) : Type 0 where
   pub tried : (n : ℕ) → is_fresh_node now n ≡ true → HasTried g old new
   pub untried : ((n : ℕ) → is_fresh_node now n ≡ false) → (after ≡ before) × OnlyReads g 1 old new
 
--- the node of the last leaf of a file of this size; of an empty file the first
+-- the node of the last leaf of a file of this size, or the first node for an empty file
 abbrev pub last_draft_node : ℕ → ℕ
 last_draft_node size = (leaves_in size - 1) / leaf_pointers.count
 
--- its last leaf, or the first leaf
+-- the last leaf, or the first leaf
 abbrev pub last_draft_leaf : ℕ → ℕ
 last_draft_leaf size = leaves_in size - 1
 
--- The nodes above it were read. This tells from which leaf on a resize to less drops leaves, and whether one is cut.
+-- The nodes above that leaf were read. The plan says from which leaf on a resize to less drops leaves, and whether
+-- one is cut.
 pub record IsPlan {D : Type 0} (g : Ghosts D) (size : ℕ) (was : Drafting) (old new : D) (plan : Plan) : Type 0 where
   pub reads : OnlyReads g 1 old new
   pub less : size < was.root.size
@@ -266,12 +268,12 @@ pub record IsPlan {D : Type 0} (g : Ghosts D) (size : ℕ) (was : Drafting) (old
   pub border : IsBorder (way_leaves plan.way) (last_draft_node size) (leaves_in size) plan.from
   pub cuts : IsCutHere size (way_leaves plan.way) plan.cut
 
--- what such a resize needs, with the shadow root that a commit takes
+-- how many blocks such a resize needs, with the shadow root that a commit takes
 abbrev pub plan_needs : ℕ → Drafting → Plan → ℕ
 plan_needs size was plan = shrink_takes was plan.cut plan.from (size / 512) (last_draft_node size) + shadow_need was
 
--- The draft is the model's of another size. Its blocks were claimed in their order, each the least Free, what it
--- dropped of its own is Free, and what it needed was Free beside the floor.
+-- The draft is the model's with another size. Its blocks were claimed in their order, each the least Free one. What
+-- it dropped of its own is Free. What it needed was Free beside the floor.
 pub record Resized {D : Type 0} (g : Ghosts D) (graph : Graph) (ds : Drafts) (id : Puid) (d : Draft)
     (size floor : ℕ) (old new : D) (before after : Kept) (was now : Drafting) : Type 0 where
   pub becomes : DraftBecomes g graph ds id (changed_draft (SetSize size) d) old new after now
@@ -279,14 +281,14 @@ pub record Resized {D : Type 0} (g : Ghosts D) (graph : Graph) (ds : Drafts) (id
       (claims_anew was.at (written_anew (SetSize size) d.object d.fresh) d.fresh) (g.content old) (g.content new)
   pub room : need_beside (SetSize size) d was + floor ≤ sum before.free
 
--- of a file
+-- the same for a file
 abbrev pub ResizesIfFile : {D : Type 0} {g : Ghosts D} {old : D} {before : Kept} {was : Drafting}
     → DraftView g old before was → (size floor : ℕ) → D → Kept → Drafting → Type 0
 ResizesIfFile {g = g} {old = old} {before = before} {was = was} v size floor new after now = (f : File)
     → v.draft.object ≡ objects.File f
     → Resized g v.graph v.ds v.id v.draft size floor old new before after was now
 
--- the refusal of a resize where fewer blocks are Free than the model's need and the floor
+-- the refusal of a resize if fewer blocks are Free than the model's need plus the floor
 pub record IsFullFor (size floor : ℕ) (d : Draft) (space : Kept) (was : Drafting) (e : Refused) : Type 0 where
   pub is : e ≡ refusals.Full (record { free = sum space.free; need = need_beside (SetSize size) d was })
   pub less : sum space.free < need_beside (SetSize size) d was + floor

@@ -7,7 +7,7 @@ use Rattle.vol_owners.specs.Change.{ChangesOnly, of_draft}
 use Rattle.intentions.specs.Store.{StoreHas}
 use Rattle.vol_owners.specs.Account.{Drafts}
 
--- The store has these drafts afterwards, and nothing changed but blocks that are meant for the draft's object or were
+-- The store has these drafts afterwards. Nothing changed except blocks that are meant for the draft's object or were
 -- Free.
 pub record Steps {D : Type 0} (g : Ghosts D) (graph : Graph) (id : Puid) (es : Drafts) (old new : D)
     (space : Kept) : Type 0 where

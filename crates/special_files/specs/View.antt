@@ -1,4 +1,4 @@
--- What a call on a draft is handed where the store has the draft, and how the call goes then.
+-- What a call on a draft is given if the store has the draft, and how the call goes then.
 use Rattle.std.specs.Prelude.{◌≡◌, ℕ, false, length, IfErr, IfOk, OnOk, Result, Some, None}
 use Rattle.block_tree.specs.Root.{root_spelling}
 use Rattle.cfs_base.specs.Run.{Leaves, Tells}
@@ -61,20 +61,21 @@ pub record ShownView {D : Type 0} (g : Ghosts D) (disk : D) (at : ℕ) : Type 0 
   pub object : Object
   pub shown : IsShownAt g graph ds disk space id object at
 
--- it has no draft of it
+-- the store has no draft of it
 abbrev pub IsShut : {D : Type 0} {g : Ghosts D} {disk : D} {space : Kept} {at : ℕ} → ObjectView g disk space at
     → Type 0
 IsShut v = v.ds v.id ≡ None
 
--- The disk tells, and below the root that the draft is to give its object is a tree: all that a call needs which reads.
+-- The disk tells its content, and below the root that the draft is to give its object there is a tree. A call that
+-- only reads needs no more.
 pub record HasTree {D : Type 0} (g : Ghosts D) (disk : D) (was : Drafting) : Type 0 where
   pub tells : Tells g disk
   pub owner : ℕ
   pub object : Object
   pub tree : IsTree (length (g.content disk)) owner (tree_in (g.content disk) (root_spelling was.root)) was.root object
 
--- Done, a call has done this with what it answers. Each image that a crash leaves on the way holds these objects, and
--- no damage is met.
+-- If a call is done, it has done this with what it returns. Each image that a crash leaves on the way holds these
+-- objects, and no damage is met.
 pub record GoesTo {D A : Type 0} (g : Ghosts D) (graph : Graph) (P : A → Type 0) (old new : D)
     (result : Result A Refused) :
     Type 0 where
@@ -82,7 +83,8 @@ pub record GoesTo {D A : Type 0} (g : Ghosts D) (graph : Graph) (P : A → Type 
   pub leaves : Leaves g old new (λ c. Holds c graph)
   pub sound : IfErr result (λ e. has_met_damage e ≡ false)
 
--- Done, a call has done this. Each image that a crash leaves on the way holds these objects, and no damage is met.
+-- If a call is done, it has done this. Each image that a crash leaves on the way holds these objects, and no damage
+-- is met.
 pub record GoesHolding {D A : Type 0} (g : Ghosts D) (graph : Graph) (P : Type 0) (old new : D)
     (result : Result A Refused) :
     Type 0 where

@@ -1,4 +1,4 @@
--- Bytes written into a draft.
+-- How bytes are written into a draft.
 use Rattle.std.specs.Prelude.{◌≡◌, ℕ, ◌+◌, ◌-◌, ◌*◌, ◌/◌, ◌<◌, ◌≤◌, true, false, List, length, sum, IfErr, OnOk, Result}
 use Rattle.cfs_base.specs.Calls.{HasTried}
 use Rattle.cfs_base.specs.declared.disk.Disk.{Ghosts}
@@ -24,7 +24,7 @@ use Rattle.ufs_model.specs.declared.object.Object.TheVariants as objects
 use Rattle.vol_owners.specs.Account.{Drafts}
 
 -- The draft is that of the model with the bytes written. Each leaf that isn't fresh took the least Free block, and
--- after it its node: in increasing order.
+-- after it its node, in increasing order.
 pub record WritesDraft {D : Type 0} {g : Ghosts D} {old : D} {before : Kept} {was : Drafting}
     (v : DraftView g old before was) (offset : ℕ) (bytes : List ℕ) (new : D) (after : Kept)
     (now : Drafting) : Type 0 where
@@ -45,7 +45,7 @@ leaves_written offset bytes = leaves_in (offset + length bytes) - offset / 512
 pub record WriteCall {D : Type 0} (g : Ghosts D) (offset : ℕ) (bytes : List ℕ) (floor : ℕ) (old new : D)
     (before after : Kept) (was now : Drafting) (result : Result (Unit {0}) Refused) : Type 0 where
   pub stays : StaysBut was now
-  -- Full exactly where the model's need and the floor aren't Free; all is as it was then
+  -- it is full exactly if the model's need plus the floor isn't Free, and all is as it was then
   pub full : IfErr result (λ e. is_full_refusal e ≡ true → (new ≡ old) × (after ≡ before) × (now ≡ was)
       × ((ds : Drafts) (id : Puid) (d : Draft) → IsOpen ds id was d
       → (e ≡ refusals.Full (record { free = sum before.free; need = write_need offset bytes d was }))
@@ -56,8 +56,8 @@ pub record WriteCall {D : Type 0} (g : Ghosts D) (offset : ℕ) (bytes : List �
       (sum before.free) old new before after result
   -- a block is left for a shadow root
   pub spare : OnOk result (shadow_need was ≤ sum after.free)
-  -- each pointer of its root that leads past the disk did before
+  -- each pointer of its root that leads past the disk did so before
   pub near : IsFarRoot (g.blocks new) now.root → IsFarRoot (g.blocks new) was.root
-  -- where there are bytes a leaf is written
+  -- if there are bytes a leaf is written
   pub tried : 1 ≤ length bytes → OnOk result (HasTried g old new)
   pub kept : IfErr result (λ e. e ≡ refusals.Disk false → now ≡ was)

@@ -52,7 +52,7 @@ fn give_made(space: &mut Space, block: Option<BlockNo>)
     }
 }
 
-/// Gives up a draft with these blocks of its own.
+/// Gives up a draft whose own blocks these are.
 fn give_up<D: Disk>(
     disk: &mut D,
     space: &mut Space,
@@ -84,7 +84,7 @@ fn give_up<D: Disk>(
     }
 }
 
-/// Gives up a draft of these parts.
+/// Gives up a draft with these parts.
 fn abort_parts<D: Disk>(
     disk: &mut D,
     space: &mut Space,
@@ -125,9 +125,10 @@ fn abort_parts<D: Disk>(
 }
 
 impl ObjectDraft {
-    /// Gives up the draft, whose blocks are Free then, as is the root of an object that it was to make. Where it is
-    /// refused the draft is gone, and each image that a crash leaves has the object as it was. `Damaged` as in
-    /// `commit`.
+    /// Gives up the draft. Its blocks are Free then, and so is the root of an object that it was to make.
+    ///
+    /// If it is refused the draft is gone all the same, and each image that a crash leaves has the object as it was.
+    /// `Damaged` as in `commit`.
     pub fn abort<D: Disk>(mut self, disk: &mut D, space: &mut Space) -> Result<(), Trouble>
         requires on_disk { self.at < D.blocks disk.old }
         requires size { D.blocks disk.old ≡ 64 * length space.old.free }

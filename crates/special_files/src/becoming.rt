@@ -20,7 +20,9 @@ use block_tree::{LEAVES, Root};
 use cfs_base::{BlockNo, Damage, Disk, Trouble, code};
 use cyl_alloc::Space;
 
-/// Whether a block of the draft's own lies on the disk.
+/// Checks that a block of the draft's own is on the disk.
+///
+/// `Damaged` names the object's root block, with code 4, if it isn't.
 fn is_on_disk<D: Disk>(disk: &D, at: BlockNo, block: BlockNo) -> Result<(), Trouble>
     ensures on_disk { OnOk result (block.0 < D.blocks disk.now) }
     ensures far { IfErr result (λ t. (D.blocks disk.now ≤ block.0) × (t ≡ spec.far_root at.0)) }
@@ -34,7 +36,7 @@ fn is_on_disk<D: Disk>(disk: &D, at: BlockNo, block: BlockNo) -> Result<(), Trou
     }))
 }
 
-/// Whether a block of the draft's own lies on the disk, if there is one.
+/// Checks that a block of the draft's own, if there is one, is on the disk.
 pub(crate) fn part_on_disk<D: Disk>(
     disk: &D,
     at: BlockNo,
@@ -49,7 +51,7 @@ pub(crate) fn part_on_disk<D: Disk>(
     }
 }
 
-/// Commits a draft of these parts.
+/// Commits a draft with these parts.
 fn commit_parts<D: Disk>(
     disk: &mut D,
     space: &mut Space,
@@ -99,18 +101,22 @@ fn list_two(list: &mut Blocks, node: u32, other_node: u32, leaf: u32, other_leaf
 }
 
 impl ObjectDraft {
-    /// Makes the draft its object. A draft without a shadow root takes one Free block for it. Done, all is durable, and
-    /// the object's blocks are exactly those of the draft; of an object that is made with it the root is Allocated.
-    /// Where it is refused the draft is gone, and each image that a crash leaves has the object old, or it new and what
-    /// is made with it. `Damaged` names a map block, with code 2, which is none or has no Free block, with code 12, or
-    /// a node or the root block, with code 4, where a pointer leads past the disk.
+    /// Makes the draft its object.
+    ///
+    /// A draft without a shadow root takes one Free block for it. When it is done, all is durable, and the object's
+    /// blocks are exactly those of the draft. The root of an object that is made with it is Allocated. If it is
+    /// refused the draft is gone, and each image that a crash leaves has the old object, or the new one and what is
+    /// made with it.
+    ///
+    /// `Damaged` names a map block that is no map, with code 2, or that has no Free block, with code 12, or a node or
+    /// the root block with a pointer past the disk, with code 4.
     pub fn commit<D: Disk>(mut self, disk: &mut D, space: &mut Space) -> Result<(), Trouble>
         requires on_disk { self.at < D.blocks disk.old }
         requires size { D.blocks disk.old ≡ 64 * length space.old.free }
         requires room { self.shadow ≡ None → 1 ≤ sum space.old.free }
         // No commit is kept.
         requires left { space.old.left ≡ None }
-        // The store has the object, and the one that is made with it, and nothing waits.
+        // The store has the object, and the one that is made with it, and no write waits for a barrier.
         ensures commits { (v : DraftView D.Disk disk.old space.old self) (made : Option spec.Making)
             → spec.Makes (D.content disk.old) self.created made
             → spec.CommitEnds D.Disk v.graph v.ds v.id v.draft.object made disk.old disk.new space.new result }
@@ -130,8 +136,9 @@ impl ObjectDraft {
         )
     }
 
-    /// The same of a draft without a shadow root that equalled its object until one slot was filled, by what was put.
-    /// No node is read.
+    /// Makes the draft its object, as `commit` does.
+    ///
+    /// The draft has no shadow root, and equalled its object until one slot was filled, by `swap`. No node is read.
     pub fn commit_swap<D: Disk>(
         mut self,
         disk: &mut D,

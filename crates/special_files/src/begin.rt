@@ -1,4 +1,4 @@
-//! A draft begun.
+//! How a draft begins.
 ghost use Rattle.std.specs.Prelude.{◌≡◌, ◌≢◌, ◌<◌, ◌≤◌, ◌*◌, length, None};
 ghost use Rattle.block_tree.specs.Pointers.{leaf_limit, node_pointers, size_limit};
 ghost use Rattle.special_files.specs.Begins.{BeginCall, BeginsDraft};
@@ -14,7 +14,9 @@ use cyl_alloc::Space;
 use std::alloc::Global;
 use std::marker::Model;
 
-/// All memory that a draft will ever need, and the space that keeps its commit. What begins with one takes none.
+/// All memory that a draft will ever need, and the space that keeps its commit.
+///
+/// A draft that begins with a room takes no more memory.
 #[derive(Debug, Drop)]
 pub struct Room {
     leaves: Flags,
@@ -36,7 +38,7 @@ impl Model for Room {
 }
 
 impl Room {
-    /// Takes it.
+    /// Takes the memory.
     pub fn new(alloc: Global) -> Result<Room, NoMemory> {
         let leaves = Flags::none(alloc, LEAF_LIMIT as usize)?;
         let nodes = Flags::none(alloc, NODES)?;
@@ -50,7 +52,7 @@ impl Room {
         })
     }
 
-    /// The draft that equals the object with this root.
+    /// Makes the draft that equals the object with this root.
     fn draft(self, at: BlockNo, shadow: Option<BlockNo>, root: Root) -> ObjectDraft
         requires some { at.0 ≢ 0 }
         requires limit { root.size ≤ size_limit }
@@ -71,9 +73,11 @@ impl Room {
 }
 
 impl ObjectDraft {
-    /// Begins a draft with its shadow root, for which the least-numbered Free block is claimed. `Full` where fewer
-    /// blocks are Free than 1 and the floor; nothing was written then. `Damaged` names the root block, with code 3,
-    /// which is none, or the map in which no Free block was found, with code 2 where it is none. Never `Memory`.
+    /// Begins a draft with its shadow root, for which the least-numbered Free block is claimed.
+    ///
+    /// `Full` if fewer blocks are Free than 1 plus the floor. Nothing was written then. `Damaged` names the root
+    /// block, with code 3, if it is no root block, or the map in which no Free block was found, with code 2 if it is
+    /// no map. Never `Memory`.
     pub fn begin<D: Disk>(
         room: Room,
         disk: &mut D,
@@ -94,8 +98,9 @@ impl ObjectDraft {
         Ok(room.draft(at, Some(shadow), root))
     }
 
-    /// The draft without a shadow root of the object with this root at a block, which it equals; `commit` claims the
-    /// shadow root. It is the object's where the block holds that root.
+    /// Begins a draft without a shadow root, which equals the object with this root at a block.
+    ///
+    /// `commit` claims the shadow root. It is the object's draft if the block holds that root.
     pub fn direct(room: Room, at: BlockNo, root: &Root) -> ObjectDraft
         requires some { at.0 ≢ 0 }
         requires limit { root.now.size ≤ size_limit }

@@ -8,8 +8,10 @@ use cfs_base::NoMemory;
 use std::alloc::Global;
 use std::marker::Model;
 
-/// The nodes and leaves that an object may have, of the object as it was and as it is to be; a root that is made; and
-/// the shadow root.
+/// The most blocks that a commit may list.
+///
+/// They are the nodes and leaves of the object as it was and as it is to be, a root that is made, and the shadow
+/// root.
 pub const MOST: usize = 2 * (NODES + LEAF_LIMIT as usize) + 2;
 
 /// Blocks of an object. Clauses see the list of their numbers.
@@ -31,7 +33,7 @@ impl Model for Blocks {
 }
 
 impl Blocks {
-    /// No block, with room for all.
+    /// Makes a list of no blocks, with room for all.
     pub fn new(alloc: Global) -> Result<Blocks, NoMemory>
         ensures { IfOk result (λ blocks. blocks ≡ []) }
     {
@@ -39,7 +41,7 @@ impl Blocks {
         Ok(Blocks { items })
     }
 
-    /// One block more.
+    /// Adds one block.
     pub fn add(&mut self, block: u32)
         requires { length self.old < listed_limit }
         ensures { self.new ≡ self.old ++ block ∷ [] }
@@ -47,19 +49,21 @@ impl Blocks {
         let _ = self.items.push(block);
     }
 
+    /// Removes all blocks.
     pub fn clear(&mut self)
         ensures { self.new ≡ [] }
     {
         self.items.clear();
     }
 
+    /// Returns the numbers of the blocks.
     pub fn as_slice(&self) -> &[u32]
         ensures { result.now ≡ self.now }
     {
         self.items.as_slice()
     }
 
-    /// These blocks more.
+    /// Adds these blocks.
     pub fn add_all(&mut self, blocks: &[u32])
         requires { length self.old + length blocks.now ≤ listed_limit }
         ensures { self.new ≡ self.old ++ blocks.now }
@@ -69,7 +73,7 @@ impl Blocks {
         }
     }
 
-    /// The list, for a space to keep.
+    /// Returns the list in the form that a space keeps.
     pub fn into_rest(self) -> cyl_alloc::Blocks
         ensures { result ≡ self }
     {

@@ -27,7 +27,7 @@ pub(crate) fn add_unlike(list: &mut Blocks, block: u32, other: u32)
     list.add(block);
 }
 
-/// Lists a node and its leaves, but for those that the other node has at the same place.
+/// Lists a node and its leaves, except those that the other node has at the same place.
 fn add_node(list: &mut Blocks, block: u32, node: &Node, other: u32, other_node: &Node)
     requires { length list.old + node_blocks ≤ blocks_limit }
     ensures { list.new ≡ list.old ++ spec.all_unlike (spec.pointer_table block node.now.leaves)
@@ -39,7 +39,7 @@ fn add_node(list: &mut Blocks, block: u32, node: &Node, other: u32, other_node: 
     }
 }
 
-/// Lists what differs between a node of the draft and one of the object, which are read.
+/// Lists what differs between a node of the draft and one of the object. Both are read.
 fn add_nodes<D: Disk>(
     disk: &mut D,
     at: BlockNo,
@@ -79,7 +79,9 @@ fn add_nodes<D: Disk>(
     Ok(())
 }
 
-/// Lists what differs between a node of the draft and one of the object. Where their blocks are the same nothing does.
+/// Lists what differs between a node of the draft and one of the object.
+///
+/// If their blocks are the same nothing differs.
 fn add_changed<D: Disk>(
     disk: &mut D,
     at: BlockNo,
@@ -112,9 +114,10 @@ fn add_changed<D: Disk>(
     add_nodes(disk, at, own, new, taken, dropped)
 }
 
-/// Lists the blocks of a draft's own, but for its shadow root, and the blocks of the object that the draft doesn't
-/// have. The object's root is at the block `at`, `own` is that root, and `root` the one that it is to get. Nothing is
-/// written. `Damaged` names the object's root block or a node, with code 4, where a pointer of it leads past the disk.
+/// Lists the draft's own blocks, except its shadow root, and the blocks of the object that the draft doesn't have.
+///
+/// The object's root is in block `at`, `own` is that root, and `root` is the one that it is to get. Nothing is
+/// written. `Damaged` names the object's root block or a node, with code 4, if a pointer of it leads past the disk.
 pub(crate) fn changed<D: Disk>(
     disk: &mut D,
     at: BlockNo,
@@ -134,7 +137,7 @@ pub(crate) fn changed<D: Disk>(
     ensures refused { (kept : Kept) → IfErr result (IsDraftTrouble D.Disk (roots_top at.0 own.now root.now) disk.old
         disk.new kept) }
     ensures untried { IfErr result (λ trouble. trouble_had_tried trouble ≡ false) }
-    // No damage where the disk holds the object.
+    // There is no damage if the disk holds the object.
     ensures sound { (space : Kept) (was : Drafting) (v : DraftView D.Disk disk.old space was)
         → was.own ≡ own.now → was.root ≡ root.now → IfErr result (λ trouble. is_damage trouble ≡ false) }
     ensures reads { OnlyReads D.Disk changed_reads disk.old disk.new }

@@ -1,4 +1,4 @@
-//! A draft committed.
+//! How a draft is committed.
 ghost use Rattle.std.specs.Prelude.{◌≡◌, ◌≢◌, ◌<◌, ◌≤◌, ◌+◌, ◌*◌, ◌++◌, ◌∷◌, [], ℕ, false, length, option_to_list};
 ghost use Rattle.std.specs.Prelude.{Option, None, Some, IfErr, OnOk};
 ghost use Rattle.std.specs.List.{All};
@@ -21,7 +21,7 @@ use block_tree::Root;
 use cfs_base::{BlockNo, Disk, Trouble};
 use cyl_alloc::Space;
 
-/// The entries that a commit changes past its bit, the shadow root's as the last.
+/// Returns the blocks whose entries a commit changes past its bit, the shadow root last.
 fn rest_of(
     taken: Blocks,
     dropped: &[u32],
@@ -40,7 +40,9 @@ fn rest_of(
     rest.into_rest()
 }
 
-/// Makes a draft its object, whose shadow root was written: the commit bit is set, and what is left is kept.
+/// Makes a draft its object. Its shadow root was written.
+///
+/// The commit bit is set, and what is left is kept.
 pub(crate) fn finish<D: Disk>(
     disk: &mut D,
     space: &mut Space,
@@ -74,7 +76,7 @@ pub(crate) fn finish<D: Disk>(
     Ok(())
 }
 
-/// Commits a draft of these parts, whose shadow root is written first.
+/// Commits a draft with these parts. Its shadow root is written first.
 pub(crate) fn commit_begun<D: Disk>(
     disk: &mut D,
     space: &mut Space,

@@ -1,4 +1,4 @@
-//! The commit bit of a draft that stands with its root in its shadow root.
+//! The commit bit of a draft whose root is in its shadow root.
 ghost use Rattle.intentions.specs.Entries.{FitsEntry};
 ghost use Rattle.std.specs.Prelude.{◌≡◌, ◌<◌, ◌+◌, ◌*◌, ◌++◌, ℕ, List, [], ◌∷◌, false, length, option_to_list};
 ghost use Rattle.std.specs.Prelude.{Option, None, Some, IfErr, OnOk};
@@ -37,7 +37,7 @@ pub(crate) fn flip_made<D: Disk>(
     }
 }
 
-/// Means to give up what is dropped, and sets the commit bit: the draft is the object from then on.
+/// Marks what is dropped as to be given up, and sets the commit bit: the draft is the object from then on.
 pub(crate) fn decide<D: Disk>(
     disk: &mut D,
     known: &mut KnownMaps,
@@ -61,7 +61,7 @@ pub(crate) fn decide<D: Disk>(
     ensures settled { Tells D.Disk disk.old → OnOk result (IsSettled D.Disk disk.new) }
     ensures fails { (kept : Kept) → IfErr result (spec.CommitFails D.Disk (still_top at.0) disk.old disk.new kept) }
     ensures calls { MakesAtMost D.Disk (2 * length dropped.now + 4) (length dropped.now + 3) disk.old disk.new }
-    // Those of one map that stand together cost one read and one write.
+    // The entries of consecutive blocks in one map cost one read and one write.
     ensures by_map { MakesAtMost D.Disk (2 * runs dropped.now + 4) (runs dropped.now + 3) disk.old disk.new }
 {
     flip_all(disk, known, dropped, EntryChange::Release)?;

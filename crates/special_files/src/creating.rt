@@ -28,7 +28,7 @@ use cfs_base::{BlockNo, Damage, Disk, Kind, Place, Puid, Refused, code};
 use cyl_alloc::Space;
 use intentions::intend_claim;
 
-/// The root of a new object, which holds nothing.
+/// Returns the root of a new object, which holds nothing.
 pub fn bare_root(kind: Kind, fill: u8, size: u64, word: u32) -> Root
     requires { spec.MayBeMade kind fill size }
     ensures root { spec.IsBare result }
@@ -44,7 +44,9 @@ pub fn bare_root(kind: Kind, fill: u8, size: u64, word: u32) -> Root
     }
 }
 
-/// The least-numbered Free block, which is none where it is the first map.
+/// Finds the least-numbered Free block.
+///
+/// `Damaged` names block 0, with code 2, if that is the block: it holds the first map.
 pub fn least<D: Disk>(disk: &mut D, space: &Space) -> Result<BlockNo, Refused>
     requires size { D.blocks disk.old ≡ 64 * length space.now.free }
     requires room { 1 ≤ sum space.now.free }
@@ -116,7 +118,7 @@ fn make_root<D: Disk>(
     write_root(disk, block, root)
 }
 
-/// The identifier of an object with this root block.
+/// Returns the identifier of an object with this root block.
 fn puid_of(block: BlockNo, word: u32) -> Puid
     requires { block.0 ≢ 0 }
     ensures value { result ≡ puid_at block.0 word }
@@ -129,10 +131,13 @@ fn puid_of(block: BlockNo, word: u32) -> Puid
 }
 
 impl ObjectDraft {
-    /// Makes an object with this root at a block, the least-numbered Free one, and puts its identifier into a slot of
-    /// the draft, which is an index's and makes no object yet. The root is claimed and written, and then the slot is
-    /// filled; `commit` makes the root Allocated, and `abort` makes it Free. Answers what was put, as `fill` does. Has
-    /// no floor. Refused, the draft is to be dropped. `Damaged` as in `fill`. Never `Memory`.
+    /// Makes an object with this root at a block, and puts its identifier into a slot of the draft.
+    ///
+    /// Returns what was put, as `fill` does. The block is the least-numbered Free one. The draft is an index's and
+    /// makes no object yet. The root is claimed and written, and then the slot is filled. `commit` makes the root
+    /// Allocated, and `abort` makes it Free. It keeps no floor.
+    ///
+    /// If it is refused, the draft is to be dropped. `Damaged` as in `fill`. Never `Memory`.
     pub fn create<D: Disk>(
         &mut self,
         disk: &mut D,

@@ -1,4 +1,4 @@
-//! A draft committed that has no shadow root yet.
+//! How a draft is committed that has no shadow root yet.
 ghost use Rattle.std.specs.Prelude.{◌≡◌, ◌≢◌, ◌<◌, ◌≤◌, ◌+◌, ◌*◌, ℕ, false, length, sum, Option, None, Some};
 ghost use Rattle.std.specs.Prelude.{IfErr};
 ghost use Rattle.std.specs.List.{All};
@@ -25,7 +25,7 @@ use block_tree::Root;
 use cfs_base::{BlockNo, Disk, Place, Refused, Trouble};
 use cyl_alloc::Space;
 
-/// A refusal of a call that takes no block and no memory.
+/// Returns the refusal of a call that takes no block and no memory as a trouble.
 fn trouble_of(error: Refused) -> Trouble
     requires room { is_full_refusal error ≡ false }
     requires memory { error ≢ refused.Memory }
@@ -39,7 +39,7 @@ fn trouble_of(error: Refused) -> Trouble
     }
 }
 
-/// Claims a shadow root, where some block is Free.
+/// Claims a shadow root, if a block is Free.
 fn claim_shadow<D: Disk>(disk: &mut D, space: &mut Space, at: BlockNo) -> Result<BlockNo, Trouble>
     requires some { at.0 ≢ 0 }
     requires size { D.blocks disk.old ≡ 64 * length space.old.free }
@@ -52,7 +52,9 @@ fn claim_shadow<D: Disk>(disk: &mut D, space: &mut Space, at: BlockNo) -> Result
         .map_err(trouble_of)
 }
 
-/// Commits a draft of these parts, which takes and drops these blocks: its shadow root is claimed and written.
+/// Commits a draft with these parts, which takes and drops these blocks.
+///
+/// Its shadow root is claimed and written.
 pub(crate) fn commit_listed<D: Disk>(
     disk: &mut D,
     space: &mut Space,
@@ -93,7 +95,7 @@ pub(crate) fn commit_listed<D: Disk>(
     finish(disk, space, at, shadow, taken, dropped, created)
 }
 
-/// Commits a draft of these parts, which has no shadow root.
+/// Commits a draft with these parts, which has no shadow root.
 pub(crate) fn commit_direct<D: Disk>(
     disk: &mut D,
     space: &mut Space,

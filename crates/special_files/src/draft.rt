@@ -14,12 +14,14 @@ use block_tree::Root;
 use cfs_base::{BlockNo, Refused};
 use std::marker::Model;
 
-/// A changed object beside the one that stands. It has a shadow root, and of the leaves and nodes those that were
-/// written since it was begun; all others are the object's own.
+/// A changed object beside the object as it is.
+///
+/// It has a shadow root, and its own blocks for those leaves and nodes that were written since it began. All others
+/// are the object's own.
 #[derive(Debug, Drop)]
 pub struct ObjectDraft {
     pub(crate) at: BlockNo,
-    /// A draft that is its own commit has none until then.
+    /// The shadow root. A draft that is its own commit has none until then.
     pub(crate) shadow: Option<BlockNo>,
     /// The root of the object, which stays as it is.
     pub(crate) own: Root,
@@ -30,7 +32,7 @@ pub struct ObjectDraft {
     pub(crate) nodes: Flags,
     /// The root of an object that is made with the commit.
     pub(crate) created: Option<BlockNo>,
-    /// Room for what a commit takes and drops. Both are empty between two calls.
+    /// Room for what a commit takes and drops. Both lists are empty between two calls.
     pub(crate) taken: Blocks,
     pub(crate) dropped: Blocks,
 }
@@ -57,28 +59,28 @@ impl Model for ObjectDraft {
 }
 
 impl ObjectDraft {
-    /// The object's size in bytes, as the draft has it.
+    /// Returns the object's size in bytes, as the draft has it.
     pub fn size(&self) -> u64
         ensures { result ≡ self.now.root.size }
     {
         self.root.size
     }
 
-    /// The root block of the object.
+    /// Returns the root block of the object.
     pub fn at(&self) -> BlockNo
         ensures { result.0 ≡ self.now.at }
     {
         self.at
     }
 
-    /// The root that the object is to get.
+    /// Returns the root that the object is to get.
     pub fn root(&self) -> &Root
         ensures { result.now ≡ self.now.root }
     {
         &self.root
     }
 
-    /// How many blocks the draft has of its own: fresh leaves and nodes, and the shadow root once it is taken.
+    /// Returns how many blocks are the draft's own: fresh leaves and nodes, and the shadow root once it is taken.
     pub fn fresh_count(&self) -> u32
         ensures { (ds : Drafts) (id : Puid) (d : drafts.Draft) → IsOpen ds id self.now d
             → result ≡ sum_by length d.fresh + shadow_count self.now }
@@ -86,7 +88,7 @@ impl ObjectDraft {
         self.leaves.count() + self.nodes.count() + self.shadow_count()
     }
 
-    /// Whether a leaf is the draft's own.
+    /// Returns whether a leaf is the draft's own.
     pub(crate) fn has_fresh_leaf(&self, leaf: u32) -> bool
         requires { leaf < leaf_limit }
         ensures { result ≡ is_fresh_leaf self.now leaf }
@@ -94,7 +96,7 @@ impl ObjectDraft {
         self.leaves.has(leaf)
     }
 
-    /// Whether a node is the draft's own.
+    /// Returns whether a node is the draft's own.
     pub(crate) fn has_fresh_node(&self, node: u32) -> bool
         requires { node < node_pointers.count }
         ensures { result ≡ is_fresh_node self.now node }
@@ -102,7 +104,7 @@ impl ObjectDraft {
         self.nodes.has(node)
     }
 
-    /// Whether a node is the draft's own, as is that of each leaf that it wrote.
+    /// Returns whether any node is the draft's own. The node of each leaf that it wrote is.
     pub fn has_fresh_nodes(&self) -> bool
         ensures some { result ≡ true → (n : ℕ) × (is_fresh_node self.now n ≡ true) }
         ensures none { result ≡ false → (n : ℕ) → is_fresh_node self.now n ≡ false }
@@ -116,7 +118,7 @@ impl ObjectDraft {
         self.shadow.is_some() as u32
     }
 
-    /// What a commit takes besides: a shadow root, where there is none yet.
+    /// Returns how many more blocks a commit takes: one for a shadow root, if there is none yet.
     pub(crate) fn shadow_need(&self) -> u32
         ensures { result ≡ shadow_need self.now }
     {
@@ -124,7 +126,7 @@ impl ObjectDraft {
     }
 }
 
-/// The same refusal of a call that may have tried a write before.
+/// Returns the same refusal, as of a call that may have tried a write before.
 pub(crate) fn after(tried: bool, error: Refused) -> Refused
     ensures { result ≡ refusal_after tried error }
 {

@@ -11,15 +11,18 @@ use cfs_base::{Block, Disk, Puid, Refused};
 use cyl_alloc::Space;
 use leaf_changes::{put_slot, slot_at};
 
-/// What was put: the number of its leaf, and the block that the leaf was in, 0 where it was absent, and is in.
+/// What was put into a draft: a leaf.
 #[derive(Debug, Clone, Copy)]
 pub struct Swap {
+    /// The number of the leaf.
     pub leaf: u32,
+    /// The block that the leaf was in, or 0 if it was absent.
     pub was: u32,
+    /// The block that the leaf is in.
     pub is: u32,
 }
 
-/// Whether a slot of this leaf is to be emptied, and is empty.
+/// Returns whether a slot of this leaf is to be emptied, and is empty.
 fn is_empty_already(content: &Block, slot: usize, what: Option<Puid>) -> bool
     requires { slot < 64 }
     ensures { result ≡ (is_none what && is_none (slot_in content.now slot)) }
@@ -28,9 +31,10 @@ fn is_empty_already(content: &Block, slot: usize, what: Option<Puid>) -> bool
 }
 
 impl ObjectDraft {
-    /// Puts an identifier into a slot of an index, or empties the slot, and answers what was put: the slot's leaf alone
-    /// is read, and put with this in it. `None` where the slot is empty and is to be: nothing is done then. Has no
-    /// floor, and never answers `Memory`.
+    /// Puts an identifier into a slot of an index, or empties the slot, and returns what was put.
+    ///
+    /// Only the slot's leaf is read, and it is put into the draft with this in it. Returns `None` if the slot is to
+    /// be emptied and is empty: nothing is done then. It keeps no floor, and is never refused with `Memory`.
     pub fn fill<D: Disk>(
         &mut self,
         disk: &mut D,

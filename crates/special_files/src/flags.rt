@@ -9,10 +9,10 @@ use cfs_base::NoMemory;
 use std::alloc::Global;
 use std::marker::Model;
 
-/// Flags, and how many of them are set. Clauses see the list of them.
+/// Flags, and how many of them are set. Clauses see the list of the flags.
 #[derive(Debug, Drop)]
 pub(crate) struct Flags {
-    /// Those up to the last that was ever put. No other is set.
+    /// The flags up to the last that was ever put. No other flag is set.
     items: Vec<bool>,
     len: u32,
     count: u32,
@@ -32,7 +32,7 @@ impl Model for Flags {
         × (a.len ≤ vec_capacity a.items) };
 }
 
-/// Makes a list so long, with flags that aren't set.
+/// Makes a list longer, up to this length, with flags that aren't set.
 fn reach(items: &mut Vec<bool>, len: usize)
     requires { len ≤ vec_capacity items.old }
     ensures items { items.new.items ≡ items.old.items ++ replicate (len - length items.old.items) false }
@@ -50,7 +50,7 @@ fn one_unless(flag: bool) -> u32
 }
 
 impl Flags {
-    /// So many flags, of which none is set.
+    /// Makes `count` flags, of which none is set.
     pub fn none(alloc: Global, count: usize) -> Result<Flags, NoMemory>
         requires { count ≤ leaf_limit }
         ensures { IfOk result (λ flags. flags ≡ replicate count false) }
@@ -63,7 +63,7 @@ impl Flags {
         })
     }
 
-    /// How many are set.
+    /// Returns how many flags are set.
     pub fn count(&self) -> u32
         ensures count { result ≡ count_by (λ b. b) self.now }
         ensures most { result ≤ length self.now }
@@ -71,6 +71,7 @@ impl Flags {
         self.count
     }
 
+    /// Returns a flag.
     pub fn has(&self, at: u32) -> bool
         requires { at < length self.now }
         ensures { result ≡ get_or self.now at false }
@@ -79,6 +80,7 @@ impl Flags {
         at < self.items.len() && self.items[at]
     }
 
+    /// Sets or clears a flag.
     pub fn put(&mut self, at: u32, flag: bool)
         requires { at < length self.old }
         ensures { self.new ≡ set self.old at flag }
@@ -90,7 +92,7 @@ impl Flags {
         self.count = self.count - was as u32 + flag as u32;
     }
 
-    /// None from one on is set any more.
+    /// Clears all flags from `from` on.
     pub fn clear_from(&mut self, from: u32)
         ensures long { length self.new ≡ length self.old }
         ensures before { (k : ℕ) → k < from → get_or self.new k false ≡ get_or self.old k false }
@@ -102,7 +104,7 @@ impl Flags {
         }
     }
 
-    /// How many of these aren't set.
+    /// Returns how many of these flags aren't set.
     pub fn lacking(&self, from: u32, to: u32) -> u32
         requires order { from ≤ to }
         requires within { to ≤ length self.now }

@@ -1,4 +1,4 @@
-//! Entries of many blocks, changed with one write for those of one map that stand together.
+//! Entries of many blocks, changed with one write for consecutive blocks in one map.
 ghost use Rattle.std.specs.Prelude.{◌≡◌, ◌<◌, ◌*◌, ℕ, [], ◌∷◌, length};
 ghost use Rattle.std.specs.List.{All};
 ghost use Rattle.cfs_base.specs.Calls.{MakesAtMost};
@@ -10,7 +10,7 @@ use cfs_base::{Block, BlockNo, Disk, Trouble};
 use cyl_alloc::{KnownMaps, Space};
 use intentions::{EntryChange, Rule, change_entry, change_first, write_map};
 
-/// Changes the entry of a block, where a write or a barrier was tried before.
+/// Changes the entry of a block. A write or a barrier was tried before.
 pub(crate) fn flip<D: Disk>(
     disk: &mut D,
     known: &mut KnownMaps,
@@ -25,8 +25,9 @@ pub(crate) fn flip<D: Disk>(
     Ok(())
 }
 
-/// Changes the entries of the first of these blocks that lie in one map, by one read and one write of it, where a write
-/// or a barrier was tried before. Answers how many they are.
+/// Changes the entries of the first of these blocks that are in one map, and returns how many they are.
+///
+/// It makes one read and one write of the map. A write or a barrier was tried before.
 fn flip_run<D: Disk>(
     disk: &mut D,
     known: &mut KnownMaps,
@@ -48,7 +49,7 @@ fn flip_run<D: Disk>(
     Ok(run.count)
 }
 
-/// Changes the entries of all these blocks, with one write for those of one map that stand together.
+/// Changes the entries of all these blocks, with one write for consecutive blocks in one map.
 pub(crate) fn flip_all<D: Disk>(
     disk: &mut D,
     known: &mut KnownMaps,

@@ -1,4 +1,4 @@
-//! The blocks of a draft's own that become Free where leaves are dropped.
+//! The draft's own blocks that become Free when leaves are dropped.
 ghost use Rattle.std.specs.Prelude.{◌≡◌, ◌+◌, ◌-◌, ◌*◌, ◌/◌, ◌<◌, ◌≤◌, ◌==◌, ◌++◌, if◌then◌else◌, ℕ, IsTrue, false, []};
 ghost use Rattle.std.specs.Prelude.{get_or, length, slice_index, Ok, IfErr, IfOk, OnOk};
 ghost use Rattle.std.specs.List.{All};
@@ -28,7 +28,7 @@ use cfs_base::{BlockNo, Disk, Trouble};
 use cyl_alloc::KnownMaps;
 use intentions::{EntryChange, change_entry};
 
-/// A node of a draft with this root, which is read unless the way has it.
+/// Returns a node of a draft with this root. It is read unless the way has it.
 fn node_again<D: Disk>(
     disk: &mut D,
     at: BlockNo,
@@ -58,7 +58,7 @@ fn node_again<D: Disk>(
     }
 }
 
-/// Lists a block, if it is to be.
+/// Lists a block if `add` is set.
 fn add_if(list: &mut Blocks, add: bool, block: u32)
     requires { length list.old < blocks_limit }
     ensures { list.new ≡ list.old ++ spec.list_if add block }
@@ -68,7 +68,7 @@ fn add_if(list: &mut Blocks, add: bool, block: u32)
     }
 }
 
-/// Lists a fresh node, where leaf 0 of it is dropped, and its fresh leaves from a place on.
+/// Lists a fresh node, if its leaf 0 is dropped, and its fresh leaves from a place on.
 fn list_node(list: &mut Blocks, leaves: &Flags, block: u32, node: &Node, number: u32, from: u32)
     requires room { length list.old + node_blocks ≤ blocks_limit }
     requires flags { length leaves.now ≡ leaf_limit }
@@ -87,7 +87,7 @@ fn list_node(list: &mut Blocks, leaves: &Flags, block: u32, node: &Node, number:
     }
 }
 
-/// A draft, beside the lists that it keeps.
+/// A draft without the lists that it keeps.
 #[derive(Drop)]
 pub(crate) struct DraftParts<'a> {
     pub at: BlockNo,
@@ -96,7 +96,7 @@ pub(crate) struct DraftParts<'a> {
     pub nodes: &'a Flags,
 }
 
-/// Lists the fresh leaves from one on, and the fresh nodes that have no leaf before it.
+/// Lists the fresh leaves from `from` on, and the fresh nodes that have no leaf before it.
 pub(crate) fn list_from<D: Disk>(
     disk: &mut D,
     parts: &DraftParts<'_>,
@@ -123,7 +123,7 @@ pub(crate) fn list_from<D: Disk>(
         → spec.HasParts was parts.now.root.now parts.now.leaves.now parts.now.nodes.now
         → IsWay (D.content disk.old) parts.now.root.now way.now
         → IfErr result (λ trouble. is_damage trouble ≡ false) }
-    // Where no node is fresh there is none, and nothing is read.
+    // If no node is fresh there are none, and nothing is read.
     ensures none { ((n : ℕ) → get_or parts.now.nodes.now n false ≡ false)
         → (result ≡ Ok tt) × (list.new ≡ []) × (disk.new ≡ disk.old) }
     ensures reads { OnlyReads D.Disk node_pointers.count disk.old disk.new }
@@ -149,14 +149,16 @@ pub(crate) fn list_from<D: Disk>(
     Ok(())
 }
 
-/// The trouble of a call that may have tried a write before.
+/// Returns the trouble of a call that may have tried a write before.
 fn since(tried: bool, trouble: Trouble) -> Trouble
     ensures { result ≡ if tried then trouble_after_try trouble else trouble }
 {
     if tried { trouble.after_try() } else { trouble }
 }
 
-/// Takes back what was claimed for these blocks, one after another. A failure before the first write tells so.
+/// Takes back what was claimed for these blocks, one after another.
+///
+/// A failure before the first write says so.
 pub(crate) fn undo_listed<D: Disk>(
     disk: &mut D,
     known: &mut KnownMaps,

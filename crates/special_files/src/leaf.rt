@@ -29,7 +29,7 @@ pub(crate) fn write_own<D: Disk>(
 }
 
 impl ObjectDraft {
-    /// Claims a block for the draft, the least-numbered that is Free.
+    /// Claims the least-numbered Free block for the draft.
     pub(crate) fn claim<D: Disk>(
         &self,
         disk: &mut D,
@@ -43,7 +43,7 @@ impl ObjectDraft {
         space.intend(disk, place, self.at.0)
     }
 
-    /// The block of a node of the draft's own: it is claimed where the draft has none.
+    /// Returns the block of a node of the draft's own. It is claimed if the draft has none.
     pub(crate) fn node_block<D: Disk>(
         &self,
         disk: &mut D,
@@ -60,8 +60,10 @@ impl ObjectDraft {
         self.claim(disk, space, Place::Node(node as u16))
     }
 
-    /// Puts a leaf of this content into the draft. Where the draft has no leaf of its own one is claimed, and after it
-    /// its node, where that needs one. The way leads to the leaf, as it does afterwards.
+    /// Puts a leaf with this content into the draft.
+    ///
+    /// If the draft has no leaf of its own a block is claimed for it, and then one for its node if that needs one.
+    /// The way leads to the leaf, and still does afterwards.
     pub(crate) fn put_leaf<D: Disk>(
         &mut self,
         disk: &mut D,
@@ -106,7 +108,7 @@ impl ObjectDraft {
         Ok(())
     }
 
-    /// A leaf is the draft's own from now on, and so is its node, to which this root leads.
+    /// Records that a leaf is the draft's own from now on, and so is its node, to which this root leads.
     fn add(&mut self, leaf: u32, root: &Root)
         requires below { leaf < leaf_limit }
         requires size { root.now.size ≤ size_limit }

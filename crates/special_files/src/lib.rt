@@ -1,5 +1,7 @@
-//! Drafts of special files and indices: an object that is changed beside itself, while it stands as it was. The layer
-//! above uses that a draft is the model's draft, and that each image on the way holds all objects as they were.
+//! Drafts of special files and indices: an object that is changed beside itself, while the object stays as it was.
+//!
+//! The layer above uses that a draft is the model's draft, and that each image on the way holds all objects as they
+//! were.
 #![tactic(auto)]
 
 mod abort;

@@ -12,8 +12,9 @@ use block_tree::Way;
 use cfs_base::{Disk, Trouble};
 
 impl ObjectDraft {
-    /// Turns a way to a leaf of the draft, and gives the leaf's block, 0 where it is absent. A node that the way has is
-    /// not read again.
+    /// Turns a way to a leaf of the draft, and returns the leaf's block, or 0 if it is absent.
+    ///
+    /// A node that the way has is not read again.
     pub(crate) fn turn_to<D: Disk>(
         &self,
         disk: &mut D,

@@ -1,4 +1,4 @@
-//! A draft that is read.
+//! How a draft is read.
 ghost use Rattle.std.specs.Prelude.{◌≡◌, ◌+◌, ◌-◌, ◌*◌, ◌/◌, ◌<◌, ◌≤◌, length, IfOk};
 ghost use Rattle.block_tree.specs.Pointers.{leaf_limit};
 ghost use Rattle.cyl_alloc.specs.Space.{Kept};
@@ -18,7 +18,7 @@ use cfs_base::{Block, Disk, Trouble};
 use leaf_changes::{leaves_in, read_part};
 
 impl ObjectDraft {
-    /// The bytes of a leaf.
+    /// Reads a leaf.
     pub(crate) fn leaf_bytes<D: Disk>(
         &self,
         disk: &mut D,
@@ -37,8 +37,9 @@ impl ObjectDraft {
         read_block(disk, block, self.root.fill)
     }
 
-    /// Reads a part of a file, from an offset in bytes on. `Damaged` names the root block, or a node, with code 4,
-    /// where a pointer of it leads past the disk.
+    /// Reads a part of a file, beginning at an offset in bytes.
+    ///
+    /// `Damaged` names the root block, or a node, with code 4, if a pointer of it leads past the disk.
     pub fn read<D: Disk>(&self, disk: &mut D, offset: u64, into: &mut [u8]) -> Result<(), Trouble>
         requires on_disk { self.now.at < D.blocks disk.old }
         requires within { offset + length into.old ≤ self.now.root.size }

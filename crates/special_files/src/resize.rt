@@ -1,4 +1,4 @@
-//! The size of a draft changed.
+//! Changes of a draft's size.
 ghost use Rattle.std.specs.Prelude.{◌≡◌, ◌+◌, ◌*◌, ◌/◌, ◌<◌, ◌≤◌, length, sum, IfErr, IfOk, OnOk};
 ghost use Rattle.block_tree.specs.Pointers.{size_limit};
 ghost use Rattle.cfs_base.specs.declared.refusal.Refused.TheVariants as refused;
@@ -19,7 +19,7 @@ use cyl_alloc::Space;
 use leaf_changes::cut_leaf;
 
 impl ObjectDraft {
-    /// Sets the size to no less than it is, which takes the shadow root alone.
+    /// Sets the size to no less than it is. That takes only the shadow root.
     pub(crate) fn grow(&mut self, space: &Space, size: u64, floor: u32) -> Result<(), Refused>
         requires { size ≤ size_limit }
         ensures done { OnOk result ((self.new ≡ sized self.old size)
@@ -34,7 +34,7 @@ impl ObjectDraft {
         Ok(())
     }
 
-    /// The content of the leaf in which a file of this size ends, with fill bytes from its end on.
+    /// Returns the content of the leaf in which a file of this size ends, with fill bytes from the file's end on.
     fn cut_bytes<D: Disk>(&self, disk: &mut D, way: &mut Way, size: u64) -> Result<Block, Trouble>
         requires below { size < size_limit }
         requires some { 0 < D.blocks disk.old }

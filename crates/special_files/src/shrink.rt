@@ -1,4 +1,4 @@
-//! The size of a draft set to less, and to any.
+//! The size of a draft set to less, or to any size.
 ghost use Rattle.std.specs.Prelude.{◌≡◌, ◌≢◌, ◌+◌, ◌*◌, ◌/◌, ◌%◌, ◌<◌, ◌≤◌, ℕ, true, false, length, slice_index, sum};
 ghost use Rattle.std.specs.Prelude.{Err, IfErr, IfOk};
 ghost use Rattle.block_tree.specs.Along.{CutsRootPast, way_leaves};
@@ -21,8 +21,9 @@ use cfs_base::{BlockNo, Disk, Refused};
 use cyl_alloc::Space;
 use leaf_changes::leaves_in;
 
-/// What a resize to less does: it drops the leaves from one on, and before that may cut the leaf within which the file
-/// ends.
+/// What a resize to less does.
+///
+/// It drops the leaves from one on, and before that may cut the leaf within which the file ends.
 #[derive(Clone, Copy)]
 struct Plan {
     /// The way to the last leaf that the file may have.
@@ -31,7 +32,7 @@ struct Plan {
     cut: bool,
 }
 
-/// Whether a node holds a leaf in these places.
+/// Returns whether a node holds a leaf in these places.
 fn holds(node: &Node, from: u32, to: u32) -> bool
     requires { to ≤ leaf_pointers.count }
     ensures some { result ≡ true → (k : ℕ) × (from ≤ k) × (k < to) × (slice_index node.now.leaves k ≢ 0) }
@@ -45,8 +46,9 @@ fn holds(node: &Node, from: u32, to: u32) -> bool
     false
 }
 
-/// From which leaf on a draft drops its leaves that is to keep those before one, which lies in this node or at its end.
-/// Where that is within the node, the node keeps a leaf and drops one.
+/// Returns the leaf from which a draft drops its leaves, if it is to keep those before `to`.
+///
+/// `to` is in this node or at its end. If the result is within the node, the node keeps a leaf and drops one.
 fn border(node: &Node, number: u32, to: u32) -> u32
     requires few { number < node_pointers.count }
     requires low { leaf_pointers.count * number ≤ to }
@@ -63,7 +65,7 @@ fn border(node: &Node, number: u32, to: u32) -> u32
     to
 }
 
-/// Whether a leaf that this node holds is cut where a file ends in one of its leaves.
+/// Returns whether a leaf that this node holds is cut, if a file ends in one of the node's leaves.
 fn is_cut(node: &Node, size: u64) -> bool
     ensures { spec.IsCutHere size node.now.leaves result }
 {
@@ -71,8 +73,10 @@ fn is_cut(node: &Node, size: u64) -> bool
 }
 
 impl ObjectDraft {
-    /// How many blocks a resize to less takes, with the shadow root that a commit takes: one for its last leaf where
-    /// that is cut and isn't fresh, and one for the node where it changes and isn't fresh.
+    /// Returns how many blocks a resize to less takes, with the shadow root that a commit takes.
+    ///
+    /// They are one for its last leaf if that is cut and isn't fresh, and one for the node if it changes and isn't
+    /// fresh.
     fn need_at(&self, cut: bool, from: u32, leaf: u32, node: u32) -> u32
         requires leaf { leaf < leaf_limit }
         requires node { node < node_pointers.count }
@@ -83,8 +87,9 @@ impl ObjectDraft {
         stale as u32 + changes as u32 + self.shadow_need()
     }
 
-    /// The node of a leaf is written without its leaves from this one on, into a block of the draft's own. The root is
-    /// the draft's, and leads to that block then and nowhere past it.
+    /// Writes the node of a leaf without its leaves from this one on, into a block of the draft's own.
+    ///
+    /// `root` is the draft's. It leads to that block then, and nowhere past it.
     fn put_short<D: Disk>(
         &self,
         disk: &mut D,
@@ -113,8 +118,9 @@ impl ObjectDraft {
         }
     }
 
-    /// The same where the leaf lies within its node; else the root leads nowhere from that node on, and nothing is
-    /// written.
+    /// Writes the node as `put_short` does if the leaf is within its node.
+    ///
+    /// Else the root leads nowhere from that node on, and nothing is written.
     fn put_within<D: Disk>(
         &self,
         disk: &mut D,
@@ -139,8 +145,9 @@ impl ObjectDraft {
         self.put_short(disk, space, way, from, root)
     }
 
-    /// The draft has no leaf from one on, and this root. Where that leaf lies within a node, the node is of the draft's
-    /// own.
+    /// Records that the draft has no leaf from `from` on, and this root.
+    ///
+    /// If that leaf is within a node, the node is the draft's own.
     fn forget(&mut self, from: u32, root: Root)
         requires limit { from ≤ leaf_limit }
         requires size { root.size ≤ size_limit }
@@ -155,7 +162,9 @@ impl ObjectDraft {
         }
     }
 
-    /// Drops the leaves from one on, with the nodes that have no leaf before it. Those of the draft's own become Free.
+    /// Drops the leaves from `from` on, with the nodes that have no leaf before it.
+    ///
+    /// Those that are the draft's own become Free.
     fn drop_from<D: Disk>(
         &mut self,
         disk: &mut D,
@@ -198,7 +207,7 @@ impl ObjectDraft {
         Ok(())
     }
 
-    /// Cuts the leaf within which a file of this size ends, if it is to be.
+    /// Cuts the leaf within which a file of this size ends, if `cut` is set.
     fn cut_if<D: Disk>(
         &mut self,
         disk: &mut D,
@@ -220,8 +229,9 @@ impl ObjectDraft {
         self.cut(disk, space, way, size)
     }
 
-    /// Reads the node in which a file of less size ends. `Full` where fewer blocks are Free than the resize needs and
-    /// the floor.
+    /// Reads the node in which a file of less size ends.
+    ///
+    /// `Full` if fewer blocks are Free than the resize needs plus the floor.
     fn plan<D: Disk>(
         &self,
         disk: &mut D,
@@ -293,9 +303,11 @@ impl ObjectDraft {
         Ok(())
     }
 
-    /// Sets the size of a file, in bytes. To less, its leaves past the size are dropped, and those of the draft's own
-    /// become Free. `Full` where fewer blocks are Free than the resize needs, with the shadow root that a commit takes
-    /// where there is none, and the floor; nothing was written then. Never `Memory`.
+    /// Sets the size of a file, in bytes.
+    ///
+    /// If it is set to less, the leaves past the size are dropped, and those that are the draft's own become Free.
+    /// `Full` if fewer blocks are Free than the resize needs, with the shadow root that a commit takes if there is
+    /// none, plus the floor. Nothing was written then. Never `Memory`.
     pub fn resize<D: Disk>(
         &mut self,
         disk: &mut D,
@@ -308,12 +320,12 @@ impl ObjectDraft {
         requires limit { size ≤ size_limit }
         ensures goes { (v : DraftView D.Disk disk.old space.old self.old) → GoesHolding D.Disk v.graph
             (spec.ResizesIfFile v size floor disk.new space.new self.new) disk.old disk.new result }
-        // Full exactly where the model's need and the floor aren't Free.
+        // It is full exactly if the model's need plus the floor isn't Free.
         ensures full { (v : DraftView D.Disk disk.old space.old self.old) (f : File) → v.draft.object ≡ objects.File f
             → IfErr result (λ e. is_full_refusal e ≡ true → spec.IsFullFor size floor v.draft space.old self.old e) }
         ensures call { spec.ResizeCall D.Disk size floor disk.old disk.new space.old space.new self.old self.new
             result }
-        // To no less than it is, the disk isn't touched.
+        // If the size is set to no less than it is, the disk isn't touched.
         ensures grown { self.old.root.size ≤ size → (disk.new ≡ disk.old) × (space.new ≡ space.old) }
     {
         if self.root.size <= size {

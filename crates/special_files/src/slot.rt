@@ -1,4 +1,4 @@
-//! A slot of an index in a draft: what it holds, and what it takes to put one.
+//! A slot of an index in a draft: what it holds, and how many blocks it takes to fill it.
 ghost use Rattle.std.specs.Prelude.{◌≡◌, ◌+◌, ◌*◌, ◌/◌, ◌<◌, ◌≤◌};
 ghost use Rattle.special_files.specs.Drafting.{draft_takes};
 ghost use Rattle.special_files.specs.Looks.{FindsSlot, ReadCall};
@@ -10,8 +10,9 @@ use cfs_base::{Disk, Puid, Trouble};
 use leaf_changes::slot_at;
 
 impl ObjectDraft {
-    /// How many blocks `fill` takes for this slot: one for its leaf where that isn't fresh, and then one for the leaf's
-    /// node where that isn't fresh.
+    /// Returns how many blocks `fill` takes for this slot.
+    ///
+    /// They are one for its leaf if that isn't fresh, and then one for the leaf's node if that isn't fresh.
     pub fn slot_takes(&self, slot: u64) -> u32
         requires { 8 * slot + 8 ≤ self.now.root.size }
         ensures takes { result ≡ draft_takes self.now (slot / 64) }
@@ -25,7 +26,9 @@ impl ObjectDraft {
         1 + !self.has_fresh_node(leaf / LEAVES as u32) as u32
     }
 
-    /// What a slot of an index holds: None where it is empty. `Damaged` as in `read`.
+    /// Returns what a slot of an index holds, or `None` if it is empty.
+    ///
+    /// `Damaged` as in `read`.
     pub fn slot<D: Disk>(&self, disk: &mut D, slot: u64) -> Result<Option<Puid>, Trouble>
         requires on_disk { self.now.at < D.blocks disk.old }
         requires within { 8 * slot + 8 ≤ self.now.root.size }

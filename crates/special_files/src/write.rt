@@ -1,4 +1,4 @@
-//! Bytes written into a draft.
+//! How bytes are written into a draft.
 ghost use Rattle.std.specs.Prelude.{◌≡◌, ◌+◌, ◌-◌, ◌*◌, ◌/◌, ◌<◌, ◌≤◌, length, IfOk};
 ghost use Rattle.block_tree.specs.Pointers.{leaf_limit, size_limit};
 ghost use Rattle.cyl_alloc.specs.Space.{Kept};
@@ -27,7 +27,7 @@ struct Patch<'a> {
 }
 
 impl ObjectDraft {
-    /// How many blocks it takes to write these leaves, with the shadow root that a commit takes.
+    /// Returns how many blocks it takes to write these leaves, with the shadow root that a commit takes.
     fn need_to_write(&self, from: u32, to: u32) -> u32
         requires order { from ≤ to }
         requires within { to ≤ leaf_limit }
@@ -44,7 +44,9 @@ impl ObjectDraft {
         leaves + nodes + self.shadow_need()
     }
 
-    /// The content of a leaf once these bytes are written at the offset. It is read where they don't cover it.
+    /// Returns the content of a leaf once these bytes are written at the offset.
+    ///
+    /// The leaf is read if they don't cover it.
     fn patched<D: Disk>(
         &self,
         disk: &mut D,
@@ -101,9 +103,10 @@ impl ObjectDraft {
         self.put_leaf(disk, space, way, leaf, &content)
     }
 
-    /// Writes bytes of a file within its size, at an offset in bytes. `Full` where fewer blocks are Free than the write
-    /// needs, with the shadow root that a commit takes where there is none, and the floor; nothing was written then.
-    /// Never `Memory`.
+    /// Writes bytes of a file within its size, at an offset in bytes.
+    ///
+    /// `Full` if fewer blocks are Free than the write needs, with the shadow root that a commit takes if there is
+    /// none, plus the floor. Nothing was written then. Never `Memory`.
     pub fn write<D: Disk>(
         &mut self,
         disk: &mut D,

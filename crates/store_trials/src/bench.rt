@@ -7,10 +7,12 @@ use special_files::ObjectDraft;
 use std::alloc::Global;
 use std::test::Fail;
 
-/// A call of the store. What is written are `count` bytes, 512 of `byte`, then 512 of the next greater one, and so on.
+/// A call of the store.
+///
+/// The bytes that are written are `count` bytes: 512 of `byte`, then 512 of the next greater one, and so on.
 #[derive(Clone, Copy, Debug)]
 pub enum Act {
-    /// Makes an object in a slot of the root index: an index of so many slots, or a file with this fill byte.
+    /// Makes an object in a slot of the root index: an index of `slots` slots, or a file with this fill byte.
     Create {
         slot: u64,
         kind: Kind,
@@ -18,7 +20,7 @@ pub enum Act {
         fill: u8,
         word: u32,
     },
-    /// Makes a slot of the index at a block hold this, or nothing.
+    /// Makes a slot of the index at a block hold `what`, or nothing.
     Put {
         at: u32,
         slot: u64,
@@ -49,7 +51,7 @@ pub enum Act {
     },
     /// Begins a draft of the file at a block, with a shadow root.
     Begin(u32),
-    /// The same without a shadow root.
+    /// Begins a draft of the file at a block, without a shadow root.
     BeginDirect(u32),
     /// Writes into the draft.
     Change {
@@ -59,7 +61,7 @@ pub enum Act {
     },
     /// Sets the size of the draft.
     SetSize(u64),
-    /// Reads so many bytes of the draft.
+    /// Reads `count` bytes of the draft.
     See {
         offset: u64,
         count: usize,
@@ -79,7 +81,7 @@ pub struct Bench {
     draft: Option<ObjectDraft>,
 }
 
-/// What is written.
+/// Returns what is written.
 pub fn bytes_from(byte: u8) -> [u8; 4096] {
     let mut bytes = [byte; 4096];
     for (place, byte) in bytes.iter_mut().enumerate() {
@@ -89,7 +91,7 @@ pub fn bytes_from(byte: u8) -> [u8; 4096] {
 }
 
 impl Bench {
-    /// One on a fresh volume. The calls at these moments fail.
+    /// Makes a bench on a fresh volume. The calls at these moments fail.
     pub fn fresh(alloc: Global, cylinders: u32, failing: Vec<u64>) -> Result<Bench, Fail> {
         Ok(Bench {
             volume: Volume::fresh(alloc, cylinders, failing)?,
@@ -97,7 +99,7 @@ impl Bench {
         })
     }
 
-    /// One on a volume with a special file alone.
+    /// Makes a bench on a volume with only a special file.
     pub fn laid(alloc: Global, cylinders: u32) -> Result<Bench, Fail> {
         Ok(Bench {
             volume: Volume::laid(alloc, cylinders)?,
@@ -105,16 +107,17 @@ impl Bench {
         })
     }
 
-    /// How many device calls there were.
+    /// Returns how many device calls there were.
     pub fn calls(&self) -> u64 {
         self.volume.disk.calls()
     }
 
-    /// What the last call did.
+    /// Returns what the last call did.
     pub fn seen(&self) -> Seen {
         self.volume.disk.seen
     }
 
+    /// Returns how many blocks are Free.
     pub fn free(&self) -> u32 {
         self.volume.space.free()
     }

@@ -6,7 +6,7 @@ use std::alloc::Global;
 use std::process::Abort;
 use std::test::Fail;
 
-/// A call, and how many reads, writes and barriers it makes: of maps, and of other blocks.
+/// A call, and how many reads, writes and barriers it makes, of maps and of other blocks.
 type Row = (Act, [u32; 2], [u32; 2], u32);
 
 fn expect_row(rt: &impl Abort, alloc: Global, bench: &mut Bench, row: &Row) -> Result<(), Fail> {
@@ -46,10 +46,12 @@ const LEAF: Act = Act::Write {
     byte: 0x5a,
 };
 
-/// Maps: three claims, two marks at once, the bit set, five entries finished at once, the bit cleared. Others are
-/// written: a leaf, a node, two roots; and read: the root, by who asks the size and by the draft, the leaf of which a
-/// part stays, the node, where it is changed and where it is compared with the draft's, which is read too, and the
-/// shadow root.
+/// Writes of a special file.
+///
+/// Of maps: three claims, two marks at once, the bit set, five entries finished at once, the bit cleared. Other
+/// blocks that are written: a leaf, a node, two roots. Other blocks that are read: the root, by the call that asks
+/// the size and by the draft, the leaf of which a part stays, the node, when it is changed and when it is compared
+/// with the draft's, which is read too, and the shadow root.
 const SPECIAL: [Row; 2] = [(BYTE, [7, 7], [7, 4], 5), (LEAF, [7, 6], [7, 4], 5)];
 
 #[test]
@@ -112,7 +114,7 @@ const DRAFT: [Act; 7] = [
     Act::SetSize(69_000),
 ];
 
-/// A draft, begun and ended so, in which no call reads a block twice but maps.
+/// Begins and ends a draft by these calls, and checks that no call reads a block twice except maps.
 fn expect_once(
     rt: &impl Abort,
     alloc: Global,
@@ -153,10 +155,11 @@ const INDEX: Act = Act::Create {
     word: 7,
 };
 
-/// Slots of the greatest index that are filled, or emptied, one after another: what is read and written. The root is
-/// read, the leaf of the slot and its node where they are held, and the shadow root; these and the root are written.
-/// The map is written for three claims, for the bit set and cleared, once for all entries that are finished, and once
-/// for the marks of those of the two that were held.
+/// Slots of the greatest index that are filled or emptied, one after another, and what is read and written.
+///
+/// The root is read, the leaf of the slot and its node if they are held, and the shadow root. These and the root are
+/// written. The map is written for three claims, for the bit set and cleared, once for all entries that are finished,
+/// and once for the marks of those of the two that were held.
 const SLOTS: [(u64, Option<Puid>, [u32; 2], [u32; 2]); 5] = [
     (0, TOP, [6, 2], [6, 4]),
     (4095, TOP, [7, 3], [7, 4]),
@@ -234,8 +237,10 @@ const CUT: Act = Act::Resize {
     size: 768,
 };
 
-/// The root and the node are read, and a leaf that stays in part. A change ends with a barrier; one is made before
-/// the root of a file that is cut, when its last leaf and node are written.
+/// Changes of a normal file.
+///
+/// The root and the node are read, and a leaf that stays in part. A change ends with a barrier. One more is made
+/// before the root of a file that is cut, when its last leaf and node are written.
 const NORMAL: [Row; 5] = [
     (WHOLE, [0, 2], [0, 2], 1),
     (PARTS, [0, 4], [0, 2], 1),

@@ -6,7 +6,7 @@ use block_tree::{Node, Root};
 use cfs_base::{Block, BlockNo, Disk, Failed, Kind};
 use cfs_fakes::MemoryDisk;
 
-/// A map's entry of a block that no object has, as it is spelled.
+/// The entry in a map of a block that no object has, as it is spelled.
 pub const RESERVED: u64 = 0x0100_0000_0000_0000;
 
 /// Entries of the object whose root is block 2: its root, its node 0 and its leaf 0.
@@ -16,7 +16,7 @@ pub const NODE_ENTRY: u64 = 0x0103_0000_0000_0002;
 
 pub const LEAF_ENTRY: u64 = 0x0104_0000_0000_0002;
 
-/// A block of which these numbers of 8 bytes are the first, and all else is zero.
+/// Returns a block that begins with these numbers of 8 bytes, and is zero after them.
 pub fn block_of(numbers: &[u64]) -> Block {
     let mut block = Block::zero();
     for (place, number) in numbers.iter().enumerate() {
@@ -27,7 +27,7 @@ pub fn block_of(numbers: &[u64]) -> Block {
     block
 }
 
-/// A root with these nodes, each with its number.
+/// Returns a root with these nodes, each with its number.
 pub fn root_with(kind: Kind, fill: u8, word: u32, size: u64, held: &[(usize, u32)]) -> Block {
     let mut nodes = [0; 120];
     for (at, node) in held {
@@ -45,7 +45,7 @@ pub fn root_with(kind: Kind, fill: u8, word: u32, size: u64, held: &[(usize, u32
     root.encode()
 }
 
-/// A node with these leaves, each with its place.
+/// Returns a node with these leaves, each with its place.
 pub fn node_with(held: &[(usize, u32)]) -> Block {
     let mut leaves = [0; 128];
     for (at, leaf) in held {
@@ -76,10 +76,10 @@ pub fn get(disk: &mut MemoryDisk, at: u32) -> Result<Block, Failed>
     Ok(block)
 }
 
-/// What stands in a block from a byte on, and four bytes each.
+/// A block, a byte in it, and the four bytes there.
 pub type Edit = (u32, usize, u32);
 
-/// A block with other bytes from a byte on.
+/// Returns a block with four other bytes at a place.
 pub fn edited(block: &Block, place: usize, value: u32) -> Block {
     let mut edited = *block;
     if place <= 508 {

@@ -1,5 +1,5 @@
-//! The store tried on small volumes in memory: worked bytes, which blocks its calls take, how often they read and
-//! write, and what calls that fail and damaged blocks come to. Its use is its tests.
+//! The store tried on small volumes in memory: worked bytes, which blocks its calls take, how many reads and writes
+//! they make, and what comes of calls that fail and of damaged blocks. It is made for its tests.
 #![tactic(auto)]
 
 #[cfg(test)]

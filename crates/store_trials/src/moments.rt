@@ -9,7 +9,7 @@ use std::alloc::Global;
 use std::process::Abort;
 use std::test::Fail;
 
-/// The special file, and its first byte in a draft. Before it is 0.
+/// The special file, and its first byte in a draft. It is 0 before.
 const FILE: BlockNo = BlockNo(5);
 
 const NEW: u8 = 0x5a;
@@ -21,7 +21,7 @@ enum Kept {
     None,
     /// The last of each block.
     Last,
-    /// The last of each block but maps.
+    /// The last of each block except maps.
     LastButMaps,
     /// The last of the maps alone.
     LastOfMaps,
@@ -29,7 +29,7 @@ enum Kept {
 
 const KEPT: [Kept; 4] = [Kept::None, Kept::Last, Kept::LastButMaps, Kept::LastOfMaps];
 
-/// Whether the last write of a block is left.
+/// Returns whether the last write of a block is left.
 fn is_left(kept: Kept, block: u32) -> bool {
     match kept {
         Kept::None => false,
@@ -39,7 +39,7 @@ fn is_left(kept: Kept, block: u32) -> bool {
     }
 }
 
-/// The first byte of the file on the disk that a crash at this moment leaves, once it is opened.
+/// Returns the first byte of the file on the disk that a crash at this moment leaves, once it is opened.
 fn byte_at(alloc: Global, disk: &MemoryDisk, at: u64, kept: Kept) -> Result<Option<u8>, Fail> {
     if !disk.is_recording() || at > disk.moment() {
         return Err("a moment that isn't recorded")?;
@@ -61,7 +61,7 @@ fn byte_at(alloc: Global, disk: &MemoryDisk, at: u64, kept: Kept) -> Result<Opti
     Ok(bytes.as_slice().first().copied())
 }
 
-/// A volume whose file has a draft with another first byte, before its commit.
+/// Makes a volume whose file has a draft with another first byte, before its commit.
 fn volume(alloc: Global) -> Result<Volume, Fail> {
     let mut memory = MemoryDisk::recording(alloc, 64, Vec::new(alloc))?;
     lay(&mut memory, 1)?;
@@ -69,8 +69,9 @@ fn volume(alloc: Global) -> Result<Volume, Fail> {
     Volume::on(alloc, memory)
 }
 
-/// Commits a draft with another first byte, and makes the parts past its bit, one by one or all at once. Answers the
-/// moments before the commit, when it answered, and at the end.
+/// Commits a draft with another first byte, and makes the parts past its bit, one by one or all at once.
+///
+/// Returns the moments before the commit, when it returned, and at the end.
 fn committed(alloc: Global, volume: &mut Volume, all: bool) -> Result<[u64; 3], Fail> {
     let mut draft = volume.begin(alloc, FILE, false)?;
     volume.write(&mut draft, 0, &[NEW])?;
@@ -85,8 +86,10 @@ fn committed(alloc: Global, volume: &mut Volume, all: bool) -> Result<[u64; 3], 
     Err("parts without end")?
 }
 
-/// The bit is written by the last call but one of the commit, and the last is its barrier: each image before that write
-/// is old, after it those with the map are new, and from the barrier on all are.
+/// Checks the images at a moment of a commit.
+///
+/// The bit is written by the last call but one of the commit, and the last is its barrier. Each image before that
+/// write is old, after it those with the map are new, and from the barrier on all are.
 fn expect_moment(
     rt: &impl Abort,
     alloc: Global,
@@ -117,7 +120,7 @@ fn expect_moments(
     for at in from..=end {
         expect_moment(rt, alloc, &volume.disk.lower, at, durable)?;
     }
-    // Its blocks are those of before, and no other is taken.
+    // The file has as many blocks as before, and no other is taken.
     assert_eq!(rt; volume.space.free(), 56);
     Ok(())
 }

@@ -11,7 +11,9 @@ use std::alloc::Global;
 use std::process::Abort;
 use std::test::Fail;
 
-/// A file in slot 0 of the root index. Each has its root, a node and its leaves, from block 2 and from block 5 on.
+/// A file in slot 0 of the root index.
+///
+/// Each of the two has its root, a node and its leaves, from block 2 and from block 5 on.
 const FILE: Puid = Puid { block: 5, word: 7 };
 
 /// The map's first entries.
@@ -25,7 +27,7 @@ const ENTRIES: [u64; 7] = [
     0x0103_0000_0000_0005,
 ];
 
-/// The map, where the file has so many leaves.
+/// Returns the map, if the file has this number of leaves.
 fn map_with(leaves: u8) -> Block {
     let mut map = block_of(&ENTRIES);
     for number in 0..leaves.min(57) {
@@ -35,7 +37,7 @@ fn map_with(leaves: u8) -> Block {
     map
 }
 
-/// A node that leads to so many leaves, which stand from block 7 on.
+/// Returns a node that leads to this number of leaves, which begin at block 7.
 fn file_node(leaves: u8) -> Block {
     let mut node = Node { leaves: [0; 128] };
     for number in 0..leaves.min(57) {
@@ -44,8 +46,9 @@ fn file_node(leaves: u8) -> Block {
     node.encode()
 }
 
-/// A volume of one cylinder on this disk, whose blocks are zero; the file has so many leaves, and a byte less than
-/// they may have.
+/// Lays a volume of one cylinder on this disk, whose blocks are zero.
+///
+/// The file has this number of leaves, and one byte less than they may have.
 pub fn lay(disk: &mut MemoryDisk, leaves: u8) -> Result<(), Fail> {
     let size = (512 * leaves as u64).saturating_sub(1);
     put(disk, 0, &map_with(leaves))?;
@@ -74,7 +77,8 @@ pub fn lay(disk: &mut MemoryDisk, leaves: u8) -> Result<(), Fail> {
     Ok(())
 }
 
-/// Checked and opened, the volume on a disk of zeros, with these edits, comes to this.
+/// Checks that the volume on a disk of zeros, with these edits, comes to this fault when it is checked and when it is
+/// opened.
 fn expect_fault(
     rt: &impl Abort,
     alloc: Global,
@@ -97,16 +101,16 @@ fn expect_fault(
 
 /// What is put into the volume of two leaves, and the block and code that are then found.
 const DAMAGES: [(&[Edit], u32, u8); 18] = [
-    // The label's cylinders; an entry that is none; a root's of another block.
+    // The label's cylinders; an invalid entry; the entry of a root of another block.
     (&[(1, 8, 2)], 1, 1),
     (&[(0, 8 * 20, 0x0500_0000)], 0, 2),
     (&[(0, 8 * 5 + 4, 9)], 0, 2),
-    // A root that is none, and pointers past the disk.
+    // An invalid root, and pointers past the disk.
     (&[(5, 0, 0x0900_0000)], 5, 3),
     (&[(2, 0, 0x0900_0000)], 2, 3),
     (&[(5, 32, 64)], 5, 4),
     (&[(6, 0, 0x0100_0007)], 6, 4),
-    // A leaf of another owner, one that stands at another place, a label and a map that aren't reserved.
+    // A leaf of another owner, one that is at another place, and a label and a map that aren't reserved.
     (&[(0, 8 * 7 + 4, 2)], 7, 5),
     (&[(0, 8 * 7, 0x0104_0001)], 7, 5),
     (&[(0, 8, 0)], 1, 5),
@@ -122,7 +126,7 @@ const DAMAGES: [(&[Edit], u32, u8); 18] = [
     (&[(3, 0, 0)], 3, 10),
 ];
 
-/// Block 20 is a shadow root of the file, without a byte, that stands; and the file's bit is set.
+/// Edits by which block 20 is a shadow root that stands for the file, without a byte, and the file's bit is set.
 const SHADOW: [Edit; 5] = [
     (20, 0, 0x0200_0000),
     (20, 4, 7),
@@ -142,7 +146,7 @@ fn each_damage_is_found_by_block_and_code(rt: HostRuntime) -> Result<(), Fail> {
     Ok(())
 }
 
-/// How many leaves the file has, what is put into the volume, and what opening it comes to.
+/// How many leaves the file has, what is put into the volume, and what comes of opening it.
 const OPENINGS: [(u8, &[Edit], Option<RecoverFault>); 6] = [
     (2, &[], None),
     // 58 blocks are taken beside the map and the label, or 59.
@@ -152,7 +156,7 @@ const OPENINGS: [(u8, &[Edit], Option<RecoverFault>); 6] = [
         &[],
         Some(RecoverFault::Damaged(Damage { block: 0, code: 11 })),
     ),
-    // Both versions are read; that there is no volume comes before the version.
+    // Both versions are read. That there is no volume comes before the version.
     (2, &[(1, 4, 2)], None),
     (2, &[(1, 4, 3)], Some(RecoverFault::Version { found: 3 })),
     (
@@ -162,11 +166,11 @@ const OPENINGS: [(u8, &[Edit], Option<RecoverFault>); 6] = [
     ),
 ];
 
-/// The same where the file is read by its shadow root.
+/// The same if the file is read by its shadow root.
 const SHADOWED: [(&[Edit], Option<RecoverFault>); 3] = [
-    // What the root leads to matters no more.
+    // What the root leads to no longer matters.
     (&[(6, 0, 0x0100_0007)], None),
-    // The shadow root has another word; two of them stand.
+    // The shadow root has another word, or two of them stand for the file.
     (
         &[(20, 4, 8)],
         Some(RecoverFault::Damaged(Damage { block: 20, code: 3 })),
@@ -205,7 +209,7 @@ fn lay_committed(disk: &mut MemoryDisk) -> Result<(), Fail> {
     Ok(edit(disk, &SHADOW)?)
 }
 
-/// Both objects are named, and 58 blocks are Free.
+/// Checks that both objects are named, and that 58 blocks are Free.
 fn expect_directory(rt: &impl Abort, recovered: &Recovered) {
     assert_eq!(rt;
         (recovered.space.free(), recovered.directory.len()),
@@ -237,8 +241,7 @@ fn a_committed_root_is_copied_and_what_nobody_has_is_free(rt: HostRuntime) -> Re
 fn expect_tidy(rt: &impl Abort, alloc: Global, disk: &mut Watched<MemoryDisk>) -> Result<(), Fail> {
     lay(&mut disk.lower, 2)?;
     recover(alloc, disk)?;
-    // Read are the map, and of the other blocks the label, both roots, both nodes, and a leaf of
-    // each.
+    // What is read is the map, and of the other blocks the label, both roots, both nodes, and a leaf of each.
     assert!(rt; disk.seen.reads == [1, 7] && disk.seen.barriers == 3);
     assert!(rt; disk.seen.writes == [0, 0]);
     Ok(())
@@ -251,7 +254,7 @@ fn a_tidy_volume_gets_barriers_and_no_write(rt: HostRuntime) -> Result<(), Fail>
     expect_tidy(&rt, alloc, &mut Watched::new(disk))
 }
 
-/// Of the device calls of its opening the first, and the first after them.
+/// Returns the first of the device calls of the volume's opening, and the first after them.
 fn calls_of(alloc: Global, disk: &mut MemoryDisk) -> Result<(u64, u64), Fail> {
     lay_committed(disk)?;
     let from = disk.calls();
@@ -259,7 +262,7 @@ fn calls_of(alloc: Global, disk: &mut MemoryDisk) -> Result<(u64, u64), Fail> {
     Ok((from, disk.calls()))
 }
 
-/// What its opening comes to, and that where the disk's call with a number fails.
+/// Returns what comes of opening the volume on this disk.
 fn fault_on(alloc: Global, disk: &mut MemoryDisk) -> Result<Option<RecoverFault>, Fail> {
     lay_committed(disk)?;
     Ok(recover(alloc, disk).err())

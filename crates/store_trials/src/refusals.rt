@@ -8,7 +8,7 @@ use std::alloc::Global;
 use std::process::Abort;
 use std::test::Fail;
 
-/// A special file in slot 0, a normal one in slot 1. Their roots are blocks 3 and 6.
+/// A special file in slot 0 and a normal one in slot 1. Their roots are blocks 3 and 6.
 const SPECIAL: Act = Act::Create {
     slot: 0,
     kind: Kind::Special,
@@ -98,7 +98,7 @@ const FILL: Act = Act::Put {
     what: Some(Puid { block: 3, word: 9 }),
 };
 
-/// Calls of every layer, and those before it.
+/// Calls of every layer, and the calls before each.
 const CALLS: [(&[Act], Act); 24] = [
     (&[], Act::Claim),
     (&[], Act::Find),
@@ -138,8 +138,8 @@ const CHANGED_DIRECT: [Act; 5] = [
     CHANGE,
 ];
 
-/// Of the device calls that a call makes the first, the first write or barrier, and the first after
-/// them.
+/// Returns the first of the device calls that a call makes, the first write or barrier among them, and the first call
+/// after them.
 fn span_on(alloc: Global, bench: &mut Bench, before: &[Act], act: Act) -> Result<[u64; 3], Fail> {
     bench.play(alloc, before)?;
     let from = bench.calls();
@@ -153,7 +153,7 @@ fn span_of(alloc: Global, before: &[Act], act: Act) -> Result<[u64; 3], Fail> {
     span_on(alloc, &mut bench, before, act)
 }
 
-/// Why a call after these is refused.
+/// Returns why a call after these is refused.
 fn refusal_on(
     alloc: Global,
     bench: &mut Bench,
@@ -164,14 +164,15 @@ fn refusal_on(
     Ok(bench.act(alloc, act).err())
 }
 
-/// The same where the disk's call with this number fails.
+/// Returns the same if the disk's call with this number fails.
 fn refusal_by(alloc: Global, before: &[Act], act: Act, call: u64) -> Result<Option<Refused>, Fail> {
     let mut bench = Bench::fresh(alloc, 1, vec![in alloc; call; 1]?)?;
     refusal_on(alloc, &mut bench, before, act)
 }
 
-/// A call is refused for each of its device calls that fails. A write or a barrier was tried from the first of them
-/// on.
+/// Checks that a call is refused for each of its device calls that fails.
+///
+/// A write or a barrier was tried from the first of them on.
 fn expect_told(
     rt: &impl Abort,
     alloc: Global,
@@ -201,15 +202,16 @@ fn a_device_call_that_fails_is_told(rt: HostRuntime) -> Result<(), Fail> {
     Ok(())
 }
 
-/// What is put into blocks, a call that then is refused, and the block and code that it names. The second create puts
-/// leaf and node of the root index into blocks 7 and 8, and gives back 4 and 5, which the special file takes; so the
-/// normal file has leaves and node in blocks 10 to 12, of which the node is 11.
+/// What is put into blocks, a call that then is refused, and the block and code that it names.
+///
+/// The second create puts leaf and node of the root index into blocks 7 and 8, and gives back 4 and 5, which the
+/// special file takes. So the normal file has its leaves and node in blocks 10 to 12, and the node is 11.
 const DAMAGES: [(&[Edit], Act, u32, u8); 9] = [
-    // The last entry of a map is none.
+    // The last entry of a map is invalid.
     (&[(0, 504, 0xff00_0000)], Act::Find, 0, 2),
     (&[(0, 504, 0xff00_0000)], Act::Claim, 0, 2),
     (&[(0, 504, 0xff00_0000)], Act::Release(20), 0, 2),
-    // Pointers past the disk, and a root that is none.
+    // Pointers past the disk, and an invalid root.
     (&[(2, 32, 64)], Act::Retrieve { at: 2, slot: 0 }, 2, 4),
     (&[(8, 0, 200)], Act::Retrieve { at: 2, slot: 0 }, 8, 4),
     (&[(2, 0, 0)], Act::Retrieve { at: 2, slot: 0 }, 2, 3),
@@ -218,7 +220,7 @@ const DAMAGES: [(&[Edit], Act, u32, u8); 9] = [
     (&[(6, 0, 0xffff_ffff)], Act::Read { at: 6, offset: 0 }, 6, 3),
 ];
 
-/// Why the call is refused once this was put into blocks.
+/// Returns why the call is refused once this was put into blocks.
 fn refusal_on_edited(
     alloc: Global,
     bench: &mut Bench,
@@ -244,7 +246,7 @@ fn a_damaged_block_is_named(rt: HostRuntime) -> Result<(), Fail> {
     Ok(())
 }
 
-/// Why the Free blocks of three cylinders are not counted.
+/// Returns why the Free blocks of three cylinders are not counted.
 fn uncounted(alloc: Global, disk: &mut MemoryDisk) -> Option<Refused> {
     if disk.blocks() != 192 {
         return None;

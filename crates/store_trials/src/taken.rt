@@ -1,4 +1,4 @@
-//! Which blocks are taken and given back, byte by byte.
+//! The blocks that are taken and given back, byte by byte.
 use crate::bench::{Act, Bench};
 use crate::laid::{LEAF_ENTRY, NODE_ENTRY, RESERVED, ROOT_ENTRY, block_of};
 use cfs_base::{Block, Kind};
@@ -6,7 +6,9 @@ use std::alloc::Global;
 use std::process::Abort;
 use std::test::Fail;
 
-/// Blocks, each with the numbers of 8 bytes with which it begins; all else in them, and all other blocks, are zero.
+/// Blocks, each with the numbers of 8 bytes with which it begins.
+///
+/// All else in them, and all other blocks, are zero.
 type Blocks = &'static [(u32, &'static [u64])];
 
 /// A call, how many blocks are Free then, and what all blocks hold.
@@ -21,7 +23,7 @@ fn block_in(blocks: Blocks, at: u32) -> Block {
     Block::zero()
 }
 
-/// Makes the call of a row on a volume of one cylinder, which comes to what the row says.
+/// Makes the call of a row on a volume of one cylinder, and checks that it comes to what the row says.
 fn expect_row(rt: &impl Abort, alloc: Global, bench: &mut Bench, row: &Row) -> Result<(), Fail> {
     bench.act(alloc, row.0)?;
     assert_eq!(rt; bench.free(), row.1);
@@ -55,9 +57,10 @@ const FIRST: u64 = 0x0101_0000_0000_0003;
 
 const SECOND: u64 = 0x0101_0000_0000_0006;
 
-/// Two indices of four slots are made in a fresh volume. Each takes the least Free block for its root, and the root
-/// index others for leaf, node and shadow root, of which the last, and leaf and node that stood, are Free then. What
-/// was written there is left.
+/// Two indices of four slots are made in a fresh volume.
+///
+/// Each takes the least Free block for its root. The root index takes others for leaf, node and shadow root. The
+/// shadow root, and the old leaf and node, are Free then. What was written in them is left.
 const CREATES: [Row; 2] = [
     (
         Act::Create {
@@ -119,7 +122,7 @@ fn two_creates_take_the_least_blocks_and_give_them_back(rt: HostRuntime) -> Resu
     expect_rows(&rt, alloc, &mut bench, &CREATES)
 }
 
-/// The map of the volume with a special file alone; its root, with this node; and its leaf and node as they were laid.
+/// The map of the volume with only a special file, its root, with this node, and its leaf and node as they were laid.
 const LAID: &[u64] = &[RESERVED, RESERVED, ROOT_ENTRY, LEAF_ENTRY, NODE_ENTRY];
 
 const OLD_ROOT: &[u64] = &[0x0200_0000_0000_0001, 512, 0, 0, 0x4_0000_0000];
@@ -141,7 +144,7 @@ const MEANT: [u64; 3] = [
     0x0204_0000_0000_0002,
 ];
 
-/// A draft takes block 5 for its shadow root, and a write of one byte 6 for the leaf and 7 for its node.
+/// A draft takes block 5 for its shadow root, and a write of one byte takes 6 for the leaf and 7 for its node.
 const DRAFT: [Row; 2] = [
     (
         Act::Begin(2),
@@ -182,7 +185,7 @@ const DRAFT: [Row; 2] = [
     ),
 ];
 
-/// Its end gives back the blocks of the old tree, or those of the draft. What was written there is left.
+/// The draft's end gives back the blocks of the old tree, or those of the draft. What was written in them is left.
 const ENDS: [Row; 2] = [
     (
         Act::Commit,

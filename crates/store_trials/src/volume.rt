@@ -24,7 +24,7 @@ pub const ROOT_WORD: u32 = 0xade0_b876;
 /// The most bytes of an object.
 const LIMIT: u64 = 7_864_320;
 
-/// A volume of one or two cylinders with what is Free counted.
+/// A volume of one or two cylinders, with its Free blocks counted.
 #[derive(Drop)]
 pub struct Volume {
     pub disk: Watched<MemoryDisk>,
@@ -40,7 +40,7 @@ const LAID: [(u32, &[u64]); 4] = [
     (4, &[0x3_0000_0000]),
 ];
 
-/// Lays them.
+/// Lays these blocks.
 fn lay_file(memory: &mut MemoryDisk) -> Result<(), Failed> {
     for (at, numbers) in LAID {
         put(memory, at, &block_of(numbers))?;
@@ -49,7 +49,7 @@ fn lay_file(memory: &mut MemoryDisk) -> Result<(), Failed> {
 }
 
 impl Volume {
-    /// The volume on this disk.
+    /// Makes the volume on this disk.
     pub fn on(alloc: Global, memory: MemoryDisk) -> Result<Volume, Fail> {
         let mut disk = Watched::new(memory);
         let cylinders = disk.blocks() / 64;
@@ -60,14 +60,16 @@ impl Volume {
         Ok(Volume { disk, space })
     }
 
-    /// A fresh volume. The calls at these moments fail.
+    /// Makes a fresh volume. The calls at these moments fail.
     pub fn fresh(alloc: Global, cylinders: u32, failing: Vec<u64>) -> Result<Volume, Fail> {
         let mut memory = MemoryDisk::failing(alloc, 64 * cylinders.max(1).min(2), failing)?;
         format_volume(&mut memory, ROOT_WORD)?;
         Volume::on(alloc, memory)
     }
 
-    /// One with a special file alone, of 512 bytes. Its root is block 2, its leaf 3, its node 4.
+    /// Makes a volume with only a special file, of 512 bytes.
+    ///
+    /// Its root is block 2, its leaf 3, its node 4.
     pub fn laid(alloc: Global, cylinders: u32) -> Result<Volume, Fail> {
         let blocks = 64 * cylinders.max(1).min(2);
         let mut memory = MemoryDisk::new(alloc, blocks)?;
@@ -76,21 +78,22 @@ impl Volume {
         Volume::on(alloc, memory)
     }
 
-    /// A block.
+    /// Reads a block.
     pub fn get(&mut self, at: u32) -> Result<Block, Failed> {
         get(&mut self.disk.lower, at)
     }
 
+    /// Writes a block.
     pub fn put(&mut self, at: u32, block: &Block) -> Result<(), Failed> {
         put(&mut self.disk.lower, at, block)
     }
 
-    /// Device calls are counted from here on.
+    /// Counts device calls from here on.
     pub fn look(&mut self) {
         self.disk.seen = Seen::nothing();
     }
 
-    /// Whether so many blocks are there and Free that no call asks for more, and no commit is unfinished.
+    /// Returns whether so many blocks are there and Free that no call asks for more, and no commit is unfinished.
     fn is_ready(&self) -> bool
         ensures { result ≡ true → (8 < length (contents self.now.disk.lower)) × (8 ≤ sum self.now.space.free)
             × (self.now.space.left ≡ None) }
@@ -98,7 +101,7 @@ impl Volume {
         self.disk.blocks() > 8 && self.space.free() >= 8 && self.space.unfinished() == 0
     }
 
-    /// Finishes what the last change left, which had tried a write.
+    /// Finishes what the last change left. That change had tried a write.
     fn finish(&mut self) -> Result<(), Refused> {
         match finish_all(&mut self.disk, &mut self.space) {
             Ok(()) => Ok(()),
@@ -106,7 +109,7 @@ impl Volume {
         }
     }
 
-    /// Makes an object, and puts it into a slot of the root index.
+    /// Makes an object, and puts its identifier into a slot of the root index.
     fn make(
         &mut self,
         alloc: Global,
@@ -132,7 +135,7 @@ impl Volume {
         self.finish()
     }
 
-    /// Makes an object in a slot of the root index: an index of so many slots, or a file with this fill byte.
+    /// Makes an object in a slot of the root index: an index of `slots` slots, or a file with this fill byte.
     pub fn create(
         &mut self,
         alloc: Global,
@@ -152,7 +155,7 @@ impl Volume {
         }
     }
 
-    /// Makes a slot of the index at a block hold this, or nothing.
+    /// Makes a slot of the index at a block hold `what`, or nothing.
     pub fn change_slot(
         &mut self,
         alloc: Global,
@@ -259,7 +262,7 @@ impl Volume {
         draft.resize(&mut self.disk, &mut self.space, size, 4)
     }
 
-    /// Commits a draft, and finishes what is left of that, or aborts it.
+    /// Commits a draft, and finishes what is left of the commit, or aborts it.
     pub fn end(&mut self, draft: ObjectDraft, commits: bool) -> Result<(), Refused> {
         if commits {
             self.commit(draft)?;
@@ -282,7 +285,7 @@ impl Volume {
         Ok(())
     }
 
-    /// Makes one part of the commit that is left, or all at once. Answers whether more are left.
+    /// Makes one part of the commit that is left, or all at once, and returns whether more are left.
     pub fn go_on(&mut self, all: bool) -> Result<bool, Refused> {
         if all {
             self.finish()?;
@@ -292,7 +295,7 @@ impl Volume {
         Ok(self.space.unfinished() > 0)
     }
 
-    /// Reads so many bytes of a draft.
+    /// Reads `count` bytes of a draft.
     pub fn see(
         &mut self,
         alloc: Global,
@@ -312,7 +315,7 @@ impl Volume {
         Ok(())
     }
 
-    /// Bytes of the file at a block.
+    /// Reads bytes of the file at a block.
     pub fn read(
         &mut self,
         alloc: Global,
@@ -327,7 +330,7 @@ impl Volume {
         read(alloc, &mut self.disk, at, &root, offset, count)
     }
 
-    /// What a slot of the index at a block holds.
+    /// Returns what a slot of the index at a block holds.
     pub fn retrieve(&mut self, at: BlockNo, slot: u64) -> Result<Option<Puid>, Trouble> {
         if at.0 >= self.disk.blocks() || slot >= 983_040 {
             return Err(Trouble::Disk { tried: false });
@@ -350,7 +353,7 @@ impl Volume {
         self.space.release(&mut self.disk, at)
     }
 
-    /// Looks for the least Free block.
+    /// Finds the least Free block.
     pub fn find(&mut self) -> Result<(), Refused> {
         self.space.find(&mut self.disk)?;
         Ok(())

@@ -2,14 +2,14 @@
 use crate::laid::{RESERVED, ROOT_ENTRY, block_of, get, node_with, root_with};
 use crate::volume::ROOT_WORD;
 use block_tree::{BadRoot, Root, TreeFault, leaf_at};
-use cfs_base::{Block, Disk, Failed, Kind, Puid};
+use cfs_base::{Block, Disk, Kind, Puid};
 use cfs_fakes::MemoryDisk;
 use leaf_changes::{cut_leaf, patch_leaf, put_slot, read_part};
 use std::process::Abort;
 use std::test::Fail;
 use vol_format::format_volume;
 
-/// A block has these numbers of 4 bytes, each at its byte, and all else is zero.
+/// Checks that a block has these numbers of 4 bytes, each at its byte, and is zero elsewhere.
 fn expect_numbers(rt: &impl Abort, block: &Block, numbers: &[(usize, u32)]) {
     let mut wanted = Block::zero();
     for (at, number) in numbers {
@@ -56,7 +56,7 @@ const BAD_ROOTS: [(&[(usize, u16)], u16); 14] = [
     (&[(14, 0x0000)], 15),
     (&[(16, 0x0001)], 17),
     (&[(30, 0x0001)], 31),
-    // A normal file of a byte more than the most.
+    // A normal file of one byte more than the most.
     (&[(0, 0x0100), (12, 0x0078), (14, 0x0001)], 15),
 ];
 
@@ -73,7 +73,8 @@ fn the_first_bad_byte_of_a_root_is_named(rt: HostRuntime) {
     }
 }
 
-/// Bytes 1, 2, 3, 4 are put at byte 510 of an object: what its leaves 0, 1 and 2, full of 7, have then from where on.
+/// Bytes 1, 2, 3, 4 are put at byte 510 of an object: what its leaves 0, 1 and 2, full of 7, then have at which
+/// place.
 const PATCHED: [(u32, usize, [u8; 3]); 3] = [
     (0, 509, [7, 1, 2]),
     (1, 0, [3, 4, 7]),
@@ -153,7 +154,7 @@ fn a_pointer_past_the_end_is_told_in_words(rt: HostRuntime) -> Result<(), Fail> 
     Ok(())
 }
 
-/// What a block of the fresh volume of two cylinders holds, whose words are of seed 0.
+/// Returns what a block of the fresh volume of two cylinders holds, whose words are of seed 0.
 fn expected(at: u32) -> Block {
     match at {
         0 => block_of(&[RESERVED, RESERVED, ROOT_ENTRY]),
@@ -169,7 +170,7 @@ fn expected(at: u32) -> Block {
 }
 
 fn expect_fresh(rt: &impl Abort, disk: &mut MemoryDisk) -> Result<(), Fail> {
-    // Zeros, both maps, block 2 and the label; three barriers.
+    // Zeros, both maps, block 2 and the label, and three barriers.
     assert_eq!(rt; disk.calls(), 8);
     for at in 0..128u32 {
         assert!(rt; get(disk, at)? == expected(at), "block {at}");
@@ -182,14 +183,4 @@ fn a_fresh_volume_has_these_blocks(rt: HostRuntime) -> Result<(), Fail> {
     let mut disk = MemoryDisk::new(rt.alloc(), 128)?;
     format_volume(&mut disk, ROOT_WORD)?;
     expect_fresh(&rt, &mut disk)
-}
-
-#[test]
-fn each_call_of_a_format_that_fails_is_told(rt: HostRuntime) -> Result<(), Fail> {
-    let alloc = rt.alloc();
-    for call in 0..8u64 {
-        let mut disk = MemoryDisk::failing(alloc, 128, vec![in alloc; call; 1]?)?;
-        assert_eq!(rt; format_volume(&mut disk, 7), Err(Failed), "call {call}");
-    }
-    Ok(())
 }

@@ -19,7 +19,7 @@ use Rattle.ufs_model.specs.Next.{next}
 use Rattle.vol_image.specs.Sound.{IsSoundAs, rooted_part}
 use Rattle.vol_image.specs.Survives.{ChangesInPlace, IsBetween, IsDoneOrInDoubt, MayName}
 
--- the graphs whose rooted part may be read of a call with this event, where the event isn't counted yet
+-- the graphs whose rooted part may be read during a call with this event, if the event isn't counted yet
 pub data Early (seed : ℕ) (s : State) : Event → Graph → Type 0 where
   Before : (e : Event) → Early seed s e s.graph
   -- the change of a normal file was cut short
@@ -27,7 +27,7 @@ pub data Early (seed : ℕ) (s : State) : Event → Graph → Type 0 where
       → ChangesInPlace s who request id old new → IsBetween old new f
       → Early seed s (events.Ask who request reply) (with_object s.graph id (objects.File f))
 
--- and where it is
+-- the same, if the event is counted
 pub data Late (seed : ℕ) (s : State) : Event → Graph → Type 0 where
   After : (e : Event) (t : State) → next seed s e ≡ Some t → Late seed s e t.graph
   -- a request in doubt was done, or cut short
@@ -43,13 +43,13 @@ pub record ReadsIn (image : Image) (P : Graph → Type 0) : Type 0 where
   pub may : P graph
   pub reads : IsSoundAs image (rooted_part graph)
 
--- What a crash leaves in this call, from this state and with this event, survives the events before it or these with
--- it; what one leaves now, these with it.
+-- What a crash leaves during this call, from this state and with this event, survives the events before it, or these
+-- and this one. What a crash leaves now survives these and this one.
 pub record CallSurvives {D : Type 0} (g : Ghosts D) (seed : ℕ) (s : State) (e : Event) (old new : D) : Type 0 where
   pub crashes : Leaves g old new (λ c. ReadsIn c (Early seed s e) ⊎ ReadsIn c (Late seed s e))
   pub now : (c : Image) → left_now g new c → ReadsIn c (Late seed s e)
 
--- no device call was made, and the event leaves the graph
+-- no device call was made, and the event leaves the graph as it was
 pub record IsIdle {D : Type 0} (seed : ℕ) (s : State) (e : Event) (old new : D) : Type 0 where
   pub disk : new ≡ old
   pub after : State
@@ -60,6 +60,6 @@ pub record IsIdle {D : Type 0} (seed : ℕ) (s : State) (e : Event) (old new : D
 abbrev pub Survived : {D : Type 0} → Ghosts D → ℕ → State → Event → D → D → Type 0
 Survived g seed s e old new = CallSurvives g seed s e old new ⊎ IsIdle seed s e old new
 
--- a call with no event: what a crash leaves in it reads as before
+-- a call without an event: what a crash leaves during it reads as before
 pub record CallKeeps {D : Type 0} (g : Ghosts D) (s : State) (old new : D) : Type 0 where
   pub crashes : Leaves g old new (λ c. ReadsIn c (λ h. h ≡ s.graph))

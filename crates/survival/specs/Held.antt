@@ -1,4 +1,4 @@
--- What is left of a call, told by the objects that each image holds.
+-- What a crash leaves of a call, said by the objects that each image holds.
 use Rattle.std.specs.Prelude.{◌≡◌, ◌⊎◌, ℕ, Some}
 use Rattle.cfs_base.specs.Disk.{Image}
 use Rattle.cfs_base.specs.Run.{Leaves, left_now}
@@ -10,7 +10,7 @@ use Rattle.ufs_model.specs.State.{State}
 use Rattle.vol_image.specs.Sound.{Holds, LeavesFour}
 use Rattle.survival.specs.Call.{Early, Late}
 
--- the objects may stand on a disk of this size: they refer to nothing that isn't there, and leave four blocks
+-- the objects fit a disk of this size: they refer only to objects that exist, and leave four blocks
 pub record FitsDisk (size : ℕ) (graph : Graph) : Type 0 where
   pub closed : IsClosedGraph graph
   pub room : LeavesFour size graph
@@ -22,7 +22,8 @@ pub record HoldsSome (size : ℕ) (P : Graph → Type 0) (image : Image) : Type 
   pub fits : FitsDisk size graph
   pub holds : Holds image graph
 
--- Each image on the way holds objects of before the event or of after it, and one that is left now those of after it.
+-- Each image on the way holds the objects of before the event or of after it, and an image that a crash leaves now
+-- those of after it.
 pub record LeavesSome {D : Type 0} (g : Ghosts D) (seed : ℕ) (s : State) (e : Event) (old new : D) : Type 0 where
   pub crashes : Leaves g old new (HoldsSome (g.blocks new) (λ h. Early seed s e h ⊎ Late seed s e h))
   pub now : (c : Image) → left_now g new c → HoldsSome (g.blocks new) (Late seed s e) c

@@ -7,16 +7,16 @@ use Rattle.ufs_model.specs.declared.asked.Event.{Event}
 use Rattle.ufs_model.specs.Graph.{Graph}
 use Rattle.vol_image.specs.Survives.{Survives}
 
--- the image survives some prefix of the trail, of k events or more
+-- the image survives some prefix of the trail, of at least k events
 pub record SurvivesFrom (image : Image) (seed : ℕ) (g : Graph) (trail : List Event) (k : ℕ) : Type 0 where
   pub events : ℕ
   pub more : k ≤ events
   pub most : events ≤ length trail
   pub survives : Survives image seed g trail events
 
--- Of a run there are marks: the moment at which it began, and that at which each event was recorded. They never fall.
--- What a crash leaves at a moment since the k-th mark survives k events or more, and what one leaves now the whole
--- trail.
+-- A run has marks: the moment at which it began, and that at which each event was recorded. They never fall. What a
+-- crash leaves at a moment since the k-th mark survives at least k events, and what a crash leaves now survives the
+-- whole trail.
 pub record RunSurvives {D : Type 0} (g : Ghosts D) (seed : ℕ) (opened : Graph) (trail : List Event) (marks : List ℕ)
     (d : D) : Type 0 where
   pub count : length marks ≡ length trail + 1

@@ -1,4 +1,4 @@
-//! What is proved of the definitions, as contracts. None of these calls does anything.
+//! What is proved of the definitions, as contracts of functions that do nothing.
 ghost use Rattle.std.specs.Prelude.{◌≡◌, ◌⊎◌, ℕ, true, List, [], ◌∷◌, ◌++◌, Some, None};
 ghost use Rattle.cfs_base.specs.Disk.{Image};
 ghost use Rattle.cfs_base.specs.Run.{Leaves, left_now};
@@ -22,7 +22,7 @@ use cfs_base::Disk;
 
 /// What a crash leaves of a call is what it leaves of the run with that call.
 pub fn runs_survive<D: Disk>()
-    // a run begins where all that was left since reads as the opened graph
+    // A run begins when all that was left since reads as the opened graph.
     ensures begin { (seed : ℕ) (g : Graph) (d : D)
         → ((c : Image) → D.left_since d (D.moment d) c → IsSoundAs c (rooted_part g))
         → RunSurvives D.Disk seed g [] (D.moment d ∷ []) d }
@@ -35,11 +35,11 @@ pub fn runs_survive<D: Disk>()
         → CallKeeps D.Disk s old new → RunSurvives D.Disk seed g trail marks new }
 {}
 
-/// What a crash leaves of a call, where each image holds objects that fit the disk.
+/// What a crash leaves of a call, if each image holds objects that fit the disk.
 pub fn calls_survive<D: Disk>()
     ensures call { (seed : ℕ) (s : State) (e : Event) (old new : D) → LeavesSome D.Disk seed s e old new
         → CallSurvives D.Disk seed s e old new }
-    // each image has the objects of before the call or those of after it
+    // each image has the objects of before the call, or those of after it
     ensures done { (seed : ℕ) (s t : State) (e : Event) (old new : D) → next seed s e ≡ Some t
         → FitsDisk (D.blocks new) s.graph → FitsDisk (D.blocks new) t.graph
         → Leaves D.Disk old new (λ c. Holds c s.graph ⊎ Holds c t.graph)
@@ -51,7 +51,7 @@ pub fn calls_survive<D: Disk>()
         → Leaves D.Disk old new (λ c. Holds c s.graph ⊎ Holds c (outcome_of seed s who request b).1.graph)
         → ((c : Image) → left_now D.Disk old c → Holds c s.graph)
         → CallSurvives D.Disk seed s (events.Ask who request (replies.Disk (Some moment))) old new }
-    // each image has the objects that stand
+    // each image has the same objects as before
     ensures loose { (seed : ℕ) (s t : State) (e : Event) (old new : D) → next seed s e ≡ Some t → t.graph ≡ s.graph
         → FitsDisk (D.blocks new) s.graph → Leaves D.Disk old new (λ c. Holds c s.graph)
         → ((c : Image) → left_now D.Disk old c → Holds c s.graph) → CallSurvives D.Disk seed s e old new }

@@ -45,7 +45,7 @@ bytes_within bytes = list_all in_8 bytes
 
 -- ---- words: numbers are decimal, bytes and identifiers hexadecimal in lower case, and a grant is marked by a `g`
 
--- neither a space nor an end of a line is in it
+-- neither a space nor a line's end is in it
 abbrev pub is_word_byte : ℕ → Bool
 is_word_byte c = not (c == 32) && not (c == 10)
 
@@ -151,7 +151,7 @@ reply_words reply = map spell (reply_tokens reply)
 
 -- ---- lines
 
--- a first word, and the words behind it
+-- a first word, and the words after it
 pub record Row : Type 0 where
   pub verb : List ℕ
   pub clear : is_clear verb ≡ true
@@ -163,7 +163,7 @@ row_with verb clear words = record { verb = verb; clear = clear; words = words }
 abbrev pub row_words : Row → List (List ℕ)
 row_words r = r.verb ∷ map spell r.words
 
--- with one space between two
+-- the words, with one space between two
 abbrev pub row_line : Row → List ℕ
 row_line r = join_with_byte 32 (row_words r)
 
@@ -196,9 +196,9 @@ reply_within reply = are_within (reply_tokens reply)
 abbrev pub event_within : Event → Bool
 event_within event = are_within (event_row event).words
 
--- the form of an ok reply is that of its request, bytes are one or more, and what vanishes rises
+-- the form of an ok reply is that of its request, there is at least one byte, and what vanishes increases
 
--- what an ok to the request tells
+-- what an ok to the request reports
 abbrev pub form_told : Request → Form
 form_told (asks.CreateFile kind fill index slot) = forms.Id
 form_told (asks.CreateIndex slots index slot) = forms.Id
@@ -236,7 +236,7 @@ event_shaped event = true
 abbrev pub fits : Event → Bool
 fits event = event_within event && event_shaped event
 
--- ---- words that are put behind a line
+-- ---- words that are appended to a line
 
 -- the letters of a word
 abbrev pub letters : Word → List ℕ

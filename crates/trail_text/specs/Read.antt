@@ -1,5 +1,5 @@
--- Which lines are read, and the one event of which a line can be the line: each word is read as what would stand at its
--- place, and one that can't be read so counts as nothing.
+-- Which lines are read, and the one event whose line a line can be: each word is read as what its place wants, and
+-- one that can't be read so counts as nothing.
 use Rattle.std.specs.Prelude.{◌≡◌, ◌≢◌, Bool, true, Option, Some, None}
 use Rattle.std.specs.Prelude.{ℕ, ◌^◌, ◌==◌, nat_lt, if◌then◌else◌, List, [], length, get_or, map, take, drop, codes}
 use Rattle.std.specs.Borrow.{Bor}
@@ -37,7 +37,7 @@ words_in line = slice_split (λ c. c == 32) line
 abbrev pub texts : List (Bor (List ℕ)) → List (List ℕ)
 texts words = map (λ w. w.now) words
 
--- the line is that of nothing that fits
+-- the line is not the line of anything that fits
 abbrev pub IsNoneOf : {A : Type 0} → (fitting : A → Bool) → (line_of : A → List ℕ) → (line : List ℕ) → Type 0
 IsNoneOf {A} fitting line_of line = (a : A) → fitting a ≡ true → line ≢ line_of a
 
@@ -46,7 +46,7 @@ IsNoLine line = IsNoneOf fits event_line line
 
 -- ---- words
 
--- the word at this place, and an empty one past the last
+-- the word at this place, which is empty past the last
 abbrev pub word_at : List (List ℕ) → ℕ → List ℕ
 word_at ws i = get_or ws i []
 
@@ -70,7 +70,7 @@ read_32 w = if_below (number_read w) (2 ^ 32)
 abbrev pub read_8 : List ℕ → ℕ
 read_8 w = if_below (number_read w) (2 ^ 8)
 
--- a number, where there is a word
+-- a number, if there is a word
 abbrev pub number_if_any : List ℕ → Option ℕ
 number_if_any w = if length w == 0 then None else Some (number_read w)
 
@@ -90,7 +90,7 @@ id_read w = id_of_bytes (result_unwrap_or (decode_sized w 8) [])
 abbrev pub as_grant : Puid → Tuid
 as_grant id = record { draw = id.block; word = id.word }
 
--- a mark, and the digits behind it
+-- a mark, and the digits after it
 abbrev pub grant_read : List ℕ → Tuid
 grant_read w = as_grant (id_read (drop 1 w))
 
@@ -110,7 +110,7 @@ unread_read w =
 
 -- ---- requests and replies
 
--- by its verb, of an object that is named first, a slot of it or a place in it, and one word more
+-- a request by its verb, the object that is named first, a slot of it or a place in it, and one more word
 abbrev pub request_on : (verb : List ℕ) → Ref → ℕ → (c : List ℕ) → Request
 request_on verb to at c =
     if is verb (codes "retain") then asks.Retain to at (id_read c) else
@@ -121,7 +121,7 @@ request_on verb to at c =
     if is verb (codes "size") then asks.Size to else
     asks.Resize to at
 
--- by its verb, of the words behind it; but for one that has bytes
+-- a request by its verb and the words after it, unless it has bytes
 abbrev pub request_of : (verb a b c d : List ℕ) → Request
 request_of verb a b c d =
     if is verb (codes "create-file") then asks.CreateFile (kind_read a) (byte_read b) (ref_read c) (number_read d) else
@@ -169,7 +169,7 @@ reply_read form ws = if is (word_at ws 0) (codes "ok") then ok_read form (word_a
 
 -- ---- events
 
--- a request behind two words, and its reply behind it and one word more
+-- a request after two words, and its reply after it and one more word
 abbrev pub ask_read : List (List ℕ) → Event
 ask_read ws =
     let request = request_read (drop 2 ws) in

@@ -22,7 +22,7 @@ status_row status = row_with (codes "status") refl (Code status ∷ [])
 abbrev pub status_line : ℕ → List ℕ
 status_line status = row_line (status_row status)
 
--- no line ends in it
+-- there is no line's end in it
 abbrev pub has_no_end : List ℕ → Bool
 has_no_end text = list_all (λ c. not (c == LF)) text
 

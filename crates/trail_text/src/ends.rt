@@ -14,14 +14,18 @@ use crate::word::Word::{Code, Number, Small};
 use cfs_base::NoMemory;
 use std::alloc::Global;
 
-/// What the first line tells: the cylinders of the volume, 1 to 1,024, and the seed of the words.
+/// What the first line says.
 #[derive(Clone, Copy, Debug, PartialEq, Eq)]
 pub struct Opening {
+    /// The number of cylinders of the volume, 1 to 1,024.
     pub cylinders: u32,
+    /// The seed of the words.
     pub seed: u64,
 }
 
-/// The first line, without its end. `NoMemory` comes only for want of memory.
+/// Returns the first line, without its end.
+///
+/// `NoMemory` comes only for want of memory.
 pub fn print_opening(alloc: Global, opening: Opening) -> Result<String, NoMemory>
     ensures { IfOk result (λ line. string_bytes line ≡ opening_line opening) }
 {
@@ -29,8 +33,9 @@ pub fn print_opening(alloc: Global, opening: Opening) -> Result<String, NoMemory
     line_of(alloc, "trail", &words)
 }
 
-/// What this first line tells, which is handed in without its end. `BadLine` comes exactly where it is no first line;
-/// `Memory` may stand in place of any.
+/// Reads this first line, which is handed in without its end.
+///
+/// `BadLine` comes exactly if it is no first line. `Memory` may come in the place of any result.
 pub fn read_opening(alloc: Global, line: &[u8]) -> Result<Opening, TrailFault>
     ensures fits { IfOk result (λ opening. opening_fits opening ≡ true) }
     ensures line { IfOk result (λ opening. line.now ≡ opening_line opening) }
@@ -44,7 +49,7 @@ pub fn read_opening(alloc: Global, line: &[u8]) -> Result<Opening, TrailFault>
     Ok(opening)
 }
 
-/// The one first line that these words can be of.
+/// Returns the only opening that these words can be of.
 fn opening_in(words: &[&[u8]]) -> Opening
     ensures { result ≡ opening_read (texts words.now) }
 {
@@ -67,15 +72,18 @@ fn fits(opening: Opening) -> bool
     0 < opening.cylinders && opening.cylinders <= 1_024
 }
 
-/// The last line, without its end. `NoMemory` comes only for want of memory.
+/// Returns the last line, without its end.
+///
+/// `NoMemory` comes only for want of memory.
 pub fn print_status(alloc: Global, status: u8) -> Result<String, NoMemory>
     ensures { IfOk result (λ line. string_bytes line ≡ status_line status) }
 {
     line_of(alloc, "status", &[Code(status)])
 }
 
-/// The status that this last line tells, which is handed in without its end. `BadLine` comes exactly where it is no
-/// last line; `Memory` may stand in place of any.
+/// Reads the status in this last line, which is handed in without its end.
+///
+/// `BadLine` comes exactly if it is no last line. `Memory` may come in the place of any result.
 pub fn read_status(alloc: Global, line: &[u8]) -> Result<u8, TrailFault>
     ensures line { IfOk result (λ status. line.now ≡ status_line status) }
     ensures bad { IfErr result (λ fault. fault ≡ faults.BadLine → IsNoneOf in_8 status_line line.now) }

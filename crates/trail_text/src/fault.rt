@@ -9,7 +9,7 @@ use cfs_base::NoMemory;
 pub enum TrailFault {
     /// It is the line of no event that fits.
     BadLine,
-    /// Want of memory.
+    /// There was no memory.
     Memory,
 }
 

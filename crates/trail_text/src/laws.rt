@@ -1,4 +1,4 @@
-//! What is proved of lines, as contracts. None of these calls does anything.
+//! What is proved of lines, as contracts of functions that do nothing.
 ghost use Rattle.std.specs.Prelude.{◌≡◌, ◌≢◌, ◌++◌, ◌∷◌, [], ℕ, true};
 ghost use Rattle.std.specs.List.{join_with_byte};
 ghost use Rattle.ufs_model.specs.Printed.{reply_line};
@@ -9,8 +9,10 @@ ghost use Rattle.trail_text.specs.EventLine.{event_line, fits, in_8, reply_words
 ghost use Rattle.trail_text.specs.Trail.{has_no_end, opening_fits, opening_line, status_line};
 ghost use Rattle.trail_text.specs.declared.ends.Opening.{Opening};
 
-/// No two events that fit have one line, no two first lines that fit are one, and no event's line is a last one. In a
-/// line a reply stands as a session is written it. A line ends nowhere within.
+/// No two events that fit have the same line, and no two first lines that fit are the same.
+///
+/// No event's line is a last line. A reply is written in a line as it is to its session. No line has a line's end in
+/// it.
 pub fn lines_tell_events()
     ensures events { (a b : Event) → fits a ≡ true → fits b ≡ true → event_line a ≡ event_line b → a ≡ b }
     ensures openings { (o p : Opening) → opening_fits o ≡ true → opening_fits p ≡ true

@@ -1,5 +1,6 @@
-//! The text of a trail: each event is a line, and a line is read as the one event that it is the line of.
-//! The layers above use that an event that fits has one line, and no two of them have the same.
+//! The text of a trail: each event is a line, and a line is read as the one event whose line it is.
+//!
+//! The layers above use that an event that fits has one line, and that no two such events have the same.
 #![tactic(auto)]
 
 mod ends;

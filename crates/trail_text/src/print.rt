@@ -12,14 +12,16 @@ use cfs_base::{NoMemory, Puid, Session};
 use std::alloc::Global;
 use ufs_model::{Event, Ref, Reply, Request};
 
-/// The line of an event, without its end. `NoMemory` comes only for want of memory.
+/// Returns the line of an event, without its end.
+///
+/// `NoMemory` comes only for want of memory.
 pub fn print_event(alloc: Global, event: &Event) -> Result<String, NoMemory>
     ensures { IfOk result (λ line. string_bytes line ≡ event_line event.now) }
 {
     print_within(alloc, event)
 }
 
-/// The same, and the event is within its widths.
+/// Returns the line of an event, as `print_event` does. An event that gets one is within its widths.
 pub fn print_within(alloc: Global, event: &Event) -> Result<String, NoMemory>
     ensures line { IfOk result (λ line. string_bytes line ≡ event_line event.now) }
     ensures within { IfOk result (λ line. event_within event.now ≡ true) }
@@ -48,7 +50,7 @@ pub fn print_within(alloc: Global, event: &Event) -> Result<String, NoMemory>
     }
 }
 
-/// The line of these words.
+/// Returns the line of these words.
 pub fn line_of(alloc: Global, verb: &str, words: &[Word<'_>]) -> Result<String, NoMemory>
     ensures line { IfOk result (λ line. string_bytes line ≡ verb.now ++ spaced (map letters words.now)) }
     ensures within { IfOk result (λ line. list_all word_within words.now ≡ true) }

@@ -1,4 +1,4 @@
-//! Requests and replies as they stand in a line.
+//! Requests and replies as they are written in a line.
 ghost use Rattle.std.specs.Prelude.{◌≡◌, ◌++◌, ◌∷◌, OnOk, codes, map, true};
 ghost use Rattle.std.specs.List.{list_all};
 ghost use Rattle.std.specs.String.{string_bytes};
@@ -10,7 +10,7 @@ use crate::word::put;
 use cfs_base::{NoMemory, Puid};
 use ufs_model::{Ref, Reply, Request};
 
-/// Puts the request behind the line.
+/// Appends the request to the line.
 pub fn put_request(line: &mut String, request: &Request) -> Result<(), NoMemory>
     ensures line { OnOk result (string_bytes line.new ≡ string_bytes line.old ++ spaced (request_words request.now)) }
     ensures within { OnOk result (request_within request.now ≡ true) }
@@ -74,7 +74,7 @@ pub fn put_request(line: &mut String, request: &Request) -> Result<(), NoMemory>
     }
 }
 
-/// Puts a refusal behind the line.
+/// Appends a refusal to the line.
 fn put_no(line: &mut String, why: &str, numbers: &[Word<'_>]) -> Result<(), NoMemory>
     ensures line { OnOk result (string_bytes line.new
         ≡ string_bytes line.old ++ spaced (codes "no" ∷ why.now ∷ map letters numbers.now)) }
@@ -84,7 +84,7 @@ fn put_no(line: &mut String, why: &str, numbers: &[Word<'_>]) -> Result<(), NoMe
     put(line, numbers)
 }
 
-/// Puts the reply behind the line.
+/// Appends the reply to the line.
 pub fn put_reply(line: &mut String, reply: &Reply) -> Result<(), NoMemory>
     ensures line { OnOk result (string_bytes line.new ≡ string_bytes line.old ++ spaced (reply_words reply.now)) }
     ensures within { OnOk result (reply_within reply.now ≡ true) }

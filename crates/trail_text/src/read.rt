@@ -1,5 +1,6 @@
-//! Lines read as events: the one event of which a line can be the line is made of its words, and then the line must
-//! be its line.
+//! Lines read as events.
+//!
+//! The one event whose line it can be is made from the words, and then its line must be this one.
 ghost use Rattle.std.specs.Prelude.{◌≡◌, ◌&&◌, true, IfErr, IfOk, map};
 ghost use Rattle.std.specs.Str.{bytes_eq};
 ghost use Rattle.trail_text.specs.EventLine.{event_line, fits};
@@ -17,8 +18,9 @@ use cfs_base::{Ids, NoMemory};
 use std::alloc::Global;
 use ufs_model::{Event, Unread};
 
-/// The event that fits and has this line, which is handed in without its end. `BadLine` comes exactly where there is
-/// none; `Memory` may stand in place of any.
+/// Reads the event that fits and has this line, which is handed in without its end.
+///
+/// `BadLine` comes exactly if there is none. `Memory` may come in the place of any result.
 pub fn read_event(alloc: Global, line: &[u8]) -> Result<Event, TrailFault>
     ensures fits { IfOk result (λ event. fits event ≡ true) }
     ensures line { IfOk result (λ event. line.now ≡ event_line event) }
@@ -32,7 +34,7 @@ pub fn read_event(alloc: Global, line: &[u8]) -> Result<Event, TrailFault>
     Ok(event)
 }
 
-/// Whether the event fits and this is its line.
+/// Returns whether the event fits and this is its line.
 fn is_line_of(alloc: Global, line: &[u8], event: &Event) -> Result<bool, NoMemory>
     ensures { IfOk result (λ is. is ≡ (fits event.now && bytes_eq line.now (event_line event.now))) }
 {
@@ -40,7 +42,7 @@ fn is_line_of(alloc: Global, line: &[u8], event: &Event) -> Result<bool, NoMemor
     Ok(is_shaped(event) && line == printed.as_bytes())
 }
 
-/// The one event that these words can be of.
+/// Returns the only event that these words can be of.
 fn event_in(alloc: Global, words: &[&[u8]]) -> Result<Event, NoMemory>
     ensures { IfOk result (λ event. event ≡ event_read (texts words.now)) }
 {
@@ -55,7 +57,7 @@ fn event_in(alloc: Global, words: &[&[u8]]) -> Result<Event, NoMemory>
     }
 }
 
-/// The same of an event that has neither a request nor a list.
+/// Returns the only event without a request and without a list that these words can be of.
 fn small_event_in(words: &[&[u8]]) -> Event
     ensures { result ≡ small_event_read (texts words.now) }
 {

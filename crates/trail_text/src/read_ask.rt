@@ -12,7 +12,7 @@ use cfs_base::{Damage, Need, NoMemory};
 use std::alloc::Global;
 use ufs_model::{Ref, Reply, Request};
 
-/// The one request that can begin with these words.
+/// Returns the only request that can begin with these words.
 pub fn request_in(alloc: Global, words: &[&[u8]]) -> Result<Request, NoMemory>
     ensures { IfOk result (λ request. request ≡ request_read (texts words.now)) }
 {
@@ -31,7 +31,7 @@ pub fn request_in(alloc: Global, words: &[&[u8]]) -> Result<Request, NoMemory>
     Ok(request_of(verb, a, b, c, word_at(words, 4)))
 }
 
-/// The same by its verb and the words behind it, but for a request that has bytes.
+/// Returns that request by its verb and the words after it, unless it has bytes.
 fn request_of(verb: &[u8], a: &[u8], b: &[u8], c: &[u8], d: &[u8]) -> Request
     ensures { result ≡ request_of verb.now a.now b.now c.now d.now }
 {
@@ -56,7 +56,7 @@ fn request_of(verb: &[u8], a: &[u8], b: &[u8], c: &[u8], d: &[u8]) -> Request
     }
 }
 
-/// The same of a request that names an object first, and then a slot of it or a place in it, if any.
+/// Returns that request if it names an object first, and then a slot of it or a place in it, if any.
 fn request_on(verb: &[u8], to: Ref, at: u64, c: &[u8]) -> Request
     ensures { result ≡ request_on verb.now to at c.now }
 {
@@ -83,7 +83,7 @@ fn request_on(verb: &[u8], to: Ref, at: u64, c: &[u8]) -> Request
     }
 }
 
-/// How many words a request has.
+/// Returns how many words a request has.
 pub fn words_taken(request: &Request) -> usize
     ensures { result ≡ length (request_words request.now) }
 {
@@ -96,7 +96,7 @@ pub fn words_taken(request: &Request) -> usize
     }
 }
 
-/// The one reply that these words can be, where an ok has this form.
+/// Returns the only reply that these words can be, if an ok has this form.
 pub fn reply_in(alloc: Global, form: Form, words: &[&[u8]]) -> Result<Reply, NoMemory>
     ensures { IfOk result (λ reply. reply ≡ reply_read form (texts words.now)) }
 {
@@ -107,7 +107,7 @@ pub fn reply_in(alloc: Global, form: Form, words: &[&[u8]]) -> Result<Reply, NoM
     }
 }
 
-/// An ok of this form.
+/// Returns an ok of this form.
 fn ok_in(alloc: Global, form: Form, word: &[u8]) -> Result<Reply, NoMemory>
     ensures { IfOk result (λ reply. reply ≡ ok_read form word.now) }
 {

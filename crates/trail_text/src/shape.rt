@@ -7,17 +7,22 @@ use cfs_base::Puid;
 use std::cmp::Ordering;
 use ufs_model::{Event, Reply, Request};
 
-/// What an ok tells.
+/// What an ok reports.
 #[derive(Clone, Copy, Debug, PartialEq, Eq)]
 pub enum Form {
+    /// Only that the request was done.
     Nothing,
+    /// An identifier.
     Id,
+    /// A grant's identifier.
     Grant,
+    /// A number.
     Number,
+    /// Bytes.
     Content,
 }
 
-/// What an ok to the request tells.
+/// Returns what an ok to the request reports.
 pub fn form_of(request: &Request) -> Form
     ensures { result ≡ form_told request.now }
 {
@@ -31,7 +36,9 @@ pub fn form_of(request: &Request) -> Form
     }
 }
 
-/// Whether an ok reply has the form that its request asks for, what is read or written has one byte or more, and each
+/// Returns whether an event has the shape of one that fits a line.
+///
+/// An ok reply has the form that its request asks for, what is read or written has at least one byte, and each
 /// identifier that vanishes is above the one before it.
 pub fn is_shaped(event: &Event) -> bool
     ensures { result ≡ event_shaped event.now }
@@ -67,7 +74,7 @@ fn is_reply_shaped(reply: &Reply, form: Form) -> bool
     }
 }
 
-/// Whether each identifier is above the one before it.
+/// Returns whether each identifier is above the one before it.
 fn ids_rise(ids: &[Puid]) -> bool
     ensures { result ≡ ids_rise ids.now }
 {
@@ -77,7 +84,7 @@ fn ids_rise(ids: &[Puid]) -> bool
     }
 }
 
-/// Whether each is above the one before it, the first above this.
+/// Returns whether each identifier is above the one before it, and the first above `last`.
 fn rise_from(mut last: Puid, ids: &[Puid]) -> bool
     ensures { result ≡ rise_from last ids.now }
 {

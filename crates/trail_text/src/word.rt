@@ -1,4 +1,4 @@
-//! The words that lines are made of.
+//! The words of which lines are made.
 ghost use Rattle.std.specs.Prelude.{◌≡◌, ◌++◌, ◌∷◌, OnOk, codes, map, true};
 ghost use Rattle.std.specs.List.{list_all};
 ghost use Rattle.std.specs.Fmt.{decimal};
@@ -16,24 +16,33 @@ use ufs_model::{Ref, Unread};
 /// A word, as it is to be put into a line.
 #[derive(Clone, Copy)]
 pub enum Word<'a> {
+    /// A word as it is.
     Text(&'a str),
+    /// `normal` or `special`.
     Kind(FileKind),
+    /// `read` or `write`.
     For(Mode),
+    /// `commit` or `abort`.
     Commit(bool),
+    /// `syntax`, `name` or `memory`.
     Why(Unread),
-    /// In decimal digits.
+    /// A number, in decimal digits.
     Number(u64),
+    /// A number of 32 bits, in decimal digits.
     Small(u32),
+    /// A number of 8 bits, in decimal digits.
     Code(u8),
-    /// An identifier in 16 hexadecimal digits, or a grant in as many behind a `g`.
+    /// An identifier in 16 hexadecimal digits, or a grant in as many after a `g`.
     To(Ref),
-    /// In two hexadecimal digits.
+    /// A byte, in two hexadecimal digits.
     Byte(u8),
-    /// In two hexadecimal digits a byte.
+    /// Bytes, in two hexadecimal digits each.
     Hex(&'a [u8]),
 }
 
-/// Puts the words behind the line, a space before each. Where memory is wanting the line has some of them.
+/// Appends the words to the line, with a space before each.
+///
+/// On an error the line has some of them.
 pub fn put(line: &mut String, words: &[Word<'_>]) -> Result<(), NoMemory>
     ensures line { OnOk result (string_bytes line.new ≡ string_bytes line.old ++ spaced (map letters words.now)) }
     // Each is as wide as its type.

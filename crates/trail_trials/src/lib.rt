@@ -1,10 +1,8 @@
-//! Lines of trails, printed and read, trails that are judged, and a script of the workload. Nothing stands above this
-//! crate; its use is its tests.
+//! Lines of trails, printed and read, and a script of the workload. No crate is above this one: it is made for its
+//! tests.
 #![tactic(auto)]
 
 #[cfg(test)]
 mod lines;
-#[cfg(test)]
-mod verdicts;
 #[cfg(test)]
 mod workload;

@@ -3,7 +3,8 @@ use std::alloc::Global;
 use std::test::Fail;
 use trail_text::{TrailFault, print_event, read_event};
 
-/// A run of one session that makes an index and reads slots, with the words of seed 0; then lines of each other kind.
+/// A run of one session that makes an index and reads slots, with the words of seed 0, and then lines of each other
+/// kind.
 const LINES: [&[u8]; 21] = [
     b"ask 0 create-index 4 00000002ade0b876 0 = ok 00000003903df1a0",
     b"ask 0 retrieve 00000002ade0b876 0 = ok 00000003903df1a0",
@@ -28,9 +29,11 @@ const LINES: [&[u8]; 21] = [
     b"halted 0",
 ];
 
-/// Each differs in little from the line of an event: an empty line, other blanks, a sign or a zero before a number, a
-/// number past its width, upper case, a grant without its mark, a reply of another request's form, no bytes, a wrong
-/// count, an order that doesn't rise, words too many, and an end.
+/// Lines that differ a little from the line of an event.
+///
+/// They have an empty line, other blanks, a sign or a zero before a number, a number past its width, upper case, a
+/// grant without its mark, a reply of another request's form, no bytes, a wrong count, an order that doesn't
+/// increase, too many words, and a line's end.
 const BAD_LINES: [&[u8]; 20] = [
     b"",
     b" began",
@@ -54,7 +57,7 @@ const BAD_LINES: [&[u8]; 20] = [
     b"began\n",
 ];
 
-/// Whether the line is read as an event whose line it is.
+/// Returns whether the line is read as an event whose line it is.
 fn comes_back(alloc: Global, line: &[u8]) -> bool {
     let Ok(event) = read_event(alloc, line) else {
         return false;

@@ -2,8 +2,10 @@
 use cfs_workload::script;
 use std::test::Fail;
 
-/// The first lines of session 0 at seed 0. The words were worked out apart, by the cipher's rules from the key of the
-/// seed and the session, after the same rules had given the five words that a volume of seed 0 begins with.
+/// The first lines of session 0 at seed 0.
+///
+/// The words were worked out apart, by the cipher's rules from the key of the seed and the session, after the same
+/// rules had given the five words with which a volume of seed 0 begins.
 const LINES: &str = "\
 create-index top 64 root 0\n\
 create-file o52 normal 00 top 52\n\

@@ -1,4 +1,4 @@
--- What a request makes of an asker, whatever states it stood for, and what its answer tells.
+-- What a request makes of an asker, whatever states it stood for, and what its answer says.
 use Rattle.std.specs.Prelude.{◌≡◌, ℕ, ◌<◌, Bool, true, false, Some}
 use Rattle.cfs_base.specs.Outside.{Rose}
 use Rattle.ufs_model.specs.declared.asked.Event.TheVariants as events
@@ -17,7 +17,7 @@ pub record IsAsked (stands : State → Type 0) (seed : ℕ) (s : State) (who : �
   pub step : next seed s (events.Ask who request reply) ≡ Some after
   pub standing : stands after
 
--- it reads alone: no block is taken for it
+-- the request only reads: no block is taken for it
 abbrev pub only_reads : Request → Bool
 only_reads (asks.Retrieve index slot) = true
 only_reads (asks.Slots index) = true
@@ -25,14 +25,15 @@ only_reads (asks.Read file offset count) = true
 only_reads (asks.Size file) = true
 only_reads request = false
 
--- In a state for which it stood nothing is damaged; a Full names the room, and what reads alone is never answered so.
+-- In a state for which the asker stood nothing is damaged. A Full names the room, and a request that only reads is
+-- never answered so.
 abbrev pub IsExactIn : (cylinders : ℕ) → State → Request → Reply → Type 0
 IsExactIn cylinders s request (replies.Damaged damage moment) = ⊥
 IsExactIn cylinders s request (replies.Full n) =
     (only_reads request ≡ false) × (is_sweeping s.collection ≡ false → IsRoom cylinders s n.free)
 IsExactIn cylinders s request reply = Unit {0}
 
--- a failed call of the disk that is told was one, and so was a damage
+-- a call of the disk that is reported as failed did fail, and a damage that is reported was found
 abbrev pub TellsTrouble : (failed failed_now damaged damaged_now : ℕ) → Reply → Type 0
 TellsTrouble failed failed_now damaged damaged_now (replies.Disk doubt) = Rose failed failed_now
 TellsTrouble failed failed_now damaged damaged_now (replies.Damaged damage moment) = damaged < damaged_now

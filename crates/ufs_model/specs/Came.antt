@@ -1,4 +1,4 @@
--- What an answer that may come is, told from the answer.
+-- What an answer that may come is, known from the answer alone.
 use Rattle.std.specs.Prelude.{◌≡◌, ℕ, ◌+◌, ◌<◌, true, false, Some, None}
 use Rattle.cfs_base.specs.declared.refusal.Need.{Need}
 use Rattle.ufs_model.specs.declared.asked.Reply.{Reply}
@@ -12,7 +12,7 @@ use Rattle.ufs_model.specs.Outcome.{creates, outcome_of}
 use Rattle.ufs_model.specs.Refusal.{refusal_of}
 use Rattle.ufs_model.specs.State.{State, is_running, stopped_at}
 
--- want of memory, a stop, or trouble with the disk, which tell nothing of the request
+-- want of memory, a stop, or trouble with the disk, which say nothing of the request
 abbrev pub IsTroubleIn : State → Reply → Type 0
 IsTroubleIn s replies.Memory = Unit {0}
 IsTroubleIn s (replies.Stopped moment) = s.stopped ≡ Some moment

@@ -1,4 +1,4 @@
--- The graph: a list of identifiers with their objects, the identifiers rising, below a root index.
+-- The graph: a list of objects with their identifiers, in increasing order, below a root index.
 use Rattle.std.specs.Prelude.{◌≡◌, ℕ, ◌≤◌, ◌<◌, Bool, true, false, not, ◌&&◌, ◌==◌, is_some, IsTrue, List, [], ◌∷◌}
 use Rattle.std.specs.Prelude.{length, map, filter, Option, Some, None}
 use Rattle.std.specs.List.{list_any, list_all, flat_map, filter_map}
@@ -40,7 +40,7 @@ abbrev pub referred : Object → List Puid
 referred (objects.File f) = []
 referred (objects.Index i) = filter_map (λ slot. slot) i.slots
 
--- each pair of an index and what it refers to
+-- each pair of an index and an object to which it refers
 abbrev pub graph_pairs : Graph → List (Puid × Puid)
 graph_pairs g = flat_map (λ e. map (λ x. (e.0, x)) (referred e.1)) g.objects
 
@@ -49,7 +49,7 @@ has_pair pairs i x = list_any (λ e. same_puid i e.0 && same_puid x e.1) pairs
 
 -- ---- root blocks
 
--- an object of these has this root block
+-- one of these objects has this root block
 abbrev pub has_block : List (Puid × Object) → ℕ → Bool
 has_block objects b = list_any (λ id. id.block == b) (keys_of objects)
 
@@ -75,8 +75,8 @@ is_root_index (Some (objects.Index i)) = length i.slots == root_slots
 is_root_index (Some (objects.File f)) = false
 is_root_index None = false
 
--- identifiers rise and have blocks of their own, the root is an index of 64 slots, what a slot holds is there, and
--- each object is well-formed
+-- identifiers increase and have blocks of their own, the root is an index of 64 slots, each identifier in a slot
+-- names an object, and each object is well-formed
 abbrev pub is_graph : Graph → Bool
 is_graph g =
     rises (ids_of g) && blocks_differ (ids_of g)

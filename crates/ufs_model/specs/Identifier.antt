@@ -19,17 +19,17 @@ same_tuid a b = (a.draw == b.draw) && (a.word == b.word)
 abbrev pub is_among : Puid → List Puid → Bool
 is_among id ids = list_any (same_puid id) ids
 
--- each is below all that follow
+-- each identifier is below all that follow
 abbrev pub rises : List Puid → Bool
 rises [] = true
 rises (x ∷ ids) = list_all (λ y. is_lt (puid_cmp x y)) ids && rises ids
 
--- the second list, with what the first has more
+-- the second list, with those of the first that it lacks
 abbrev pub joined : List Puid → List Puid → List Puid
 joined [] ids = ids
 joined (x ∷ xs) ids = if is_among x ids then joined xs ids else joined xs (x ∷ ids)
 
--- each is above the one before it, the first above this
+-- each identifier is above the one before it, and the first above `last`
 abbrev pub rise_from : Puid → List Puid → Bool
 rise_from last [] = true
 rise_from last (id ∷ ids) = is_lt (puid_cmp last id) && rise_from id ids

@@ -14,11 +14,11 @@ abbrev pub file_kind : FileKind → Kind
 file_kind file_kinds.Normal = kinds.Normal
 file_kind file_kinds.Special = kinds.Special
 
--- what an object is
+-- the kind of an object
 abbrev pub object_kind : Object → Kind
 object_kind (objects.File f) = file_kind f.kind
 object_kind (objects.Index i) = kinds.Index
 
--- the kind of what the graph has at an identifier
+-- the kind of the object that the graph has at an identifier
 abbrev pub kind_at : Graph → Puid → Option Kind
 kind_at g id = option_map object_kind (object_at g id)

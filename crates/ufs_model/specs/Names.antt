@@ -1,4 +1,4 @@
--- What a session's names stand for.
+-- What a session's names are bound to.
 use Rattle.std.specs.Prelude.{ℕ, Bool, not, ◌&&◌, ◌||◌, ◌==◌, nat_le, List, [], ◌∷◌, length, if◌then◌else◌, Option}
 use Rattle.std.specs.Prelude.{Some, None}
 use Rattle.std.specs.Prelude.{codes, false}
@@ -10,12 +10,12 @@ use Rattle.cfs_base.specs.declared.identifier.Puid.{Puid}
 use Rattle.ufs_model.specs.declared.asked.Bound.{Bound}
 use Rattle.ufs_model.specs.Limits.{most_name}
 
--- the root's identifier, and what each name stands for
+-- the root's identifier, and what each name is bound to
 pub record Names : Type 0 where
   pub root : Puid
   pub bound : List ℕ → Option Bound
 
--- as a session begins
+-- the names of a session that begins
 abbrev pub no_names : Puid → Names
 no_names root = record { root = root; bound = λ name. None }
 

@@ -28,7 +28,7 @@ in_place_need (SetSize size) o = 0
 in_place_need (Fill slot what) o = 0
 
 -- Any other object is changed beside itself, and takes what is written anew and not fresh yet. A change that is its
--- own commit takes a shadow root besides; a draft has one since it was opened
+-- own commit also takes a shadow root. A draft has one since it was opened.
 abbrev beside_need : Change → Draft → (has_shadow : Bool) → ℕ
 beside_need c d has_shadow = missing (written_anew c d.object d.fresh) d.fresh + (if has_shadow then 0 else 1)
 
@@ -37,7 +37,7 @@ change_need s who ref c =
     let d = seen s who ref in
     if is_normal d.object then in_place_need c d.object else beside_need c d (is_some (draft_of s who ref))
 
--- an object that is opened so gets a draft
+-- an object that is opened in this mode gets a draft
 abbrev pub takes_draft : Mode → Option Object → Bool
 takes_draft modes.Reading o = false
 takes_draft modes.Writing None = false

@@ -27,7 +27,7 @@ allowed_if b s = if b then Some s else None
 
 -- ---- whether two replies are the same
 
--- the place of a reply among them, and the numbers that it carries
+-- the number of a reply's variant, and the numbers that it carries
 abbrev pub parts_of : Reply → ℕ × List ℕ
 parts_of replies.Done = (0, [])
 parts_of (replies.Id id) = (1, id.block ∷ id.word ∷ [])
@@ -77,7 +77,7 @@ abbrev pub is_direct_delete : Request → Bool
 is_direct_delete (asks.Delete (Direct id) slot) = true
 is_direct_delete request = false
 
--- so few blocks are Free that the request would take of the last four, which a direct delete may
+-- so few blocks are Free that the request would take one of the last four, which only a direct delete may
 abbrev pub is_full : State → ℕ → Request → Need → Bool
 is_full s who request n =
     goes_through s who request && not (is_direct_delete request)
@@ -88,7 +88,7 @@ abbrev pub by_outcome : ℕ → State → ℕ → Request → Reply → Option S
 by_outcome seed s who request reply =
     allowed_if (is_outcome seed s who request reply) (outcome_of seed s who request (block_named reply)).1
 
--- the state after an answer, where it may be given
+-- the state after an answer, if it may be given
 abbrev pub answered : ℕ → State → ℕ → Request → Reply → Option State
 answered seed s who request replies.Memory = Some s
 answered seed s who request (replies.Stopped moment) = allowed_if (is_stopped_at s moment) s
@@ -124,7 +124,7 @@ is_sweeping collections.None = false
 is_sweeping (collections.Marking edges starts) = false
 is_sweeping collections.Sweeping = true
 
--- the state after an event, where it may happen
+-- the state after an event, if it may happen
 abbrev pub next : ℕ → State → Event → Option State
 next seed s (events.Unread who why) = Some s
 next seed s (events.Ask who request reply) = answered seed s who request reply

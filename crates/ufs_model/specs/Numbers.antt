@@ -16,12 +16,12 @@ abbrev pub with_number : ℕ → List ℕ → List ℕ
 with_number n [] = n ∷ []
 with_number n (m ∷ ms) = if n == m then m ∷ ms else (if nat_lt n m then n ∷ m ∷ ms else m ∷ with_number n ms)
 
--- the second numbers with the first
+-- the second list of numbers, with those of the first added
 abbrev pub with_numbers : List ℕ → List ℕ → List ℕ
 with_numbers [] ms = ms
 with_numbers (n ∷ ns) ms = with_number n (with_numbers ns ms)
 
--- the first numbers without the second; those that are among the second
+-- the numbers of the first list that are not in the second, and those that are
 abbrev pub lacking : List ℕ → List ℕ → List ℕ
 lacking ns ms = filter (λ n. not (has_number n ms)) ns
 
@@ -37,7 +37,7 @@ abbrev pub branches : ℕ → List ℕ → List (List ℕ)
 branches zero leaves = leaves ∷ []
 branches (suc n) leaves = leaves ∷ branches n (parents leaves)
 
--- ---- level by level. A level that isn't there has no block
+-- ---- level by level, where a level that isn't there has no block
 
 abbrev pub first_level : List (List ℕ) → List ℕ
 first_level [] = []
@@ -47,17 +47,17 @@ abbrev pub next_levels : List (List ℕ) → List (List ℕ)
 next_levels [] = []
 next_levels (ns ∷ levels) = levels
 
--- how many blocks of the first are not among the second
+-- how many blocks of the first are not in the second
 abbrev pub missing : List (List ℕ) → List (List ℕ) → ℕ
 missing [] there = 0
 missing (ns ∷ levels) there = length (lacking ns (first_level there)) + missing levels (next_levels there)
 
--- the second with the first
+-- the second with the blocks of the first added
 abbrev pub merged : List (List ℕ) → List (List ℕ) → List (List ℕ)
 merged [] there = there
 merged (ns ∷ levels) there = with_numbers ns (first_level there) ∷ merged levels (next_levels there)
 
--- those of the first that are among the second
+-- those blocks of the first that are in the second
 abbrev pub within : List (List ℕ) → List (List ℕ) → List (List ℕ)
 within [] there = []
 within (ns ∷ levels) there = shared ns (first_level there) ∷ within levels (next_levels there)

@@ -36,7 +36,7 @@ held_nodes o = parents (held_leaves o)
 abbrev pub blocks_of : Object → ℕ
 blocks_of o = 1 + sum_by length (held_levels o)
 
--- how many leaves so many bytes take
+-- how many leaves hold this many bytes
 abbrev pub leaves_in : ℕ → ℕ
 leaves_in size = (size + leaf_size - 1) / leaf_size
 
@@ -55,12 +55,12 @@ byte_may_stand f at byte = nat_lt byte 256 && ((byte == f.fill) || has_number (a
 abbrev pub slot_may_stand : Index → ℕ → Option Puid → Bool
 slot_may_stand i at what = is_none what || has_number (leaf_of_slot at) i.held
 
--- a test of each element with its place, from a place on
+-- a test of each element and its place, beginning at a place
 abbrev pub each_from : {A : Type 0} → (ℕ → A → Bool) → ℕ → List A → Bool
 each_from test at [] = true
 each_from test at (x ∷ xs) = test at x && each_from test (at + 1) xs
 
--- within the limits, and a leaf that is not held has only fill bytes, or only empty slots
+-- the object is within the limits, and a leaf that is not held has only fill bytes, or only empty slots
 abbrev pub is_object : Object → Bool
 is_object (objects.File f) =
     nat_le (length f.bytes) most_bytes && nat_lt f.fill 256
@@ -89,14 +89,14 @@ written f offset bytes = record f {
   held = with_numbers (touched offset (length bytes)) f.held;
 }
 
--- a file of this size: bytes are dropped, or bytes that are the fill byte are added
+-- a file of this size: bytes are dropped from the end, or fill bytes are added there
 abbrev pub resized : File → ℕ → File
 resized f size = record f {
   bytes = take size f.bytes ++ replicate (size - length f.bytes) f.fill;
   held = filter (λ leaf. nat_lt leaf (leaves_in size)) f.held;
 }
 
--- an index with this in the slot, whatever stood there. The leaf of a slot that is filled is held from then on
+-- an index with this in the slot, whatever the slot held. The leaf of a slot that is filled is held from then on.
 abbrev pub filled : Index → ℕ → Option Puid → Index
 filled i slot what = record i {
   slots = slice_set i.slots slot what;
@@ -116,7 +116,7 @@ changed_object (Overwrite offset bytes) (objects.Index i) = objects.Index i
 changed_object (SetSize size) (objects.File f) = objects.File (resized f size)
 changed_object (SetSize size) (objects.Index i) = objects.Index i
 
--- the place of a change lies within the object
+-- the place of a change is within the object
 abbrev pub IsInside : Change → Object → Type 0
 IsInside (Fill slot what) (objects.Index i) = slot < length i.slots
 IsInside (Fill slot what) (objects.File f) = Unit {0}
@@ -129,14 +129,14 @@ abbrev pub size_of : Object → ℕ
 size_of (objects.File f) = length f.bytes
 size_of (objects.Index i) = 8 * length i.slots
 
--- ---- the blocks that a change writes anew, where the old ones stay until it is committed
+-- ---- the blocks that a change writes anew, if the old ones stay until it is committed
 
--- the leaf that a resize cuts within, where it is held
+-- the leaf within which a resize cuts, if it is held
 abbrev pub cut_leaf : ℕ → List ℕ → List ℕ
 cut_leaf size held = if size % leaf_size == 0 then [] else shared (size / leaf_size ∷ []) held
 
--- A resize to less keeps some blocks of a level and drops others, and writes some anew. Of the levels above, a block
--- that is kept is written anew where it leads to one that is dropped, or to one that wasn't fresh and now is.
+-- A resize to less keeps some blocks of a level, drops others, and writes some anew. On the levels above, a block
+-- that is kept is written anew if it leads to one that is dropped, or to one that wasn't fresh and now is.
 abbrev pub recut : ℕ → (kept gone anew : List ℕ) → (fresh : List (List ℕ)) → List (List ℕ)
 recut zero kept gone anew fresh = anew ∷ []
 recut (suc n) kept gone anew fresh =
@@ -144,7 +144,7 @@ recut (suc n) kept gone anew fresh =
     (shared (parents kept) (parents (with_numbers gone (lacking anew (first_level fresh)))))
     (next_levels fresh)
 
--- the same of a resize to less, where these leaves are held
+-- the blocks that a resize to less writes anew, if these leaves are held
 abbrev pub resize_anew : (levels size : ℕ) → (held : List ℕ) → (fresh : List (List ℕ)) → List (List ℕ)
 resize_anew levels size held fresh =
     recut levels (filter (λ leaf. nat_lt leaf (leaves_in size)) held)
@@ -156,6 +156,6 @@ written_anew (Overwrite offset bytes) o fresh = branches (inner_levels o) (touch
 written_anew (SetSize size) o fresh =
     if nat_le (size_of o) size then [] else resize_anew (inner_levels o) size (held_leaves o) fresh
 
--- the fresh blocks after a change: those that it writes anew too, as far as the object still holds them
+-- the fresh blocks after a change: also those that it writes anew, as far as the object still holds them
 abbrev pub fresh_after : Change → Object → List (List ℕ) → List (List ℕ)
 fresh_after c o fresh = within (merged (written_anew c o fresh) fresh) (held_levels (changed_object c o))

@@ -1,4 +1,4 @@
--- What a request does that is not refused.
+-- What a request does if it is not refused.
 use Rattle.std.specs.Prelude.{ℕ, ◌+◌, Bool, true, false, not, if◌then◌else◌, [], ◌∷◌, ◌++◌, length, filter, slice_range}
 use Rattle.std.specs.Prelude.{Option, Some, None}
 use Rattle.cfs_base.specs.declared.identifier.Puid.{Puid}
@@ -30,7 +30,7 @@ with_edge None x (collections.Marking edges starts) = collections.Marking edges 
 with_edge index x collections.None = collections.None
 with_edge index x collections.Sweeping = collections.Sweeping
 
--- an object that is opened
+-- a new start: an object that is opened
 abbrev pub with_start : Puid → Collection → Collection
 with_start x (collections.Marking edges starts) = collections.Marking edges (x ∷ starts)
 with_start x collections.None = collections.None
@@ -38,7 +38,7 @@ with_start x collections.Sweeping = collections.Sweeping
 
 -- ---- the changes
 
--- what is seen through the reference, changed
+-- what the reference shows, changed
 abbrev pub changed : State → ℕ → Ref → Change → State
 changed s who ref c = put s who ref (changed_draft c (seen s who ref))
 
@@ -47,7 +47,7 @@ abbrev pub retained : State → ℕ → Ref → ℕ → Puid → State
 retained s who index slot id =
     record (changed s who index (Fill slot (Some id))) { collection = with_edge (named s who index) id s.collection }
 
--- a new object at block b, its identifier put into the slot as the index was
+-- a new object at block b, with its identifier put into the slot of the index as it was
 abbrev pub created : ℕ → State → ℕ → Ref → ℕ → Object → ℕ → Reply × State
 created seed s who index slot o b =
     let id : Puid = record { block = b; word = word seed (s.drawn + 1) } in
@@ -95,7 +95,7 @@ abbrev pub slot_reply : Option Puid → Reply
 slot_reply (Some id) = replies.Id id
 slot_reply None = replies.Empty
 
--- the reply and the state after it, where b is the root block of a new object
+-- the reply and the state after it, if b is the root block of a new object
 abbrev pub outcome_of : ℕ → State → ℕ → Request → ℕ → Reply × State
 outcome_of seed s who (asks.CreateFile kind fill index slot) b =
     created seed s who index slot (objects.File (new_file kind fill)) b

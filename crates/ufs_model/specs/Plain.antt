@@ -24,7 +24,7 @@ pub record Server : Type 0 where
   pub seed : ℕ
   pub state : State
 
--- the place among the grants of the one whose draft the reference goes to
+-- the place of the grant to whose draft the reference goes
 pub record IsDraftPlace (s : State) (who : ℕ) (ref : Ref) (at : ℕ) : Type 0 where
   pub t : Tuid
   pub through : ref ≡ Through t
@@ -46,7 +46,7 @@ abbrev pub refused_or : Option Reply → State → Reply × State → Reply × S
 refused_or (Some reply) s done = (reply, s)
 refused_or None s done = done
 
--- the answer to a request and the state after it, where b is the root block of a new object
+-- the answer to a request and the state after it, if b is the root block of a new object
 abbrev pub answer_of : ℕ → State → ℕ → Request → ℕ → Reply × State
 answer_of seed s who request b = refused_or (refusal_of s who request) s (outcome_of seed s who request b)
 
@@ -54,12 +54,12 @@ abbrev pub is_id : Reply → Bool
 is_id (replies.Id id) = true
 is_id reply = false
 
--- reply and state are those of the answer, and a new object's root block is the least that is free
+-- reply and state are those of the answer, in which a new object's root block is the least free one
 pub record IsAnswer (seed : ℕ) (s : State) (who : ℕ) (request : Request) (reply : Reply) (after : State) : Type 0 where
   pub is : answer_of seed s who request (block_named reply) ≡ (reply, after)
   pub least : creates request ≡ true → is_id reply ≡ true → IsLeastFreeRoot s.graph.objects (block_named reply)
 
--- It has no disk, is never full and doesn't stop; and a content is no longer than one read
+-- The server has no disk, is never full and doesn't stop. A content is no longer than one read.
 abbrev pub IsPlainReply : Reply → Type 0
 IsPlainReply (replies.Content bytes) = length bytes ≤ most_at_once
 IsPlainReply (replies.Full n) = ⊥
@@ -68,7 +68,7 @@ IsPlainReply (replies.Disk doubt) = ⊥
 IsPlainReply (replies.Damaged damage moment) = ⊥
 IsPlainReply reply = Unit {0}
 
--- ---- the states for which it stands: its own, which is well-formed
+-- ---- the states for which it stands: its own state, which is well-formed
 
 pub plain_counted : (p : Server) (s : State) → (s ≡ p.state) × IsState s → s.drawn ≡ p.state.drawn
 plain_counted p s stands = ap (λ (t : State). t.drawn) stands.0

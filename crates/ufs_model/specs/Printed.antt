@@ -45,7 +45,7 @@ reply_line (replies.Disk (Some moment)) = line_of (codes "no disk" ∷ decimal m
 reply_line (replies.Damaged damage moment) =
     line_of (codes "no damaged" ∷ decimal damage.block ∷ decimal damage.code ∷ decimal moment ∷ [])
 
--- the line of a request line that is no request
+-- the reply to a request line that is no request
 abbrev pub unread_line : Unread → List ℕ
 unread_line unread.Syntax = line_of (codes "no syntax" ∷ [])
 unread_line unread.NoName = line_of (codes "no name" ∷ [])
@@ -61,6 +61,6 @@ printed session (events.Vanish ids) = []
 printed session events.Finished = []
 printed session (events.Halted moment) = []
 
--- all that a trail writes to it
+-- all that a trail writes to that sink
 abbrev pub printed_replies : ℕ → List Event → List ℕ
 printed_replies session trail = flat_map (printed session) trail

@@ -5,7 +5,7 @@ use Rattle.ufs_model.specs.Identifier.{is_among, joined}
 use Rattle.ufs_model.specs.Graph.{Graph, graph_pairs, has_pair}
 use Rattle.ufs_model.specs.State.{State, pairs_of, open_ids}
 
--- where the pairs lead from these
+-- where the pairs lead from these identifiers
 abbrev pub targets : List (Puid × Puid) → List Puid → List Puid
 targets pairs ids = map (λ e. e.1) (filter (λ e. is_among e.0 ids) pairs)
 
@@ -14,7 +14,7 @@ abbrev pub reached : ℕ → List (Puid × Puid) → List Puid → List Puid
 reached zero pairs ids = ids
 reached (suc n) pairs ids = reached n pairs (joined (targets pairs ids) ids)
 
--- an object is reached where it is one of the starts, or a pair leads to it from one that is
+-- an object is reached if it is one of the starts, or if a pair leads to it from one that is reached
 pub data IsReached (pairs : List (Puid × Puid)) (starts : List Puid) : Puid → Type 0 where
   Start : {x : Puid} → is_among x starts ≡ true → IsReached pairs starts x
   Along : {i x : Puid} → IsReached pairs starts i → has_pair pairs i x ≡ true → IsReached pairs starts x
@@ -27,10 +27,10 @@ starts_now s = joined (open_ids s) (s.graph.root ∷ [])
 abbrev pub kept : State → List Puid
 kept s = reached (length s.graph.objects) (pairs_of s) (starts_now s)
 
--- what is kept: the root and each open object reach it
+-- an object that is kept: it is reached from the root or an open object
 abbrev pub IsKept : State → Puid → Type 0
 IsKept s x = IsReached (pairs_of s) (starts_now s) x
 
--- the same from the root alone
+-- what is reached from the root alone
 abbrev pub rooted : Graph → List Puid
 rooted g = reached (length g.objects) (graph_pairs g) (g.root ∷ [])

@@ -1,4 +1,4 @@
--- When a request is refused: the first of these conditions that holds.
+-- When a request is refused: by the first of these conditions that holds.
 use Rattle.std.specs.Prelude.{ℕ, ◌+◌, Bool, true, false, not, ◌&&◌, ◌||◌, ◌==◌, nat_lt, nat_le, is_none, if◌then◌else◌}
 use Rattle.std.specs.Prelude.{List, [], ◌∷◌, length, filter, Option, Some, None}
 use Rattle.std.specs.List.{list_any}
@@ -39,7 +39,7 @@ target (asks.Write file offset bytes) = file
 target (asks.Size file) = file
 target (asks.Resize file size) = file
 
--- what it wants to find there
+-- what the request expects to find there
 abbrev pub wanted : Request → Wanted
 wanted (asks.CreateFile kind fill index slot) = AnIndex
 wanted (asks.CreateIndex slots index slot) = AnIndex
@@ -54,7 +54,7 @@ wanted (asks.Write file offset bytes) = AFile
 wanted (asks.Size file) = AFile
 wanted (asks.Resize file size) = AFile
 
--- whether it changes what is there
+-- whether the request changes what is there
 abbrev pub is_changing : Request → Bool
 is_changing (asks.CreateFile kind fill index slot) = true
 is_changing (asks.CreateIndex slots index slot) = true
@@ -69,7 +69,7 @@ is_changing (asks.Write file offset bytes) = true
 is_changing (asks.Size file) = false
 is_changing (asks.Resize file size) = true
 
--- the slot that it names
+-- the slot that the request names
 abbrev pub slot_named : Request → Option ℕ
 slot_named (asks.CreateFile kind fill index slot) = Some slot
 slot_named (asks.CreateIndex slots index slot) = Some slot
@@ -90,7 +90,7 @@ abbrev pub has_no_such_grant : State → ℕ → Ref → Bool
 has_no_such_grant s who (Direct id) = false
 has_no_such_grant s who (Through t) = is_none (grant_of s who t)
 
--- the grant that it names is no standing grant of this session
+-- the grant that the request names is no grant of this session
 abbrev pub has_no_grant : State → ℕ → Request → Bool
 has_no_grant s who request = has_no_such_grant s who (target request)
 
@@ -102,7 +102,7 @@ abbrev pub retains_nothing : State → Request → Bool
 retains_nothing s (asks.Retain index slot id) = not (is_there s.graph id)
 retains_nothing s request = false
 
--- an identifier that it names is not in the graph
+-- an identifier that the request names is not in the graph
 abbrev pub has_no_object : State → Request → Bool
 has_no_object s request = goes_nowhere s (target request) || retains_nothing s request
 
@@ -144,7 +144,7 @@ goes_through_reading s who (Through t) = is_for_reading (grant_of s who t)
 abbrev pub is_read_only : State → ℕ → Request → Bool
 is_read_only s who request = is_changing request && goes_through_reading s who (target request)
 
--- any grant stands on the object; one for writing does
+-- a grant is on the object; a grant for writing is
 abbrev pub is_open : State → Puid → Bool
 is_open s id = list_any (λ g. same_puid id g.id) s.grants
 
@@ -160,7 +160,8 @@ meets_a_grant s true (Direct id) = is_open s id
 meets_a_grant s false (Direct id) = is_open_for_writing s id
 meets_a_grant s alone (Through t) = false
 
--- a direct change or an opening for writing meets any grant, a direct reading or an opening for reading one for writing
+-- a direct change or an opening for writing meets any grant, and a direct reading or an opening for reading meets one
+-- for writing
 abbrev pub is_locked : State → ℕ → Request → Bool
 is_locked s who request = meets_a_grant s (is_changing request || opens_for_writing request) (target request)
 
@@ -172,7 +173,7 @@ is_beyond slots (Some slot) = nat_le slots slot
 abbrev pub has_no_slot : State → ℕ → Request → Bool
 has_no_slot s who request = is_beyond (length (index_seen s who (target request)).slots) (slot_named request)
 
--- what a slot holds is asked for or deleted, and the slot is empty
+-- the request asks for what a slot holds, or deletes it, and the slot is empty
 abbrev pub finds_empty : State → ℕ → Request → Bool
 finds_empty s who (asks.Retrieve index slot) = is_none (slot_of (index_seen s who index) slot)
 finds_empty s who (asks.Delete index slot) = is_none (slot_of (index_seen s who index) slot)
@@ -191,7 +192,7 @@ is_out_of_range s who (asks.Write file offset bytes) =
 is_out_of_range s who (asks.Resize file size) = nat_lt most_bytes size
 is_out_of_range s who request = false
 
--- an opening while the session has all its grants
+-- an opening, and the session has all the grants that it may have
 abbrev pub has_all_grants : State → ℕ → Request → Bool
 has_all_grants s who (asks.OpenFor id mode) = nat_le most_grants (length (filter (λ g. g.session == who) s.grants))
 has_all_grants s who request = false
@@ -213,7 +214,7 @@ conditions s who request =
     ∷ (has_all_grants s who request, replies.Grants)
     ∷ []
 
--- the reply of the first that holds
+-- the reply of the first condition that holds
 abbrev pub first_of : List (Bool × Reply) → Option Reply
 first_of [] = None
 first_of (c ∷ cs) = if c.0 then Some c.1 else first_of cs

@@ -1,4 +1,4 @@
--- The room of a state: what is Free on a disk of so many cylinders, while nothing sweeps.
+-- The room of a state: how many blocks are Free on a disk with a number of cylinders, while no sweep goes on.
 use Rattle.std.specs.Prelude.{◌≡◌, ℕ, ◌+◌, ◌*◌, length}
 use Rattle.std.specs.List.{sum_by}
 use Rattle.std.specs.Option.{option_map_or}
@@ -19,6 +19,6 @@ blocks_of_grant grant = option_map_or (λ d. 1 + sum_by length d.fresh) grant.dr
 abbrev pub blocks_in : State → ℕ
 blocks_in s = graph_blocks s.graph + sum_by blocks_of_grant s.grants
 
--- all others are Free but the map of each cylinder and the label
+-- all other blocks are Free, except the map of each cylinder and the label
 abbrev pub IsRoom : ℕ → State → ℕ → Type 0
 IsRoom cylinders s free = free + blocks_in s + 1 ≡ 63 * cylinders

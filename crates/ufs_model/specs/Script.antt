@@ -5,7 +5,7 @@ use Rattle.std.specs.List.{list_all, slice_split}
 use Rattle.std.specs.Str.{byte}
 use Rattle.ufs_model.specs.Limits.{most_line}
 
--- the byte that ends a line, and the one that may stand before it
+-- the byte that ends a line, and the one that may come before it
 abbrev pub LF : ℕ
 LF = 10
 
@@ -42,6 +42,6 @@ request_lines script = filter is_request_line (map without_cr (slice_split (λ c
 abbrev pub is_readable : List ℕ → Bool
 is_readable line = nat_le (length line) most_line && list_all (λ c. is_blank c || is_graphic c) line
 
--- the words of a line, which blanks stand between
+-- the words of a line, with blanks between them
 abbrev pub words_of : List ℕ → List (List ℕ)
 words_of line = filter (λ w. nat_lt 0 (length w)) (slice_split is_blank line)

@@ -21,13 +21,14 @@ use Rattle.ufs_model.specs.declared.asked.Request.TheVariants as asks
 use Rattle.ufs_model.specs.Script.{is_readable, words_of}
 use Rattle.ufs_model.specs.Names.{Names, is_name, is_id_digits}
 
--- what comes of reading: something; a name that is not bound, or to the wrong sort; or none of the forms
+-- the result of reading: something, a name that is not bound or is bound to the wrong kind of thing, or none of the
+-- forms
 pub data Reading (A : Type 0) : Type 0 where
   Is : A → Reading A
   Unbound : Reading A
   Bad : Reading A
 
--- both, where both can be read. No form comes before no name
+-- both, if both can be read. `Bad` comes before an unbound name
 infixl 10 ◌⊛◌
 abbrev pub ◌⊛◌ : {A B : Type 0} → Reading (A → B) → Reading A → Reading B
 Is f ⊛ Is x = Is (f x)
@@ -119,7 +120,7 @@ commit_in w = if is_word w (codes "commit") then Is true else if is_word w (code
 
 -- ---- forms of lines
 
--- the verb, whether the next word is a name that an ok reply binds, and the request that the further words make
+-- the verb, whether the next word is a name that an ok reply binds, and the request that the words after it make
 pub record Form : Type 0 where
   pub verb : List ℕ
   pub binds : Bool
@@ -214,7 +215,7 @@ size_form = record { verb = codes "size"; binds = false; reads = size }
 abbrev pub resize_form : Form
 resize_form = record { verb = codes "resize"; binds = false; reads = resize }
 
--- the language, whole
+-- the whole language
 abbrev pub all_forms : List Form
 all_forms =
     create_file_form ∷ create_index_form ∷ retain_form ∷ retrieve_form ∷ delete_form ∷ slots_form

@@ -28,7 +28,7 @@ pub record State : Type 0 where
   pub stopped : Option ℕ
   pub collection : Collection
 
--- where a run begins
+-- the state in which a run begins
 abbrev pub opening : Graph → State
 opening g = record { graph = g; grants = []; drawn = 0; stopped = None; collection = collections.None }
 
@@ -38,7 +38,7 @@ is_running s = is_none s.stopped
 abbrev pub stopped_at : ℕ → State → State
 stopped_at moment s = record s { stopped = Some moment }
 
--- the object that a draft has
+-- the object of a draft
 abbrev pub object_in : Option Draft → Option Object
 object_in None = None
 object_in (Some d) = Some d.object
@@ -47,11 +47,11 @@ object_in (Some d) = Some d.object
 abbrev pub drafted : Grant → List Puid
 drafted g = elim g.draft [ None ↦ [] | Some d ↦ referred d.object ]
 
--- each pair of an object that is open and what its draft refers to
+-- each pair of an object that is open and an object to which its draft refers
 abbrev pub draft_pairs : List Grant → List (Puid × Puid)
 draft_pairs grants = flat_map (λ g. map (λ x. (g.id, x)) (drafted g)) grants
 
--- index i refers to x, by a slot of its own or of its draft: each such pair that stands now
+-- index i refers to x, by a slot of its own or of its draft: each such pair that there is now
 abbrev pub pairs_of : State → List (Puid × Puid)
 pairs_of s = graph_pairs s.graph ++ draft_pairs s.grants
 
@@ -60,7 +60,7 @@ pairs_of s = graph_pairs s.graph ++ draft_pairs s.grants
 abbrev pub is_grant : ℕ → Tuid → Grant → Bool
 is_grant who t g = (g.session == who) && same_tuid g.tuid t
 
--- the session's standing grant of that identifier
+-- the session's grant with that identifier
 abbrev pub grant_of : State → ℕ → Tuid → Option Grant
 grant_of s who t = find (is_grant who t) s.grants
 
@@ -79,7 +79,7 @@ after_leave s who = record s { grants = filter (λ g. not (g.session == who)) s.
 
 -- ---- what a reference goes to
 
--- the identifier that it names
+-- the identifier that a reference names
 abbrev pub named : State → ℕ → Ref → Option Puid
 named s who (Direct id) = Some id
 named s who (Through t) = option_and_then (λ g. Some g.id) (grant_of s who t)
@@ -91,15 +91,15 @@ abbrev pub draft_of : State → ℕ → Ref → Option Draft
 draft_of s who (Direct id) = None
 draft_of s who (Through t) = option_and_then (λ g. g.draft) (grant_of s who t)
 
--- what is seen through it: the grant's draft where it has one, else the object, of which nothing is fresh. A reference
--- that is refused shows an empty index
+-- What a reference shows: the grant's draft if it has one, else the object, of which nothing is fresh. A reference
+-- that is refused shows an empty index.
 abbrev pub seen : State → ℕ → Ref → Draft
 seen s who ref = unwrap_or (draft_of s who ref) (record {
   object = unwrap_or (object_of s who ref) (objects.Index (new_index 0));
   fresh = [];
 })
 
--- as an index, and as a file
+-- the object as an index, and as a file
 abbrev pub the_index : Object → Index
 the_index (objects.Index i) = i
 the_index (objects.File f) = new_index 0
@@ -119,7 +119,7 @@ file_seen s who ref = the_file (seen s who ref).object
 abbrev pub changed_draft : Change → Draft → Draft
 changed_draft c d = record { object = changed_object c d.object; fresh = fresh_after c d.object d.fresh }
 
--- the grants with this draft in the session's grant of that identifier
+-- the grants with this draft in the session's grant with that identifier
 abbrev pub with_draft : ℕ → Tuid → Draft → List Grant → List Grant
 with_draft who t d grants = map (λ g. if is_grant who t g then record g { draft = Some d } else g) grants
 
@@ -131,7 +131,7 @@ abbrev pub put_draft : State → ℕ → Ref → Draft → State
 put_draft s who (Direct id) d = s
 put_draft s who (Through t) d = record s { grants = with_draft who t d s.grants }
 
--- the state with this to be seen through the reference: in the grant's draft where it has one, else in the graph
+-- the state in which the reference shows this: in the grant's draft if it has one, else in the graph
 abbrev pub put : State → ℕ → Ref → Draft → State
 put s who ref d = elim (draft_of s who ref) [
   | Some old ↦ put_draft s who ref d

@@ -14,7 +14,7 @@ use Rattle.ufs_model.specs.Spoken.{Reading, Is, Unbound, Bad, Form, reading_of, 
 
 -- ---- the events of a session
 
--- a request line of this session was read, and answered where it is a request
+-- a request line of this session was read, and answered if it is a request
 abbrev pub is_turn_of : ℕ → Event → Bool
 is_turn_of session (events.Unread who why) = who == session
 is_turn_of session (events.Ask who request reply) = who == session
@@ -27,7 +27,7 @@ is_turn_of session (events.Halted moment) = false
 abbrev pub turns_in : ℕ → List Event → List Event
 turns_in session trail = filter (is_turn_of session) trail
 
--- ---- what a line comes to
+-- ---- what comes of a line
 
 abbrev reply_in : Event → Reply
 reply_in (events.Ask who request reply) = reply
@@ -42,12 +42,12 @@ turn_read session Bad event = events.Unread session unread.Syntax
 turn_read session Unbound event = events.Unread session unread.NoName
 turn_read session (Is request) event = events.Ask session request (reply_in event)
 
--- the turn of a line that reads so, with the reply of this event. Want of memory may stand in place of any
+-- the turn of a line that reads so, with the reply of this event. Want of memory may come in the place of any.
 abbrev pub turn_of : ℕ → Reading Request → Event → Event
 turn_of session reading event =
     if wants_memory event then events.Unread session unread.Memory else turn_read session reading event
 
--- the names after a reply, where an ok one binds this name
+-- the names after a reply, if an ok reply binds this name
 abbrev pub names_after_reply : Names → Option (List ℕ) → Reply → Names
 names_after_reply names None reply = names
 names_after_reply names (Some name) (replies.Id id) = bind names name (bounds.Permanent id)

@@ -11,13 +11,13 @@ use Rattle.ufs_model.specs.Reach.{reached, kept, IsReached, IsKept}
 
 -- ---- the collection's memory
 
--- the pairs that stood at any time since the collection began
+-- the pairs that there were at any time since the collection began
 abbrev pub edges : Collection → List (Puid × Puid)
 edges (collections.Marking stood opened) = stood
 edges collections.None = []
 edges collections.Sweeping = []
 
--- the root, and what was open at any time since
+-- the root, and what was open at any time since then
 abbrev pub starts : Collection → List Puid
 starts (collections.Marking stood opened) = opened
 starts collections.None = []
@@ -30,11 +30,11 @@ is_marking collections.Sweeping = false
 
 -- ---- cut off
 
--- what is reached from any of the starts through any of the edges
+-- what is reached from the starts through the edges
 abbrev pub reached_since : Collection → List Puid
 reached_since c = reached (length (edges c)) (edges c) (starts c)
 
--- an object of the graph that was reached at no time since the collection began: it is cut off throughout
+-- an object of the graph that was at no time reached since the collection began: it is cut off throughout
 abbrev pub is_cut_off : State → Puid → Bool
 is_cut_off s x = is_there s.graph x && not (is_among x (reached_since s.collection))
 
@@ -50,11 +50,11 @@ are_there s ids = rises ids && list_all (is_there s.graph) ids
 abbrev pub has_no_kept : State → List Puid → Bool
 has_no_kept s ids = list_all (λ x. not (is_among x ids)) (kept s)
 
--- neither the root nor an open object is one
+-- neither the root nor an open object is one of these
 abbrev pub are_no_starts : State → List Puid → Bool
 are_no_starts s ids = not (is_among s.graph.root ids) && list_all (λ g. not (is_among g.id ids)) s.grants
 
--- no index that remains refers to one
+-- no index that stays refers to one of these
 abbrev pub leaves_no_reference : State → List Puid → Bool
 leaves_no_reference s ids = list_all (λ e. is_among e.0 ids || not (is_among e.1 ids)) (pairs_of s)
 
@@ -66,8 +66,8 @@ may_vanish s ids =
     is_marking s.collection && are_there s ids && has_no_kept s ids && leaves_no_reference s ids
     && has_all_cut_off s ids
 
--- These may vanish at once: each is there, none is kept, no index that stays refers to one, and all are among them that
--- were cut off throughout.
+-- These may vanish at once: each exists, none is kept, no index that stays refers to one, and all that were cut off
+-- throughout are among them.
 pub record MayVanish (s : State) (ids : List Puid) : Type 0 where
   pub marking : is_marking s.collection ≡ true
   pub rising : rises ids ≡ true

@@ -27,8 +27,8 @@ same_kind kinds.Normal kinds.Special = false
 same_kind kinds.Special kinds.Normal = false
 same_kind kinds.Special kinds.Special = true
 
--- A file of the kind and fill byte of the file that it is to become; or an index of as many slots, which holds what the
--- other holds.
+-- A file of the kind and fill byte of the file that it is to become, or an index with as many slots as the index that
+-- it is to become, which holds the leaves that that index holds.
 abbrev pub is_draft_of : Object → Object → Bool
 is_draft_of (objects.File f) (objects.File d) =
     same_kind d.kind f.kind && (d.fill == f.fill) && is_object (objects.File d)
@@ -38,7 +38,7 @@ is_draft_of (objects.Index i) (objects.Index d) =
 is_draft_of (objects.File f) (objects.Index d) = false
 is_draft_of (objects.Index i) (objects.File d) = false
 
--- the object is there, and the draft, where there is one, is of it
+-- the object exists, and the draft, if there is one, is its draft
 abbrev pub is_open_so : Option Object → Option Draft → Bool
 is_open_so None draft = false
 is_open_so (Some o) None = true
@@ -47,7 +47,7 @@ is_open_so (Some o) (Some d) = is_draft_of o d.object
 abbrev pub is_grant_in : Graph → Grant → Bool
 is_grant_in g grant = is_open_so (object_at g grant.id) grant.draft
 
--- Two grants on one object are both for reading, and a draft is for writing: so who has one is alone.
+-- Two grants on one object are both for reading, and a draft is for writing: so who has a draft is alone.
 abbrev pub may_share : Grant → Grant → Bool
 may_share g h = not (same_puid h.id g.id) || (is_reading g.mode && is_reading h.mode)
 
@@ -60,7 +60,8 @@ draws_of grants = map (λ g. g.tuid.draw) grants
 
 -- ---- states
 
--- A well-formed graph and grants in it, in the order in which they were drawn; what a slot of a draft holds is there.
+-- The graph is well-formed, the grants are on its objects, in the order in which they were drawn, and each identifier
+-- in a slot of a draft names an object.
 pub record IsState (s : State) : Type 0 where
   pub graph : IsGraph s.graph
   pub grants : list_all (is_grant_in s.graph) s.grants ≡ true
@@ -86,7 +87,7 @@ stores_bytes (asks.Write file offset bytes) = list_all (λ byte. nat_lt byte 256
 stores_bytes (asks.Size file) = true
 stores_bytes (asks.Resize file size) = true
 
--- An event's fill and bytes are below 256. Definitions are over numbers; what the code asks is always so
+-- An event's fill byte and bytes are below 256. Definitions are over numbers, and what the code asks is always so.
 abbrev pub IsSpeakable : Event → Type 0
 IsSpeakable (events.Unread who why) = Unit {0}
 IsSpeakable (events.Ask who request reply) = IsTrue (stores_bytes request)

@@ -1,24 +1,28 @@
-//! What is asked, what is answered, and what a run records.
+//! What may be asked, what is answered, and what a run records.
 use cfs_base::{Bytes, Damage, FileKind, Ids, Mode, Need, Puid, Session, Tuid};
 
-/// What a request goes to: an object by its identifier, or what a grant of the session's shows.
+/// What a request goes to: an object by its identifier, or what one of the session's grants shows.
 #[derive(Clone, Copy, Debug, PartialEq, Eq)]
 pub enum Ref {
+    /// The object with this identifier.
     Direct(Puid),
+    /// What the grant with this identifier shows: its draft, or else its object.
     Through(Tuid),
 }
 
-/// What a session may ask. Sizes, offsets and counts are in bytes; slots are numbered from 0.
+/// What a session may ask.
+///
+/// Sizes, offsets and counts are in bytes. Slots are numbered from 0.
 #[derive(Debug, Drop)]
 pub enum Request {
-    /// Makes a file of no bytes and puts its identifier into the slot.
+    /// Makes a file of no bytes, and puts its identifier into the slot.
     CreateFile {
         kind: FileKind,
         fill: u8,
         index: Ref,
         slot: u64,
     },
-    /// Makes an index of empty slots and puts its identifier into the slot.
+    /// Makes an index of empty slots, and puts its identifier into the slot.
     CreateIndex {
         slots: u64,
         index: Ref,
@@ -54,6 +58,7 @@ pub enum Request {
         grant: Tuid,
         commit: bool,
     },
+    /// Asks for bytes within the size.
     Read {
         file: Ref,
         offset: u64,
@@ -65,33 +70,44 @@ pub enum Request {
         offset: u64,
         bytes: Bytes,
     },
+    /// Asks for the size.
     Size {
         file: Ref,
     },
-    /// Sets the size. Bytes that are new are the fill byte.
+    /// Sets the size. New bytes are the fill byte.
     Resize {
         file: Ref,
         size: u64,
     },
 }
 
-/// What a request wants to find.
+/// What a request expects to find.
 #[derive(Clone, Copy, Debug, PartialEq, Eq)]
 pub enum Wanted {
+    /// An index.
     AnIndex,
+    /// A file.
     AFile,
+    /// A file or an index.
     Either,
 }
 
-/// What is answered. After a refusal all is as it was, but where a stop is told.
+/// The answer to a request.
+///
+/// After a refusal all is as it was, unless the reply reports a stop.
 #[derive(Debug, Drop)]
 pub enum Reply {
+    /// The request was done.
     Done,
+    /// The identifier that was asked for, or that of an object that was made.
     Id(Puid),
+    /// The identifier of a grant that was made.
     Grant(Tuid),
+    /// A size, or a number of slots.
     Number(u64),
+    /// Bytes that were asked for.
     Content(Bytes),
-    /// Want of memory.
+    /// There was no memory.
     Memory,
     /// The server stopped at this moment.
     Stopped { moment: u64 },
@@ -103,9 +119,9 @@ pub enum Reply {
     NotIndex,
     /// A request on a file names an index.
     NotFile,
-    /// A change is asked through a grant for reading.
+    /// The request asks for a change through a grant for reading.
     ReadOnly,
-    /// A grant that stands on the object is in the way.
+    /// A grant on the object is in the way.
     Locked,
     /// The index has no such slot.
     Slot,
@@ -113,11 +129,11 @@ pub enum Reply {
     Empty,
     /// A size, a count or a place is out of its range.
     Range,
-    /// The session has all the grants that it may have.
+    /// The session has as many grants as it may have.
     Grants,
     /// Too few blocks are Free.
     Full(Need),
-    /// A device call failed; with a doubt, the server stopped at that moment, and the request may have been done.
+    /// A device call failed. With a doubt the server stopped at that moment, and the request may have been done.
     Disk { doubt: Option<u64> },
     /// A block is damaged, and the server stopped at this moment.
     Damaged { damage: Damage, moment: u64 },
@@ -126,15 +142,15 @@ pub enum Reply {
 /// Why a request line is no request.
 #[derive(Clone, Copy, Debug, PartialEq, Eq)]
 pub enum Unread {
-    /// It has none of the forms.
+    /// The line has none of the forms.
     Syntax,
-    /// A name in it is not bound, or to the wrong sort.
+    /// A name in it is not bound, or is bound to the wrong kind of thing.
     NoName,
-    /// Want of memory.
+    /// There was no memory.
     Memory,
 }
 
-/// What may happen.
+/// One event of a run.
 #[derive(Debug, Drop)]
 pub enum Event {
     /// A session's line was no request.
@@ -148,7 +164,7 @@ pub enum Event {
         request: Request,
         reply: Reply,
     },
-    /// A session ended; with a moment, the server stopped at it.
+    /// A session ended. With a moment the server stopped then.
     Leave {
         session: Session,
         stopped: Option<u64>,
@@ -161,15 +177,17 @@ pub enum Event {
     },
     /// A collection ended.
     Finished,
-    /// The server stopped at this moment, in no session's turn.
+    /// The server stopped at this moment, outside any session's turn.
     Halted {
         moment: u64,
     },
 }
 
-/// What a name stands for.
+/// What a name is bound to.
 #[derive(Clone, Copy, Debug, PartialEq, Eq)]
 pub enum Bound {
+    /// An object's identifier.
     Permanent(Puid),
+    /// A grant's identifier.
     Temporary(Tuid),
 }

@@ -1,4 +1,4 @@
-//! Whoever answers requests as the definitions say: a server in memory, or one that has its objects on a disk.
+//! What answers requests as the definitions say: a server in memory, or one that has its objects on a disk.
 ghost use Rattle.std.specs.Prelude.{◌≡◌, ◌+◌, ◌<◌, ◌≤◌, ℕ, true};
 ghost use Rattle.cfs_base.specs.declared.identifier.Puid.{Puid};
 ghost use Rattle.ufs_model.specs.Asks.{IsAsked, IsExactIn, TellsTrouble};
@@ -15,7 +15,7 @@ use cfs_base::{Kind, Puid, Session};
 use std::alloc::Global;
 use std::marker::Model;
 
-/// What is asked and answers. It stands for states of the definitions, and each answer is one event of them.
+/// A server that answers requests. It stands for states of the definitions, and each answer is one event of them.
 pub trait Asker {
     /// Whether it stands for this state.
     ghost stands: { Self → State → Type 0 };
@@ -23,7 +23,7 @@ pub trait Asker {
     /// The seed of its random words.
     ghost seed: { Self → ℕ };
 
-    /// How many words were drawn, whatever state it stands for.
+    /// How many words were drawn, whichever state it stands for.
     ghost words: { Self → ℕ };
 
     /// The root index.
@@ -32,20 +32,20 @@ pub trait Asker {
     /// How many calls of its disk failed.
     ghost failed: { Self → ℕ };
 
-    /// How many blocks it found damaged. It stops at the first.
+    /// How many damaged blocks it found. It stops at the first.
     ghost damaged: { Self → ℕ };
 
-    /// The cylinders by which its room is counted.
+    /// The number of cylinders by which its room is counted.
     ghost cylinders: { Self → ℕ };
 
-    /// A session's request was asked of it and answered so, and this came of it. `ask` alone gives it.
+    /// It was asked this request of a session, answered with this reply, and became this one. Only `ask` makes it so.
     ghost asked: { Self → ℕ → Request → Reply → Self → Type 0 };
 
     ghost counted: { (a : Self) (s : State) → stands a s → s.drawn ≡ words a };
 
     ghost formed: { (a : Self) (s : State) → stands a s → is_running s ≡ true → IsState s × (s.graph.root ≡ top a) };
 
-    /// The answer to a request of a session.
+    /// Answers a request of a session.
     fn ask(&mut self, alloc: Global, who: Session, request: &Request) -> Reply
         requires words { words self.old < 4294967295 }
         ensures asked { asked self.old who request.now result self.new }
@@ -58,15 +58,15 @@ pub trait Asker {
         ensures kept { words self.old ≤ words self.new }
         ensures drawn { words self.new ≤ words self.old + draws request.now };
 
-    /// How many words were drawn.
+    /// Returns how many words were drawn.
     fn drawn(&self) -> u32
         ensures { result ≡ words self.now };
 
-    /// The identifier of the root index.
+    /// Returns the identifier of the root index.
     fn root(&self) -> Puid
         ensures { result ≡ top self.now };
 
-    /// The kind of an object of its state; nothing where the graph has no such identifier.
+    /// Returns the kind of an object of its state, or `None` if the graph has no such identifier.
     fn kind(&self, id: Puid) -> Option<Kind>
         ensures { (s : State) → stands self.now s → result ≡ kind_at s.graph id };
 }

@@ -1,4 +1,4 @@
-//! Which root blocks the objects of a graph have.
+//! The root blocks of the objects of a graph.
 ghost use Rattle.std.specs.Prelude.{◌≡◌, ◌<◌, ◌≤◌, ◌^◌, ℕ, true, None, IfSome};
 ghost use Rattle.ufs_model.specs.Graph.{IsLeastFreeRoot, has_block};
 
@@ -6,7 +6,7 @@ use crate::object::Object;
 use cfs_base::Puid;
 use std::collections::BTreeMap;
 
-/// Whether an object has this root block.
+/// Returns whether an object has this root block.
 pub fn is_taken(objects: &BTreeMap<Puid, Object>, block: u32) -> bool
     ensures { result ≡ has_block objects.now.entries block }
 {
@@ -24,7 +24,9 @@ pub fn is_taken(objects: &BTreeMap<Puid, Object>, block: u32) -> bool
     }
 }
 
-/// The least block that is no object's root block, where all those from 3 to `from` - 1 are known to be.
+/// Returns the least block that is no object's root block.
+///
+/// All blocks from 3 to `from` - 1 are known to be root blocks.
 pub fn least_free_root(objects: &BTreeMap<Puid, Object>, from: u32) -> Option<u32>
     requires three { 3 ≤ from }
     requires taken { (c : ℕ) → 3 ≤ c → c < from → has_block objects.now.entries c ≡ true }

@@ -16,7 +16,7 @@ use std::alloc::{AllocError, Global};
 /// A change of one object. Sizes and offsets are in bytes.
 #[derive(Debug, Drop)]
 pub enum Change {
-    /// Puts this into a slot of an index, whatever stood there.
+    /// Puts `what` into a slot of an index, whatever the slot held.
     Fill { slot: u64, what: Option<Puid> },
     /// Replaces bytes of a file.
     Overwrite { offset: u64, bytes: Bytes },
@@ -24,14 +24,14 @@ pub enum Change {
     SetSize { size: u64 },
 }
 
-/// How many leaves so many bytes take.
+/// Returns how many leaves hold `size` bytes.
 fn leaves_in(size: u64) -> u64
     ensures { result ≡ leaves_in size }
 {
     size / LEAF_BYTES + u64::from(size % LEAF_BYTES != 0)
 }
 
-/// The leaves with these bytes.
+/// Returns the leaves that hold these bytes.
 fn touched(alloc: Global, offset: u64, bytes: &Bytes) -> Result<Numbers, AllocError>
     ensures { IfOk result (λ leaves. leaves ≡ touched offset (length bytes.now)) }
 {
@@ -43,7 +43,7 @@ fn touched(alloc: Global, offset: u64, bytes: &Bytes) -> Result<Numbers, AllocEr
     )
 }
 
-/// The leaf that a resize cuts within, where it is held.
+/// Returns the leaf within which a resize cuts, if it is held.
 fn cut_leaf(alloc: Global, size: u64, held: &Numbers) -> Result<Numbers, AllocError>
     ensures { IfOk result (λ cut. cut ≡ cut_leaf size held.now) }
 {
@@ -53,8 +53,7 @@ fn cut_leaf(alloc: Global, size: u64, held: &Numbers) -> Result<Numbers, AllocEr
     Numbers::row(alloc, size / LEAF_BYTES, 1)?.shared(alloc, held)
 }
 
-/// Of the nodes above the leaves that are kept, those that lead to one that is gone, or to one that is new and not
-/// fresh.
+/// Returns those nodes above the kept leaves that lead to a leaf that is gone, or to one that is new and not fresh.
 fn recut_nodes(
     alloc: Global,
     kept: &Numbers,
@@ -72,7 +71,7 @@ fn recut_nodes(
     kept.parents(alloc)?.shared(alloc, &changed.parents(alloc)?)
 }
 
-/// The blocks that a resize to less writes anew, where these leaves are held and these are fresh.
+/// Returns the blocks that a resize to less writes anew, if these leaves are held and these blocks are fresh.
 fn recut(alloc: Global, size: u64, held: &Numbers, fresh: &Levels) -> Result<Levels, AllocError>
     ensures { IfOk result (λ levels. levels ≡ resize_anew 1 size held.now fresh.now) }
 {
@@ -85,7 +84,7 @@ fn recut(alloc: Global, size: u64, held: &Numbers, fresh: &Levels) -> Result<Lev
 }
 
 impl Object {
-    /// The leaves that it holds.
+    /// Returns the leaves that the object holds.
     pub fn held(&self) -> &Numbers
         ensures { result.now ≡ held_leaves self.now }
     {
@@ -95,7 +94,7 @@ impl Object {
         }
     }
 
-    /// Whether it is no larger than so many bytes.
+    /// Returns whether the object has at most `size` bytes.
     fn fits(&self, size: u64) -> bool
         ensures { result ≡ nat_le (size_of self.now) size }
     {
@@ -105,7 +104,7 @@ impl Object {
         }
     }
 
-    /// The leaves to be held after a change; nothing where they stay the same.
+    /// Returns the leaves that are held after a change, or `None` if they stay the same.
     pub fn held_after(&self, alloc: Global, change: &Change) -> Result<Option<Numbers>, AllocError>
         requires { IsInside change.now self.now }
         ensures { IfOk result (λ held. unwrap_or held (held_leaves self.now)
@@ -130,7 +129,7 @@ impl Object {
         }
     }
 
-    /// Makes the change. On a failure all stays.
+    /// Makes the change. On an error nothing is changed.
     pub fn change(&mut self, change: &Change, held: Option<Numbers>) -> Result<(), AllocError>
         requires inside { IsInside change.now self.old }
         requires held { unwrap_or held (held_leaves self.old) ≡ held_leaves (changed_object change.now self.old) }
@@ -148,7 +147,7 @@ impl Object {
         }
     }
 
-    /// Puts this into a slot of the index that it is. Takes no memory.
+    /// Puts `what` into a slot of the index. Takes no memory.
     pub fn fill(&mut self, slot: u64, what: Option<Puid>, held: Option<Numbers>)
         requires inside { IsInside (changes.Fill slot what) self.old }
         requires held { unwrap_or held (held_leaves self.old)
@@ -160,7 +159,7 @@ impl Object {
         }
     }
 
-    /// The blocks that a change writes anew, where these are fresh.
+    /// Returns the blocks that a change writes anew, if these are fresh.
     pub fn written_anew(
         &self,
         alloc: Global,
@@ -188,7 +187,7 @@ impl Object {
 }
 
 impl File {
-    /// Makes the change. On a failure all stays.
+    /// Makes the change. On an error nothing is changed.
     fn change(&mut self, change: &Change, held: Option<Numbers>) -> Result<(), AllocError>
         requires inside { IsInside change.now (objects.File self.old) }
         requires held { unwrap_or held self.old.held ≡ held_leaves (changed_object change.now (objects.File self.old)) }
@@ -210,7 +209,7 @@ impl File {
 }
 
 impl Draft {
-    /// The fresh blocks after a change, where these leaves will be held; nothing where they stay the same.
+    /// Returns the fresh blocks after a change, if these leaves will be held, or `None` if they stay the same.
     fn fresh_after(
         &self,
         alloc: Global,
@@ -232,7 +231,7 @@ impl Draft {
             .within(alloc, &Levels::above(alloc, leaves)?)
     }
 
-    /// The draft that the change makes of it.
+    /// Returns the draft that the change makes of this one.
     pub fn changed(&self, alloc: Global, change: &Change) -> Result<Draft, AllocError>
         requires { IsInside change.now self.now.object }
         ensures { IfOk result (λ draft. draft ≡ changed_draft change.now self.now) }
@@ -244,7 +243,7 @@ impl Draft {
         Ok(Draft { object, fresh })
     }
 
-    /// Makes the change, and keeps count of the fresh blocks. On a failure all stays.
+    /// Makes the change, and updates the fresh blocks. On an error nothing is changed.
     pub fn change(&mut self, alloc: Global, change: &Change) -> Result<(), AllocError>
         requires { IsInside change.now self.old.object }
         ensures ok { OnOk result (self.new ≡ changed_draft change.now self.old) }

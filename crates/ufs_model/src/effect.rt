@@ -1,4 +1,4 @@
-//! What a request does that the slow server doesn't refuse.
+//! What a request does if the slow server doesn't refuse it.
 ghost use Rattle.std.specs.Prelude.{◌≡◌, ◌+◌, ◌<◌, ◌≤◌, false, true, length, slice_get, slice_range, set, unwrap_or};
 ghost use Rattle.std.specs.Prelude.{IfOk, OnErr, OnOk, None, Some};
 ghost use Rattle.std.specs.BTreeMap.{insert_entry, is_at};
@@ -28,7 +28,7 @@ use cfs_base::{Bytes, Mode, NoMemory, Puid, Session, Tuid};
 use std::alloc::{AllocError, Global};
 use std::collections::BTreeMap;
 
-/// Changes the object that is there. On a failure all stays.
+/// Changes the object with this identifier. On an error nothing is changed.
 fn change_object(
     objects: &mut BTreeMap<Puid, Object>,
     alloc: Global,
@@ -47,7 +47,7 @@ fn change_object(
     object.change(change, held)
 }
 
-/// Changes the draft of the grant at this place. On a failure all stays.
+/// Changes the draft of the grant at this place. On an error nothing is changed.
 fn change_draft(
     grants: &mut Vec<Grant>,
     alloc: Global,
@@ -70,7 +70,7 @@ fn change_draft(
 }
 
 impl Server {
-    /// Makes a change of what is seen through the reference. On a failure all stays.
+    /// Changes what the reference shows. On an error nothing is changed.
     pub fn change(
         &mut self,
         alloc: Global,
@@ -96,7 +96,9 @@ impl Server {
         }
     }
 
-    /// Puts a new object at this block, and its identifier into the slot. On a failure all stays.
+    /// Makes a new object whose root block is this block, and puts its identifier into the slot.
+    ///
+    /// On an error nothing is changed.
     pub fn create(
         &mut self,
         alloc: Global,
@@ -139,8 +141,9 @@ impl Server {
         Ok(id)
     }
 
-    /// Puts a new object into the graph, and its identifier into the slot of the draft at this place. On a failure
-    /// all stays.
+    /// Puts a new object into the graph, and its identifier into the slot of the draft at this place.
+    ///
+    /// On an error nothing is changed.
     fn create_in_draft(
         &mut self,
         alloc: Global,
@@ -167,7 +170,9 @@ impl Server {
         Ok(())
     }
 
-    /// Opens an object: a special file or an index that is opened for writing gets a draft. On a failure all stays.
+    /// Opens an object, and returns the grant's identifier.
+    ///
+    /// A special file or an index that is opened for writing gets a draft. On an error nothing is changed.
     pub fn open(
         &mut self,
         alloc: Global,
@@ -226,7 +231,7 @@ impl Server {
         self.grants.retain(|g| g.session != who);
     }
 
-    /// So many bytes from the offset on.
+    /// Returns `count` bytes, beginning at the offset.
     pub fn read(
         &self,
         alloc: Global,
@@ -245,7 +250,7 @@ impl Server {
     }
 }
 
-/// The draft that an object gets when it is opened so.
+/// Returns the draft that an object gets when it is opened in this mode.
 fn first_draft(alloc: Global, object: &Object, mode: Mode) -> Result<Option<Draft>, AllocError>
     ensures { IfOk result (λ draft. draft ≡ first_draft mode (Some object.now)) }
 {
@@ -258,7 +263,7 @@ fn first_draft(alloc: Global, object: &Object, mode: Mode) -> Result<Option<Draf
     }))
 }
 
-/// What the draft of the grant at this place becomes by a change.
+/// Returns what a change makes of the draft of the grant at this place.
 fn draft_after(
     alloc: Global,
     grants: &[Grant],
@@ -279,7 +284,7 @@ fn draft_after(
     Ok(Some(draft.changed(alloc, change)?))
 }
 
-/// The grant at this place gets this draft. Takes no memory.
+/// Gives the grant at this place this draft. Takes no memory.
 fn put_draft(grants: &mut Vec<Grant>, at: usize, draft: Option<Draft>)
     ensures { (g : Grant) → slice_get grants.old.items at ≡ Some g
         → grants.new.items ≡ set grants.old.items at (record g { draft = draft }) }
@@ -289,7 +294,7 @@ fn put_draft(grants: &mut Vec<Grant>, at: usize, draft: Option<Draft>)
     }
 }
 
-/// The leaves to be held once the slot is filled; nothing where they stay the same.
+/// Returns the leaves that are held once the slot is filled, or `None` if they stay the same.
 fn held_once_filled(
     alloc: Global,
     object: &Object,
@@ -309,7 +314,7 @@ fn held_once_filled(
     )
 }
 
-/// Puts an identifier into a slot of the index that is there. Takes no memory.
+/// Puts an identifier into a slot of the index. Takes no memory.
 fn fill_object(
     objects: &mut BTreeMap<Puid, Object>,
     index: Puid,
@@ -330,7 +335,7 @@ fn fill_object(
     }
 }
 
-/// A draft, where there is one, becomes the object that is there, or is dropped. Takes no memory.
+/// Makes a draft, if there is one, the object with this identifier, or drops it. Takes no memory.
 fn end_draft(objects: &mut BTreeMap<Puid, Object>, id: Puid, draft: Option<Draft>, commit: bool)
     ensures dropped { commit ≡ false → objects.new.entries ≡ objects.old.entries }
     ensures none { draft ≡ None → objects.new.entries ≡ objects.old.entries }
@@ -344,7 +349,7 @@ fn end_draft(objects: &mut BTreeMap<Puid, Object>, id: Puid, draft: Option<Draft
     }
 }
 
-/// The draft becomes the object that is there. Takes no memory.
+/// Makes the draft the object with this identifier. Takes no memory.
 fn put_object(objects: &mut BTreeMap<Puid, Object>, id: Puid, draft: Draft)
     ensures { (o : Object) → lookup (is_at (puid_cmp id)) objects.old.entries ≡ Some o
         → objects.new.entries ≡ insert_entry puid_cmp objects.old.entries id draft.object }

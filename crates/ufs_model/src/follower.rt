@@ -1,4 +1,4 @@
-//! A run that is followed event by event: whether each may happen, and the state after it.
+//! A run that is followed event by event: whether each event may happen, and the state after it.
 ghost use Rattle.std.specs.Prelude.{◌≡◌, ◌<◌, ◌&&◌, IfOk, OnErr, None, true};
 ghost use Rattle.ufs_model.specs.Followed.{IsMade, is_done, refuses};
 ghost use Rattle.cfs_base.specs.declared.identifier.Puid.{Puid};
@@ -49,7 +49,7 @@ impl Model for Follower {
 }
 
 impl Follower {
-    /// A run that begins with an empty root index.
+    /// Begins a run with an empty root index.
     pub fn new(alloc: Global, root: Puid, seed: u64) -> Result<Follower, NoMemory>
         requires { 0 < root.block }
         ensures { IfOk result (λ f. f ≡ record { seed = seed; state = opening (fresh_graph root) }) }
@@ -61,14 +61,16 @@ impl Follower {
         })
     }
 
-    /// How many words were drawn.
+    /// Returns how many words were drawn.
     pub fn drawn(&self) -> u32
         ensures { result ≡ self.now.state.drawn }
     {
         self.server.words.drawn()
     }
 
-    /// Follows one event, where it may happen; where it may not, says so and changes nothing.
+    /// Follows one event, and returns whether it may happen.
+    ///
+    /// An event that may not happen changes nothing.
     pub fn step(&mut self, alloc: Global, event: &Event) -> Result<bool, NoMemory>
         requires { self.old.state.drawn < 4294967295 }
         ensures made { IfOk result (λ made. IsMade (next self.old.seed self.old.state event.now) self.old made
@@ -90,7 +92,7 @@ impl Follower {
         }
     }
 
-    /// Whether exactly these may vanish now.
+    /// Returns whether exactly these objects may vanish now.
     pub fn may_vanish(&self, alloc: Global, ids: &[Puid]) -> Result<bool, NoMemory>
         ensures { IfOk result (λ may. may ≡ (is_running self.now.state && may_vanish self.now.state ids.now)) }
     {
@@ -98,7 +100,7 @@ impl Follower {
         self.may_go(alloc, ids, &gone)
     }
 
-    /// The same, where the set is of these.
+    /// Returns the same, given the set of the identifiers.
     fn may_go(&self, alloc: Global, ids: &[Puid], gone: &BTreeSet<Puid>) -> Result<bool, NoMemory>
         requires { (x : Puid) → is_among x gone.now.keys ≡ is_among x ids.now }
         ensures { IfOk result (λ may. may ≡ (is_running self.now.state && may_vanish self.now.state ids.now)) }
@@ -112,7 +114,8 @@ impl Follower {
         self.has_all_cut_off(alloc, gone)
     }
 
-    /// Whether a collection marks, and these are there and unkept, and no index that stays refers to one.
+    /// Returns whether a collection marks, these objects exist and aren't kept, and no index that stays refers to
+    /// one.
     fn may_go_now(&self, ids: &[Puid], gone: &BTreeSet<Puid>) -> bool
         ensures { result ≡ (is_marking self.now.state.collection && (are_there self.now.state ids.now
             && (has_no_kept self.now.state gone.now.keys && leaves_no_reference self.now.state gone.now.keys))) }
@@ -120,7 +123,7 @@ impl Follower {
         self.progress.is_marking() && self.server.are_there(ids) && self.server.are_unkept(gone)
     }
 
-    /// Whether all that was cut off since the collection began is among these.
+    /// Returns whether these include all that was cut off since the collection began.
     fn has_all_cut_off(&self, alloc: Global, gone: &BTreeSet<Puid>) -> Result<bool, NoMemory>
         requires { is_marking self.now.state.collection ≡ true }
         ensures { IfOk result (λ all. all ≡ has_all_cut_off self.now.state gone.now.keys) }
@@ -201,7 +204,7 @@ impl Follower {
         true
     }
 
-    /// The server stops, where it runs.
+    /// Stops the server, if it runs.
     fn stop(&mut self, moment: u64) -> bool
         ensures { IsMade (allowed_if (is_running self.old.state) (stopped_at moment self.old.state)) self.old result
             self.new }
@@ -255,7 +258,7 @@ impl Follower {
         self.runs() && self.server.is_refusal(who, request, reply)
     }
 
-    /// Whether the request may be refused for want of blocks.
+    /// Returns whether the request may be refused for want of blocks.
     fn is_full(
         &self,
         alloc: Global,
@@ -271,7 +274,7 @@ impl Follower {
         self.server.is_full(alloc, who, request, need)
     }
 
-    /// Makes what the request does, where this is its reply.
+    /// Makes the effect of the request, if this is its reply.
     fn outcome(
         &mut self,
         alloc: Global,

@@ -8,7 +8,7 @@ use cfs_base::{FileKind, Puid};
 use std::alloc::{AllocError, Global};
 
 impl Index {
-    /// An index of empty slots.
+    /// Makes an index of empty slots.
     pub fn of_slots(alloc: Global, slots: usize) -> Result<Index, AllocError>
         ensures { IfOk result (λ i. i ≡ new_index slots) }
     {
@@ -19,14 +19,14 @@ impl Index {
         })
     }
 
-    /// The number of slots.
+    /// Returns the number of slots.
     pub fn len(&self) -> u64
         ensures { result ≡ length self.now.slots }
     {
         self.slots.as_slice().len() as u64
     }
 
-    /// What the slot holds.
+    /// Returns what the slot holds.
     pub fn slot(&self, slot: u64) -> Option<Puid>
         requires { slot < length self.now.slots }
         ensures { result ≡ slot_of self.now slot }
@@ -34,7 +34,7 @@ impl Index {
         self.slots.as_slice()[slot as usize]
     }
 
-    /// Puts this into the slot, whatever stood there.
+    /// Puts `what` into the slot, whatever the slot held.
     pub fn put(&mut self, slot: u64, what: Option<Puid>, held: Option<Numbers>)
         requires slot { slot < length self.old.slots }
         requires held { unwrap_or held self.old.held ≡ (filled self.old slot what).held }
@@ -48,7 +48,7 @@ impl Index {
 }
 
 impl File {
-    /// A file of no bytes. Takes no memory.
+    /// Makes a file of no bytes. Takes no memory.
     pub fn empty(alloc: Global, kind: FileKind, fill: u8) -> File
         ensures { result ≡ new_file kind fill }
     {

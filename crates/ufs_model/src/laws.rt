@@ -1,4 +1,4 @@
-//! What is proved of the definitions, as contracts. None of these calls does anything.
+//! What is proved of the definitions, as contracts of functions that do nothing.
 ghost use Rattle.std.specs.Prelude.{◌≡◌, ◌≢◌, ◌↔◌, ◌+◌, ℕ, List, length, nat_lt, true, false, Some, None, Option, All};
 ghost use Rattle.std.specs.List.{list_all};
 ghost use Rattle.cfs_base.specs.declared.identifier.Puid.{Puid};
@@ -44,7 +44,8 @@ pub fn limits_are_stated()
     ensures most_name { MOST_NAME ≡ most_name }
 {}
 
-/// A well-formed graph: its root leads to what is there, each object is well-formed, and no two have one root block.
+/// In a well-formed graph the root leads to objects that exist, each object is well-formed, and no two have one root
+/// block.
 pub fn graphs_are_closed()
     ensures closed { (g : Graph) → IsGraph g → IsClosedGraph g }
     ensures blocks { (g : Graph) (a b : Puid) → IsGraph g → is_there g a ≡ true → is_there g b ≡ true
@@ -53,7 +54,7 @@ pub fn graphs_are_closed()
     ensures objects { (g : Graph) (a : Puid) (o : Object) → IsGraph g → object_at g a ≡ Some o → IsObject o }
 {}
 
-/// What may happen keeps a state well-formed, one event or a run of them.
+/// Events keep a state well-formed, one event or a run of them.
 pub fn next_keeps_graphs()
     ensures fresh { (root : Puid) → root.block ≢ 0 → IsGraph (fresh_graph root) }
     ensures begin { (g : Graph) → IsGraph g → IsState (opening g) }
@@ -63,7 +64,7 @@ pub fn next_keeps_graphs()
         → replay_from seed s trail ≡ Some t → IsState t }
 {}
 
-/// What the code can ask for is bytes, as `next_keeps_graphs` wants it.
+/// What the code can ask to store is bytes, as `next_keeps_graphs` requires.
 pub fn requests_store_bytes(request: &Request)
     ensures { stores_bytes request.now ≡ true }
 {
@@ -78,7 +79,7 @@ pub fn requests_store_bytes(request: &Request)
     }
 }
 
-/// What is not refused may be answered by its outcome, whichever free root block a new object takes.
+/// A request that is not refused may be answered by its outcome, whichever free root block a new object takes.
 pub fn outcomes_are_legal()
     ensures { (seed : ℕ) (s : State) (who : ℕ) (request : Request) (b : ℕ) → is_running s ≡ true
         → refusal_of s who request ≡ None
@@ -93,7 +94,7 @@ pub fn answers_are()
         → next seed s (events.Ask who request reply) ≡ Some t → Came seed s who request reply t }
 {}
 
-/// What is reached in so many steps is all that is reached.
+/// What is reached in as many steps as there are pairs is all that is reached.
 pub fn reached_sets()
     ensures pairs { (pairs : List (Puid × Puid)) (starts : List Puid) (x : Puid)
         → (is_among x (reached (length pairs) pairs starts) ≡ true) ↔ IsReached pairs starts x }

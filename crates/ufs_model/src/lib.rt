@@ -1,6 +1,7 @@
-//! The universal file server in definitions: objects, the graph, grants, requests and their answers, the collection,
-//! and the runs of it all; and `Plain`, a slow server in memory. The layers above use that `Plain` answers as the
-//! definitions say.
+//! The universal file server in definitions, and `Plain`, a slow server in memory.
+//!
+//! The definitions are those of objects, the graph, grants, requests and their answers, the collection, and whole
+//! runs. The layers above use that `Plain` answers as the definitions say.
 #![tactic(auto)]
 
 mod asked;

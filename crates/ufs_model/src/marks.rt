@@ -9,7 +9,7 @@ use cfs_base::{NoMemory, Puid};
 use std::alloc::Global;
 use std::collections::BTreeSet;
 
-/// These identifiers as a set.
+/// Returns the set of these identifiers.
 pub fn set_of(alloc: Global, ids: &[Puid]) -> Result<BTreeSet<Puid>, NoMemory>
     ensures { IfOk result (λ set. (x : Puid) → is_among x set.keys ≡ is_among x ids.now) }
 {
@@ -20,7 +20,7 @@ pub fn set_of(alloc: Global, ids: &[Puid]) -> Result<BTreeSet<Puid>, NoMemory>
     Ok(set)
 }
 
-/// Where this leads from what is reached.
+/// Returns where this leads from what is reached, if it leads anywhere.
 fn leads_to(seen: Seen, reached: &BTreeSet<Puid>) -> Option<Puid>
     ensures { result ≡ leads_to reached.now.keys seen }
 {
@@ -36,7 +36,7 @@ fn leads_to(seen: Seen, reached: &BTreeSet<Puid>) -> Option<Puid>
     }
 }
 
-/// Adds what is reached by going once through all that was seen, and says whether that was anything new.
+/// Adds what is reached by going once through all that was seen, and returns whether any of it was new.
 fn spread(seen: &[Seen], reached: &mut BTreeSet<Puid>) -> Result<bool, NoMemory>
     ensures { IfOk result (λ grew. IsSpread seen.now seen.now reached.old.keys reached.new.keys grew) }
 {
@@ -51,7 +51,7 @@ fn spread(seen: &[Seen], reached: &mut BTreeSet<Puid>) -> Result<bool, NoMemory>
     Ok(grew)
 }
 
-/// What is reached from any of the starts through any of the edges that were seen.
+/// Returns what is reached from the starts that were seen, through the edges that were seen.
 pub fn reached_in(alloc: Global, seen: &[Seen]) -> Result<BTreeSet<Puid>, NoMemory>
     ensures { IfOk result (λ set. (x : Puid) → ((is_among x set.keys ≡ true) ↔ IsReachedBy seen.now x)) }
 {

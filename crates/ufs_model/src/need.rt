@@ -20,14 +20,14 @@ use cfs_base::{Bytes, FileKind, Mode, Need, NoMemory, Puid, Session};
 use std::alloc::{AllocError, Global};
 
 impl Object {
-    /// Whether it is a normal file.
+    /// Returns whether the object is a normal file.
     fn is_normal(&self) -> bool
         ensures { result ≡ is_normal self.now }
     {
         matches!(self, Object::File(file) if file.kind == FileKind::Normal)
     }
 
-    /// The leaves that it holds, and the nodes above them.
+    /// Returns the leaves that the object holds, and the nodes above them.
     fn held_levels(&self, alloc: Global) -> Result<Levels, AllocError>
         ensures { IfOk result (λ levels. levels ≡ held_levels self.now) }
     {
@@ -35,14 +35,14 @@ impl Object {
     }
 }
 
-/// Whether so few blocks are Free that the last four would be taken of.
+/// Returns whether so few blocks are Free that the request would take one of the last four.
 fn is_short(need: Need) -> bool
     ensures { result ≡ nat_lt need.free (need.need + reserve) }
 {
     u64::from(need.free) < u64::from(need.need) + u64::from(RESERVE)
 }
 
-/// Whether an object that is opened so gets a draft.
+/// Returns whether an object that is opened in this mode gets a draft.
 pub(crate) fn takes_draft(object: Option<&Object>, mode: Mode) -> bool
     ensures { result ≡ takes_draft mode (option_copied object.entry) }
 {
@@ -53,7 +53,7 @@ pub(crate) fn takes_draft(object: Option<&Object>, mode: Mode) -> bool
     }
 }
 
-/// Whether it is a delete that goes through no grant.
+/// Returns whether the request is a delete that goes through no grant.
 fn is_direct_delete(request: &Request) -> bool
     ensures { result ≡ is_direct_delete request.now }
 {
@@ -67,7 +67,7 @@ fn is_direct_delete(request: &Request) -> bool
 }
 
 impl Server {
-    /// Whether the request may be refused for want of blocks.
+    /// Returns whether the request may be refused for want of blocks.
     pub fn is_full(
         &self,
         alloc: Global,
@@ -90,7 +90,7 @@ impl Server {
         Ok(u128::from(need.need) == needed && is_short(need))
     }
 
-    /// How many blocks the request may take, where it is not refused.
+    /// Returns how many blocks the request may take, if it is not refused.
     pub fn need(&self, alloc: Global, who: Session, request: &Request) -> Result<u128, NoMemory>
         requires state { IsState self.now.state }
         requires refused { refusal_of self.now.state who request.now ≡ None }
@@ -132,14 +132,14 @@ impl Server {
         }
     }
 
-    /// Whether the object that is there gets a draft when it is opened so.
+    /// Returns whether the object with this identifier gets a draft when it is opened in this mode.
     fn drafts(&self, id: Puid, mode: Mode) -> bool
         ensures { result ≡ takes_draft mode (object_at self.now.state.graph id) }
     {
         takes_draft(self.objects.get(&id), mode)
     }
 
-    /// The same of a change of what is seen through the reference.
+    /// Returns how many blocks a change of what the reference shows may take.
     fn change_need(
         &self,
         alloc: Global,
@@ -170,7 +170,7 @@ impl Server {
     }
 }
 
-/// What a change of a normal file takes: the blocks that it doesn't hold yet.
+/// Returns how many blocks a change of a normal file takes: those that the file doesn't hold yet.
 fn in_place_need(alloc: Global, object: &Object, change: &Change) -> Result<u128, AllocError>
     requires { IsInside change.now object.now }
     ensures need { IfOk result (λ need. need ≡ in_place_need change.now object.now) }

@@ -1,4 +1,4 @@
-//! The range_with_len of the blocks that an object holds, level by level.
+//! The numbers of the blocks that an object holds, level by level.
 ghost use Rattle.std.specs.Prelude.{◌≡◌, ◌+◌, ◌<◌, ◌≤◌, [], ◌∷◌, IfOk, IfSome, IfNone, OnOk, OnErr, unwrap_or, insert};
 ghost use Rattle.std.specs.Prelude.{length, nat_le, nat_lt, filter};
 ghost use Rattle.std.specs.List.{range_with_len};
@@ -27,7 +27,7 @@ impl Model for Numbers {
 }
 
 impl Numbers {
-    /// No number. Takes no memory.
+    /// Makes a list of no numbers. Takes no memory.
     pub fn empty(alloc: Global) -> Numbers
         ensures { result ≡ [] }
     {
@@ -36,7 +36,7 @@ impl Numbers {
         }
     }
 
-    /// So many numbers in a row.
+    /// Makes a list of `count` numbers in a row, beginning at `from`.
     pub fn row(alloc: Global, from: u64, count: u64) -> Result<Numbers, AllocError>
         requires { from + count < 18446744073709551616 }
         ensures { IfOk result (λ row. row ≡ range_with_len from count) }
@@ -48,12 +48,14 @@ impl Numbers {
         Ok(Numbers { numbers: row })
     }
 
+    /// Returns the numbers as a slice.
     pub fn as_slice(&self) -> &[u64]
         ensures { result.now ≡ self.now }
     {
         self.numbers.as_slice()
     }
 
+    /// Returns a copy.
     pub fn copy(&self, alloc: Global) -> Result<Numbers, AllocError>
         ensures { IfOk result (λ copy. copy ≡ self.now) }
     {
@@ -62,13 +64,14 @@ impl Numbers {
         })
     }
 
+    /// Returns whether this number is among them.
     pub fn contains(&self, number: u64) -> bool
         ensures { result ≡ has_number number self.now }
     {
         self.numbers.iter().any(|n| *n == number)
     }
 
-    /// The numbers with one more, at its place; nothing where it is there already.
+    /// Returns the numbers with one more at its place, or `None` if it is there already.
     pub fn with(&self, alloc: Global, number: u64) -> Result<Option<Numbers>, AllocError>
         ensures { IfOk result (λ more. unwrap_or more self.now ≡ with_number number self.now) }
     {
@@ -80,7 +83,7 @@ impl Numbers {
         Ok(Some(more))
     }
 
-    /// Puts one more number at its place. On a failure all stays.
+    /// Puts one more number at its place. On an error nothing is changed.
     pub fn add(&mut self, number: u64) -> Result<(), AllocError>
         ensures ok { OnOk result (self.new ≡ with_number number self.old) }
         ensures err { OnErr result (self.new ≡ self.old) }
@@ -91,7 +94,7 @@ impl Numbers {
         Ok(())
     }
 
-    /// Where one more number goes; nothing where it is there already.
+    /// Returns the place of one more number, or `None` if it is there already.
     fn place_for(&self, number: u64) -> Option<usize>
         ensures there { IfNone result (with_number number self.now ≡ self.now) }
         ensures inside { IfSome result (λ at. at ≤ length self.now) }
@@ -103,7 +106,7 @@ impl Numbers {
         }
     }
 
-    /// The numbers with these.
+    /// Returns the numbers with these added.
     pub fn with_all(&self, alloc: Global, new: &[u64]) -> Result<Numbers, AllocError>
         ensures { IfOk result (λ all. all ≡ with_numbers new.now self.now) }
     {
@@ -116,7 +119,7 @@ impl Numbers {
         Ok(all)
     }
 
-    /// The inner blocks that lead to these blocks.
+    /// Returns the inner blocks that lead to these blocks.
     pub fn parents(&self, alloc: Global) -> Result<Numbers, AllocError>
         ensures { IfOk result (λ above. above ≡ parents self.now) }
     {
@@ -127,7 +130,7 @@ impl Numbers {
         Numbers::empty(alloc).with_all(alloc, each.as_slice())
     }
 
-    /// Those that are among the others.
+    /// Returns those numbers that are among the others.
     pub fn shared(&self, alloc: Global, others: &Numbers) -> Result<Numbers, AllocError>
         ensures { IfOk result (λ both. both ≡ shared self.now others.now) }
     {
@@ -137,7 +140,7 @@ impl Numbers {
         })
     }
 
-    /// Those that are not among the others.
+    /// Returns those numbers that are not among the others.
     pub fn lacking(&self, alloc: Global, others: &Numbers) -> Result<Numbers, AllocError>
         ensures { IfOk result (λ rest. rest ≡ lacking self.now others.now) }
     {
@@ -151,7 +154,7 @@ impl Numbers {
         })
     }
 
-    /// How many are not among the others.
+    /// Returns how many numbers are not among the others.
     fn count_lacking(&self, others: &Numbers) -> usize
         ensures { result ≡ length (lacking self.now others.now) }
     {
@@ -161,7 +164,7 @@ impl Numbers {
             .count()
     }
 
-    /// Those below a limit.
+    /// Returns the numbers below a limit.
     pub fn below(&self, alloc: Global, limit: u64) -> Result<Numbers, AllocError>
         ensures { IfOk result (λ kept. kept ≡ filter (λ n. nat_lt n limit) self.now) }
     {
@@ -171,7 +174,7 @@ impl Numbers {
         })
     }
 
-    /// Those from a limit on.
+    /// Returns the numbers that are not below a limit.
     pub fn from(&self, alloc: Global, limit: u64) -> Result<Numbers, AllocError>
         ensures { IfOk result (λ gone. gone ≡ filter (λ n. nat_le limit n) self.now) }
     {
@@ -197,7 +200,7 @@ impl Model for Levels {
 }
 
 impl Levels {
-    /// No level. Takes no memory.
+    /// Makes a list of no levels. Takes no memory.
     pub fn empty(alloc: Global) -> Levels
         ensures { result ≡ [] }
     {
@@ -206,7 +209,7 @@ impl Levels {
         }
     }
 
-    /// Two levels.
+    /// Makes a list of two levels.
     pub fn of_two(alloc: Global, leaves: Numbers, nodes: Numbers) -> Result<Levels, AllocError>
         ensures { IfOk result (λ levels. levels ≡ leaves ∷ nodes ∷ []) }
     {
@@ -216,7 +219,7 @@ impl Levels {
         Ok(Levels { levels })
     }
 
-    /// These leaves, and the nodes above them.
+    /// Returns the levels of these leaves and the nodes above them.
     pub fn above(alloc: Global, leaves: Numbers) -> Result<Levels, AllocError>
         ensures { IfOk result (λ levels. levels ≡ branches 1 leaves) }
     {
@@ -224,13 +227,14 @@ impl Levels {
         Levels::of_two(alloc, leaves, nodes)
     }
 
+    /// Returns the levels as a slice.
     pub fn as_slice(&self) -> &[Numbers]
         ensures { result.now ≡ self.now }
     {
         self.levels.as_slice()
     }
 
-    /// The others with these.
+    /// Returns these numbers and the others, level by level.
     pub fn merged(&self, alloc: Global, others: &Levels) -> Result<Levels, AllocError>
         ensures { IfOk result (λ all. all ≡ merged self.now others.now) }
     {
@@ -244,7 +248,7 @@ impl Levels {
         Ok(Levels { levels })
     }
 
-    /// Those that are among the others.
+    /// Returns those numbers that are among the others, level by level.
     pub fn within(&self, alloc: Global, others: &Levels) -> Result<Levels, AllocError>
         ensures { IfOk result (λ both. both ≡ within self.now others.now) }
     {
@@ -257,7 +261,7 @@ impl Levels {
         Ok(Levels { levels })
     }
 
-    /// How many are not among the others.
+    /// Returns how many numbers are not among the others, over all levels.
     pub fn missing(&self, alloc: Global, others: &Levels) -> u128
         ensures count { result ≡ missing self.now others.now }
         ensures small { result < 170141183460469231731687303715884105728 }

@@ -23,19 +23,21 @@ impl Model for Slots {
 }
 
 impl Slots {
-    /// Takes no memory.
+    /// Makes the list of these slots. Takes no memory.
     pub fn new(slots: Vec<Option<Puid>>) -> Slots
         ensures { result ≡ slots.items }
     {
         Slots { slots }
     }
 
+    /// Returns the slots as a slice.
     pub fn as_slice(&self) -> &[Option<Puid>]
         ensures { result.now ≡ self.now }
     {
         self.slots.as_slice()
     }
 
+    /// Returns a copy.
     pub fn copy(&self, alloc: Global) -> Result<Slots, AllocError>
         ensures { IfOk result (λ copy. copy ≡ self.now) }
     {
@@ -44,7 +46,7 @@ impl Slots {
         })
     }
 
-    /// Puts this into the slot.
+    /// Puts `what` into the slot.
     pub fn set(&mut self, slot: usize, what: Option<Puid>)
         requires { slot < length self.old }
         ensures { self.new ≡ slice_set self.old slot what }
@@ -68,7 +70,7 @@ impl Model for Content {
 }
 
 impl Content {
-    /// No byte. Takes no memory.
+    /// Makes a content of no bytes. Takes no memory.
     pub fn empty(alloc: Global) -> Content
         ensures { result ≡ [] }
     {
@@ -77,12 +79,14 @@ impl Content {
         }
     }
 
+    /// Returns the bytes as a slice.
     pub fn as_slice(&self) -> &[u8]
         ensures { result.now ≡ self.now }
     {
         self.bytes.as_slice()
     }
 
+    /// Returns a copy.
     pub fn copy(&self, alloc: Global) -> Result<Content, AllocError>
         ensures { IfOk result (λ copy. copy ≡ self.now) }
     {
@@ -91,7 +95,7 @@ impl Content {
         })
     }
 
-    /// Replaces the bytes from the offset on. Takes no memory.
+    /// Replaces the bytes that begin at the offset. Takes no memory.
     pub fn overwrite(&mut self, offset: usize, new: &[u8])
         requires { offset + length new.now ≤ length self.old }
         ensures { self.new ≡ take offset self.old ++ new.now ++ drop (offset + length new.now) self.old }
@@ -101,7 +105,7 @@ impl Content {
         }
     }
 
-    /// Drops bytes, or adds bytes that are the fill byte. On a failure all stays.
+    /// Drops bytes from the end, or adds fill bytes there. On an error nothing is changed.
     pub fn resize(&mut self, size: usize, fill: u8) -> Result<(), AllocError>
         ensures ok { OnOk result (self.new ≡ take size self.old ++ replicate (size - length self.old) fill) }
         ensures err { OnErr result (self.new ≡ self.old) }
@@ -110,46 +114,61 @@ impl Content {
     }
 }
 
-/// A file: its bytes, what bytes that were never written are, and the leaves that it holds.
+/// A file.
 #[derive(Debug, Drop)]
 pub struct File {
+    /// Whether the file is normal or special.
     pub kind: FileKind,
+    /// The byte that stands for bytes that were never written.
     pub fill: u8,
+    /// The bytes.
     pub bytes: Content,
+    /// The numbers of the leaves that the file holds.
     pub held: Numbers,
 }
 
-/// An index: its slots, and the leaves that it holds.
+/// An index.
 #[derive(Debug, Drop)]
 pub struct Index {
+    /// The slots.
     pub slots: Slots,
+    /// The numbers of the leaves that the index holds.
     pub held: Numbers,
 }
 
+/// A file or an index.
 #[derive(Debug, Drop)]
 pub enum Object {
     File(File),
     Index(Index),
 }
 
-/// What an object becomes when its grant is closed with a commit, and which of its blocks are the draft's own.
+/// A draft: what the object becomes when the grant is closed with a commit.
 #[derive(Debug, Drop)]
 pub struct Draft {
+    /// What the object becomes.
     pub object: Object,
+    /// The leaves and nodes that are the draft's own, level by level.
     pub fresh: Levels,
 }
 
-/// An object that a session has open, with its draft where it has one.
+/// A grant: an object that a session has open.
 #[derive(Debug, Drop)]
 pub struct Grant {
+    /// The temporary identifier of the grant.
     pub tuid: Tuid,
+    /// The session that has the grant.
     pub session: Session,
+    /// The permanent identifier of the object.
     pub id: Puid,
+    /// Whether the object is open for reading or for writing.
     pub mode: Mode,
+    /// The draft, if the grant has one.
     pub draft: Option<Draft>,
 }
 
 impl File {
+    /// Returns a copy.
     pub fn copy(&self, alloc: Global) -> Result<File, AllocError>
         ensures { IfOk result (λ copy. copy ≡ self.now) }
     {
@@ -163,6 +182,7 @@ impl File {
 }
 
 impl Index {
+    /// Returns a copy.
     pub fn copy(&self, alloc: Global) -> Result<Index, AllocError>
         ensures { IfOk result (λ copy. copy ≡ self.now) }
     {
@@ -176,6 +196,7 @@ impl Index {
 impl Object {
     ghost use Rattle.ufs_model.specs.Kinds.{object_kind};
 
+    /// Returns the kind of the object.
     pub fn kind(&self) -> Kind
         ensures { result ≡ object_kind self.now }
     {
@@ -188,6 +209,7 @@ impl Object {
         }
     }
 
+    /// Returns a copy.
     pub fn copy(&self, alloc: Global) -> Result<Object, AllocError>
         ensures { IfOk result (λ copy. copy ≡ self.now) }
     {

@@ -13,8 +13,9 @@ use cfs_base::{Bytes, NoMemory, Session};
 use std::alloc::Global;
 
 impl Server {
-    /// The outcome of the definitions, in which a new object takes this block, or want of memory, which changes
-    /// nothing.
+    /// Makes the outcome of the definitions, in which a new object takes this block, and returns its reply.
+    ///
+    /// For want of memory nothing is changed.
     pub fn outcome(
         &mut self,
         alloc: Global,

@@ -17,11 +17,11 @@ use cfs_base::{Kind, NoMemory, Puid, Session};
 use std::alloc::Global;
 use std::marker::Model;
 
-/// The slow server: a map of objects and a list of grants, from which each answer is found anew.
+/// The slow server: a map of objects and a list of grants, from which each answer is computed anew.
 #[derive(Drop)]
 pub struct Plain {
     server: Server,
-    /// Every number from 3 to the one below is an object's root block.
+    /// Every number from 3 up to but not including this one is an object's root block.
     free_from: u32,
 }
 
@@ -41,7 +41,7 @@ impl Model for Plain {
 }
 
 impl Plain {
-    /// A server of an empty root index.
+    /// Makes a server of an empty root index.
     pub fn new(alloc: Global, root: Puid, seed: u64) -> Result<Plain, NoMemory>
         requires { 0 < root.block }
         ensures { IfOk result (λ p. p ≡ record { seed = seed; state = opening (fresh_graph root) }) }
@@ -52,35 +52,37 @@ impl Plain {
         })
     }
 
-    /// How many words were drawn.
+    /// Returns how many words were drawn.
     pub fn drawn(&self) -> u32
         ensures { result ≡ self.now.state.drawn }
     {
         self.server.words.drawn()
     }
 
-    /// The number of objects.
+    /// Returns the number of objects.
     pub fn count(&self) -> usize
         ensures { result ≡ length self.now.state.graph.objects }
     {
         self.server.objects.len()
     }
 
-    /// The identifier of the root index.
+    /// Returns the identifier of the root index.
     pub fn root(&self) -> Puid
         ensures { result ≡ self.now.state.graph.root }
     {
         self.server.root
     }
 
-    /// The kind of an object; nothing where no object has this identifier.
+    /// Returns the kind of an object, or `None` if no object has this identifier.
     pub fn kind(&self, id: Puid) -> Option<Kind>
         ensures { result ≡ kind_at self.now.state.graph id }
     {
         self.server.objects.get(&id).map(Object::kind)
     }
 
-    /// The answer of the definitions, or `Memory`, which changes nothing. It never stops, and nothing is ever full.
+    /// Returns the answer of the definitions, or `Memory`, which changes nothing.
+    ///
+    /// The server never stops, and is never full.
     pub fn ask(&mut self, alloc: Global, who: Session, request: &Request) -> Reply
         requires { self.old.state.drawn < 4294967295 }
         ensures step { next self.old.seed self.old.state (events.Ask who request.now result) ≡ Some self.new.state }
@@ -95,7 +97,7 @@ impl Plain {
         self.answer(alloc, who, request).unwrap_or(Reply::Memory)
     }
 
-    /// The session ends: its grants and their drafts are gone. Takes no memory.
+    /// Ends the session: its grants and their drafts are gone. Takes no memory.
     pub fn leave(&mut self, who: Session)
         ensures step { next self.old.seed self.old.state (events.Leave who None) ≡ Some self.new.state }
         ensures seed { self.new.seed ≡ self.old.seed }
@@ -128,7 +130,7 @@ impl Plain {
         Ok(reply)
     }
 
-    /// The least free root block for a request that makes an object; any number for the others.
+    /// Returns the least free root block for a request that makes an object, and any number for other requests.
     fn block_for(&self, request: &Request) -> Option<u32>
         ensures least { IfSome result (λ b. creates request.now ≡ true
             → IsLeastFreeRoot self.now.state.graph.objects b) }

@@ -7,7 +7,7 @@ ghost use Rattle.ufs_model.specs.Vanish.{is_marking};
 use crate::asked::{Reply, Request};
 use cfs_base::{NoMemory, Puid};
 
-/// What a collection that marks remembers.
+/// One thing that a collection that marks remembers.
 #[derive(Clone, Copy, Debug)]
 pub enum Seen {
     /// This index refers to this object.
@@ -16,15 +16,21 @@ pub enum Seen {
     Start(Puid),
 }
 
-/// How far a collection has come. While it marks it remembers what it has seen, the oldest first.
+/// How far a collection has come.
+///
+/// While it marks it remembers what it has seen, the oldest first.
 #[derive(Debug, Drop)]
 pub enum Progress {
+    /// No collection runs.
     Idle,
+    /// A collection marks, and remembers these.
     Marking(Vec<Seen>),
+    /// A collection sweeps.
     Sweeping,
 }
 
 impl Progress {
+    /// Returns whether there is no collection.
     pub fn is_idle(&self) -> bool
         ensures { result ≡ is_idle (collection_of self.now) }
     {
@@ -35,6 +41,7 @@ impl Progress {
         }
     }
 
+    /// Returns whether a collection marks.
     pub fn is_marking(&self) -> bool
         ensures { result ≡ is_marking (collection_of self.now) }
     {
@@ -45,6 +52,7 @@ impl Progress {
         }
     }
 
+    /// Returns whether a collection sweeps.
     pub fn is_sweeping(&self) -> bool
         ensures { result ≡ is_sweeping (collection_of self.now) }
     {
@@ -55,7 +63,7 @@ impl Progress {
         }
     }
 
-    /// Makes room for one more. On a failure all stays.
+    /// Reserves memory for one more thing to remember. On an error nothing is changed.
     pub fn reserve(&mut self) -> Result<(), NoMemory>
         ensures same { collection_of self.new ≡ collection_of self.old }
         ensures room { OnOk result (HasRoom self.new) }
@@ -66,7 +74,7 @@ impl Progress {
         Ok(())
     }
 
-    /// Notes one more, where a collection marks. Takes no memory.
+    /// Remembers one more thing, if a collection marks. Takes no memory.
     pub fn note(&mut self, seen: Option<Seen>)
         requires { HasRoom self.old }
         ensures { collection_of self.new ≡ with_seen seen (collection_of self.old) }
@@ -80,7 +88,7 @@ impl Progress {
     }
 }
 
-/// What is to be remembered of a request that was answered so, where it went to this identifier.
+/// Returns what is to be remembered of a request that went to this identifier and was answered by this reply.
 pub fn seen_by(to: Option<Puid>, request: &Request, reply: &Reply) -> Option<Seen>
     ensures { result ≡ seen_by to request.now reply.now }
 {

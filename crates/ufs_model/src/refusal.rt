@@ -1,4 +1,4 @@
-//! When the slow server refuses: the first condition that holds.
+//! When the slow server refuses: by the first condition that holds.
 ghost use Rattle.std.specs.Prelude.{◌≡◌, ◌==◌, filter, length};
 ghost use Rattle.ufs_model.specs.Refusal.{finds_empty, goes_nowhere, has_all_grants, has_no_grant, has_no_object};
 ghost use Rattle.ufs_model.specs.Refusal.{has_no_slot, is_locked, is_open, is_open_for_writing, is_out_of_range};
@@ -10,7 +10,7 @@ use crate::object::Object;
 use crate::server::Server;
 use cfs_base::{Mode, Puid, Session};
 
-/// Whether 1 to 4,096 bytes lie within the size.
+/// Returns whether `count` is 1 to 4,096 and the bytes are within the size.
 fn is_range(size: u64, offset: u64, count: u64) -> bool
     ensures { result ≡ is_range size offset count }
 {
@@ -18,7 +18,7 @@ fn is_range(size: u64, offset: u64, count: u64) -> bool
 }
 
 impl Server {
-    /// The refusal of the definitions, if there is one.
+    /// Returns the refusal of the definitions, if there is one.
     pub fn refusal(&self, who: Session, request: &Request) -> Option<Reply>
         ensures { result ≡ refusal_of self.now.state who request.now }
     {
@@ -190,7 +190,7 @@ impl Server {
         }
     }
 
-    /// How many grants the session has.
+    /// Returns how many grants the session has.
     fn grants_of(&self, who: Session) -> usize
         ensures { result ≡ length (filter (λ g. g.session == who) self.now.state.grants) }
     {

@@ -1,4 +1,4 @@
-//! What a request goes to, and what it asks of it.
+//! What a request goes to, and what it asks for there.
 ghost use Rattle.std.specs.Prelude.{◌≡◌};
 ghost use Rattle.ufs_model.specs.Outcome.{creates};
 ghost use Rattle.ufs_model.specs.Refusal.{is_changing, opens_for_writing, slot_named, target, wanted};
@@ -7,7 +7,7 @@ use crate::asked::{Ref, Request, Wanted};
 use cfs_base::Mode;
 
 impl Request {
-    /// What it goes to.
+    /// Returns what the request goes to.
     pub fn target(&self) -> Ref
         ensures { result ≡ target self.now }
     {
@@ -27,7 +27,7 @@ impl Request {
         }
     }
 
-    /// What it wants to find there.
+    /// Returns what the request expects to find there.
     pub fn wanted(&self) -> Wanted
         ensures { result ≡ wanted self.now }
     {
@@ -46,7 +46,7 @@ impl Request {
         }
     }
 
-    /// Whether it changes what is there.
+    /// Returns whether the request changes what is there.
     pub fn is_changing(&self) -> bool
         ensures { result ≡ is_changing self.now }
     {
@@ -61,7 +61,7 @@ impl Request {
         )
     }
 
-    /// The slot that it names.
+    /// Returns the slot that the request names, if it names one.
     pub fn slot_named(&self) -> Option<u64>
         ensures { result ≡ slot_named self.now }
     {
@@ -75,7 +75,7 @@ impl Request {
         }
     }
 
-    /// Whether it makes an object.
+    /// Returns whether the request makes an object.
     pub fn creates(&self) -> bool
         ensures { result ≡ creates self.now }
     {
@@ -85,7 +85,7 @@ impl Request {
         )
     }
 
-    /// Whether it opens an object for writing.
+    /// Returns whether the request opens an object for writing.
     pub fn opens_for_writing(&self) -> bool
         ensures { result ≡ opens_for_writing self.now }
     {

@@ -22,9 +22,13 @@ use std::marker::Model;
 /// The words of a seed, and the state: objects and grants.
 #[derive(Drop)]
 pub struct Server {
+    /// The identifier of the root index.
     pub root: Puid,
+    /// The objects, by their identifiers.
     pub objects: BTreeMap<Puid, Object>,
+    /// The grants of all sessions.
     pub grants: Vec<Grant>,
+    /// The words of the seed, drawn in turn.
     pub words: Words,
 }
 
@@ -49,7 +53,7 @@ impl Model for Server {
 }
 
 impl Server {
-    /// An empty root index.
+    /// Makes a server of an empty root index.
     pub fn new(alloc: Global, root: Puid, seed: u64) -> Result<Server, NoMemory>
         ensures { IfOk result (λ s. s ≡ record { seed = seed; state = opening (fresh_graph root) }) }
     {
@@ -66,7 +70,7 @@ impl Server {
         })
     }
 
-    /// It never stops, and no collection is there.
+    /// The server never stops, and has no collection.
     pub fn is_quiet(&self)
         ensures collection { self.now.state.collection ≡ collections.None }
         ensures stopped { self.now.state.stopped ≡ None }
@@ -74,14 +78,14 @@ impl Server {
         let _root = &self.root;
     }
 
-    /// Whether an object has this identifier.
+    /// Returns whether an object has this identifier.
     pub fn is_there(&self, id: Puid) -> bool
         ensures { result ≡ is_there self.now.state.graph id }
     {
         self.objects.contains_key(&id)
     }
 
-    /// Where the session's grant of that identifier stands among the grants.
+    /// Returns the place of the session's grant with that identifier among the grants.
     pub fn place_of(&self, who: Session, t: Tuid) -> Option<usize>
         ensures { result ≡ position (is_grant who t) self.now.state.grants }
     {
@@ -90,14 +94,14 @@ impl Server {
             .position(|g| g.session == who && g.tuid == t)
     }
 
-    /// The session's grant of that identifier.
+    /// Returns the session's grant with that identifier.
     pub fn grant(&self, who: Session, t: Tuid) -> Option<&Grant>
         ensures { option_copied result ≡ grant_of self.now.state who t }
     {
         self.grants.iter().find(|g| g.session == who && g.tuid == t)
     }
 
-    /// The identifier that a reference names.
+    /// Returns the identifier that a reference names.
     pub fn named(&self, who: Session, reference: Ref) -> Option<Puid>
         ensures { result ≡ named self.now.state who reference }
     {
@@ -107,7 +111,7 @@ impl Server {
         }
     }
 
-    /// The object that it names.
+    /// Returns the object that a reference names.
     pub fn object(&self, who: Session, reference: Ref) -> Option<&Object>
         ensures { option_copied result ≡ object_of self.now.state who reference }
     {
@@ -115,7 +119,7 @@ impl Server {
         self.objects.get(&id)
     }
 
-    /// The draft that it goes to.
+    /// Returns the draft to which a reference goes.
     pub fn draft(&self, who: Session, reference: Ref) -> Option<&Draft>
         ensures { option_copied result ≡ draft_of self.now.state who reference }
     {
@@ -125,7 +129,7 @@ impl Server {
         }
     }
 
-    /// The place of the grant whose draft it goes to.
+    /// Returns the place of the grant to whose draft a reference goes.
     pub fn draft_place(&self, who: Session, reference: Ref) -> Option<usize>
         ensures none { IfNone result (draft_of self.now.state who reference ≡ None) }
         ensures some { IfSome result (λ at. IsDraftPlace self.now.state who reference at) }
@@ -140,7 +144,7 @@ impl Server {
         }
     }
 
-    /// What is seen through it: a draft, or else the object.
+    /// Returns what a reference shows: a draft, or else the object.
     pub fn seen(&self, who: Session, reference: Ref) -> Option<&Object>
         ensures { unwrap_or (option_copied result) (objects.Index (new_index 0))
             ≡ (seen self.now.state who reference).object }
@@ -151,7 +155,7 @@ impl Server {
         }
     }
 
-    /// The slots of the index that is seen.
+    /// Returns the number of slots of the index that a reference shows.
     pub fn slots_seen(&self, who: Session, reference: Ref) -> u64
         ensures { result ≡ length (index_seen self.now.state who reference).slots }
     {
@@ -161,7 +165,7 @@ impl Server {
         }
     }
 
-    /// What a slot of the index holds that is seen.
+    /// Returns what a slot of the index holds that a reference shows.
     pub fn slot_seen(&self, who: Session, reference: Ref, slot: u64) -> Option<Puid>
         ensures { result ≡ slot_of (index_seen self.now.state who reference) slot }
     {
@@ -171,7 +175,7 @@ impl Server {
         }
     }
 
-    /// The bytes of the file that is seen.
+    /// Returns the bytes of the file that a reference shows.
     pub fn bytes_seen(&self, who: Session, reference: Ref) -> &[u8]
         ensures { result.now ≡ (file_seen self.now.state who reference).bytes }
     {

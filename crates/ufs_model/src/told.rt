@@ -14,7 +14,7 @@ use crate::server::Server;
 use cfs_base::{Puid, Session, Tuid};
 
 impl Reply {
-    /// Its place among the replies.
+    /// Returns the number of the reply's variant.
     pub(crate) fn place(&self) -> u8
         ensures { result ≡ (parts_of self.now).0 }
     {
@@ -42,7 +42,7 @@ impl Reply {
         }
     }
 
-    /// The root block that it names.
+    /// Returns the root block that the reply names.
     pub(crate) fn block(&self) -> u32
         ensures { result ≡ block_named self.now }
     {
@@ -84,7 +84,7 @@ impl Reply {
 }
 
 impl Server {
-    /// Whether the request is refused by this reply.
+    /// Returns whether this reply refuses the request.
     pub(crate) fn is_refusal(&self, who: Session, request: &Request, reply: &Reply) -> bool
         requires { refuses reply.now ≡ true }
         ensures { result ≡ option_map_or (same_reply reply.now) (refusal_of self.now.state who request.now) false }
@@ -95,7 +95,7 @@ impl Server {
         }
     }
 
-    /// Whether the request is not refused, and this reply is its outcome's.
+    /// Returns whether the request is not refused and this reply is that of its outcome.
     pub(crate) fn is_outcome(&self, who: Session, request: &Request, reply: &Reply) -> bool
         requires { self.now.state.drawn < 4294967295 }
         ensures { result ≡ is_outcome self.now.seed self.now.state who request.now reply.now }
@@ -106,14 +106,14 @@ impl Server {
             && self.tells(who, request, reply)
     }
 
-    /// Whether a new object may take this root block.
+    /// Returns whether a new object may take this root block.
     fn has_free_root(&self, block: u32) -> bool
         ensures { result ≡ is_free_root self.now.state.graph block }
     {
         block != 0 && !is_taken(&self.objects, block)
     }
 
-    /// Whether the reply is the outcome's, where a new object takes the block that it names.
+    /// Returns whether the reply is that of the outcome in which a new object takes the block that the reply names.
     fn tells(&self, who: Session, request: &Request, reply: &Reply) -> bool
         requires words { self.now.state.drawn < 4294967295 }
         requires refused { refusal_of self.now.state who request.now ≡ None }

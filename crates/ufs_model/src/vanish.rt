@@ -18,14 +18,14 @@ use std::alloc::Global;
 use std::cmp::Ordering;
 use std::collections::{BTreeMap, BTreeSet};
 
-/// Whether each is below all that follow.
+/// Returns whether each identifier is below all that follow.
 fn rise(ids: &[Puid]) -> bool
     ensures { result ≡ rises ids.now }
 {
     rise_by_next(ids)
 }
 
-/// Whether each is above the one before it.
+/// Returns whether each identifier is above the one before it.
 fn rise_by_next(ids: &[Puid]) -> bool
     ensures { result ≡ ids_rise ids.now }
 {
@@ -35,7 +35,7 @@ fn rise_by_next(ids: &[Puid]) -> bool
     }
 }
 
-/// Whether each is above the one before it, the first above this.
+/// Returns whether each identifier is above the one before it, and the first above `last`.
 fn rise_from(mut last: Puid, ids: &[Puid]) -> bool
     ensures { result ≡ rise_from last ids.now }
 {
@@ -48,7 +48,7 @@ fn rise_from(mut last: Puid, ids: &[Puid]) -> bool
     true
 }
 
-/// Whether the object refers to any of these.
+/// Returns whether the object refers to any of these.
 fn refers_to(object: &Object, ids: &BTreeSet<Puid>) -> bool
     ensures { result ≡ list_any (λ x. is_among x ids.now.keys) (referred object.now) }
 {
@@ -58,14 +58,14 @@ fn refers_to(object: &Object, ids: &BTreeSet<Puid>) -> bool
     }
 }
 
-/// Whether a slot holds any of these.
+/// Returns whether a slot holds any of these.
 fn hold_one(slots: &[Option<Puid>], ids: &BTreeSet<Puid>) -> bool
     ensures { result ≡ list_any (λ slot. option_map_or (λ x. is_among x ids.now.keys) slot false) slots.now }
 {
     slots.iter().any(|slot| holds_one(slot, ids))
 }
 
-/// Whether the slot holds any of these.
+/// Returns whether this slot holds any of these.
 fn holds_one(slot: &Option<Puid>, ids: &BTreeSet<Puid>) -> bool
     ensures { result ≡ option_map_or (λ x. is_among x ids.now.keys) slot.now false }
 {
@@ -75,7 +75,7 @@ fn holds_one(slot: &Option<Puid>, ids: &BTreeSet<Puid>) -> bool
     }
 }
 
-/// Whether each object that is not among these refers to none of them.
+/// Returns whether no object outside these refers to one of them.
 fn refer_to_none(objects: &BTreeMap<Puid, Object>, ids: &BTreeSet<Puid>) -> bool
     ensures { result ≡ list_all (λ e. is_among e.0 ids.now.keys
         || not (list_any (λ x. is_among x ids.now.keys) (referred e.1))) objects.now.entries }
@@ -85,7 +85,7 @@ fn refer_to_none(objects: &BTreeMap<Puid, Object>, ids: &BTreeSet<Puid>) -> bool
         .all(|(id, object)| ids.contains(id) || !refers_to(object, ids))
 }
 
-/// Whether the grant's draft refers to any of these, where it has one.
+/// Returns whether the grant has a draft that refers to any of these.
 fn drafts_one(grant: &Grant, ids: &BTreeSet<Puid>) -> bool
     ensures { result ≡ list_any (λ x. is_among x ids.now.keys) (drafted grant.now) }
 {
@@ -95,7 +95,7 @@ fn drafts_one(grant: &Grant, ids: &BTreeSet<Puid>) -> bool
     }
 }
 
-/// Whether the draft of each object that is not among these refers to none of them.
+/// Returns whether no draft of an object outside these refers to one of them.
 fn draft_none(grants: &[Grant], ids: &BTreeSet<Puid>) -> bool
     ensures { result ≡ list_all (λ g. is_among g.id ids.now.keys
         || not (list_any (λ x. is_among x ids.now.keys) (drafted g))) grants.now }
@@ -105,7 +105,7 @@ fn draft_none(grants: &[Grant], ids: &BTreeSet<Puid>) -> bool
         .all(|grant| ids.contains(&grant.id) || !drafts_one(grant, ids))
 }
 
-/// Puts each identifier in the object's slots behind what was seen, as an edge from this index.
+/// Appends each identifier in the object's slots to what was seen, as an edge from this index.
 fn see_slots(seen: &mut Vec<Seen>, id: Puid, object: &Object) -> Result<(), NoMemory>
     ensures { OnOk result (seen.new.items ≡ seen.old.items ++ edges_from id object.now) }
 {
@@ -120,7 +120,7 @@ fn see_slots(seen: &mut Vec<Seen>, id: Puid, object: &Object) -> Result<(), NoMe
     Ok(())
 }
 
-/// Puts each identifier in a draft's slots behind what was seen, as an edge from its index.
+/// Appends each identifier in a draft's slots to what was seen, as an edge from its index.
 fn see_drafts(seen: &mut Vec<Seen>, grants: &[Grant]) -> Result<(), NoMemory>
     ensures { OnOk result (seen.new.items ≡ seen.old.items ++ edges_of (draft_pairs grants.now)) }
 {
@@ -132,7 +132,7 @@ fn see_drafts(seen: &mut Vec<Seen>, grants: &[Grant]) -> Result<(), NoMemory>
     Ok(())
 }
 
-/// What these grants are of.
+/// Returns the identifiers of the objects that these grants have open.
 fn ids_opened(alloc: Global, grants: &[Grant]) -> Result<Vec<Puid>, NoMemory>
     ensures { IfOk result (λ ids. ids.items ≡ map (λ g. g.id) grants.now) }
 {
@@ -143,7 +143,7 @@ fn ids_opened(alloc: Global, grants: &[Grant]) -> Result<Vec<Puid>, NoMemory>
     Ok(ids)
 }
 
-/// The last first. Takes no memory.
+/// Returns the list reversed. Takes no memory.
 fn reversed(mut seen: Vec<Seen>) -> Vec<Seen>
     ensures { result.items ≡ reverse seen.items }
 {
@@ -152,7 +152,7 @@ fn reversed(mut seen: Vec<Seen>) -> Vec<Seen>
 }
 
 impl Server {
-    /// Whether these rise and are all there.
+    /// Returns whether these increase and are all in the graph.
     pub(crate) fn are_there(&self, ids: &[Puid]) -> bool
         ensures { result ≡ are_there self.now.state ids.now }
     {
@@ -165,28 +165,28 @@ impl Server {
         ids.iter().all(|id| self.is_there(*id))
     }
 
-    /// Whether neither the root nor an open object is among these.
+    /// Returns whether neither the root nor an open object is among these.
     fn are_no_starts(&self, ids: &BTreeSet<Puid>) -> bool
         ensures { result ≡ are_no_starts self.now.state ids.now.keys }
     {
         !ids.contains(&self.root) && self.opens_none(ids)
     }
 
-    /// Whether no open object is among these.
+    /// Returns whether no open object is among these.
     fn opens_none(&self, ids: &BTreeSet<Puid>) -> bool
         ensures { result ≡ list_all (λ g. not (is_among g.id ids.now.keys)) self.now.state.grants }
     {
         self.grants.iter().all(|grant| !ids.contains(&grant.id))
     }
 
-    /// Whether no index that stays refers to one of these.
+    /// Returns whether no index that stays refers to one of these.
     fn leaves_no_reference(&self, ids: &BTreeSet<Puid>) -> bool
         ensures { result ≡ leaves_no_reference self.now.state ids.now.keys }
     {
         refer_to_none(&self.objects, ids) && draft_none(self.grants.as_slice(), ids)
     }
 
-    /// Whether all that is there is among the first or the second.
+    /// Returns whether each object of the graph is in the first or the second set.
     pub(crate) fn are_all(&self, first: &BTreeSet<Puid>, second: &BTreeSet<Puid>) -> bool
         ensures { result ≡ list_all (λ x. is_among x first.now.keys
             || is_among x second.now.keys) (ids_of self.now.state.graph) }
@@ -196,7 +196,7 @@ impl Server {
             .all(|id| first.contains(id) || second.contains(id))
     }
 
-    /// Whether nothing that stays leads to these, and none is where a way begins.
+    /// Returns whether nothing that stays leads to these, and none of them is the root or open.
     pub(crate) fn are_unkept(&self, ids: &BTreeSet<Puid>) -> bool
         ensures { result ≡ (has_no_kept self.now.state ids.now.keys
             && leaves_no_reference self.now.state ids.now.keys) }
@@ -204,7 +204,7 @@ impl Server {
         self.are_no_starts(ids) && self.leaves_no_reference(ids)
     }
 
-    /// What a collection has seen as it begins: each entry that stands, the root, and what is open.
+    /// Returns what a collection has seen as it begins: each entry, the root, and the open objects.
     pub(crate) fn first_seen(&self, alloc: Global) -> Result<Vec<Seen>, NoMemory>
         ensures { IfOk result (λ seen. after_seen (collections.Marking [] []) seen.items
             ≡ collections.Marking (pairs_of self.now.state) (starts_now self.now.state)) }
@@ -228,7 +228,7 @@ impl Server {
         ids_opened(alloc, self.grants.as_slice())
     }
 
-    /// Each entry that stands, the last first.
+    /// Returns each entry, the last first.
     fn entries_seen(&self, alloc: Global) -> Result<Vec<Seen>, NoMemory>
         ensures { IfOk result (λ seen. after_seen (collections.Marking [] []) seen.items
             ≡ collections.Marking (pairs_of self.now.state) []) }

@@ -7,7 +7,7 @@ use rand_core::SeedableRng;
 use rand_core::utils::NextWord;
 use std::marker::Model;
 
-/// The stream of a seed, from its first word on.
+/// Returns the stream of a seed, from its first word on.
 #[tactic(auto, unfolding(crate::specs::Word::words_from))]
 fn stream_of(seed: u64) -> ChaCha20Rng
     ensures { result ≡ words_from seed 0 }
@@ -20,7 +20,9 @@ fn stream_of(seed: u64) -> ChaCha20Rng
     ChaCha20Rng::from_seed(key)
 }
 
-/// The word at place k of the stream of a seed. The root identifier has word 0.
+/// Returns the word at place `k` of the stream of a seed.
+///
+/// The root identifier has word 0.
 #[tactic(auto, unfolding(crate::specs::Word::word, crate::specs::Word::words_from))]
 pub fn word_of(seed: u64, k: u32) -> u32
     ensures { result ≡ word seed k }
@@ -30,7 +32,7 @@ pub fn word_of(seed: u64, k: u32) -> u32
     stream.next_word()
 }
 
-/// The words of a seed, drawn one after the other from place 1 on.
+/// The words of a seed, drawn one after another from place 1 on.
 #[derive(Drop)]
 pub struct Words {
     seed: u64,
@@ -52,7 +54,7 @@ impl Model for Words {
 }
 
 impl Words {
-    /// None is drawn yet.
+    /// Begins the words of a seed, with none drawn.
     pub fn new(seed: u64) -> Words
         ensures { result ≡ record { seed = seed; drawn = 0 } }
     {
@@ -66,21 +68,21 @@ impl Words {
         }
     }
 
-    /// How many were drawn.
+    /// Returns how many words were drawn.
     pub fn drawn(&self) -> u32
         ensures { result ≡ self.now.drawn }
     {
         self.drawn
     }
 
-    /// The word that is drawn next.
+    /// Returns the word that is drawn next, and doesn't draw it.
     pub fn next(&self) -> u32
         ensures { result ≡ word self.now.seed (self.now.drawn + 1) }
     {
         self.next
     }
 
-    /// Draws it.
+    /// Draws the next word.
     pub fn draw(&mut self)
         requires { self.old.drawn < 4294967295 }
         ensures { self.new ≡ record self.old { drawn = self.old.drawn + 1 } }

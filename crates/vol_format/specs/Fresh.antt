@@ -22,7 +22,7 @@ use Rattle.vol_label.specs.Label.{spelling}
 abbrev pub root_id : ℕ → Puid
 root_id word = record { block = 2; word = word }
 
--- the root index alone
+-- the graph of the root index alone
 abbrev pub fresh : ℕ → Graph
 fresh word = fresh_graph (root_id word)
 
@@ -45,16 +45,16 @@ root_entry = record { state = Allocated; committed = false; place = Some Root; o
 abbrev pub free_entry : MapEntry
 free_entry = record { state = Free; committed = false; place = None; owner = 0 }
 
--- the maps and the label are Reserved, block 2 is the root index's, and all else is Free
+-- the maps and the label are Reserved, block 2 is the root index's, and all other blocks are Free
 abbrev pub fresh_entry : ℕ → MapEntry
 fresh_entry n = if is_fixed n then reserved else (if n == 2 then root_entry else free_entry)
 
--- all but the label is there
+-- all of the volume is there but the label
 pub record HasBody (image : Image) (cylinders word : ℕ) : Type 0 where
   pub entries : (n : ℕ) → n < 64 * cylinders → entry_in image n ≡ Some (fresh_entry n)
   pub root : IsEmptyIndex (block_at image 2) word
 
--- nothing waits, and the volume reads as the root index alone
+-- no write waits for a barrier, and the volume reads as the root index alone
 pub record IsFormatted {D : Type 0} (g : Ghosts D) (d : D) (word : ℕ) : Type 0 where
   pub settled : IsSettled g d
   pub sound : IsSoundAs (g.content d) (fresh word)
@@ -66,10 +66,10 @@ pub record IsFormatted {D : Type 0} (g : Ghosts D) (d : D) (word : ℕ) : Type 0
 abbrev pub IsBlank : Image → Type 0
 IsBlank image = block_at image 1 ≡ replicate 512 0
 
--- a crash now leaves no label, and one on the way none that it might not have left before `start`
+-- a crash now leaves no label, and a crash on the way no label that it might not have left before `start`
 abbrev pub IsUnlabelled : {D : Type 0} → Ghosts D → D → D → Type 0
 IsUnlabelled g start now = Crashes g start now IsBlank IsBlank
 
--- no volume but the fresh one
+-- the image is no volume, or the fresh one
 abbrev pub MayBeFresh : ℕ → Image → Type 0
 MayBeFresh word image = IsSound image → IsSoundAs image (fresh word)

@@ -13,12 +13,12 @@ use cfs_base::{Block, BlockNo, Disk, Failed, Kind, Puid};
 use ufs_model::ROOT_SLOTS;
 use vol_label::{Label, NEWEST};
 
-/// The label's block.
+/// The block that holds the label.
 const LABEL: u32 = 1;
 /// The root block of the root index.
 const ROOT_BLOCK: u32 = 2;
 
-/// Takes the label away, so that a crash from now on leaves no volume.
+/// Erases the label, so that a crash from now on leaves no volume.
 fn erase<D: Disk>(disk: &mut D) -> Result<(), Failed>
     requires { 1 < D.blocks disk.old }
     ensures unlabelled { OnOk result (IsUnlabelled D.Disk disk.old disk.new) }
@@ -30,7 +30,7 @@ fn erase<D: Disk>(disk: &mut D) -> Result<(), Failed>
     disk.barrier()
 }
 
-/// Writes a block beside the label. Done or failed, a crash leaves no volume.
+/// Writes a block other than the label. Done or failed, a crash leaves no volume.
 fn write_beside<D: Disk>(disk: &mut D, at: BlockNo, block: &Block) -> Result<(), Failed>
     requires on_disk { at.0 < D.blocks disk.old }
     requires beside { at.0 ≢ 1 }
@@ -58,7 +58,7 @@ fn write_maps<D: Disk>(disk: &mut D, cylinders: u32) -> Result<(), Failed>
     Ok(())
 }
 
-/// The root of an index of empty slots.
+/// Returns the root of an index of empty slots.
 fn root_block(word: u32) -> Block
     ensures { IsEmptyIndex result word }
 {
@@ -72,7 +72,7 @@ fn root_block(word: u32) -> Block
     root.encode()
 }
 
-/// Writes all but the label, and makes it outlast a crash.
+/// Writes all but the label, and makes it survive a crash.
 fn write_body<D: Disk>(disk: &mut D, cylinders: u32, word: u32) -> Result<(), Failed>
     requires size { D.blocks disk.old ≡ 64 * cylinders }
     requires some { 1 ≤ cylinders }
@@ -88,7 +88,7 @@ fn write_body<D: Disk>(disk: &mut D, cylinders: u32, word: u32) -> Result<(), Fa
     disk.barrier()
 }
 
-/// Writes the label, and makes it outlast a crash.
+/// Writes the label, and makes it survive a crash.
 fn write_label<D: Disk>(disk: &mut D, cylinders: u32, word: u32) -> Result<(), Failed>
     requires size { D.blocks disk.old ≡ 64 * cylinders }
     requires some { 1 ≤ cylinders }
@@ -112,10 +112,13 @@ fn write_label<D: Disk>(disk: &mut D, cylinders: u32, word: u32) -> Result<(), F
     disk.barrier() // now there is a volume
 }
 
-/// Makes a fresh volume of a disk with 64 blocks a cylinder. Its root index has 64 empty slots, and the identifier of
-/// block 2 and this word. An old label goes first, then come the maps and block 2, and at last the label, with a
-/// barrier after each of the three. No other block is written. Takes no memory. `Failed` where a device call failed:
-/// what the disk held may then be lost, with no volume made.
+/// Makes a fresh volume of a disk, with 64 blocks a cylinder.
+///
+/// Its root index has 64 empty slots, and the identifier of block 2 and this word. An old label is erased first, then
+/// the maps and block 2 are written, and last the label, with a barrier after each of the three. No other block is
+/// written. Takes no memory.
+///
+/// `Failed` if a device call failed: what the disk held may then be lost, with no volume made.
 pub fn format_volume<D: Disk>(disk: &mut D, word: u32) -> Result<(), Failed>
     requires whole { D.blocks disk.old % 64 ≡ 0 }
     requires some { 1 ≤ D.blocks disk.old }

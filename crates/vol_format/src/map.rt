@@ -21,7 +21,7 @@ const ROOT: MapEntry = MapEntry {
     owner: 2,
 };
 
-/// The map of 64 Free blocks.
+/// Returns the map of 64 Free blocks.
 fn free_map() -> Map
     ensures { result ≡ replicate 64 free_entry }
 {
@@ -31,7 +31,7 @@ fn free_map() -> Map
     }
 }
 
-/// The map of a cylinder.
+/// Returns the map of a cylinder of a fresh volume.
 pub(crate) fn fresh_map(cylinder: u32) -> Map
     ensures { (k : ℕ) → k < 64 → slice_get result k ≡ Some (fresh_entry (64 * cylinder + k)) }
 {

@@ -5,8 +5,7 @@ use Rattle.block_tree.specs.Pointers.{width}
 use Rattle.block_tree.specs.Tree.{levels_of, path_to}
 use Rattle.vol_image.specs.Seen.{Tree}
 
--- the numbers of the blocks that are held so many levels below the root; at the depth of all levels these are the
--- leaves
+-- the numbers of the blocks that are held d levels below the root; at the depth of all levels these are the leaves
 abbrev pub held_at_depth : Tree → ℕ → List ℕ
 held_at_depth tree d =
     filter (λ n. is_some (tree.below (path_to (take d (levels_of tree.root)) n)))

@@ -1,7 +1,8 @@
--- What may be wrong with a volume: each fault with its number, and the block that it names. An image is read on past a
--- fault: only what a pointer or an identifier that is wrong leads to isn't.
+-- What may be wrong with a volume: each fault with its number, and the block that it names. An image is read on past
+-- a fault, except for what a wrong pointer or identifier leads to.
 use Rattle.std.specs.Prelude.{◌≡◌, ◌≢◌, ◌⊎◌, ℕ, ◌+◌, ◌*◌, ◌/◌, ◌<◌, ◌≤◌, Bool, true, false, not, ◌&&◌, ◌==◌}
-use Rattle.std.specs.Prelude.{if◌then◌else◌, List, [], ◌∷◌, ◌++◌, length, filter, get_or, slice_get, count_by, Option, Some, None}
+use Rattle.std.specs.Prelude.{if◌then◌else◌, List, [], ◌∷◌, ◌++◌, length, filter, get_or, slice_get, count_by}
+use Rattle.std.specs.Prelude.{Option, Some, None}
 use Rattle.std.specs.List.{range_with_len}
 use Rattle.cfs_base.specs.Codes as codes
 use Rattle.cfs_base.specs.Disk.{Image, block_at}
@@ -30,7 +31,7 @@ use Rattle.vol_image.specs.Reading.{object_with, leaf_in}
 
 -- ---- how an object is read
 
--- the commit bit stands, in an entry that is the block's own
+-- the commit bit is set, in an entry that is the block's own
 abbrev pub has_own_bit : ℕ → Option EntryPart → Bool
 has_own_bit r None = false
 has_own_bit r (Some p) = p.committed && (p.owner == r)
@@ -40,7 +41,7 @@ unfoldable pub standing : Image → ℕ → List ℕ
 standing image r = if has_own_bit r (part_at image r) then filter (λ n. stands_for r (entry_in image n))
     (range_with_len 0 (length image)) else []
 
--- the one that stands, and else the root: of several none is taken
+-- the one shadow root that stands for the object, and else the root; of several none is taken
 abbrev pub one_or : ℕ → List ℕ → ℕ
 one_or r [] = r
 one_or r (s ∷ []) = s
@@ -65,7 +66,7 @@ pub record IsSameSort (own root : Root) : Type 0 where
   pub kind : root.kind ≡ own.kind
   pub word : root.word ≡ own.word
 
--- The block from which the object is read is a root, and so is its root block, of the same kind and word.
+-- The block from which the object is read is a root, and its root block is a root of the same kind and word.
 pub record IsShownRoot (image : Image) (r : ℕ) (root : Root) : Type 0 where
   pub own : Root
   pub own_spelled : IsRootBlock (block_at image r) own
@@ -90,7 +91,7 @@ pub record HasLabel (image : Image) (label : Label) : Type 0 where
   pub is_label : labels.IsLabel label
   pub spelled : block_at image 1 ≡ labels.spelling label
 
--- an identifier names a root block of its word, or a block that holds no root
+-- an identifier names a root block of its word; or a block that holds no root
 pub record NamesRoot (image : Image) (x : Puid) : Type 0 where
   pub some : x.block ≢ 0
   pub on_disk : x.block < length image
@@ -100,7 +101,8 @@ abbrev pub NamesNothing : Image → Puid → Type 0
 NamesNothing image x = (x.block ≡ 0)
     ⊎ ((length image ≤ x.block) ⊎ ((root : Root) × IsRootBlock (block_at image x.block) root × (root.word ≢ x.word)))
 
--- The rooted objects: the root index, and those that a slot of one that is shown names. What names nothing isn't followed.
+-- The rooted objects: the root index, and those that are named by a slot of a rooted object that is shown. An
+-- identifier that names nothing isn't followed.
 pub data IsReachedIn (image : Image) : Puid → Type 0 where
   TheRoot : (label : Label) → HasLabel image label → IsReachedIn image label.root
   Next : (i x : Puid) (root : Root) (o : Object) → IsReachedIn image i → Shows image i.block root o
@@ -114,14 +116,14 @@ pub record IsShownGraph (image : Image) (g : Graph) : Type 0 where
 
 -- ---- the blocks of one object
 
--- a block of the disk is used by the object with this root block, at a place of it
+-- the object with this root block uses a block of the disk, at one of its places
 pub data IsUsed (image : Image) (r : ℕ) : Place → ℕ → Type 0 where
   AsRoot : IsUsed image r places.Root r
   InTree : (root : Root) (o : Object) (path : List ℕ) (h : Held) → Shows image r root o
       → (shown_tree image r).below path ≡ Some h → h.block < length image
       → IsUsed image r (place_at (levels_of (shown_root image r)) path) h.block
 
--- the block with the pointer at the end of a path: that of the root for the first
+-- the block that has the pointer at the end of a path: for the first pointer that of the root
 abbrev pub holder : Image → ℕ → List ℕ → ℕ
 holder image r [] = reader image r
 holder image r (k ∷ path) = tree_of image (shown_root image r) (k ∷ path)
@@ -132,7 +134,7 @@ pub record HasLeaf (image : Image) (r : ℕ) (root : Root) (o : Object) (leaf : 
   pub here : leaf_in (shown_tree image r) leaf ≡ Some h
   pub on_disk : h.block < length image
 
--- block s is no root, or one of another kind or word than root block r
+-- block s is no root, or a root of another kind or word than root block r
 abbrev pub IsOtherShadow : Image → (r s : ℕ) → Type 0
 IsOtherShadow image r s = (shadow : Root) → IsRootBlock (block_at image s) shadow
     → (own : Root) × IsRootBlock (block_at image r) own × (shadow.kind ≡ own.kind → shadow.word ≢ own.word)
@@ -140,9 +142,9 @@ IsOtherShadow image r s = (shadow : Root) → IsRootBlock (block_at image s) sha
 -- ---- the faults of one object, each with its number and the block that it names
 
 pub data ObjectFault (image : Image) (r : ℕ) : ℕ → ℕ → Type 0 where
-  -- the root block is none
+  -- the root block is no root
   NoRoot : HasNoRoot (block_at image r) → ObjectFault image r codes.no_root r
-  -- a shadow root that stands is none, or of another kind or word than the root
+  -- a shadow root that stands for it is no root, or one of another kind or word than the root
   NoShadow : (s : ℕ) → has_number s (standing image r) ≡ true → IsOtherShadow image r s
       → ObjectFault image r codes.no_root s
   -- a pointer leads past the disk
@@ -152,7 +154,7 @@ pub data ObjectFault (image : Image) (r : ℕ) : ℕ → ℕ → Type 0 where
   -- the entry of a block that it uses is Free, or has another owner or place
   NotOwned : (place : Place) (n : ℕ) → IsUsed image r place n → ¬ BelongsTo r place (part_at image n)
       → ObjectFault image r codes.not_owned n
-  -- an identifier in a slot names no object; or the root index is none of 64 slots
+  -- an identifier in a slot names no object, or the root index is no index of 64 slots
   SlotNamesNothing : (x : Puid) (root : Root) (index : Index) (s : ℕ) (h : Held)
       → HasLeaf image r root (objects.Index index) (s / LEAF_SLOTS) h
       → slice_get index.slots s ≡ Some (Some x) → NamesNothing image x
@@ -164,7 +166,7 @@ pub data ObjectFault (image : Image) (r : ℕ) : ℕ → ℕ → Type 0 where
   -- a leaf is held at or past the size
   PastSize : (root : Root) (o : Object) (leaf : ℕ) (h : Held) → HasLeaf image r root o leaf h
       → leaves_in root.size ≤ leaf → ObjectFault image r codes.late_leaf h.block
-  -- a byte past the size is no fill byte
+  -- a byte past the size is not the fill byte
   NotFilled : (root : Root) (o : Object) (leaf i : ℕ) (h : Held) → HasLeaf image r root o leaf h
       → i < 512 → root.size ≤ 512 * leaf + i → get_or h.content i 0 ≢ root.fill
       → ObjectFault image r codes.late_byte h.block
@@ -184,7 +186,7 @@ pub record IsKeptBlock (image : Image) (n : ℕ) : Type 0 where
   pub reached : IsReachedIn image id
   pub used : IsUsed image id.block place n
 
--- So many blocks are left: those that are no map block, not the label, and not kept.
+-- This many blocks are left that are no map block, not the label, and not kept.
 pub record LeavesBlocks (image : Image) (left : ℕ) : Type 0 where
   pub taken : List Bool
   pub size : length taken ≡ length image
@@ -193,10 +195,10 @@ pub record LeavesBlocks (image : Image) (left : ℕ) : Type 0 where
   pub count : left ≡ count_by not taken
 
 pub data Fault (image : Image) : ℕ → ℕ → Type 0 where
-  -- the label's cylinders are not the disk's
+  -- the label has another number of cylinders than the disk
   WrongSize : (label : Label) → HasLabel image label → 64 * label.cylinders ≢ length image
       → Fault image codes.wrong_size 1
-  -- an entry of a map is none, or of a root whose owner is another block
+  -- the bytes of a map's entry spell no entry, or one of a root whose owner is another block
   NoEntry : (n : ℕ) → n < length image → entry_in image n ≡ None → Fault image codes.no_entry (map_of n)
   RootOfAnother : (n : ℕ) (e : MapEntry) → entry_in image n ≡ Some e → e.place ≡ Some places.Root → e.owner ≢ n
       → Fault image codes.no_entry (map_of n)

@@ -11,7 +11,7 @@ use Rattle.vol_image.specs.Part.{SameAt, RootsOwnThemselves, part_at, part_of, i
 use Rattle.vol_image.specs.Seen.{Held}
 use Rattle.vol_image.specs.Sight.{source, sight}
 
--- a block of the object with this root block: the root, the block by which it is read, or one that this leads to
+-- a block of the object with this root block: the root, the block by which it is read, or one to which that leads
 abbrev pub IsBlockOf : Image → ℕ → ℕ → Type 0
 IsBlockOf image r n = (n ≡ r)
     ⊎ ((n ≡ source image r)
@@ -21,7 +21,7 @@ IsBlockOf image r n = (n ≡ r)
 abbrev pub IsHeldBy : Image → Graph → ℕ → Type 0
 IsHeldBy image g n = (id : Puid) × (o : Object) × (object_at g id ≡ Some o) × IsBlockOf image id.block n
 
--- Image b is within the frame of image a: it differs nowhere that a reading of a as this graph looks.
+-- Image b is within the frame of image a: it doesn't differ where a reading of a as this graph looks.
 pub record Frames (a : Image) (g : Graph) (b : Image) : Type 0 where
   pub size : length b ≡ length a
   pub maps : AreMaps b
@@ -29,29 +29,30 @@ pub record Frames (a : Image) (g : Graph) (b : Image) : Type 0 where
   pub label : block_at b 1 ≡ block_at a 1
   pub fixed : (n : ℕ) → is_fixed n ≡ true → entry_in b n ≡ entry_in a n
   pub held : (n : ℕ) → IsHeldBy a g n → SameAt a b n
-  -- the same shadow roots stand for the objects whose commit bit does
+  -- the same shadow roots stand for the objects whose commit bit is set
   pub standing : (id : Puid) (o : Object) → object_at g id ≡ Some o → is_committed (part_at a id.block) ≡ true
       → (n : ℕ) → stands_for id.block (entry_in b n) ≡ stands_for id.block (entry_in a n)
 
--- no map block, not the label, and of no object of the graph
+-- the block is no map block, not the label, and not of any object of the graph
 pub record IsLoose (image : Image) (g : Graph) (n : ℕ) : Type 0 where
   pub apart : is_fixed n ≡ false
   pub unheld : ¬ IsHeldBy image g n
 
--- a block with this entry is no shadow root of an object of the graph whose commit bit stands
+-- a block with this entry is no shadow root of an object of the graph whose commit bit is set
 abbrev pub StandsForNone : Image → Graph → MapEntry → Type 0
 StandsForNone image g e = (id : Puid) (o : Object) → object_at g id ≡ Some o
     → is_committed (part_at image id.block) ≡ true → stands_for id.block (Some e) ≡ false
 
--- One entry may come in place of another: the block is no map block and not the label, a block that is held keeps its
--- part, and no shadow root of an object whose commit bit stands is made or ended.
+-- One entry may take the place of another: the block is no map block and not the label, a block that is held keeps
+-- its part, and no shadow root of an object whose commit bit is set is made or ended.
 pub record MayChange (image : Image) (g : Graph) (n : ℕ) (old new : Option MapEntry) : Type 0 where
   pub apart : is_fixed n ≡ false
   pub keeps : IsHeldBy image g n → part_of new ≡ part_of old
   pub standing : (id : Puid) (o : Object) → object_at g id ≡ Some o → is_committed (part_at image id.block) ≡ true
       → stands_for id.block new ≡ stands_for id.block old
 
--- Image b has the blocks of image c but for its maps, in which each entry is the same or may come in place of that one.
+-- Image b has the blocks of image c except its maps, in which each entry is the same or may take the place of the old
+-- one.
 pub record ChangesMaps (image : Image) (g : Graph) (c b : Image) : Type 0 where
   pub size : length b ≡ length c
   pub maps : AreMaps b

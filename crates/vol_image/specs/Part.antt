@@ -1,4 +1,5 @@
--- The part that a block plays in an object: what its entry says of it, but for the state, as long as it isn't Free.
+-- The part that a block plays in an object: what its entry says of it, except for the state, as long as it isn't
+-- Free.
 use Rattle.std.specs.Prelude.{◌≡◌, ◌≢◌, ℕ, Bool, true, false, ◌&&◌, ◌||◌, ◌==◌, ◌%◌, Option, Some, None}
 use Rattle.cfs_base.specs.Disk.{Image, block_at}
 use Rattle.cfs_base.specs.declared.kind.Place.{Place}
@@ -23,23 +24,23 @@ abbrev pub part_of : Option MapEntry → Option EntryPart
 part_of None = None
 part_of (Some e) = part_in e.state e.committed e.place e.owner
 
--- the part of a block, none where the block is Free
+-- the part of a block, or none if the block is Free
 abbrev pub part_at : Image → ℕ → Option EntryPart
 part_at image n = part_of (entry_in image n)
 
--- the block is of this object, at this place of it
+-- the block has this owner, and this place in it
 pub record BelongsTo (owner : ℕ) (place : Place) (part : Option EntryPart) : Type 0 where
   pub is : EntryPart
   pub here : part ≡ Some is
   pub owner_is : is.owner ≡ owner
   pub place_is : is.place ≡ Some place
 
--- the commit bit stands
+-- the commit bit is set
 abbrev pub is_committed : Option EntryPart → Bool
 is_committed None = false
 is_committed (Some p) = p.committed
 
--- an entry of a root is that of its own block
+-- the entry of a root has the root's own block as its owner
 abbrev pub OwnsItself : ℕ → MapEntry → Type 0
 OwnsItself n e = e.place ≡ Some Root → e.owner ≡ n
 
@@ -57,7 +58,7 @@ pub record SameAt (a b : Image) (n : ℕ) : Type 0 where
 abbrev pub is_fixed : ℕ → Bool
 is_fixed n = (n % 64 == 0) || (n == 1)
 
--- the entry of these
+-- the entry of such a block
 abbrev pub reserved : MapEntry
 reserved = record { state = Allocated; committed = false; place = None; owner = 0 }
 
@@ -82,9 +83,9 @@ abbrev pub stands_for : ℕ → Option MapEntry → Bool
 stands_for r None = false
 stands_for r (Some e) = is_intended e.state && (is_shadow_place e.place && (e.owner == r))
 
--- ---- blocks of somebody
+-- ---- blocks that somebody owns
 
--- the block's entry is that of a block of this owner
+-- the block's entry has this owner
 pub record IsTaken (image : Image) (n owner : ℕ) : Type 0 where
   pub is : MapEntry
   pub here : entry_in image n ≡ Some is

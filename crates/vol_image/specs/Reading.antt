@@ -1,4 +1,4 @@
--- The object that a tree gives, and when a tree is one.
+-- The object that a tree gives, and when a tree is one of an object.
 use Rattle.std.specs.Prelude.{◌≡◌, ℕ, ◌+◌, ◌*◌, ◌/◌, ◌<◌, ◌≤◌, ◌==◌, ◌&&◌, if◌then◌else◌, is_some, IsTrue, List, []}
 use Rattle.std.specs.Prelude.{◌∷◌, ◌++◌, length, take, replicate, get_or, map, filter, Option, Some, None}
 use Rattle.std.specs.List.{flat_map, range_with_len}
@@ -18,16 +18,16 @@ use Rattle.vol_image.specs.Seen.{Held, Tree, place_at}
 
 -- ---- the object
 
--- the leaf with this number, where it is held
+-- the leaf with this number, if it is held
 abbrev pub leaf_in : Tree → ℕ → Option Held
 leaf_in tree leaf = tree.below (path_to (levels_of tree.root) leaf)
 
--- the 512 bytes of a leaf: fill bytes where it is absent, or leads past the disk
+-- the 512 bytes of a leaf: fill bytes if it is absent, or leads past the disk
 abbrev pub leaf_content : ℕ → Option Held → List ℕ
 leaf_content fill None = replicate 512 fill
 leaf_content fill (Some h) = take 512 (h.content ++ replicate 512 fill)
 
--- the bytes of so many leaves
+-- the bytes of these leaves
 abbrev pub leaves_content : ℕ → (ℕ → Option Held) → List ℕ → List ℕ
 leaves_content fill leaf leaves = flat_map (λ n. leaf_content fill (leaf n)) leaves
 
@@ -64,16 +64,16 @@ object_with root leaf = elim root.kind [
       })
 ]
 
--- what a root reads as where nothing stands below it
+-- what a root reads as if nothing is below it
 abbrev pub bare_object : Root → Object
 bare_object root = object_with root (λ n. None)
 
--- ---- when a tree is one
+-- ---- when a tree is one of an object
 
--- the tree of an object with this root block, on a disk of so many blocks. Beside each: the number of the fault where
--- it doesn't hold
+-- The tree of an object with this root block, on a disk with a number of blocks. Each condition begins with the
+-- number of the fault if it doesn't hold.
 pub record IsTree (size owner : ℕ) (tree : Tree) (root : Root) (o : Object) : Type 0 where
-  -- 3: the root is one
+  -- 3: the root is valid
   pub spelled : IsRootBlock tree.root root
   pub object : object_with root (leaf_in tree) ≡ o
   -- 4: each pointer leads to a block of the disk

@@ -6,8 +6,8 @@ use Rattle.ufs_model.specs.Graph.{Graph}
 use Rattle.vol_image.specs.Sound.{Holds}
 use Rattle.vol_image.specs.Frame.{Frames}
 
--- a run from `start` has come to `now` with no failure within the frame of image a: its content, what a crash leaves
--- now, and what one on the way left
+-- A run from `start` has come to `now` without a failure within the frame of image a: its content is, what a crash
+-- leaves now, and what a crash on the way left.
 pub record Within {D : Type 0} (g : Ghosts D) (a : Image) (graph : Graph) (start now : D) : Type 0 where
   pub tells : Tells g now
   pub content : Frames a graph (g.content now)
@@ -15,7 +15,7 @@ pub record Within {D : Type 0} (g : Ghosts D) (a : Image) (graph : Graph) (start
   pub leaves : Leaves g start now (Frames a graph)
 
 -- The disk tells that it holds these objects, and whatever a crash leaves now is within their frame. Writes of other
--- blocks may be pending.
+-- blocks may wait for a barrier.
 pub record Carries {D : Type 0} (g : Ghosts D) (graph : Graph) (d : D) : Type 0 where
   pub tells : Tells g d
   pub holds : Holds (g.content d) graph

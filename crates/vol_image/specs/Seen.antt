@@ -1,4 +1,4 @@
--- A tree as it is seen: at the end of each path of pointers the block that stands there, with its part and content.
+-- A tree as it is seen: at the end of each path of pointers the block that is there, with its part and content.
 use Rattle.std.specs.Prelude.{ℕ, zero, suc, ◌+◌, ◌*◌, List, [], ◌∷◌, Option, Some, None}
 use Rattle.cfs_base.specs.Disk.{Image, block_at}
 use Rattle.cfs_base.specs.declared.kind.Place.{Place}
@@ -18,7 +18,7 @@ abbrev pub held_at : Image → ℕ → Option Held
 held_at image zero = None
 held_at image (suc n) = Some (record { block = suc n; part = part_at image (suc n); content = block_at image (suc n) })
 
--- the content of a root, and what stands at the end of each path below it
+-- the content of a root, and what is at the end of each path below it
 pub record Tree : Type 0 where
   pub root : List ℕ
   pub below : List ℕ → Option Held
@@ -27,7 +27,7 @@ pub record Tree : Type 0 where
 abbrev pub tree_in : Image → List ℕ → Tree
 tree_in image root = record { root = root; below = λ path. held_at image (tree_of image root path) }
 
--- ---- the place of a path: the kind by the levels below its end, the number by all the pointers on the way
+-- ---- the place of a path: its kind by the levels below its end, its number by all the pointers on the way
 
 abbrev pub place_above : List Level → ℕ → Place
 place_above [] n = Leaf n

@@ -6,7 +6,7 @@ use Rattle.cyl_map.specs.Volume.{entry_in}
 use Rattle.vol_image.specs.Part.{EntryPart, part_at, is_committed, stands_for}
 use Rattle.vol_image.specs.Seen.{Tree, tree_in}
 
--- the shadow roots that stand for an object, where its commit bit does
+-- the shadow roots that stand for an object, if its commit bit is set
 unfoldable pub shadows : Image → ℕ → List ℕ
 shadows image r = if is_committed (part_at image r) then filter (λ n. stands_for r (entry_in image n))
     (range_with_len 0 (length image)) else []
@@ -15,15 +15,15 @@ abbrev pub first_or : ℕ → List ℕ → ℕ
 first_or r [] = r
 first_or r (s ∷ ss) = s
 
--- the block by which the object is read: its shadow root where one stands, else its root
+-- the block by which the object is read: its shadow root if one stands for it, else its root
 abbrev pub source : Image → ℕ → ℕ
 source image r = first_or r (shadows image r)
 
--- the tree by which it is read
+-- the tree by which the object is read
 abbrev pub source_tree : Image → ℕ → Tree
 source_tree image r = tree_in image (block_at image (source image r))
 
--- the root's part and content, the shadow roots that stand, and the tree by which the object is read
+-- the root's part and content, the shadow roots that stand for it, and the tree by which the object is read
 pub record Sight : Type 0 where
   pub part : Option EntryPart
   pub root : List ℕ

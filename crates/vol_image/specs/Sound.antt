@@ -1,4 +1,4 @@
--- Sound images, and the graph as which one reads.
+-- Sound images, and the graph as which an image reads.
 use Rattle.std.specs.Prelude.{◌≡◌, ℕ, ◌+◌, ◌*◌, ◌/◌, ◌<◌, ◌≤◌, true, false, List, length, filter, replicate, Some}
 use Rattle.cfs_base.specs.Disk.{Image, block_at}
 use Rattle.cfs_base.specs.declared.identifier.Puid.{Puid}
@@ -22,18 +22,18 @@ use Rattle.vol_image.specs.Part.{BelongsTo, RootsOwnThemselves, part_at, is_fixe
 use Rattle.vol_image.specs.Reading.{IsTree}
 use Rattle.vol_image.specs.Sight.{Sight, sight}
 
--- ---- one object. Beside each condition: the number of the fault where it doesn't hold
+-- ---- one object, where each condition begins with the number of the fault if it doesn't hold
 
 -- what is seen of the object with this identifier is well-formed, and reads as this object
 pub record ReadsAs (size : ℕ) (id : Puid) (seen : Sight) (o : Object) : Type 0 where
   -- 5: the root block has the part of a root
   pub part : BelongsTo id.block Root seen.part
-  -- 3: the root is one
+  -- 3: the root is valid
   pub root : roots.Root
   pub spelled : IsRootBlock seen.root root
   -- 6: it has the identifier's word
   pub word : root.word ≡ id.word
-  -- 7: one shadow root stands at most
+  -- 7: at most one shadow root stands for it
   pub one_shadow : length seen.standing ≤ 1
   -- 3: the object is read by a root of the same kind and word
   pub source : roots.Root
@@ -41,7 +41,7 @@ pub record ReadsAs (size : ℕ) (id : Puid) (seen : Sight) (o : Object) : Type 0
   pub same_word : source.word ≡ root.word
   pub tree : IsTree size id.block seen.tree source o
 
--- The root of a new object: the block is entered as its own root, and spells a root with no node.
+-- The root of a new object: the block's entry has it as its own root, and it spells a root with no node.
 pub record IsBareRoot (image : Image) (id : Puid) (root : roots.Root) : Type 0 where
   pub part : part_at image id.block ≡ Some (record { committed = false; place = Some Root; owner = id.block })
   pub spelled : IsRootBlock (block_at image id.block) root
@@ -61,7 +61,7 @@ pub record IsLabelOf (size : ℕ) (id : Puid) (block : List ℕ) : Type 0 where
 -- The image has each object of this graph, rooted or not, and a label that names its root.
 pub record Holds (image : Image) (g : Graph) : Type 0 where
   pub label : IsLabelOf (length image) g.root (block_at image 1)
-  -- 2: each entry is one, and a root's is that of its own block
+  -- 2: the bytes of each entry spell one, and a root's has its own block as the owner
   pub maps : AreMaps image
   pub own : RootsOwnThemselves image
   -- 5: the map blocks and the label are reserved
@@ -76,7 +76,7 @@ LeavesFour size g = graph_blocks g + 5 ≤ 63 * (size / 64)
 pub record IsSoundAs (image : Image) (g : Graph) : Type 0 where
   pub holds : Holds image g
   pub graph : IsClosedGraph g
-  -- nothing but what is reached from the root
+  -- the graph has only what is reached from the root
   pub reached : (x : Puid) → is_there g x ≡ true → is_among x (rooted g) ≡ true
   pub room : LeavesFour (length image) g
 

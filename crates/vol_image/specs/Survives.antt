@@ -1,4 +1,4 @@
--- Which images are left of a run by a crash.
+-- The images that a crash may leave of a run.
 use Rattle.std.specs.Prelude.{◌≡◌, ◌⊎◌, ℕ, ◌*◌, ◌<◌, true, List, ◌++◌, length, take, drop, replicate, slice_get, Option}
 use Rattle.std.specs.Prelude.{Some, None}
 use Rattle.cfs_base.specs.Disk.{Image}
@@ -28,7 +28,7 @@ use Rattle.vol_image.specs.Sound.{IsSoundAs, rooted_part}
 abbrev pub leaf_of_file : File → ℕ → List ℕ
 leaf_of_file f leaf = take 512 (drop (512 * leaf) f.bytes ++ replicate 512 f.fill)
 
--- each leaf and the size are those of the one file or of the other
+-- each leaf and the size are those of one file or of the other
 pub record IsBetween (old new f : File) : Type 0 where
   pub kind : f.kind ≡ old.kind
   pub fill : f.fill ≡ old.fill
@@ -51,7 +51,7 @@ change_of (asks.Write file offset bytes) = Some (Overwrite offset bytes)
 change_of (asks.Size file) = None
 change_of (asks.Resize file size) = Some (SetSize size)
 
--- the request is not refused, and changes a normal file in place, from the one to the other
+-- the request is not refused, and changes a normal file in place, from the old one to the new one
 pub record ChangesInPlace (s : State) (who : ℕ) (request : Request) (id : Puid) (old new : File) : Type 0 where
   pub allowed : refusal_of s who request ≡ None
   pub named_is : named s who (target request) ≡ Some id
@@ -63,17 +63,17 @@ pub record ChangesInPlace (s : State) (who : ℕ) (request : Request) (id : Puid
 
 -- ---- what may be read
 
--- the server did it, or may have
+-- the server did it, or may have done it
 abbrev pub IsDoneOrInDoubt : Reply → Type 0
 IsDoneOrInDoubt r = (r ≡ replies.Done) ⊎ ((moment : ℕ) × (r ≡ replies.Disk (Some moment)))
 
--- a create names a block of its own; other requests name none
+-- a create names a block of its own, and other requests name none
 abbrev pub MayName : State → Request → ℕ → Type 0
 MayName s request b = creates request ≡ true → is_free_root s.graph b ≡ true
 
 -- the graphs whose rooted part may be read after m events of a trail
 pub data MayRead (seed : ℕ) (g : Graph) (trail : List Event) (m : ℕ) : Graph → Type 0 where
-  -- that of these events
+  -- the graph after these events
   Whole : (s : State) → replay seed g (take m trail) ≡ Some s → MayRead seed g trail m s.graph
   -- the next event was under way, and changes a normal file in place
   CutShort : (s : State) (who : ℕ) (request : Request) (reply : Reply) (id : Puid) (old new f : File)
@@ -85,7 +85,7 @@ pub data MayRead (seed : ℕ) (g : Graph) (trail : List Event) (m : ℕ) : Graph
   Done : (s : State) (k who b moment : ℕ) (request : Request) → k < m → replay seed g (take k trail) ≡ Some s
       → slice_get trail k ≡ Some (events.Ask who request (replies.Disk (Some moment))) → refusal_of s who request ≡ None
       → MayName s request b → MayRead seed g trail m (outcome_of seed s who request b).1.graph
-  -- or was cut short
+  -- a request among these events is in doubt, and was cut short
   CutInDoubt : (s : State) (k who moment : ℕ) (request : Request) (id : Puid) (old new f : File) → k < m
       → replay seed g (take k trail) ≡ Some s
       → slice_get trail k ≡ Some (events.Ask who request (replies.Disk (Some moment)))

@@ -1,4 +1,4 @@
-//! What is proved of images, as contracts. None of these calls does anything.
+//! What is proved of images, as contracts of functions that do nothing.
 ghost use Rattle.std.specs.Prelude.{◌≡◌, ◌≢◌, ℕ, ◌<◌, ◌%◌, ◌*◌, List, [], ◌∷◌, length, set, true, false, Some};
 ghost use Rattle.cfs_base.specs.Disk.{Image, block_at};
 ghost use Rattle.cfs_base.specs.declared.identifier.Puid.{Puid};
@@ -24,7 +24,7 @@ ghost use Rattle.vol_image.specs.Seen.{Held, tree_in};
 ghost use Rattle.vol_image.specs.Sight.{sight, source};
 ghost use Rattle.vol_image.specs.Sound.{Holds, IsBareRoot, IsClosedGraph, IsSoundAs, LeavesFour, ReadsAs, rooted_part};
 
-/// One entry written changes that entry and no other, and no block but its map.
+/// Writing one entry changes that entry and no other, and no block except its map.
 pub fn entry_written()
     ensures here { (image : Image) (n : ℕ) (e old : MapEntry) → entry_in image n ≡ Some old → IsEntry e
         → entry_in (with_entry image n e) n ≡ Some e }
@@ -43,7 +43,8 @@ pub fn law_of_frames()
     ensures holds { (a b : Image) (g : Graph) → Holds a g → Frames a g b → Holds b g }
 {}
 
-/// Frames compose and go back, and a block that is written within a frame may be written into each image of it.
+/// Frames compose and can be reversed, and a block that is written within a frame may be written into each image of
+/// it.
 pub fn frames_compose()
     ensures begin { (a : Image) (g : Graph) → Holds a g → Frames a g a }
     ensures then { (a b c : Image) (g : Graph) → Frames a g b → Frames b g c → Frames a g c }
@@ -66,7 +67,7 @@ pub fn loose_blocks_change()
         → entry_in c n ≡ Some old → IsEntry e → OwnsItself n e → StandsForNone a g e → StandsForNone a g old
         → Frames a g (with_entry c n e) }
     ensures none { (a : Image) (g : Graph) (e : MapEntry) → e.state ≡ Free → StandsForNone a g e }
-    // Of any block that isn't Free, held or not, the state may change to another than Free.
+    // The state of any block that isn't Free, held or not, may become any other than Free.
     ensures state { (a : Image) (g : Graph) (c : Image) (n : ℕ) (old : MapEntry) (s : BlockState) → Holds a g
         → Frames a g c
         → is_fixed n ≡ false → entry_in c n ≡ Some old → old.state ≢ Free → s ≢ Free
@@ -80,18 +81,20 @@ pub fn maps_change()
     ensures { (a : Image) (g : Graph) (c b : Image) → Holds a g → Frames a g c → ChangesMaps a g c b → Frames a g b }
 {}
 
-/// A block with the owner of an object at rest that isn't Allocated, as what a draft claimed, is none of the object's.
+/// A block whose owner is an object at rest, and that isn't Allocated, as what a draft claimed, is none of the
+/// object's.
 pub fn claims_are_loose()
     ensures loose { (a : Image) (g : Graph) (r n : ℕ) → Holds a g → IsAtRest a r → (taken : IsTaken a n r)
         → taken.is.state ≢ Allocated → IsLoose a g n }
-    // What is loose is so in each image of the frame, and an object stays at rest where the entries of its blocks stay.
+    // A loose block is loose in each image of the frame, and an object stays at rest if the entries of its blocks
+    // stay.
     ensures stays { (a b : Image) (g : Graph) (n : ℕ) → Frames a g b → IsLoose a g n → IsLoose b g n }
     ensures rest { (a b : Image) (g : Graph) (id : Puid) (o : Object) → object_at g id ≡ Some o → Frames a g b
         → IsAtRest a id.block → ((n : ℕ) → IsBlockOf a id.block n → entry_in b n ≡ entry_in a n) → IsAtRest b id.block }
 {}
 
 /// One object may change while all others stay: its blocks are loose for the others, and an image within their frame
-/// has it as it is then seen.
+/// has it as it is seen there.
 pub fn one_object_changes()
     ensures loose { (a : Image) (g : Graph) (id : Puid) (was : Object) (n : ℕ) → Holds a g → object_at g id ≡ Some was
         → IsTaken a n id.block → IsLoose a (without g (id ∷ [])) n }
@@ -105,7 +108,7 @@ pub fn objects_are_made()
         → ReadsAs (length a) id (sight a id.block) (bare_object root) }
     ensures holds { (a b : Image) (g : Graph) (id : Puid) (o : Object) → Holds a g → Frames a g b
         → ReadsAs (length b) id (sight b id.block) o → Holds b (with_object g id o) }
-    // An image that holds objects holds any of them alone.
+    // An image that holds objects also holds any part of them.
     ensures fewer { (a : Image) (g h : Graph) → Holds a g → h.root ≡ g.root
         → ((x : Puid) (o : Object) → object_at h x ≡ Some o → object_at g x ≡ Some o) → Holds a h }
     ensures index { (root : roots.Root) (slots : ℕ) → root.kind ≡ kinds.Index → root.fill ≡ 0 → root.size ≡ 8 * slots
@@ -116,7 +119,7 @@ pub fn objects_are_made()
         → bare_object root ≡ objects.File (new_file file_kinds.Special root.fill) }
 {}
 
-/// Once the commit bit is set the object is its draft; once the draft's root is copied it still is.
+/// Once the commit bit is set the object is its draft, and it still is once the draft's root is copied.
 pub fn commit_sets_the_bit()
     ensures bit { (a : Image) (g : Graph) (id : Puid) (was o : Object) (e : MapEntry) (s : ℕ) → Holds a g
         → object_at g id ≡ Some was
@@ -148,7 +151,7 @@ pub fn settling_keeps()
         → Settles c g id s b → Settles c g id s (set content n block) → Settles c g id s (set b n block) }
 {}
 
-/// An image reads as one graph at most.
+/// An image reads as at most one graph.
 pub fn one_reading()
     ensures { (a : Image) (g h : Graph) → IsSoundAs a g → IsSoundAs a h → g ≡ h }
 {}
@@ -159,7 +162,7 @@ pub fn rooted_part_is_read()
         → IsSoundAs image (rooted_part g) }
 {}
 
-/// The blocks of an object by the model are those that its tree holds, level by level, and each stands at one path.
+/// The blocks of an object by the model are those that its tree holds, level by level, and each is at one path.
 pub fn blocks_are_those_held()
     ensures levels { (image : Image) (size owner : ℕ) (content : List ℕ) (root : roots.Root) (o : Object)
         → IsTree size owner (tree_in image content) root o

@@ -1,13 +1,14 @@
--- Which labels there are, and the 512 bytes of each.
-use Rattle.std.specs.Prelude.{◌≡◌, ◌≢◌, ℕ, ◌<◌, ◌≤◌, ◌^◌, Bool, true, false, ◌||◌, ◌==◌, List, ◌++◌, take, drop, replicate, codes}
+-- The labels that there are, and the 512 bytes of each.
+use Rattle.std.specs.Prelude.{◌≡◌, ◌≢◌, ℕ, ◌<◌, ◌≤◌, ◌^◌, Bool, true, false, ◌||◌, ◌==◌, List, ◌++◌, take, drop}
+use Rattle.std.specs.Prelude.{replicate, codes}
 use Rattle.std.specs.Int.{to_be_bytes, from_be_bytes, w32}
 use Rattle.vol_label.specs.declared.label.Label.{Label}
 
--- the versions that are read: volumes of the first have no wide objects
+-- the versions that are read; volumes of the first have no wide objects
 abbrev pub is_version : ℕ → Bool
 is_version n = (n == 1) || (n == 2)
 
--- a volume has 1 to 65,536 cylinders, and the root index stands in block 2
+-- a volume has 1 to 65,536 cylinders, and the root index is in block 2
 pub record IsLabel (label : Label) : Type 0 where
   pub version : is_version label.version ≡ true
   pub some : 1 ≤ label.cylinders

@@ -8,39 +8,40 @@ use thiserror::Error;
 /// What the label of a volume says.
 #[derive(Clone, Copy, Debug, PartialEq, Eq)]
 pub struct Label {
-    /// How many cylinders of 64 blocks there are.
+    /// The number of cylinders, of 64 blocks each.
     pub cylinders: u32,
     /// The root index, whose root block is block 2.
     pub root: Puid,
-    /// 1, or 2 where objects may be wide.
+    /// 1, or 2 if objects may be wide.
     pub version: u32,
 }
 
 /// Why a block is no label that is read here.
 #[derive(Clone, Copy, Debug, PartialEq, Eq, Error)]
 pub enum LabelFault {
+    /// The block is no label.
     #[error("not a volume")]
     NotVolume,
-    /// A label of another version than 1 and 2.
+    /// A label of a version other than 1 and 2.
     #[error("a volume of version {found}")]
     Version { found: u32 },
 }
 
-/// What each volume begins with.
+/// The bytes with which each volume begins.
 const MAGIC: [u8; 4] = *b"CFS1";
 /// The version of a volume that is made now.
 pub const NEWEST: u32 = 2;
-/// A volume has at least one cylinder, and at most so many.
+/// The most cylinders that a volume may have. It has at least one.
 const MOST_CYLINDERS: u32 = 65_536;
 /// The root block of the root index.
 const ROOT_BLOCK: u32 = 2;
 
 impl Label {
-    /// The label that this block spells.
+    /// Returns the label that this block spells.
     pub fn decode(block: &Block) -> Result<Label, LabelFault>
-        // What is read is a label, and spelled so.
+        // What is read is a label, and the block spells it.
         ensures read { IfOk result (λ label. spec.IsLabel label × (block.now ≡ spec.spelling label)) }
-        // What is spelled so is read.
+        // A block that spells a label is read as that label.
         ensures only { (label : Label) → spec.IsLabel label → block.now ≡ spec.spelling label → result ≡ Ok label }
         ensures version { (found : ℕ) →
             (result ≡ Err (LabelFault.Version found)) ↔ spec.IsOtherVersion block.now found }
@@ -70,7 +71,7 @@ impl Label {
         Ok(label)
     }
 
-    /// The one spelling of the label.
+    /// Returns the one spelling of the label.
     pub fn encode(&self) -> Block
         requires { spec.IsLabel self.now }
         ensures { result ≡ spec.spelling self.now }
@@ -84,7 +85,7 @@ impl Label {
         block
     }
 
-    /// Whether a volume may have this label.
+    /// Returns whether a volume may have this label.
     fn is_one(self) -> bool
         ensures { IsTrue result ↔ spec.IsLabel self }
     {
@@ -95,7 +96,7 @@ impl Label {
     }
 }
 
-/// Whether a volume of this version is read.
+/// Returns whether a volume of this version can be read.
 fn is_version(version: u32) -> bool
     ensures { result ≡ spec.is_version version }
 {

@@ -1,5 +1,5 @@
--- Each block of an image has one use, and its entry says which: Free, fixed, of the tree of one object, of one draft,
--- or of an object that is gone.
+-- Each block of an image has one use, and its entry says which: Free, fixed, or of the tree of one object, of one
+-- draft, or of an object that is gone.
 use Rattle.std.specs.Prelude.{◌≡◌, ◌⊎◌, ℕ, zero, suc, Bool, true, false, not, ◌&&◌, if◌then◌else◌, List, [], ◌∷◌}
 use Rattle.std.specs.Prelude.{length, take, get_or, filter, Option, Some, None}
 use Rattle.std.specs.List.{range_with_len}
@@ -27,7 +27,7 @@ use Rattle.vol_owners.specs.Owner.{is_stray}
 
 -- ---- an object
 
--- The blocks of the object with this root block are those that it has, and no other: none waits to be freed.
+-- The blocks of the object with this root block are exactly those that it has: none waits to be freed.
 pub record HasItsBlocks (image : Image) (r : ℕ) : Type 0 where
   pub no_bit : is_committed (part_at image r) ≡ false
   pub each : (n : ℕ) → IsBlockOf image r n → is_owned_by is_had r (entry_in image n) ≡ true
@@ -36,7 +36,7 @@ pub record HasItsBlocks (image : Image) (r : ℕ) : Type 0 where
 
 -- ---- a draft
 
--- the block stands somewhere in a tree
+-- the block is somewhere in a tree
 pub record StandsIn (tree : Tree) (n : ℕ) : Type 0 where
   pub path : List ℕ
   pub held : Held
@@ -47,12 +47,13 @@ abbrev pub passes : (ℕ → Bool) → Option Held → Bool
 passes test None = false
 passes test (Some h) = test h.block
 
--- so many levels below a root of this content the numbers of those paths that pass a test
+-- the numbers of those paths that pass a test, d levels below a root of this content
 abbrev pub numbers_at : (List ℕ → Bool) → List ℕ → ℕ → List ℕ
 numbers_at test root d =
     filter (λ k. test (path_to (take d (levels_of root)) k)) (range_with_len 0 (width (take d (levels_of root))))
 
--- of the blocks so many levels below the root those that pass a test; and level by level, from this depth up
+-- the numbers of those blocks d levels below the root that pass a test, and the same level by level, from this depth
+-- up
 abbrev pub standing_at : (ℕ → Bool) → Tree → ℕ → List ℕ
 standing_at test tree d = numbers_at (λ path. passes test (tree.below path)) tree.root d
 
@@ -60,8 +61,8 @@ abbrev pub levels_standing : (ℕ → Bool) → Tree → ℕ → List (List ℕ)
 levels_standing test tree zero = []
 levels_standing test tree (suc d) = standing_at test tree (suc d) ∷ levels_standing test tree d
 
--- What the draft of an object has of its own: a shadow root, once it has one; in memory the object's root, and the root
--- that it is to get; and the root of the object that it makes, if it makes one.
+-- What the draft of an object has of its own: a shadow root, once it has one; in memory the object's root, and the
+-- root that it is to get; and the root of the object that it makes, if it makes one.
 pub record Opened : Type 0 where
   pub shadow : Option ℕ
   pub own : roots.Root
@@ -76,8 +77,8 @@ content_of d = root_spelling d.root
 abbrev pub is_meant_for : Image → ℕ → ℕ → Bool
 is_meant_for image r n = is_owned_by is_meant r (entry_in image n)
 
--- The tree of the content gives the draft. The blocks that are meant for the object are the shadow root and those of
--- this tree that are fresh, and no other.
+-- The tree of the content gives the draft. The blocks that are meant for the object are exactly the shadow root and
+-- the fresh blocks of this tree.
 pub record HasDraft (image : Image) (id : Puid) (d : Opened) : Type 0 where
   pub own : IsRootBlock (block_at image id.block) d.own
   pub same_kind : d.root.kind ≡ d.own.kind
@@ -90,14 +91,14 @@ pub record HasDraft (image : Image) (id : Puid) (d : Opened) : Type 0 where
   pub no_other : (n : ℕ) → is_meant_for image id.block n ≡ true
       → (d.shadow ≡ Some n) ⊎ StandsIn (tree_in image (content_of d)) n
 
--- it is this one; or there is none, and nothing is meant for the object
+-- the draft of the object is this one, or there is none and nothing is meant for the object
 abbrev pub HasDraftIf : Image → Puid → Option Opened → Type 0
 HasDraftIf image id None = (n : ℕ) → is_meant_for image id.block n ≡ false
 HasDraftIf image id (Some d) = HasDraft image id d
 
 -- ---- all drafts
 
--- of each object the draft that it has, if it has one
+-- the draft of each object, if it has one
 abbrev pub Drafts : Type 0
 Drafts = Puid → Option Opened
 
@@ -126,33 +127,34 @@ pub record IsMadeBy (ds : Drafts) (c : ℕ) : Type 0 where
   pub id : Puid
   pub makes : created_if (ds id) ≡ Some c
 
--- the root is entered, and is all that has this owner so far
+-- the root has an entry, and it is all that has this owner so far
 pub record IsMadeRoot (image : Image) (c : ℕ) : Type 0 where
   pub entered : is_made (entry_in image c) ≡ true
   pub alone : (n : ℕ) → is_owned_by is_taken c (entry_in image n) ≡ true → n ≡ c
 
--- no number of a list stands in it twice
+-- no number is in the list twice
 abbrev pub numbers_differ : List ℕ → Bool
 numbers_differ [] = true
 numbers_differ (n ∷ ns) = not (has_number n ns) && numbers_differ ns
 
 -- ---- all
 
--- the root of this owner stands
+-- the root of this owner exists
 abbrev pub HasRoot : Image → ℕ → Type 0
 HasRoot image r = is_root is_taken (entry_in image r) ≡ true
 
 pub record Accounts (image : Image) (g : Graph) (ds : Drafts) : Type 0 where
   pub holds : Holds image g
-  -- what isn't fixed is Free or has a place in some object
+  -- a block that isn't fixed is Free or has a place in some object
   pub placed : (n : ℕ) (e : MapEntry) → entry_in image n ≡ Some e → is_fixed n ≡ false → is_taken e.state ≡ true
       → is_placed is_taken (Some e) ≡ true
-  -- while a block is left of an object its root is: roots are swept last, so no new object finds blocks of an old one
+  -- while a block of an object is left its root is too: roots are swept last, so no new object finds blocks of an old
+  -- one
   pub rooted : (n : ℕ) → is_placed is_taken (entry_in image n) ≡ true → HasRoot image (owner_of (entry_in image n))
   pub objects : (id : Puid) (o : Object) → object_at g id ≡ Some o → HasItsBlocks image id.block
   pub drafts : (id : Puid) (o : Object) → object_at g id ≡ Some o → HasDraftIf image id (ds id)
   pub on_objects : (id : Puid) (d : Opened) → ds id ≡ Some d → is_there g id ≡ true
-  -- the roots that are made are those that the drafts make, each one
+  -- the roots of objects that are made are exactly those that the drafts make
   pub made : (c : ℕ) → IsMadeBy ds c → IsMadeRoot image c
   pub made_by : (n : ℕ) → is_made (entry_in image n) ≡ true → IsMadeBy ds n
   pub made_once : (c : ℕ) (x y : IsMadeBy ds c) → x.id ≡ y.id

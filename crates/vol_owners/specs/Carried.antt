@@ -1,2 +1,2 @@
--- Runs that carry a graph are defined with the frames that they stay within.
+-- Runs that carry a graph. They are defined with the frames within which they stay.
 pub use Rattle.vol_image.specs.Run.{Carries}

@@ -10,11 +10,11 @@ use Rattle.vol_image.specs.Part.{RootsOwnThemselves, is_fixed}
 use Rattle.vol_owners.specs.Owner.{is_meant, is_taken, is_placed, owner_of, is_owned_by, is_made, is_stray}
 use Rattle.vol_owners.specs.Account.{HasRoot}
 
--- the entry is Free, or that of a block of somebody's that passes the test
+-- the entry is Free, or that of a block that somebody owns and that passes the test
 abbrev pub IsOpenTo : (Option MapEntry → Bool) → Option MapEntry → Type 0
 IsOpenTo T entry = (is_free_entry entry ≡ true) ⊎ ((is_placed is_taken entry ≡ true) × (T entry ≡ true))
 
--- Image b differs from a only in blocks that are so here and there.
+-- Image b differs from image a only in blocks that are so in both.
 pub record ChangesOnly (T : Option MapEntry → Bool) (a b : Image) : Type 0 where
   pub size : length b ≡ length a
   pub maps : AreMaps b
@@ -26,14 +26,14 @@ pub record ChangesOnly (T : Option MapEntry → Bool) (a b : Image) : Type 0 whe
 
 -- ---- the tests; the third is `is_stray`, for a sweep
 
--- all blocks of these owners: for a commit, a change in place, and where an object is made
+-- all blocks of these owners, for a commit, for a change in place, and for an object that is made
 abbrev pub of_owners : List ℕ → Option MapEntry → Bool
 of_owners rs entry = is_placed is_taken entry && has_number (owner_of entry) rs
 
 abbrev pub of_owner : ℕ → Option MapEntry → Bool
 of_owner r entry = of_owners (r ∷ []) entry
 
--- what is meant for these: for all other steps of a draft
+-- the blocks that are meant for these owners, for all other steps of a draft
 abbrev pub of_drafts : List ℕ → Option MapEntry → Bool
 of_drafts rs entry = is_placed is_meant entry && has_number (owner_of entry) rs
 
@@ -44,7 +44,8 @@ of_draft r entry = of_drafts (r ∷ []) entry
 abbrev pub Misses : (BlockState → Bool) → (Option MapEntry → Bool) → ℕ → Type 0
 Misses test T r = (entry : Option MapEntry) → T entry ≡ true → is_owned_by test r entry ≡ false
 
--- What passes the test is of an object that is there afterwards, or is made; and the objects before are there.
+-- A block that passes the test is of an object that exists afterwards, or is made. The objects before exist
+-- afterwards.
 pub record IsOfThese (T : Option MapEntry → Bool) (g h : Graph) : Type 0 where
   pub there : (entry : Option MapEntry) → T entry ≡ true → is_made entry ≡ false
       → has_block h.objects (owner_of entry) ≡ true
@@ -56,7 +57,7 @@ OwnsNothing image c = (n : ℕ) → is_owned_by is_taken c (entry_in image n) �
 
 -- ---- a sweep
 
--- Image b is a where blocks of objects that are gone became Free, the root of each last.
+-- Image b is image a in which blocks of objects that are gone became Free, the root of each last.
 pub record Sweeps (g : Graph) (a b : Image) : Type 0 where
   pub only : ChangesOnly (λ entry. is_stray g entry) a b
   pub frees : (n : ℕ) → (entry_in b n ≡ entry_in a n) ⊎ (is_free_in b n ≡ true)

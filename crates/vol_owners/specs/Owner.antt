@@ -1,4 +1,4 @@
--- Whose a block is, and what for, as its entry says.
+-- The owner of a block, and what the block is for, as its entry says.
 use Rattle.std.specs.Prelude.{ℕ, Bool, true, false, not, ◌&&◌, ◌==◌, is_some, count_by, Option, Some, None}
 use Rattle.std.specs.List.{range_with_len}
 use Rattle.cfs_base.specs.Disk.{Image}
@@ -20,14 +20,14 @@ is_had Allocated = true
 is_had IntendAllocate = false
 is_had IntendDeallocate = false
 
--- a draft has it, which isn't committed yet
+-- a draft that isn't committed yet has it
 abbrev pub is_meant : BlockState → Bool
 is_meant Free = false
 is_meant Allocated = false
 is_meant IntendAllocate = true
 is_meant IntendDeallocate = false
 
--- it is to be Free once a commit is through
+-- it is to become Free once a commit is through
 abbrev pub is_leaving : BlockState → Bool
 is_leaving Free = false
 is_leaving Allocated = false
@@ -37,9 +37,9 @@ is_leaving IntendDeallocate = true
 abbrev pub is_taken : BlockState → Bool
 is_taken state = not (is_free_state state)
 
--- ---- whose it is
+-- ---- who owns it
 
--- the entry is of a block with a place in some object, in such a state
+-- the entry is that of a block with a place in some object, in such a state
 abbrev pub is_placed : (BlockState → Bool) → Option MapEntry → Bool
 is_placed test None = false
 is_placed test (Some e) = test e.state && is_some e.place
@@ -48,7 +48,7 @@ abbrev pub owner_of : Option MapEntry → ℕ
 owner_of None = 0
 owner_of (Some e) = e.owner
 
--- the block with this entry is the owner's, in such a state
+-- the owner has the block with this entry, in such a state
 abbrev pub is_owned_by : (BlockState → Bool) → ℕ → Option MapEntry → Bool
 is_owned_by test r entry = is_placed test entry && (r == owner_of entry)
 
@@ -60,7 +60,7 @@ is_root_place (Some (Node n)) = false
 is_root_place (Some (Leaf n)) = false
 is_root_place (Some (Span n)) = false
 
--- the entry is of a root block, in such a state
+-- the entry is that of a root block, in such a state
 abbrev pub is_root : (BlockState → Bool) → Option MapEntry → Bool
 is_root test None = false
 is_root test (Some e) = test e.state && is_root_place e.place
@@ -69,7 +69,7 @@ is_root test (Some e) = test e.state && is_root_place e.place
 abbrev pub is_made : Option MapEntry → Bool
 is_made entry = is_root is_meant entry
 
--- a block of an owner of whom there is no object in the graph, and that none makes: such blocks are still to be swept
+-- a block of an owner that is no object of the graph and isn't made: such blocks are still to be swept
 abbrev pub is_stray : Graph → Option MapEntry → Bool
 is_stray g entry = is_placed is_taken entry && (not (is_made entry) && not (has_block g.objects (owner_of entry)))
 

@@ -7,8 +7,8 @@ use Rattle.vol_image.specs.Sound.{graph_blocks}
 use Rattle.vol_owners.specs.Owner.{is_had, is_meant, is_placed, owner_of, is_made}
 use Rattle.vol_owners.specs.Account.{Drafts, Opened}
 
--- the blocks of a draft: its shadow root if it has one, what is fresh by the model, and the root of the object that it
--- makes
+-- the number of blocks of a draft: its shadow root if it has one, what is fresh by the model, and the root of the
+-- object that it makes
 abbrev pub draft_blocks : Opened → ℕ
 draft_blocks d = length (option_to_list d.shadow) + sum_by length d.draft.fresh + length (option_to_list d.created)
 
@@ -16,7 +16,7 @@ abbrev pub draft_blocks_if : Option Opened → ℕ
 draft_blocks_if None = 0
 draft_blocks_if (Some d) = draft_blocks d
 
--- what the objects of a graph and their drafts take
+-- how many blocks the objects of a graph and their drafts take
 abbrev pub blocks_taken : Graph → Drafts → ℕ
 blocks_taken g ds = graph_blocks g + sum_by (λ id. draft_blocks_if (ds id)) (ids_of g)
 
